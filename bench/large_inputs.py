@@ -35,7 +35,7 @@ def service(statements, cycles):
 
 
 def nested_loops(statements, depth):
-    """So many loops in one another, and in the innermost the rest of so many statements."""
+    """Loops in one another, with the rest of the statements in the innermost."""
     variables = " ".join(f"i{n}" for n in range(depth))
     heads = "".join(f"for i{n} = 0 to 1 {{\n" for n in range(depth))
     body = "".join(f"v = i{n % depth}\n" for n in range(statements - depth))
@@ -43,13 +43,13 @@ def nested_loops(statements, depth):
 
 
 def loops_in_turn(count):
-    """So many loops one after another, each with a statement in its body."""
+    """Loops one after another, each with a statement in its body."""
     loops = "for i = 0 to 65534 {\nv = i\n}\n" * count
     return f"{OPENING}var i\nservice adc within 0 cycles event 0 words {{\n{loops}}}\n"
 
 
 def names(count):
-    """So many variables with names of 32 bytes, and a put of each in turn."""
+    """Variables with names of 32 bytes, and a put of each in turn."""
     word = lambda i: f"v{i:02}" + "y" * 29
     declared = " ".join(word(i) for i in range(count))
     puts = "\n".join(f"put {word(i % count)}" for i in range(4000))
@@ -57,14 +57,14 @@ def names(count):
 
 
 def registers(count):
-    """So many registers, and cycles at each in turn."""
+    """Registers, and cycles at each in turn."""
     declared = "\n".join(f"cdreg r{i} 1 1 5 {i % 12}" for i in range(count))
     cycles = "\n".join(f"cfsa 0 r{i % count} -> v" for i in range(4000))
     return f"{OPENING}service adc within 4294967295 cycles event 0 words {{\n{declared}\n{cycles}\n}}\n"
 
 
 def lams(count):
-    """So many LAMs of one station, and a service on the last of them."""
+    """LAMs of one station, and a service on the last of them."""
     declared = "".join(f"cdlam lam{i} 1 1 5 {i % 16}\n" for i in range(count))
     return f"{declared}var v\nservice lam{count - 1} within 3 cycles event 1 words {{\ncdreg r 1 1 5 0\ncfsa 0 r -> v\nput v\n}}\n"
 
@@ -93,7 +93,7 @@ def dotted_key(parts):
 
 
 def dotted_keys(size):
-    """Keys of 17 parts, each of which makes a table: what takes the TOML library most memory, of what nests at most 16 deep."""
+    """Keys of 17 parts, each of which makes a table: of all texts that nest at most 16 deep these take the TOML library most memory."""
     lines, number = [], 0
     while size > 0:
         lines.append(f"k{number}." + ".".join("a" * 16) + "=1\n")

@@ -1,12 +1,12 @@
 #!/usr/bin/env python3
-"""Measures what an answer costs through the library for C: by `camac_wants` and `camac_next`, or by `camac_step`; and `camac_words` where an
-event ends.
+"""Measures the cost of an answer through the library for C: by `camac_wants` and `camac_next`, or by `camac_step`; and `camac_words` at the end of an
+event.
 
 usage: bench/library.py [ARCHIVE]     ARCHIVE is crates/camac_c/out/libcamac_c.a unless given (built by: cd crates/camac_c && rt lib)
 
-The instructions are those of valgrind's callgrind. They are told for the interface (the exports, and what they copy), for the runner that
-it calls, and for the loop in C around them. The time is the processor's, in nanoseconds, the least of five runs. It needs gcc, and valgrind
-for the instructions.
+The instructions are those of valgrind's callgrind. There is a number for the interface (the exports and their copies), one for the runner that it
+calls, and one for the loop in C around them. The time is the processor's, in nanoseconds, the least of five runs. It needs gcc, and valgrind for the
+instructions.
 """
 import argparse
 import itertools
@@ -39,7 +39,7 @@ def compiled(archive, room):
 
 
 def costs(program, script, answers, calls, room):
-    """Instructions of each function, by its name. What copies or fills memory counts to the function that calls it."""
+    """Instructions of each function, by its name. Copying and filling memory counts to the caller."""
     told = f"{room}/callgrind"
     words = ["valgrind", "-q", "--tool=callgrind", f"--callgrind-out-file={told}", program, PLAN, script, str(answers), calls]
     subprocess.run(words, check=True, stdout=subprocess.DEVNULL)
@@ -51,7 +51,7 @@ def costs(program, script, answers, calls, room):
                 its = names.setdefault(number, text)
                 name, called = (name, its) if is_called else (its, None)
             elif re.match(r"[+*\-\d]", line):
-                # the line behind a call has the cost of what is called, which is told there, too
+                # the line behind a call has the cost of the called function, which has a line of its own
                 if COPIES.match(called) if called else not COPIES.match(name):
                     found[name] = found.get(name, 0) + int(line.split()[1])
                 called = None
@@ -69,7 +69,6 @@ def instructions(program, script, calls, room):
 
 
 def measure(program, room):
-    """Prints the table."""
     print("| script | calls | interface | runner | loop in C | ns an answer |\n|---|---|---|---|---|---|")
     for name, calls in itertools.product(SCRIPTS, CALLS):
         script = f"{TOP}/examples/{name}.script"

@@ -3,11 +3,10 @@
 
 usage: bench/live.py [PROGRAM]     PROGRAM is, unless given, what CAMAC_PROGRAM names, or `camac` in PATH, or that of this clone
 
-Each operation is one request that is read and one answer that is written, in turn. `cat` gives each line back, so its loop is what the
-pipes and this computer take for themselves. The third loop is that of `camac.drive` with a branch whose operations take no time, and the
-last one that of `camac.play`, in one process, where the library for C is (CAMAC_LIBRARY). The script makes one service of 99,999 cycles,
-without words. Beside each rate stands the processor's time for an operation, of both processes: where others wait for the processors, it
-alone tells.
+Each operation is one request that is read and one answer that is written, in turn. `cat` gives each line back, so its loop is what the pipes and this
+computer take for themselves. The third loop is that of `camac.drive` with a branch whose operations take no time, and the last one that of
+`camac.play`, in one process, where the library for C is (CAMAC_LIBRARY). The script makes one service of 99,999 cycles, without words. Beside each
+rate is the processor's time for an operation, of both processes: on a busy computer only this counts.
 """
 import contextlib
 import os
@@ -58,7 +57,7 @@ def spent():
 
 @contextlib.contextmanager
 def told(name):
-    """Prints the rate of what is done in the block."""
+    """Prints the rate of the operations in the block."""
     began, before = spent()
     yield
     ended, after = spent()
@@ -80,7 +79,7 @@ def exchange(words, first=b""):
 
 
 def compare(end, events):
-    """Ends the program where a run ended otherwise."""
+    """Ends the program if a run ended otherwise."""
     made = [event.cycles for event in camac.read_events(events)]
     if (end.line, made) != ("ended events 1", [CYCLES]):
         sys.exit(f"the run ended otherwise: {end.line}, cycles {made}")

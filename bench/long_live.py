@@ -5,8 +5,8 @@ usage: bench/long_live.py [--answers N] [PROGRAM]
 
 N is ten million unless given. PROGRAM is, unless given, what CAMAC_PROGRAM names, or `camac` in PATH, or that of this clone. The services
 read a word that is another one each time, and make two more cycles. Answers are written ahead, so that the pipe and not a driver sets the
-pace; `bench/live.py` measures the exchange of one answer at a time. The status is 1 where a request, the last line or an event is not the
-one that these answers call for, or where the run took more memory at its end than after its first tenth. Peak memory is the VmHWM of
+pace; `bench/live.py` measures the exchange of one answer at a time. The status is 1 if a request, the last line or an event is not the
+one that these answers call for, or if the run took more memory at its end than after its first tenth. Peak memory is the VmHWM of
 Linux's /proc.
 """
 import argparse
@@ -23,7 +23,7 @@ sys.dont_write_bytecode = True
 import camac  # noqa: E402
 from long_runs import DEMAND, SCRIPT  # noqa: E402
 
-# What a service of SCRIPT asks for: a demand, F0 at A0, and the F10 and F8 of the LAM at A12. None but the first moves data.
+# The operations of a service of SCRIPT: a demand, F0 at A0, and the F10 and F8 of the LAM at A12. None but the first moves data.
 REQUESTS = b"demand\ncycle 1 5 0 0 in\ncycle 1 5 12 10 none\ncycle 1 5 12 8 none\n"
 QUIET_CYCLE = "1 1 000000 0 000000\n"
 REPLIES = 1 << 24
@@ -35,7 +35,7 @@ MARGIN = 64  # KiB
 
 
 def feed(pipe, services):
-    """Writes the answers of so many services, whose replies are their numbers, and ends the input."""
+    """Writes the answers of some services, whose replies are their numbers, and ends the input."""
     with pipe:
         for first in range(0, services, TOGETHER):
             numbers = range(first, min(first + TOGETHER, services))
@@ -44,7 +44,7 @@ def feed(pipe, services):
 
 
 def take(pipe, text):
-    """Reads as many bytes as this text has, and ends the program where they are others."""
+    """Reads as many bytes as this text has, and ends the program if they are others."""
     found = pipe.read(len(text))
     if found != text:
         sys.exit(f"not what was to be written: {found[:200]!r}")
@@ -73,7 +73,7 @@ def follow(process, services):
 
 
 def compare(path, services):
-    """Ends the program where the file has other events."""
+    """Ends the program if the file has other events."""
     number = 0
     for event in camac.read_events(path):
         if (event.number, event.gl, event.cycles, event.missed, tuple(event.words)) != (number + 1, 3, 3, 0, (number % WORDS,)):

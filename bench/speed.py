@@ -5,11 +5,11 @@ usage: bench/speed.py [--best N] [--growth | --instructions] [--only WORD] [PROG
 
 PROGRAM is crates/camac/out/camac unless given (built by: cd crates/camac && rt run). Several programs are measured in turn, so that versions
 can be compared. Processor time is user and system time together, in milliseconds, the least of N calls (5). Peak memory is in KiB, by GNU
-time where that is there. Inputs are files, and output goes to /dev/null, unless the case says file or pipe.
+time if that is there. Inputs are files, and output goes to /dev/null, unless the case says file or pipe.
 
 The first table has one line for each case. --growth prints the second: inputs of a hundredth, a tenth and the whole of the greatest size.
 --instructions prints a third, of millions of instructions by valgrind, which are the same on every computer. A run has a tenth of its answers
-there, and its instructions for each answer stand beside.
+there, and its instructions for each answer are beside.
 --only takes the cases whose names have this word in them.
 """
 import argparse
@@ -45,7 +45,7 @@ MIXED_ANSWERS = QUIET * 3 + DEMAND + (CYCLE + AGAIN) * 2
 
 
 def long_statements(count):
-    """So many statements of 27 tokens each, in 230 bytes."""
+    """Statements of 27 tokens each, in 230 bytes."""
     words = [f"number_{n:02}_here" for n in range(13)]
     line = f"{words[0]} = {' + '.join(words)}\n"
     return f"{large_inputs.OPENING}var {' '.join(words)}\nservice adc within 0 cycles event 0 words {{\n{line * (count - 1)}}}\n"
@@ -113,7 +113,6 @@ class Case:
         return Case(self.name, self.words, text, self.script)
 
     def put(self, room):
-        """Writes the inputs, and returns the words of the call and the output."""
         for name, text in (("input", self.text), ("script", self.script.encode())):
             with open(os.path.join(room, name), "wb") as file:
                 file.write(text)

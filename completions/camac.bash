@@ -1,6 +1,6 @@
 # Completion of camac for bash.
 
-# Sets `words`, the words of the line up to the one that is completed: bash also cuts a word before `@`, though no blank stands there.
+# Sets `words`, the words of the line up to the one that is completed: bash also cuts a word before `@`, though no blank is there.
 _camac_words() {
   local line=$COMP_LINE word after i
   words=()
@@ -48,7 +48,7 @@ _camac() {
   mapfile -t COMPREPLY < <(compgen -W "$offered" -- "$word")
 }
 
-# Offers files, and what else may stand at this place of the command.
+# Offers files, and the words that may be at this place of the command.
 _camac_file() {
   local offered=
   case $1 in

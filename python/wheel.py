@@ -30,7 +30,7 @@ Generator: camac
 Root-Is-Purelib: {pure}
 Tag: {tag}
 """
-# The earliest time that a zip file can tell, so that the same sources make the same wheel.
+# The earliest time of a zip file, so that the same sources make the same wheel.
 TIME = (1980, 1, 1, 0, 0, 0)
 
 
@@ -40,7 +40,7 @@ def said(key):
 
 
 def commands():
-    """The entry points, as a file of the wheel tells them."""
+    """The entry points, as in a file of the wheel."""
     section = (HERE / "pyproject.toml").read_text(encoding="utf-8").partition("[project.scripts]\n")[2].partition("\n[")[0]
     return "[console_scripts]\n" + section.replace('"', "")
 

@@ -1,9 +1,9 @@
 #!/usr/bin/env python3
-"""Tries what a run has in numbers with numpy and without: a page of a long event file is the same, byte for byte.
+"""Compares the numbers of a run with numpy and without: a page of a long event file is the same, byte for byte.
 
 usage: tests/arrays_test.py [-v] [TEST ..]     from any folder; takes some seconds
 
-It is left out where numpy (package python3-numpy of Debian) is not there for this Python.
+It is left out if numpy (package python3-numpy of Debian) is not installed.
 """
 import importlib.util
 import random

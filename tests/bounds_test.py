@@ -2,8 +2,6 @@
 """Tries that `camac bounds` prints the least headings: of the examples, of the accepted scripts of the pages, and of scripts made at random.
 
 usage: tests/bounds_test.py [-v] [TEST ..]     from any folder; takes a few seconds
-
-The program is crates/camac/out/camac (cd crates/camac && rt run makes it), or what the environment variable CAMAC_PROGRAM names.
 """
 import random
 import re

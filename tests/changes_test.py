@@ -2,8 +2,6 @@
 """Texts and event files that are cut after each byte, and that have each byte changed: each is answered, by lines of its own or by one refusal.
 
 usage: tests/changes_test.py [-v] [TEST ..]     from any folder; takes about a minute
-
-The program is crates/camac/out/camac (cd crates/camac && rt run makes it), or what the environment variable CAMAC_PROGRAM names.
 """
 import concurrent.futures
 import os
@@ -15,7 +13,7 @@ import unittest
 from support.program import PROGRAM
 from support.rows import FILE_ONE, FILE_TWO, SAMPLE, STRAIGHT_LINE
 
-# A refusal with a whole explanation: the line of a script, a sentence of the case, and what is told of the rule.
+# A refusal with a whole explanation: the line of a script, a sentence of the case, and the texts of the rule.
 EXPLANATION = re.compile(rb"\Arefused ([PSLE]\d+)(?: line (\d+))?: [^\n]+\n(?(2) *\2 \| [^\n]*\n(?: *\| \s*\^\n)?)[^\n]*[.?`]\nWhy: [^\n]+\nFix: [^\n]+\nMore: docs/REFUSALS\.md, \1\n\Z")
 
 BYTES = (0x00, 0x0A, 0x21, 0x7B, 0xFF)

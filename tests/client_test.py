@@ -1,5 +1,5 @@
 #!/usr/bin/env python3
-"""Tests of the Python package's side of a live run, without the program: tests/fake_camac stands in its place. Tests of its models of modules.
+"""Tests of the Python package's side of a live run, without the program: tests/fake_camac is in its place. Tests of its models of modules.
 
 usage: tests/client_test.py [-v] [TEST ..]     from any folder; takes a few seconds
 """
@@ -254,8 +254,6 @@ class Client(Case):
 
 
 class Modules(unittest.TestCase):
-    """The models of modules."""
-
     def test_look_at_me(self):
         module = Module(lam_at=12)
         self.assertEqual(module.cycle(12, 8, None), Reply(q=0))

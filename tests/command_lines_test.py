@@ -1,12 +1,11 @@
 #!/usr/bin/env python3
 """Plays the command lines of tests/command_lines.text over the built program, one after the other in one folder: the examples, each subcommand, event
-files that are inputs, words that name no job, inputs that lack or are too long, help.
+files that are inputs, words that name no job, inputs that are missing or too long, help.
 
 usage: tests/command_lines_test.py [-v]     from any folder; takes a second
 
-The program is crates/camac/out/camac (cd crates/camac && rt run makes it), or what the environment variable CAMAC_PROGRAM names. The text has each
-line after '$ camac', then what the program writes to standard output, and its status. Standard input is the straight-line script where a line
-has '@in' for a script, and else empty.
+The text has each line after '$ camac', then what the program writes to standard output, and its status. Standard input is the straight-line script
+where a line has '@in' for a script, and else empty.
 """
 import os
 import pathlib

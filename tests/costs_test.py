@@ -3,8 +3,7 @@
 
 usage: tests/costs_test.py [-v] [TEST ..]     from any folder; takes half a minute
 
-The program is crates/camac/out/camac (cd crates/camac && rt run makes it), or what the environment variable CAMAC_PROGRAM names. The worked rows of
-tests/rows/costs.rows are played by tests/rows_test.py. The scripts are made by tools/oracle, which also tells each row.
+The worked rows of tests/rows/costs.rows are played by tests/rows_test.py. The scripts are made by tools/oracle, which also has each row.
 """
 import os
 import pathlib

@@ -2,8 +2,6 @@
 """Tries `python3 -m camac diff`, and `camac-check --format sarif`.
 
 usage: tests/diff_test.py [-v] [TEST ..]     from any folder; takes some seconds
-
-The program is crates/camac/out/camac (cd crates/camac && rt run makes it), or what the environment variable CAMAC_PROGRAM names.
 """
 import json
 import os
@@ -153,7 +151,7 @@ class Sarif(Room):
         self.assertEqual(found[0][4], "more cycles than annotated")
 
     def test_column(self):
-        """That of a fault of the text is told, in characters from 1."""
+        """A fault of the text has a column, in characters from 1."""
         self.write("fault.script", SCRIPT.replace("  put v\n", "  puts v\n"))
         (run,) = json.loads(self.run_camac("check", "--format", "sarif", "plan.toml", "fault.script")[1])["runs"]
         self.assertEqual(run["results"][0]["locations"][0]["physicalLocation"]["region"], {"startLine": 7, "startColumn": 3})

@@ -3,8 +3,7 @@
 
 usage: tests/disk_test.py [-v] [TEST ..]     from any folder; takes some seconds
 
-The program is crates/camac/out/camac (cd crates/camac && rt run makes it), or what the environment variable CAMAC_PROGRAM names. A small disk is
-mounted for one process alone, where the system lets us.
+A small disk is mounted for one process alone, if the system lets us.
 """
 import errno
 import os
@@ -18,7 +17,7 @@ from support.program import ANSWERS, EVENT_FILE, FULL, LISTING, PROGRAM, REQUEST
 HEADER, RECORD = 8, len(EVENT_FILE) - 8
 # What is written before the answers' end: the lines of the demand and the cycle, and the requests for them.
 LISTED, ASKED = 55, 24
-# What is told where standard output may not grow, and where EVENTS may not.
+# The faults if standard output may not grow, and if EVENTS may not.
 OUT, EVENTS = (unwritten(errno.EFBIG, name) for name in ("standard output", "e"))
 
 

@@ -1,6 +1,6 @@
 #!/usr/bin/env python3
-"""Runs what README.md, the pages of docs/ and the examples of man/camac.1 and man/*.5 show, and compares it with what they say comes of it; follows
-their links. Checks that the diffs of the tasks in docs/inside/CHANGING.md apply.
+"""Runs the examples of README.md, of the pages of docs/ and of man/camac.1 and man/*.5, and compares their output with the pages; follows
+links. Checks that the diffs of the tasks in docs/inside/CHANGING.md apply.
 
 usage: tests/documents_test.py [-v] [TEST ..]     from any folder; takes a few seconds
 
@@ -50,13 +50,13 @@ INDENTED = re.compile(r"^    .*$", re.M)
 COMMAND = re.compile(r"^\$ |(?:^|[|;&(] *)(?:\./)?camac\b(?! [a-z]+ [A-Z]+\b)(?= \S)")
 STATEMENT = re.compile(r"^(?:cdlam|cdreg|cfsa|cssa|service|proc) (?!.*\b[A-Z]{2,}\b).*\d")
 FILE = re.compile(r"(?:python|toml(?! P\d)|sh|c|cpp|camac (?:accepted|\w+ line \d+)) (\S+)(?: on \S+)?")
-# Pages whose files stand in a folder of examples, too, and where the page makes them.
+# Pages whose files are in a folder of examples too, and where the page makes them.
 KEPT = {"TUTORIAL.md": ("tutorial", "."), "RECIPES.md": ("benches", "benches")}
 COMPILER = re.compile(r"^\$ (?:cc|c\+\+) ", re.M)
 LIBRARY = re.compile(r"pkg-config|in_this_process\.py")
 ARRAYS = re.compile(r"^\$ .*(?:numpy|h5py|\.npz|\.h5)\b", re.M)
 CELL = re.compile(r"^\|(?:[^|\n]*\|)*([^|\n]*)\|$")
-# What a piece of a script may be: a statement, its begin, a condition, the end of one, an expression, the end of one.
+# The places for a piece of a script: a statement, its begin, a condition, the end of one, an expression, the end of one.
 PLACES = ("{}", "{} {{ }}", "if {} {{ }}", "if v > 0 {} {{ }}", "put ({}) % 2", "put (v {}) % 2")
 READ = """cdlam adc 1 1 5 12
 var a b c d k v
@@ -71,7 +71,7 @@ SCRIPT = "cdlam adc 1 1 5 12\nservice adc within 3 cycles event 0 words { }\n"
 
 
 class Wrong(Exception):
-    """What a page shows does not come of what it runs."""
+    """A page shows another output than its commands print."""
 
 
 def run(command, room, given=b""):
@@ -83,7 +83,7 @@ def run(command, room, given=b""):
 
 
 def is_left_out(text):
-    """Whether a console block needs a compiler, the library for C, or numpy and h5py where there is none."""
+    """Whether a console block needs a compiler, the library for C, or numpy and h5py if there is none."""
     if ARRAYS.search(text) and subprocess.run(["python3", "-c", "import numpy, h5py"], stderr=subprocess.DEVNULL, check=False).returncode:
         return True
     lacks_compiler = not (shutil.which("cc") and shutil.which("c++"))
@@ -131,7 +131,7 @@ def try_plan(code, text, room):
 
 
 def refuse_untried(text):
-    """Refuses a command or a statement that stands in an indented block."""
+    """Refuses a command or a statement that is in an indented block."""
     for line in INDENTED.findall(BLOCK.sub("", text)):
         if COMMAND.search(line.strip()) or STATEMENT.search(line.strip()):
             raise Wrong(f"this line stands in no block that is tried: {line.strip()}")
@@ -157,7 +157,7 @@ def pieces(text):
 
 
 def try_piece(piece, room):
-    """Tries a piece of a script at each place where it may stand."""
+    """Tries a piece of a script at each place where it may be."""
     scripts = [f"{READ}  {place.format(piece)}\n}}\n" for place in PLACES]
     if not any(run("./camac check @sample @in", room, it.encode()).startswith("accepted") for it in scripts):
         raise Wrong(f"this is accepted nowhere: {piece}")
@@ -338,7 +338,7 @@ class Documents(unittest.TestCase):
 
 
 class Tasks(unittest.TestCase):
-    """The diffs of tasks, which docs/inside/CHANGING.md tells step by step."""
+    """The diffs of tasks, which docs/inside/CHANGING.md explains step by step."""
 
     def applies(self, *words):
         """Whether git would apply a diff to these sources."""

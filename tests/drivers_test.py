@@ -1,11 +1,9 @@
 #!/usr/bin/env python3
 """Drivers that misbehave, over pipes: late, early, with two answers, with half a line, with garbage, gone, never reading, never answering. Each
-run ends as docs/LIVE.md says, with all events so far in the file. What it has to ask for and to leave is told by the reader of tools/oracle.
-The driver in C (examples/c/driver.c), where gcc is there: it answers, and a signal at any moment leaves no lockout held.
+run ends as docs/LIVE.md says, with all events so far in the file. The reader of tools/oracle says what it has to ask for and to leave.
+If gcc is installed, the driver in C (examples/c/driver.c): it answers, and a signal at any moment leaves no lockout held.
 
 usage: tests/drivers_test.py [-v] [TEST ..]     from any folder; takes some seconds
-
-The program is crates/camac/out/camac (cd crates/camac && rt run makes it), or what the environment variable CAMAC_PROGRAM names.
 """
 import fcntl
 import select
@@ -144,7 +142,7 @@ class Misbehaving(Case):
                 self.assertEqual(self.events.read_bytes(), wanted(STRAIGHT_LINE, given)[2])
 
     def expect_fault(self, pipes, events):
-        """The requests have no reader any more, of which nothing is told."""
+        """The requests have no reader any more, and no fault names them."""
         self.assertEqual((pipes.process.stderr.read(), pipes.process.wait(PATIENCE)), (b"", 141))
         self.assertEqual(self.events.read_bytes(), events)
 

@@ -1,11 +1,11 @@
 #!/usr/bin/env python3
 """Tries the language server (camac-lsp) in the editors that are here, as the files for editors set it up: a script is opened and a wrong one judged, its fault is
-mended by a fix, and nothing is shown then; what is told under the pointer; and a name gets another one.
+mended by a fix, and nothing is shown then; hover texts; and a name gets another one.
 
 usage: tests/editors_test.py [-v] [TEST ..]     from any folder; takes some seconds
 
-Neovim, Emacs with eglot, Vim with ALE, and Node for the extension of VS Code are each left out where they are not here. Where the library for C is there (tests/support/of_c.py), it
-judges, else the program: crates/camac/out/camac (cd crates/camac && rt run makes it), or what CAMAC_PROGRAM names.
+Neovim, Emacs with eglot, Vim with ALE, and Node for the extension of VS Code are each left out if they are not here. If the library for C is there
+(tests/support/of_c.py), it judges, else the program: crates/camac/out/camac (cd crates/camac && rt run makes it), or what CAMAC_PROGRAM names.
 """
 import json
 import os

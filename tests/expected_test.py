@@ -1,13 +1,11 @@
 #!/usr/bin/env python3
-"""Tests that what `explain` says may stand at a place is what the parser takes there, for every token of the language.
+"""Tests that the parser takes at a place exactly the tokens that `explain` names, for every token of the language.
 
 usage: tests/expected_test.py [-v] [TEST ..]     from any folder; takes about a minute
 
-A token may stand where the text up to the fault, followed by that token, is not refused by S2 at that token. A name and a number stand for
-their whole kinds: which name or number fits, other rules say. CAMAC_CASES tells how many changed scripts with such a fault are tried, 300
-where it is not set. SEED begins them, 1 where it is not set.
-
-The program is crates/camac/out/camac (cd crates/camac && rt run makes it), or what the environment variable CAMAC_PROGRAM names.
+A token may be there if the text up to the fault, followed by that token, is not refused by S2 at that token. A name and a number stand for
+their whole kinds: which name or number fits, other rules say. CAMAC_CASES is how many changed scripts with such a fault are tried, 300
+if it is not set. SEED begins them, 1 if it is not set.
 """
 import concurrent.futures
 import os
@@ -86,7 +84,7 @@ def changed(chance):
 
 
 def told(lines):
-    """The tokens that an explanation says may stand, and whether one is the beginning of a statement; None where it is of another fault."""
+    """The tokens that an explanation names, and whether one is the beginning of a statement; None if it is of another fault."""
     found = re.match(r"Found (?:`[^`]*`|the end of the script); expected (.*?)\.(?: |$)", lines[3])
     if not found or not lines[0].startswith("refused S2 "):
         return None
@@ -102,13 +100,13 @@ def before(text, lines):
 
 
 def taken(start):
-    """The tokens that the parser does not refuse by S2 behind a text: each stands on a line of its own, before the text's end."""
+    """The tokens that the parser does not refuse by S2 behind a text: each is on a line of its own, before the text's end."""
     line = start.count("\n") + 2
     return {it for it in TOKENS if not call("check", f"{start}\n{it}\n").startswith(f"refused S2 line {line}: ")}
 
 
 def difference(seed):
-    """A changed script, where what is told differs from what the parser takes; whether it was one to be tried."""
+    """A changed script for which `explain` and the parser differ; whether it was one to be tried."""
     text = changed(random.Random(seed))
     lines = call("explain", text).splitlines()
     tokens = told(lines) if len(lines) > 3 else None
@@ -116,7 +114,7 @@ def difference(seed):
         return False, None
     start = before(text, lines)
     parsed = taken(start)
-    # the group has `lock`, which stands in services alone
+    # the group has `lock`, which is in services alone
     if re.findall(r"\b(?:proc|service)\b", start)[-1:] == ["proc"]:
         tokens.discard("lock")
     return True, None if tokens == parsed else (seed, start[-60:], sorted(tokens - parsed), sorted(parsed - tokens))

@@ -1,11 +1,9 @@
 #!/usr/bin/env python3
-"""Tests that each rule has a worked explanation, and what is said of typical mistakes; compares the texts with docs/REFUSALS.md.
+"""Tests that each rule has a worked explanation, and the explanations of typical mistakes; compares the texts with docs/REFUSALS.md.
 
 usage: tests/explain_test.py [-v] [TEST ..]     from any folder; takes about half a minute
 
-CAMAC_CASES tells how many random scripts two of the tests try, 300 where it is not set. SEED begins them, 1 where it is not set.
-
-The program is crates/camac/out/camac (cd crates/camac && rt run makes it), or what the environment variable CAMAC_PROGRAM names.
+CAMAC_CASES is how many random scripts two of the tests try, 300 if it is not set. SEED begins them, 1 if it is not set.
 """
 import os
 import pathlib
@@ -17,6 +15,7 @@ import tempfile
 import unittest
 from typing import NamedTuple
 
+from support import plans
 from support.program import PROGRAM, TOP
 from support.rows import ROWS
 
@@ -37,7 +36,7 @@ def procedure(call, numbers="within 3 cycles event 1 words steps 3", body="put s
 
 
 def beside(statement):
-    """A procedure with a statement on its line 3, whose parameters stand at the places of the script's variables."""
+    """A procedure with a statement on its line 3, whose parameters are at the places of the script's variables."""
     return f"var count k\nproc p(n in 0..5, i in 0..5) within 9 cycles event 99 words steps 99 {{\n  {statement}\n}}\n"
 
 
@@ -211,32 +210,6 @@ MISTAKES = [
 ]
 
 
-TYPE = '[[type]]\nname = "ADC"\ncommands = [ { f = 0, a = 0, to = 11 } ]\n'
-CRATE = '[[crate]]\nnumber = 1\n[[crate.station]]\nn = 5\ntype = "ADC"\n'
-
-# A mistake in a plan, the plan, the rule, and what is said of the case.
-PLANS = [
-    ("a table's name in the plural", TYPE.replace("type", "types"), "P2", "`types`: there is no such key. Did you mean `type`? The keys of the plan itself are `buffer`, `type` and `crate`."),
-    ("stations in the plural", TYPE + CRATE.replace("station", "stations"), "P2", "crate 1, `stations`: there is no such key. Did you mean `station`? The keys of a `[[crate]]` are `number`, `waits` and `station`."),
-    ("a station at the top", TYPE + '[[station]]\nn = 5\n', "P2", "`station`: there is no such key. It is a key of a `[[crate]]`. The keys of the plan itself are `buffer`, `type` and `crate`."),
-    ("a key of the crate after its station", TYPE + CRATE + "waits = 2\n", "P2", "crate 1, station 5, `waits`: there is no such key. It is a key of a `[[crate]]`. The keys of a `[[crate.station]]` are `n`, `type` and `gl`."),
-    ("a bit as a text", TYPE + CRATE + 'gl = "3"\n', "P3", "crate 1, station 5, gl: the value is of the kind string; expected a whole number from 1 to 24."),
-    ("a range as an array", TYPE.replace("a = 0, to = 11", "a = [0, 11]"), "P3", "type `ADC`, first command, a: the value is of the kind array; expected a whole number from 0 to 15. A range is written as `a = 0, to = 11`."),
-    ("a range as a text", TYPE.replace("a = 0, to = 11", 'a = "0-11"'), "P3", "type `ADC`, first command, a: the value is of the kind string; expected a whole number from 0 to 15. A range is written as `a = 0, to = 11`."),
-    ("a probe as a number", TYPE.replace("to = 11", "to = 11, probe = 1"), "P3", "type `ADC`, first command, probe: the value is of the kind integer; expected `true` or `false`."),
-    ("a type by a number", TYPE + CRATE.replace('"ADC"', "2249"), "P3", "crate 1, station 5, type: the value is of the kind integer; expected a text in double quotes."),
-    ("types without brackets", "type = 3\n", "P3", "type: the value is of the kind integer; expected an array of tables."),
-    ("a range that ends before it begins", TYPE.replace("a = 0, to = 11", "a = 5, to = 3"), "P4", "type `ADC`, first command, to: the value is 3; expected 5 to 15."),
-    ("a width of a probe", TYPE.replace("to = 11", "to = 11, probe = true, width = 12"), "P4", "type `ADC`, first command, width: the value is 12, and a probe has 24 bits."),
-    ("a blank in a name", TYPE.replace("ADC", "A DC"), "P4", "first entry of `type`, name: the value is `A DC`, and a name has 1 to 32 letters, digits, `_` or `-`."),
-    ("a type too many", "".join(TYPE.replace("ADC", f"ADC-{i}") for i in range(65)), "P4", "type `ADC-64`: there are at most 64 types."),
-    ("a name twice", TYPE + TYPE, "P8", "second entry of `type`, name: the value is `ADC`, which is already used at first entry of `type`."),
-    ("a bit in two crates", TYPE + CRATE + "gl = 3\n" + CRATE.replace("number = 1", "number = 2").replace("n = 5", "n = 7") + "gl = 3\n", "P9", "crate 2, station 7, gl: the value is 3, which is already used at crate 1, station 5."),
-    ("a key twice", "buffer = 1\nbuffer = 2\n", "P1", "Line 2, column 1: duplicate key."),
-    ("a comment of another language", TYPE + "// the crates\n", "P1", "Line 4, column 1: "),
-    ("many brackets", TYPE + "crate = " + 17 * "[", "P11", "Line 4, column 24: this is 17 deep."),
-]
-
 # A case whose mend is one of several, the script, the mend's begin, the script with the mend.
 MENDS = [
     ("a read without an arrow", service("cdreg r 1 1 5 0", "cfsa 0 r"), "with a function that reads, ", service("cdreg r 1 1 5 0", "cfsa 0 r -> v")),
@@ -268,7 +241,7 @@ MENDS = [
 
 
 class Mistake(NamedTuple):
-    """A mistake of tests/mistakes.text: the text with it, its rule and line, and what has to be told."""
+    """A mistake of tests/mistakes.text: the text with it, its rule and line, and the words of its explanation."""
 
     kind: str
     text: str
@@ -345,7 +318,7 @@ class Explain(unittest.TestCase):
         return text.splitlines()
 
     def assert_marked(self, source, mark, said):
-        """The mark stands below the first word or sign in quotes that the sentence tells, if it is the one that was found."""
+        """The mark is below the first word or sign in quotes of the sentence, if it is the one that was found."""
         self.assertRegex(mark, r"^      \| [ \t]*\^$")
         found = re.match(r"(?:Found|The (?:name|number|byte|character|procedure)|The limit is passed at|The branch is) `([^`]*)`", said)
         if found:
@@ -427,7 +400,7 @@ class Explain(unittest.TestCase):
         self.assertEqual(part.split("|---|---|\n")[1].partition("\n\n")[0].splitlines(), shown)
 
     def test_mistakes_in_plans(self):
-        for what, plan, rule, said in PLANS:
+        for what, plan, rule, said in plans.MISTAKES:
             with self.subTest(what=what):
                 (self.room / "plan.toml").write_text(plan)
                 status, text = self.call("explain", "plan.toml")
@@ -443,7 +416,7 @@ class Explain(unittest.TestCase):
         return status, text.rstrip("\n")
 
     def test_mends(self):
-        """Of several mends of a rule the one that helps in this case is told."""
+        """Of several fixes of a rule the one that helps in this case is shown."""
         found = set()
         for what, script, mend, mended in MENDS:
             with self.subTest(what=what):
@@ -487,7 +460,7 @@ class Explain(unittest.TestCase):
         self.assertGreater(tried, 20)
 
     def test_numbers(self):
-        """A number that is told as needed is enough: put in, its rule is broken no more."""
+        """A number that an explanation asks for is enough: put in, its rule is broken no more."""
         tried = 0
         for chance in chances("numbers"):
             body, turns = chance.body(), 5
@@ -520,7 +493,7 @@ class Explain(unittest.TestCase):
         self.assertEqual(self.explain("cdlam adc 1 1 5 12\nservice adc within 0 cycles event 0 words { }\n")[0], "accepted")
 
     def test_lines(self):
-        """Tabs and bytes from 128 stand as they are, other control bytes as `?`; a long line is cut."""
+        """Tabs and bytes from 128 are as they are, other control bytes as `?`; a long line is cut."""
         shown = self.explain("\tput \x00\x7f\r\xc3\xa9 v\n")[1]
         self.assertEqual(shown, "    1 | \tput ???\xc3\xa9 v")
         self.assertEqual(self.explain("# \xc3\xa9\n\tvar \xc3\xa9")[1:3], ["    2 | \tvar \xc3\xa9", "      | \t    ^"])

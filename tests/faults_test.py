@@ -3,8 +3,6 @@
 library in front of the C library writes all calls of the program into one log. It is compiled here by cc or clang.
 
 usage: tests/faults_test.py [-v] [TEST ..]     from any folder; takes about half a minute
-
-The program is crates/camac/out/camac (cd crates/camac && rt run makes it), or what the environment variable CAMAC_PROGRAM names.
 """
 import collections
 import os
@@ -162,7 +160,7 @@ Call = collections.namedtuple("Call", "name place asked answer bytes")
 
 class Ran:
     """What the program answered, what is in EVENTS after it, and its calls but those on standard error, each with its number. The calls
-    that close a file stand apart: what is closed at the end has no part in the order."""
+    that close a file are apart: what is closed at the end has no part in the order."""
 
     def __init__(self, answer, events, log):
         self.status, self.out, self.err = answer
@@ -197,7 +195,7 @@ class Logged(Case):
         subprocess.run([compiler, "-shared", "-fPIC", "-O1", "-xc", "-o", cls.library, "-"], input=SHIM.encode(), check=True)
 
     def ran(self, line, given=None, turn=0, error=0, piece=0, there=None, later=False):
-        """The program on the words of a line. `given` names the file behind standard input (`|NAME`: a pipe from it), `there` is what stands in EVENTS before. The
+        """The program on the words of a line. `given` names the file behind standard input (`|NAME`: a pipe from it), `there` is what is in EVENTS before. The
         call number `turn` fails, and with `later` all later ones of its kind."""
         log, events = self.room / "calls", self.room / "e"
         log.write_text("")
@@ -221,7 +219,7 @@ def is_reading(line, call):
 
 
 def told(line, call, error):
-    """What is told where this call fails."""
+    """The lines of the fault if this call fails."""
     streams = {"in": "@in", "/proc/self/fd/0": "@in", "out": "standard output"}
     names = {**streams, **{os.path.basename(word): word for word in line.split()}}
     return fault("read" if is_reading(line, call) else "write", names.get(call.place, call.place), error or "it takes no bytes")
@@ -304,7 +302,7 @@ class InTurn(Logged):
 
 
 class Fails(Logged):
-    """A call that fails is the last one but for those that tell it, even where the next one would go well."""
+    """A call that fails is the last one but for those that report it, even if the next one would go well."""
 
     def setUp(self):
         super().setUp()
@@ -341,7 +339,7 @@ class Fails(Logged):
         return [it.name for it in whole.calls]
 
     def expect_closes(self, line, whole, given, piece, there):
-        """An error of the call that closes a file is not told: nothing is lost by it."""
+        """An error of the call that closes a file is not reported: nothing is lost by it."""
         for turn in whole.closes:
             for error in ERRORS["close"]:
                 with self.subTest(line=line, closing=turn, error=error):
@@ -362,7 +360,7 @@ class Fails(Logged):
         self.assertTrue(ran.calls == wanted)
 
     def expect_left(self, ran, there):
-        """What the calls wrote is there, and no more; EVENTS is as it was where it was not opened."""
+        """The calls wrote what is there, and no more; EVENTS is as it was if it was not opened."""
         left = collections.defaultdict(bytes, {} if there is None else {"e": there})
         for call in ran.calls:
             if call.name == "open" and call.place == "e" and call.answer > 0:
@@ -452,7 +450,7 @@ class Told(Logged):
                     self.assertEqual(ran.calls, whole.calls[:place] + [call._replace(answer=-EIO, bytes=b"")])
 
     def test_lines_on_standard_error(self):
-        """The lines of a fault; where standard error does not take it, the status tells it alone."""
+        """The lines of a fault; if standard error does not take it, only the status shows it."""
         for line, status, told in (("plan none", 3, lacks("none")), ("check @in @in", 2, TWICE)):
             last = len(self.ran(line).calls) + 1
             self.assertEqual(self.answer(line, last, EINTR), (status, b"", told))

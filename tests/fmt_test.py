@@ -4,8 +4,8 @@ file of a run are as before; so they are with a name that is another one (camac-
 
 usage: tests/fmt_test.py [-v] [TEST ..]     from any folder; takes some seconds
 
-CAMAC_CASES tells how many random scripts are tried, 60 where it is not set; SEED begins them. Where the library for C is there (tests/support/of_c.py), it judges,
-else what needs it is left out.
+CAMAC_CASES is how many random scripts are tried, 60 if it is not set; SEED begins them. If the library for C is there (tests/support/of_c.py), it
+judges, else what needs it is left out.
 """
 import os
 import random
@@ -34,7 +34,7 @@ from oracle.cases import edge_case, script_case
 CASES = int(os.environ.get("CAMAC_CASES", "60"))
 SEED = os.environ.get("SEED", "1")
 HEAD = "cdlam adc 1 1 5 12\nservice adc within 9 cycles event 9 words {\n"
-# What stands in a service, and how it is laid out.
+# What is in a service, and how it is laid out.
 BODIES = [
     ("put 1  put 2", "  put 1\n  put 2\n"),
     ("put(1+2)*3-4/5", "  put (1 + 2) * 3 - 4 / 5\n"),

@@ -1,9 +1,9 @@
 #!/usr/bin/env python3
-"""Tries ./camac and ./install where something is missing or named wrongly, and what ./install says and makes for other programs.
+"""Tries ./camac and ./install with missing tools and wrong names, and the lines and files of ./install for other programs.
 
 usage: tests/install_test.py [-v] [TEST ..]     from any folder; takes half a minute
 
-Nothing is built: the program is crates/camac/out/camac, or what the environment variable CAMAC_PROGRAM names. It stands in a copy of the
+Nothing is built: the program is crates/camac/out/camac, or what the environment variable CAMAC_PROGRAM names. It is in a copy of the
 repository where a build keeps it.
 """
 import os
@@ -134,7 +134,7 @@ class Lacking(Case):
 
 @unittest.skipUnless(all(map(shutil.which, OF_ARCHIVES["--deb"])), "no tools of Debian")
 class DebianPackage(Case):
-    """It has the library where that is here to be put in."""
+    """It has the library if that is here to be put in."""
 
     def make(self, place, umask):
         tools = self.path(*OF_LAUNCHER, *OF_INSTALLER, *OF_ARCHIVES["--deb"], "tar")
@@ -162,7 +162,7 @@ class DebianPackage(Case):
 
 
 class Beside(Case):
-    """The library is built beside the program where processors are idle. What builds them are stand-ins, which wait for each other."""
+    """The library is built beside the program where processors are idle. Stand-ins build them, which wait for each other."""
 
     def find(self, is_idle, program, library):
         """Status and standard error of what finds both; and the room in which the stand-ins do these lines."""

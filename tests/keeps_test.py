@@ -4,9 +4,9 @@ out; and against the independent reader of tools/oracle.
 
 usage: tests/keeps_test.py [--whole] [-v] [TEST ..]     from any folder; takes some seconds
 
-With --whole all of it is tried and the figures are told: 300 accepted scripts made at random that keep something, and 300 that are refused without
-it. That takes about five minutes. Where the library for C is there (tests/support/of_c.py), it judges, else the program: crates/camac/out/camac (cd crates/camac && rt
-run makes it), or what the environment variable CAMAC_PROGRAM names. CAMAC_SEED is another seed than the usual one.
+With --whole all of it is tried and the figures are printed: 300 accepted scripts made at random that keep something, and 300 that are refused without
+it. That takes about five minutes. If the library for C is there (tests/support/of_c.py), it judges, else the program: crates/camac/out/camac (cd
+crates/camac && rt run makes it), or what the environment variable CAMAC_PROGRAM names. CAMAC_SEED is another seed than the usual one.
 """
 import functools
 import json
@@ -49,9 +49,9 @@ from oracle.reader.refusals import Refused
 
 SEED = os.environ.get("CAMAC_SEED") or "camac"
 HERE = TOP / "tests/loops"
-# The sample of the gate: one loop of so many, and so many scripts; and how many scripts the whole has.
+# The sample of the gate: one of this number of loops, this number of scripts; and the scripts of the whole.
 EVERY, SAMPLES, WHOLE = 5, 20, 300
-# What no range and no change of a statement helps, as somebody who knows camac says: another script does.
+# Loops that no range and no change of a statement helps, by the judgement of an expert: another script does.
 LEFT = {
     "exponential_mean_by_parts", "fibonacci", "follow_the_place", "moving_sum_of_three", "ramp_that_is_too_long", "scaled_mean", "time_between_pulses",
 }
@@ -85,7 +85,7 @@ is_whole = False
 
 @functools.lru_cache(maxsize=None)
 def judge():
-    """Who judges: the library, where it is there, else the program."""
+    """Who judges: the library, if it is there, else the program."""
     if of_c.lacking():
         return PROGRAM
     os.environ.update(of_c.environment())
@@ -162,7 +162,7 @@ class Loops(unittest.TestCase):
                 self.assertEqual((told.accepted, told.text[:9]), (False, "refused E"))
 
     def test_solved(self):
-        """What is proposed is accepted as it stands, and no range is wider than the expert's, as a rule."""
+        """What is proposed is accepted as it is, and no range is wider than the expert's, as a rule."""
         solved, left, wider, calls = 0, set(), set(), []
         for name, plan, ranges, text in list(rows())[:: 1 if is_whole else EVERY]:
             found = propose(plan, text, judge())
@@ -184,7 +184,7 @@ class Loops(unittest.TestCase):
 
     def test_events_stay_the_same(self):
         """A script with guards and with other comparisons does what it did before, for the greatest words, the least ones, and some by chance; with other
-        differences, where none is below 0."""
+        differences, if none is below 0."""
         dice, tried = random.Random(SEED), 0
         for name, plan, _, text in list(rows())[:: 1 if is_whole else EVERY]:
             found = propose(plan, text, judge())
@@ -400,7 +400,7 @@ class Proposed(Case):
                 self.assertEqual((found.applied(text), found.remaining is None), (text, body == ["put 1"]))
 
     def test_headings(self):
-        """Headings that are too small are proposed, too, where nothing else is in the way. Ranges that make a bound small enough come first."""
+        """Headings that are too small are proposed, too, if nothing else is in the way. Ranges that make a bound small enough come first."""
         text = script(["for i = 1 to 2 { k = i }", "put k", "cclc adc"], 2, 0)
         self.assertEqual([it.text for it in self.proposed(text).proposals], ["service adc within 3 cycles event 1 words", "for i = 1 to 2 keep k in 0..2 {"])
         text = script(["for i = 1 to 2 { k = i }", "if k > 2 { cclc adc }"], 0, 0)
@@ -419,8 +419,6 @@ class Proposed(Case):
 
 
 class Command(Case):
-    """The command line."""
-
     def command(self, *words):
         env = {**os.environ, "PYTHONPATH": str(TOP / "python"), "CAMAC_PROGRAM": PROGRAM, "PYTHONDONTWRITEBYTECODE": "1"}
         words = [sys.executable, "-m", "camac", "check", *map(str, words)]

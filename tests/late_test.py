@@ -1,9 +1,7 @@
 #!/usr/bin/env python3
-"""Tests of what is told of how late services are: the lines of `camac response`, the picture, and the part of the report.
+"""Tests of how late services are said to be: the lines of `camac response`, the picture, and the part of the report.
 
 usage: tests/late_test.py [-v] [TEST ..]     from any folder; takes a few seconds
-
-The program is crates/camac/out/camac (cd crates/camac && rt run makes it), or what the environment variable CAMAC_PROGRAM names.
 """
 import contextlib
 import io
@@ -43,7 +41,7 @@ class Service:
         first = max((it.cycles for it in all_of_them if it.gl > self.gl), default=0)
 
         def least(calls, bits):
-            """The least number that stands still, or None above a limit."""
+            """The least number that still serves, or None above a limit."""
             e = 0
             while e < 100_000:
                 wanted = first + calls * self.cycles + sum(it.calls(e) * it.cycles for it in all_of_them if it.gl in bits)
@@ -66,7 +64,7 @@ def chosen(chance):
 
 
 def ends_of(responses, operations):
-    """By bit, how late each of its services ended, and None where a rate was broken before in its stretch; and the first that broke one
+    """By bit, how late each of its services ended, and None if a rate was broken before in its stretch; and the first that broke one
     (bit, call, cycles). Each is found anew from the whole run."""
     of, found = {it.gl: it for it in responses}, {it.gl: ([], []) for it in responses}
     for last, (gl, cycles) in enumerate(operations):
@@ -147,8 +145,6 @@ class Pieces(unittest.TestCase):
 
 
 class Watched(unittest.TestCase):
-    """What a run shows."""
-
     def test_by_hand(self):
         """Veto may call again after 15 cycles, strip after 6."""
         its = (VETO, STRIP, SPILL)
@@ -220,7 +216,7 @@ class Shown(laboratory.BenchCase):
         return laboratory.Page((self.room / "run.html").read_text(encoding="utf-8"))
 
     def operations(self):
-        """The bit and the cycles of each service of the bench's run, and (0, 0) where none was called."""
+        """The bit and the cycles of each service of the bench's run, and (0, 0) if none was called."""
         found = []
         for line in laboratory.call("run", *self.files, self.room / "run.events").splitlines():
             words = line.split()
@@ -308,7 +304,7 @@ class Shown(laboratory.BenchCase):
         self.assertFalse(out.exists())
 
     def test_names_that_would_harm(self):
-        """Whatever stands in a name, or in the name of a file, harms nobody."""
+        """Whatever is in a name, or in the name of a file, harms nobody."""
         harm = '</text></svg><script>"\'&\x00\x1b'
         canvas = pictures.draw_response([it._replace(name=harm) for it in (VETO, STRIP, SPILL, SLOW)])
         ElementTree.fromstring(canvas.picture())

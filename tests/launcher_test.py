@@ -32,7 +32,6 @@ COPY = None
 
 
 def setUpModule():
-    """Copies the repository."""
     global ROOM, COPY
     ROOM = tempfile.TemporaryDirectory(prefix="camac-launcher-")
     COPY = pathlib.Path(ROOM.name) / "a copy"

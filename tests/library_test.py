@@ -1,12 +1,10 @@
 #!/usr/bin/env python3
-"""Tries the library for C: headers, calls and codes, the examples, the Python module over it, and the package. What a session, `camac_run` and
-the program make of the same answers has to be the same, byte for byte.
+"""Tries the library for C: headers, calls and codes, the examples, the Python module over it, and the package. A session, `camac_run` and
+the program have to write the same for the same answers, byte for byte.
 
 usage: tests/library_test.py [-v] [TEST ..]     from any folder; takes a minute or two on four cores
 
-It needs gcc and the archive that tests/support/of_c.py names, else all is left out. The program is crates/camac/out/camac (cd crates/camac && rt run
-makes it), or what the environment variable CAMAC_PROGRAM names.
-"""
+It needs gcc and the archive that tests/support/of_c.py names, else all is left out. """
 import collections
 import concurrent.futures
 import functools
@@ -37,10 +35,10 @@ from oracle.reader.plan import read_plan
 EXAMPLES = TOP / "examples"
 SAMPLE = EXAMPLES / "sample_plan.toml"
 HERE = TOP / "tests/library"
-# so many lists of answers for the scripts of examples, and for those of the folders in it
+# the lists of answers for each script of examples, and for each one of the folders in it
 LISTS, FEW_LISTS = 1000, 50
 OPENINGS = 1_000_000
-# so many scripts are played by a consumer
+# the scripts that are played by a consumer
 SCRIPTS = 1000
 MOST_KIB = 4096
 SHORT_PLAN = '''[[type]]
@@ -93,9 +91,9 @@ cam_inhibit_set 2 -> 1 1 000000 0 000000
 cam_lam_read 2 -> 1 1 000000 0 800004
 cam_lam_read 2 -> 1 1 000000 0 800004
 """
-# what `response` tells of a script's only service, of 3 cycles: its rate, and what was told of its end
+# the rate of a script's only service, of 3 cycles, and what `response` says of its end
 ONE_SERVICE = "service adc gl 3 cycles 3 {} start 0 end 3 {}longest 3\n"
-# what stands on which line is counted by hand in test_where_a_session_stands
+# test_where_a_session_stands has the numbers of these lines
 PLACES = """cdlam adc 1 1 5 12   cdlam reg 1 1 6 0
 var v n i
 proc read(k in 0..11) within 4 cycles event 0 words steps 4 {
@@ -134,12 +132,12 @@ def call(*words, **how):
 
 
 def names(*words):
-    """The names that nm tells."""
+    """The names that nm prints."""
     return {it.split()[-1] for it in call("nm", *words)[1].splitlines() if len(it.split()) > 1}
 
 
 def accepted_script(number):
-    """A plan and a script that a seed makes; None where it is refused."""
+    """A plan and a script that a seed makes; None if it is refused."""
     random = Random(f"library/{number}")
     plan = make_plan(random)
     script = make_script(random, read_plan(plan))
@@ -201,7 +199,7 @@ class Headers(Case):
         self.assertEqual(len(items[0]), 5)
 
     def test_manual_page(self):
-        """It has the loop of the header and the prototypes and codes that stand there."""
+        """It has the loop of the header and the prototypes and codes that are there."""
         header, page = (TOP / "include/camac/camac.h").read_text(), (TOP / "man/camac.3").read_text()
         synopsis, example = page.partition(".Sh SYNOPSIS")[2].partition(".Sh")[0], page.partition("-offset indent\n")[2].partition(".Ed")[0]
         self.assertIn("".join(f" *     {line}\n" for line in example.splitlines()), header)
@@ -283,7 +281,7 @@ class Calls(Case):
         self.assertEqual(call(program, SAMPLE, EXAMPLES / "straight_line.script"), (library.MISUSE, told))
 
     def test_a_run_in_cpp(self):
-        """It is played once, and twice where it tells much more than its answers let expect."""
+        """It is played once, and twice if it prints much more than its answers let expect."""
         program = of_c.compiled(self.room, "runs", HERE / "runs.cpp")
         many = "var i\ncdlam adc 1 1 5 12\nservice adc within 0 cycles event 4096 words { for i = 1 to 4096 { put i } }\n"
         for runs, its, answers in ((1, STRAIGHT_LINE, "0 0 000000 0 000004\n1 1 123fff 0 000000\n" * 2000), (2, many, "0 0 000000 0 000004\n")):
@@ -350,7 +348,7 @@ class Python(Case):
         self.assertEqual((str(found.exception), found.exception.status), ("fault input too long", 3))
 
     def test_in_the_place_of_the_program(self):
-        """What the package is told by the program and by the library is the same, byte for byte and fault for fault."""
+        """The package gets the same from the program and from the library, byte for byte and fault for fault."""
         odd = self.room / "odd.script"
         odd.write_bytes(STRAIGHT_LINE.replace("within 3 cycles", "within 0 cycles").replace("{", "{ # \xe9", 1).encode("latin-1"))
         plan = self.write("bad.toml", "[[types]]\n")
@@ -454,7 +452,7 @@ class Python(Case):
             self.assertEqual(library.events(runs[1][2]).text.splitlines()[-1], f"events {failing}")
 
     def test_threads(self):
-        """A session that another thread closes is closed, and one that is open is never told to be closed."""
+        """A session that another thread closes is closed, and an open one never answers as closed."""
         self.addCleanup(sys.setswitchinterval, sys.getswitchinterval())
         sys.setswitchinterval(1e-5)
         for _ in range(100):

@@ -3,8 +3,6 @@
 program answers is compared with the independent reader of tools/oracle.
 
 usage: tests/limits_test.py [-v] [TEST ..]     from any folder; takes some seconds
-
-The program is crates/camac/out/camac (cd crates/camac && rt run makes it), or what the environment variable CAMAC_PROGRAM names.
 """
 import pathlib
 import sys

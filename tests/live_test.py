@@ -2,8 +2,6 @@
 """Tests of live runs with the program: `camac drive` over pipes, `camac.drive` of the Python package, and its branch without hardware.
 
 usage: tests/live_test.py [-v] [TEST ..]     from any folder; takes about half a minute
-
-The program is crates/camac/out/camac (cd crates/camac && rt run makes it), or what the environment variable CAMAC_PROGRAM names.
 """
 import contextlib
 import os
@@ -458,7 +456,7 @@ class Calls(Case):
             MockBranch.of_plan(self.plan(), {(1, 7): Adc()})
 
     def test_state_of_the_crate(self):
-        """After Z nothing calls and nothing is triggered; a disabled demand output hides a look-at-me, and the controller still tells it."""
+        """After Z nothing calls and nothing is triggered; a disabled demand output hides a look-at-me, and the controller still shows it."""
         branch = MockBranch.of_plan(self.plan(), {(1, 5): Adc()}, [[(1, 5)]] * 9)
         self.assertEqual(branch.demand().gl, 4)
         branch.cycle(1, 30, 10, 24, None)

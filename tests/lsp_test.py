@@ -3,7 +3,7 @@
 
 usage: tests/lsp_test.py [--whole] [-v] [TEST ..]     from any folder; takes half a minute
 
-With --whole ten thousand edits are made, in place of 400, and the figures are told: the median time of an answer, and the memory. Where the library for C is
+With --whole ten thousand edits are made, in place of 400, and the figures are printed: the median time of an answer, and the memory. Where the library for C is
 there (tests/support/of_c.py), it judges, else the program: crates/camac/out/camac (cd crates/camac && rt run makes it), or what CAMAC_PROGRAM names.
 """
 import json
@@ -31,7 +31,7 @@ PARSE_ERROR, INVALID_REQUEST, METHOD_NOT_FOUND, INVALID_PARAMS = -32700, -32600,
 NOT_INITIALIZED, CANCELLED, FAILED = -32002, -32800, -32803
 ENVIRONMENT = {"CAMAC_PROGRAM": PROGRAM} if of_c.lacking() else {"CAMAC_PROGRAM": "", **of_c.environment()}
 EDITS = 400
-# An answer takes so many seconds of the processor at most, on 4,096 statements, and so many times as much where others use the same processor.
+# The most processor seconds of an answer on 4,096 statements, and the factor if others use the same processor.
 LIMIT, BUSY = 0.05, 3
 LONG = "cdlam adc 1 1 5 12\nvar v0 v1 v2 v3 v4 v5 v6 v7\nservice adc within 99999 cycles event 4096 words {\n  cdreg r 1 1 5 0\n"
 LONG += "".join(f"  cfsa 0 r -> v{it % 8}\n" if it % 2 else f"  put v{it % 8} + 1\n" for it in range(4095)) + "}\n"
@@ -47,8 +47,6 @@ def setUpModule():
 
 
 class Served(Case):
-    """A test with a server."""
-
     def setUp(self):
         super().setUp()
         self.client = self.start()
@@ -62,7 +60,7 @@ class Served(Case):
         return self.client.open(self.room / name, text, **how)
 
     def shown(self, uri, version=None):
-        """The diagnostics of the last version, or another: lines and columns, codes, and the text that they stand at."""
+        """The diagnostics of the last version, or another: lines and columns, codes, and the text that they are at."""
         return [(it["range"]["start"]["line"], it["range"]["start"]["character"], it["range"]["end"]["character"], it["code"]) for it in self.client.found(uri, version)]
 
     def warned(self, uri, count):
@@ -290,7 +288,7 @@ class Plans(Served):
 
 class Shown(Served):
     def test_refusals(self):
-        """Each stands at its statement or word, the first of each body, and goes with its mend."""
+        """Each is at its statement or word, the first of each body, and goes with its mend."""
         for text, wanted in [
             (SCRIPT, []),
             (SCRIPT.replace("put s", "puts s"), [(5, 2, 6, "S5")]),

@@ -1,10 +1,10 @@
 #!/usr/bin/env python3
-"""Tries whether the mends help that explanations tell: scripts are broken at random, each mend that a program can apply is applied, and the refusal of
-the case has to be gone.
+"""Tries whether the fixes of explanations help: scripts are broken at random, each mend that a program can apply is applied, and the refusal of the case
+has to be gone.
 
 usage: tests/mends_test.py [--whole] [-v] [TEST ..]     from any folder; takes ten seconds of the processor
 
-With --whole 2,000 refusals are tried, in place of 800. SEED begins them, 1 where it is not set. Where the library for C is there (tests/of_c.py), it
+With --whole 2,000 refusals are tried, in place of 800. SEED begins them, 1 if it is not set. If the library for C is there (tests/of_c.py), it
 judges, else the program: crates/camac/out/camac (cd crates/camac && rt run makes it), or what CAMAC_PROGRAM names.
 """
 import collections
@@ -51,10 +51,10 @@ TROUBLES = [
     "while k > 0 turns 3 by t { k = k - 1 }", "for i = 1 to 3 keep k in 1..5 { k = 2 }", "for i = 0 to 9 keep k in 0..5 { k = k + 1 }", "for i = 1 to 9 { t = t + 1 } put i - t", "cfsa 0 r -> t put t * t",
     "for i = 1 to 9 { cfsa 0 r -> t k = k + t } put k", "cfsa 0 r -> t cfsa 0 r -> k put t + k", "cfsa 0 r -> t cfsa 16 r <- t + 1", "cssa 16 r <- 70000", "call get(i - 1)", "put t - 1",
 ]
-# Of these kinds of mends not all help today. The number is how many of a hundred do at least. `put i + 4294967295` is told of a loop that is not there; a
+# Of these kinds of mends not all help today. The number is how many of a hundred do at least. `put i + 4294967295` has the fix of a loop that is not there; a
 # variable that is kept, and that its loop does not write, is not found by --keeps; nor is one that has to stay above the right side of a difference.
 PARTLY = {"E16 --keeps": 0, "E8 --keeps": 60, "E4 --keeps": 80}
-# So many kinds are tried at least: else the texts of explanations are other ones than this test looks for.
+# The least number of kinds that are tried: else explanations have other texts than this test looks for.
 LEAST_KINDS = 28
 
 
@@ -63,7 +63,7 @@ def broken(chance):
     if chance.random() < 0.6:
         plan, script = None, SCRIPT + "".join(f"  {it}\n" for it in chance.sample(TROUBLES, chance.randrange(1, 4))) + "  cclc adc\n}\n"
     else:
-        # What is no ASCII stands in comments, and is left out.
+        # What is no ASCII is in comments, and is left out.
         plan, script = (lambda it: (it.plan, it.script.decode("ascii", "ignore")))(script_case(chance).inputs)
     it = chance.choice(tokens_of(script.encode()))
     kind = chance.randrange(12)
@@ -93,7 +93,7 @@ class Refused:
         return self.first and (self.first.code, self.first.line, self.first.sentence)
 
     def is_gone(self, edits):
-        """Whether the case is told no more, with a text that is changed so: lines may have come before it."""
+        """Whether the case is gone with a text that is changed so: lines may have come before it."""
         changed = edited(self.data, edits)
         more = sum(it.text.count("\n") for it in edits if it.start <= self.first.start)
         now = Refused(self.judge, changed).told()
@@ -161,7 +161,7 @@ class Refused:
             yield "E17 another variable", (Edit(0, 0, f"var {FRESH}\n"), Edit(its.start, its.start + len(name[0]), FRESH))
 
     def of_ranges(self, text):
-        """A range that is made wider, or what has to stand in it bounded: of an argument, and of what a loop keeps."""
+        """A range that is made wider, or what has to be in it bounded: of an argument, and of what a loop keeps."""
         its, sentence = self.first, self.first.sentence
         argument = re.match(r"Argument 1 may be (\d+)(?: to (\d+))?, and `(\w+)` takes (\d+) to (\d+)", sentence)
         if argument:
@@ -188,7 +188,7 @@ class Refused:
         return block is not None and not block.is_service
 
     def of_difference(self, text):
-        """The greatest number of the right side is added first, where one difference of two names stands in the statement."""
+        """The greatest number of the right side is added first, where one difference of two names is in the statement."""
         sides = re.findall(r"(\w+) - (\w+)", text)
         ranges = re.findall(r"(\d+) to (\d+)", self.first.sentence)
         if len(sides) == 1 and text.count("-") - text.count("->") - text.count("<-") == 1 and ranges:

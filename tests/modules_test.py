@@ -1,10 +1,8 @@
 #!/usr/bin/env python3
-"""Tries the kinds of modules in examples/modules: each file is taken as a plan, all types stand in one plan, docs/PLANS.md tells them as they are, and
+"""Tries the kinds of modules in examples/modules: each file is taken as a plan, all types are in one plan, docs/PLANS.md has them as they are, and
 the benches in examples/benches have no others.
 
 usage: tests/modules_test.py [-v] [TEST ..]     from any folder; takes a second
-
-The program is crates/camac/out/camac (cd crates/camac && rt run makes it), or what the environment variable CAMAC_PROGRAM names.
 """
 import os
 import re

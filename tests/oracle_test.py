@@ -3,8 +3,7 @@
 
 usage: tests/oracle_test.py [-v] [TEST ..]     from any folder; takes half a minute
 
-The program is crates/camac/out/camac (cd crates/camac && rt run makes it), or what the environment variable CAMAC_PROGRAM names. CAMAC_SEED
-is another seed than the usual one. A difference is told with its files, which are kept in out/oracle.
+CAMAC_SEED is another seed than the usual one. A difference is printed with its files, which are kept in out/oracle.
 """
 import os
 import pathlib
@@ -25,7 +24,7 @@ from oracle.reader.refusals import LeftOut
 
 SEED = os.environ.get("CAMAC_SEED") or "camac"
 SECONDS = 30
-# So many are compared on a slow computer, too: the usual seed has reached every code after 1,200.
+# The least number of cases, also on a slow computer: the usual seed has reached every code after 1,200.
 LEAST_CASES, MOST_CASES = 1_500, 6_000
 
 

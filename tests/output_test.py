@@ -1,5 +1,5 @@
 #!/usr/bin/env python3
-"""Tests of what the commands of the Python package write: whatever stands at the place of OUT, nothing of the user's is lost or half there.
+"""Tests of the output of the Python package's commands: whatever is at the place of OUT, nothing of the user's is lost or half there.
 
 usage: tests/output_test.py [-v] [TEST ..]     from any folder; takes a few seconds
 
@@ -124,7 +124,7 @@ class Outputs(Case):
         self.assertEqual((self.file("out.new"), self.text("out"), self.there()), (event_file(3)[0], self.table, ["out", "out.new"]))
 
     def test_inputs(self):
-        """An input is no OUT, under another name neither, nor where it is standard input."""
+        """An input is no OUT, under another name neither, nor if it is standard input."""
         (self.room / "link").symlink_to("run.events")
         self.write("listing", "unlock 1\n")
         for line in ("events run.events -o link", "events link -o run.events", "listing - -o listing <listing"):

@@ -3,8 +3,8 @@
 
 usage: tests/pictures_test.py [-v] [TEST ..]     from any folder; takes about a minute
 
-The program is crates/camac/out/camac (cd crates/camac && rt run makes it), or what the environment variable CAMAC_PROGRAM names. What needs
-Chromium is left out where that is not there. The pictures that are kept in tests/pictures are compared byte by byte; `tests/pictures_test.py --keep` writes them anew, to be looked at before they are committed.
+Tests in Chromium are left out if it is not installed. The pictures that are kept in tests/pictures are compared byte by byte; `tests/pictures_test.py
+--keep` writes them anew, to be looked at before they are committed.
 """
 import os
 import re
@@ -113,7 +113,7 @@ class Numbers(laboratory.BenchCase):
                 self.assertTrue(number(found) is value is None or abs(number(found) - value) < 0.051, (row, wanted))
 
     def test_histograms(self):
-        """What stands in the bins and in the lines of a panel, beside what is counted here: bins from 0 on, at most 128 of one width."""
+        """What is in the bins and in the lines of a panel, beside what is counted here: bins from 0 on, at most 128 of one width."""
         page = self.page
         counts = page.parts["Cycles and words of an event"]["counts"]
         names = [it.name for it in self.sums.services]
@@ -187,7 +187,7 @@ class Numbers(laboratory.BenchCase):
         self.assertEqual([row[0] for row in rows], ["agrees"] * 6)
 
     def test_checks_that_differ(self):
-        """Each number that is told twice, changed in one place."""
+        """Each number that is there twice, changed in one place."""
         services = camac.check(*self.files[:2])
         events = list(read_events(self.events))
         first = events[0]
@@ -221,7 +221,7 @@ class Numbers(laboratory.BenchCase):
         self.assertIn(f"{len(pairs)} events with both", page.parts["Two numbers of an event"]["texts"])
 
     def test_event_file(self):
-        """Of an event file alone the page tells what it holds, and the numbers are those of the listing."""
+        """Of an event file alone the page shows what it holds, and the numbers are those of the listing."""
         self.inputs = self.inputs._replace(source=self.events)
         made = report(self.inputs)
         page = laboratory.Page(made.text)
@@ -235,8 +235,6 @@ class Numbers(laboratory.BenchCase):
 
 
 class Costs(laboratory.BenchCase):
-    """The cost of each line."""
-
     def test_what_is_told_without_the_program(self):
         """The texts of which the kept pictures are drawn are those that the program prints."""
         plan, script, _ = self.files
@@ -556,8 +554,6 @@ class Kept(unittest.TestCase):
 
 @unittest.skipUnless(CHROMIUM, "Chromium is not here")
 class InChromium(laboratory.BenchCase):
-    """The page in a browser."""
-
     def opened(self, browser, text):
         browser.open(self.write("page.html", text))
         self.assertEqual(browser.said, [])

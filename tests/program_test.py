@@ -1,9 +1,7 @@
 #!/usr/bin/env python3
-"""Tries the built program as a user does: from folders, through pipes, with files that lack, and compares it with its pages.
+"""Tries the built program as a user does: from folders, through pipes, with missing files. Compares it with its pages.
 
 usage: tests/program_test.py [-v] [TEST ..]     from any folder; takes a few seconds
-
-The program is crates/camac/out/camac (cd crates/camac && rt run makes it), or what the environment variable CAMAC_PROGRAM names.
 """
 import errno
 import json
@@ -92,7 +90,7 @@ class Usage(Case):
             self.assertFalse((self.room / "e").exists())
 
     def test_words_of_response(self):
-        """What is wrong with the words is told before a file is read; of a service that is not there, once the script is accepted."""
+        """Wrong words are refused before a file is read; a service that is not there, once the script is accepted."""
         form = b"error: invalid value '%s' for '--%s <SERVICE=CYCLES>'\n"
         for words, told in [
             ("none none --every adc", form % (b"adc", b"every")),
@@ -184,7 +182,7 @@ class Version(Case):
 
 
 class Files(Case):
-    """Files that lack, folders in their place, inputs that are too long."""
+    """Missing files, folders in their place, inputs that are too long."""
 
     def test_inputs_that_lack(self):
         for words in (["plan", "none"], ["check", "none", "straight.script"], ["check", "@sample", "none"], ["events", "none"]):
@@ -416,7 +414,7 @@ class Kept(Case):
             self.assertEqual(self.file("e"), b"of an earlier run", name)
 
     def test_events_is_standard_error(self):
-        """A fault that is told there would stand in the event file."""
+        """A fault that is written there would be in the event file."""
         for command, there in (("run plan.toml straight.script answers", b"of an earlier run"), ("drive plan.toml straight.script", b"")):
             for name in ("e", "soft", "/dev/stderr", "/proc/self/fd/2"):
                 (self.room / "soft").unlink(missing_ok=True)

@@ -2,8 +2,6 @@
 """Tests of python/camac: event files are read, and refused, as `camac events` reads and refuses them.
 
 usage: tests/python_test.py [-v] [TEST ..]     from any folder; takes a few seconds
-
-The program is crates/camac/out/camac (cd crates/camac && rt run makes it), or what the environment variable CAMAC_PROGRAM names.
 """
 import io
 import itertools

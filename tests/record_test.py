@@ -146,7 +146,7 @@ camac.drive("@sample", {str(SCRIPT)!r}, Killed(), "run.events", program={PROGRAM
             self.drive(branch(1), record=self.room / "none/run.json")
         self.assertIn("none/run.json: No such file or directory", caught.exception.text)
         self.assertEqual([*self.room.iterdir()], [])
-        # a record that cannot be written at the end: the events are there, and the end of the run is told
+        # a record that cannot be written at the end: the events are there, and the end of the run is shown
         class Gone(MockBranch):
             def demand(its):
                 if self.record.is_file():
@@ -181,7 +181,7 @@ camac.drive("@sample", {str(SCRIPT)!r}, Killed(), "run.events", program={PROGRAM
             self.assertTrue(str(caught.exception).startswith(f"{self.record} is no record of a run"), caught.exception)
 
     def test_report(self):
-        """It writes a record that tells no time, writes over its own alone, and refuses before any work."""
+        """It writes a record without times, writes over its own alone, and refuses before any work."""
         self.drive(branch(3))
         call = [sys.executable, "-m", "camac", "report", PLAN_FILE, SCRIPT, self.events, "-o", "page.html", "--record", "run.json"]
         environment = {**os.environ, "PYTHONPATH": str(TOP / "python"), "CAMAC_PROGRAM": PROGRAM}

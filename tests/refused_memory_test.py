@@ -1,11 +1,10 @@
 #!/usr/bin/env python3
 """Refuses each allocation of the built program in turn, one alone and all from one on. The program has to end as 'fault memory', status 3,
-with nothing written; or, where it does without that allocation (a list that is made in smaller steps), as it does with ample memory.
+with nothing written; or, if it does without that allocation (a list that is made in smaller steps), as it does with ample memory.
 
 usage: tests/refused_memory_test.py [-v] [TEST ..]     from any folder; takes some seconds
 
-The program is crates/camac/out/camac (cd crates/camac && rt run makes it), or what the environment variable CAMAC_PROGRAM names. A small
-library in front of the C library's allocator answers null; it is compiled here by cc or clang.
+A small library in front of the C library's allocator answers null; it is compiled here by cc or clang.
 """
 import pathlib
 import shutil
@@ -142,7 +141,7 @@ class RefusedMemory(unittest.TestCase):
         subprocess.run([compiler, "-shared", "-fPIC", "-O1", "-o", cls.library, str(cls.room / "refuse.c"), "-ldl"], check=True)
 
     def ended(self, words, given, **environment):
-        """Returns the status, what was written to both outputs, and the event file, or None where there is none."""
+        """Returns the status, what was written to both outputs, and the event file, or None if there is none."""
         events = self.room / "run.events"
         events.unlink(missing_ok=True)
         environment = {"PATH": "/usr/bin:/bin", "LD_PRELOAD": self.library, **environment}

@@ -2,8 +2,6 @@
 """Tests of `python3 -m camac report` and of the other commands: each input, each end of a run, statuses, sizes and times.
 
 usage: tests/report_test.py [-v] [TEST ..]     from any folder; takes about a minute
-
-The program is crates/camac/out/camac (cd crates/camac && rt run makes it), or what the environment variable CAMAC_PROGRAM names.
 """
 import contextlib
 import io
@@ -257,7 +255,7 @@ class Commands(laboratory.BenchCase):
             self.assertIn("none", self.call("draw", "plan", plan, "-o", out, status=3)[1])
 
     def test_a_fault_of_the_program(self):
-        """Its second line, which names the file, is told in the same line."""
+        """Its second line, which names the file, is put into the same line."""
         fake = self.write("fake", "#!/bin/sh\nprintf 'fault read\\n  plan.toml: Is a directory\\n' >&2\nexit 3\n")
         fake.chmod(0o755)
         with mock.patch.dict(os.environ, {"CAMAC_PROGRAM": str(fake)}):
@@ -330,7 +328,7 @@ class Pages(unittest.TestCase):
     """The manual pages and the completions of the commands of the package, compared with their help."""
 
     def options(self, command):
-        """Each option as it stands in the help: its short name, if it has one, and its long one."""
+        """Each option as it is in the help: its short name, if it has one, and its long one."""
         told = ran(command, "--help")[1]
         self.assertTrue(told.startswith(f"usage: camac-{command} "), told)
         return re.findall(r"^  (?:-(\w)(?: [A-Z]+)?, )?--(\w+)", told, re.M)

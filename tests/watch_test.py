@@ -4,8 +4,7 @@ and to whom; and the page in a browser.
 
 usage: tests/watch_test.py [-v] [TEST ..]     from any folder; takes some seconds
 
-The program is crates/camac/out/camac (cd crates/camac && rt run makes it), or what the environment variable CAMAC_PROGRAM names. What needs
-Chromium is left out where that is not there.
+Tests in Chromium are left out if it is not installed.
 """
 import dataclasses
 import http.client
@@ -78,7 +77,7 @@ class Following(Case):
         return self.follower.counts.events
 
     def check(self, wanted):
-        """What is counted is what stands in these events."""
+        """What is counted is what is in these events."""
         counts = self.follower.counts
         self.assertEqual(counts.events, len(wanted))
         for gl, its in counts.bits.items():
@@ -161,7 +160,7 @@ class Following(Case):
         self.assertEqual(self.poll(), 3)
 
     def test_wrong_field(self):
-        """The events before a fault stay, and the fault is told, until another file comes."""
+        """The events before a fault stay, and the fault is reported, until another file comes."""
         its = events(20)
         place = 8 + sum(map(len, map(record, its)))
         self.add(NEW_FILE + b"".join(map(record, its)) + b"\xca\x4e" + bytes(14))

@@ -3,7 +3,7 @@
 
 usage: tests/words_test.py [-v] [TEST ..]     from any folder, over a built program; takes some seconds
 
-What needs numpy or h5py is left out where these are not there (Debian's packages python3-numpy and python3-h5py).
+Tests with numpy or h5py are left out if these are not installed (Debian's packages python3-numpy and python3-h5py).
 """
 import contextlib
 import csv
@@ -76,8 +76,6 @@ def text_of(events):
 
 
 class OfFile(Case):
-    """Files of words."""
-
     def read(self, text):
         return parse_words(text.encode(), "words.toml", SERVICES)
 
@@ -159,7 +157,7 @@ class OfFile(Case):
 
 
 class Told:
-    """A branch whose words tell where they were read: crate, station and sub-address in a byte each. Sub-addresses from `ends` on answer Q = 0."""
+    """A branch whose words say where they were read: crate, station and sub-address in a byte each. Sub-addresses from `ends` on answer Q = 0."""
 
     def __init__(self, gl, count, ends):
         self.gl, self.count, self.ends = gl, count, ends
@@ -195,7 +193,7 @@ type = "ADC"
 
 
 class OfScript(Case):
-    """Names that a script gives: each word of a run tells where it was read, and so has to tell its name."""
+    """Names that a script gives: each word of a run says where it was read, and so has to say its name."""
 
     def told(self, body, ends=12):
         text = "proc one(n in 3..4, a in 0..11) within 100 cycles event 1 words steps 999 { cdreg r 1 2 n a  cfsa 0 r -> a  put a }\n"
@@ -245,7 +243,7 @@ class OfScript(Case):
         channels = [f"{n} A{a} @{12 * (n - 3) + a + 1}" for n in (3, 4) for a in range(12)]
         self.assertEqual(self.names(*scan), ([*channels, "line 8: t @25"], [25, 25]))
         self.assertEqual(self.names(*scan[:1], "cdreg s 1 2 3 11", "cfmad 0 r s max 8 tally t")[0], [f"3 A{a} @{a + 1}" for a in range(8)])
-        # a scan that ends early has fewer words, of which nothing is told
+        # a scan that ends early has fewer words, which have no names
         self.assertEqual(self.names(*scan, ends=5)[1], [11, 11])
         self.assertEqual(self.names(*scan[:2], "cfmad 0 r s max 20 tally t", "put t")[0], ["line 8: t @21"])
         self.assertEqual(self.names("cdreg r 1 2 3 2", "cfubc 0 r max 5 tally t", "put t"), (["3 A2 @1..5", "line 7: t @6"], [6, 6]))
@@ -360,7 +358,7 @@ class Export(Case):
         self.assertTrue(self.call("run.events", "-o", "c.csv", "--plan", "@sample", "--script", "bad.script", status=1).startswith("refused "))
 
     def test_sources_of_scans(self):
-        """Behind a scan they are told in whole events alone, by numpy as without it."""
+        """Behind a scan they are named in whole events alone, with numpy as without it."""
         text = self.write("a.script", script(["cdreg r 1 1 5 0", "cfsa 0 r -> v", "put v", "cdreg s 1 1 5 11", "cfmad 0 r s max 12 tally t", "put t"], 99, 14))
         for ends in (12, 5):
             camac.drive("@sample", text, Told(4, 2, ends), self.room / f"{ends}.events", program=PROGRAM)

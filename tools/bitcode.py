@@ -1,8 +1,8 @@
-"""The bitcode that the kit's quick run gives, as LLVM's text: without what a proof makes needless, with the hints of the sources, and in parts
+"""The bitcode of the kit's quick run, as LLVM's text: without the tests that a proof makes needless, with the hints of the sources, and in parts
 that are compiled side by side.
 
 In the text of a module each global value is a line that begins with `@`, and each function begins with a line `define` and ends with a line
-that is `}`. The functions that are not internal are the beginnings of all that is reached. All global values are constants without an address
+that is `}`. The functions that are not internal reach all others that count. All global values are constants without an address
 of their own.
 """
 import bisect
@@ -11,14 +11,14 @@ import itertools
 import os
 import re
 
-# The calls of tests of arithmetic, of casts and of values that are read; what each local variable is filled with. That a line begins is looked for as
-# the end of the one before: so it takes a quarter of the time.
+# The calls of tests of arithmetic, of casts and of values that are read; the bytes that fill each local variable. The pattern begins with the end of
+# the line before: so it takes a quarter of the time.
 NEEDLESS = [
     (re.compile(r'\n  call void @"rattle-(?:llvm-checks::\w+"\(i8 [^)]*\)|try::site-\d+"\(\))(?=\n)'), ""),
     (re.compile(r"\n  call void @llvm\.memset\.p0\.i64\(ptr %r\d+, i8 -86, i64 \d+, i1 false\)(?=\n)"), ""),
     (re.compile(r"\n(attributes #\d+ = \{) \}"), r"\n\1 nounwind }"),
 ]
-# What is there for a sanitizer.
+# The parts for a sanitizer.
 WORDS_OF_SANITIZERS = (" sanitize_address", ' "frame-pointer"="all"')
 HINT = re.compile(r"#\[(inline\(always\)|inline\(never\)|inline|cold)\](?:\s*#\[[^\]]*\]|\s*//[^\n]*)*\s*(?:pub(?:\([^)]*\))? )?(?:(?:const|unsafe|final) )*fn (\w+)")
 WORDS = {"inline": "inlinehint", "inline(always)": "alwaysinline", "inline(never)": "noinline", "cold": "cold noinline"}
@@ -26,12 +26,12 @@ NAME = re.compile(r'@("[^"]*"|[\w.$-]+)')
 FUNCTION = re.compile(r'\n(define internal [^\n]*?)@"([^"]+)"(\([^\n]*\)) #0 \{(?=\n)')
 # A function of fewer lines is compiled in each part that calls it, so that it may be taken in there.
 SMALL = 120
-# The crates of the kit whose functions are made anew for each use.
+# The crates of the kit whose functions are made for each use.
 LIBRARIES = {"core", "std", "std_alloc", "std_collections", "std_heap", "std_io", "arrayvec", "os"}
 
 
 def without_tests(text):
-    """The module without what stops the program where a proof would not hold."""
+    """The module without the stops that a proof excludes."""
     for word in WORDS_OF_SANITIZERS:
         text = text.replace(word, "")
     for needless, instead in NEEDLESS:
@@ -40,8 +40,8 @@ def without_tests(text):
 
 
 def hints(folders):
-    """What the sources say of functions: by its name the path of the module and the word of LLVM. `folders` hold crates. The methods of a type
-    may stand in modules below that of the type, so the path is that of the module around."""
+    """The hints of the sources on functions: by its name the path of the module and the word of LLVM. `folders` hold crates. The methods of a type
+    may be in modules below that of the type, so the path is that of the module around."""
     found = {}
     for folder in folders:
         for file in glob.glob(f"{folder}/*/src/**/*.rt", recursive=True):
@@ -102,7 +102,7 @@ class Module:
         return list(found)
 
     def parts(self, shares, first=frozenset()):
-        """The texts of modules which, linked, are what is reached of this one. Each has its share of what is no small function. The crates that come
+        """The texts of modules which, linked, are what is reached of this one. Each has its share of the functions that are not small. The crates that come
         first are in one part, as far as it takes them."""
         reached = self.reached(first)
         small = {it for it in reached if it in self.functions and self._is_small(self.functions[it])}
@@ -123,7 +123,7 @@ class Module:
         return head.startswith("define internal") and (function.count("\n") <= SMALL or head.endswith(" #900 {"))
 
     def _named(self, large, small):
-        """What these functions name, and what the small ones and the values among that name in turn."""
+        """The names in these functions, and in the small functions and values among these."""
         seen, left = set(), list(large)
         while left:
             for name in self.names[left.pop()] - seen:

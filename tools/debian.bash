@@ -67,7 +67,7 @@ fi
 TEXT
 }
 
-# What lintian would have in other packages.
+# Rules of lintian that other packages have to keep, and this one need not.
 debian_overrides() {
   cat <<TEXT
 # One package has the program, the library and its headers, as ./install puts them.

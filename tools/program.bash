@@ -1,11 +1,11 @@
 # Finds the program of these sources, for scripts of bash. They set `top`, the top of the repository, and call `find_program`. It sets
-# `program`, a file to be run, and `is_proved`, yes or no. Where there is none it says why, and answers 3. `find_library` does the same with
+# `program`, a file to be run, and `is_proved`, yes or no. If there is none it says why, and answers 3. `find_library` does the same with
 # the archive of the library for C: it sets `library` and `is_library_proved`. Scripts that want both set `with_library`, and call `end_library`
 # when they end.
 #
-# The proved program is crates/camac/out/camac, as `rt run` or `rt ci` leaves it, where it stands for these sources. Else it is one that
-# tools/quick_build made of them, which is kept in out/. What was found stands in out/found, with the second of the look at it, so that the next
-# call only has to see that nothing was touched since then. The library is found so, too: proved by `.ci/run` or ./install --prove,
+# The proved program is crates/camac/out/camac, as `rt run` or `rt ci` leaves it, if it is that of these sources. Else it is one that
+# tools/quick_build made of them, which is kept in out/. The file out/found has the last one, with the second of that look, so that the next
+# call only has to see that nothing was touched since then. The library is found so too: proved by `.ci/run` or ./install --prove,
 # else made by tools/quick_library and kept.
 
 source "$top/tools/untouched.bash" || return 3
@@ -18,7 +18,7 @@ refuse() {
   return 3
 }
 
-# Refuses where one of these tools is not here.
+# Refuses if one of these tools is not here.
 need() {
   local tool
   for tool in "$@"; do
@@ -26,34 +26,34 @@ need() {
   done
 }
 
-# The sum of a text. An empty one has none: what had to write it has failed.
+# The sum of a text. An empty one has none: its writer has failed.
 sum_of_text() {
   local sum
   sum=$(sha256sum) && [[ $sum != e3b0c44298fc1c149afbf4c8996fb924* ]] && echo "${sum%% *}"
 }
 
-# A sum of the names and texts of crates.txt and of the files below these folders. What editors leave beside a file is no part of it.
+# A sum of the names and texts of crates.txt and of the files below these folders. The backups of editors are no part of it.
 texts_of() {
   local sum
   sum=$(set -o pipefail && cd "$top" && LC_ALL=C find crates.txt "$@" -type f ! -name '.*' ! -name '*~' ! -name '#*' -print0 |
     LC_ALL=C sort -z | xargs -0 sha256sum | sum_of_text) && echo "${sum:0:32}"
 }
 
-# Writes a line into a file of out/ in one step. Where out/ cannot be written, the next call looks again.
+# Writes a line into a file of out/ in one step. If out/ cannot be written, the next call looks again.
 write_down() {
   { mkdir -p "$top/out" && echo "$2" >"$top/out/$1.$$" && mv "$top/out/$1.$$" "$top/out/$1"; } 2>/dev/null || true
 }
 
-# A sum of all texts that are proved, and one of what was made of them.
+# A sum of all texts that are proved, and one of the files that were made of them.
 proof_of() {
   local texts sum
   texts=$(cd "$top" && texts_of crates/*/{src,specs,proofs}) && sum=$(sum_of_text <"$top/$1") && echo "$texts $sum"
 }
 
-# Whether what was proved, the program or the library, stands for these sources: none of them was touched since its proof began. `rt run`
-# leaves a stamp that ends with the program's sum, only where nothing was changed while it proved and built; `rt ci` opens its lock anew when
-# it begins, and sets aside what was built before. (Of that time whole seconds count, since clocks of files are coarse.) What was found to be
-# proved is written down in a file of out/, since times also change where texts do not.
+# Whether the proved program or library is that of these sources: none of them was touched since its proof began. `rt run`
+# leaves a stamp that ends with the program's sum, only if nothing was changed while it proved and built; `rt ci` opens its lock anew when
+# it begins, and sets aside what was built before. (Of that time whole seconds count, since clocks of files are coarse.) A file of out/ notes
+# what was found to be proved, since times may change while texts do not.
 stands_proved() {
   local made=$1 note=$2 proof known= since younger
   [ -r "$top/$made" ] && proof=$(proof_of "$made") || return
@@ -69,7 +69,7 @@ stands_proved() {
   write_down "$note" "$proof"
 }
 
-# Finds what a tool makes of these texts, which is kept under a name with this begin and end, or has it made. It sets `kept`.
+# Finds the file that a tool made of these texts, kept under a name with this begin and end, or has it made. It sets `kept`.
 find_kept() {
   local tool=$1 begin=$2 end=$3 texts kit status
   shift 3

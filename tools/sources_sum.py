@@ -1,11 +1,10 @@
 #!/usr/bin/env python3
-"""The sum of the sources that the gate has passed, which stands in the file crates.sum.
+"""The sum of the sources that the gate has passed, which is in the file crates.sum.
 
 usage: tools/sources_sum.py [--write]
 
 A program that is built of sources with this sum needs no tests of its arithmetic: the gate proved that they never fail. Prints whether the sum is
-that of the sources here, status 0 or 1; with --write it is made that. A test of the gate compares both, so crates.sum is true of each state that
-has passed.
+that of the sources here, status 0 or 1; with --write it is written. A test of the gate compares both.
 """
 import hashlib
 import os

@@ -1,9 +1,9 @@
-# Tells whether the program that was found last still is the one of these sources. It stands apart from tools/program.bash, which finds it, since each
-# call of ./camac reads it. The script that does sets `top`, the top of the repository.
+# Says whether the program that was found last is still the one of these sources. It is apart from tools/program.bash, which finds it, since each
+# call of ./camac reads it. That script sets `top`, the top of the repository.
 proved_program=crates/camac/out/camac
 
 # Whether a program was found with this command of the toolchain, and nothing that it is made of was touched since then. Names that came or went
-# show by their folders. Files of proofs do not count: what was proved stays so. It sets `is_proved`, `program`, and `rt`, the toolchain's command.
+# show by their folders. Files of proofs do not count: the proved program stays proved. It sets `is_proved`, `program`, and `rt`, the toolchain's command.
 is_untouched() {
   local since found_with name touched
   hash rt

@@ -1,15 +1,15 @@
-"""What stands around the program camac in Python.
+"""The Python package around the program camac.
 
-What the program prints is given as values: `plan`, `check`, `bounds`, `costs`, `response` and `run` call its subcommands. `warnings` tells
+It gives what the program prints as values: `plan`, `check`, `bounds`, `costs`, `response` and `run` call its subcommands. `warnings` says
 what is probably not meant, and `propose` what the loops of a refused script have to keep. `read_events` reads an event file and tests
-it as `camac events` does (`whole` and `whole_size`: one that was cut; `event_arrays`: as arrays, where numpy is). A branch driver in Python is
+it as `camac events` does (`whole` and `whole_size`: one that was cut; `event_arrays`: as arrays, if numpy is). A branch driver in Python is
 run by a checked script (`drive`, and `call` for one service once), and `camac.mock` has a branch without hardware. `play` does what `drive`
-does in this process, over the library for C (`camac.library`). Where no program is there, the library answers what needs no run. Both write a
-record of the run where it is asked for (`Recording`, `read_record`). `read_words` and `words_of_script` tell what the words of events mean.
+does in this process, over the library for C (`camac.library`). If no program is there, the library answers what needs no run. Both write a
+record of the run if it is asked for (`Recording`, `read_record`). `read_words` and `words_of_script` say what the words of events mean.
 `python3 -m camac` judges scripts, lays them out, compares what they may take, serves editors (`camac.lsp`), draws pictures, makes a report of a run, and
 exports events (`camac.pictures`, `camac.report`, `camac.export`).
 
-Python 3.8 or newer, and its standard library alone; numpy and h5py make arrays of events, where they are there."""
+Python 3.8 or newer, and its standard library alone; numpy and h5py make arrays of events, if they are there."""
 import importlib
 import os
 import re
@@ -21,7 +21,7 @@ from camac.drive import drive
 
 
 def _homes() -> Dict[str, str]:
-    """The module of each name of this package. They stand in __init__.pyi, as tools that look at types want them. Each module is loaded when
+    """The module of each name of this package. They are in __init__.pyi, as tools that look at types want them. Each module is loaded when
     a name of it is first asked for: all of them take four times as long as a judgement."""
     with open(os.path.join(os.path.dirname(__file__), "__init__.pyi"), encoding="utf-8") as stub:
         found = re.findall(r"^from (camac\.\S+) import (.+)$", stub.read(), re.M)

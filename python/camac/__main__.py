@@ -50,8 +50,8 @@ PLAN may be @sample, the built-in plan. The first bytes tell an event file from 
 
 
 class Source:
-    """What is drawn: the files, and what the program and a run say of them, each read once. A script or a run that is not given is an empty
-    one. `every` are the rates of modules, where it is drawn how late services can be; `naming` tells of the words of events, and `scale`
+    """The files of a picture, and what the program and a run say of them, each read once. A script or a run that is not given is an empty
+    one. `every` are the rates of modules, if it is drawn how late services can be; `naming` names the words of events, and `scale`
     how counts are drawn."""
 
     def __init__(
@@ -124,7 +124,7 @@ def _draw_words(of: Source) -> Dict[str, Canvas]:
     return {"": canvas}
 
 
-# Of each picture what draws it, and how many files it takes at least and at most.
+# By picture the function that draws it, and how many files it takes at least and at most.
 PICTURES: Dict[str, Tuple[Callable[[Source], Dict[str, Canvas]], int, int]] = {
     "plan": (_draw_plan, 1, 3),
     "bounds": (_draw_bounds, 2, 3),

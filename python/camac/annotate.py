@@ -7,7 +7,7 @@ from camac.program import lines_of
 
 ANSWER = 19
 NUMBER = "{:>7}  "
-# How what is annotated begins, where there is an answer.
+# The begin of an annotated line that has an answer.
 FIRST_LINE = NUMBER.format(1)
 
 
@@ -18,7 +18,7 @@ class _Answers:
         self.file, self.used = file, 0
 
     def beside(self, told: str) -> str:
-        """The next answer line with its number, and what is told of it."""
+        """The next answer line with its number, and the text before the line of the listing."""
         self.used += 1
         answer = self.file.readline().decode("utf-8", "replace").rstrip("\r\n")
         return f"{NUMBER.format(self.used)}{answer:<{ANSWER}}  {told}"
@@ -29,10 +29,10 @@ class _Answers:
 
 def annotate(plan: File, script: File, answers: File, program: Optional[File] = None) -> Iterator[str]:
     """Plays a script against answers, and yields a line for each operation: the number of its answer line, that line, and what the program
-    lists. Cycles and locks stand further right than the demands, whose services are counted. An answer that ended the run stands beside
-    the last line. Behind it, it is told how many answer lines were not used.
+    lists. Cycles and locks are further right than the demands, whose services are counted. An answer that ended the run is beside
+    the last line. The number of answer lines that were not used follows it.
 
-    Raises OSError where a file cannot be read, and Refused, UsageFault and ProgramFault as `camac.run`."""
+    Raises OSError if a file cannot be read, and Refused, UsageFault and ProgramFault as `camac.run`."""
     with open(answers, "rb") as file, tempfile.NamedTemporaryFile(suffix=".events") as events:
         its, services = _Answers(file), 0
         for line in lines_of("run", "--", plan, script, answers, events.name, program=program):

@@ -1,4 +1,4 @@
-"""Counts events that stand in arrays of numpy: what `camac.histograms` and `camac.runs` count of lists, in a small part of the time."""
+"""Counts events that are in arrays of numpy: what `camac.histograms` and `camac.runs` count of lists, in a small part of the time."""
 import importlib
 from typing import Any, Dict, Sequence, Tuple
 
@@ -7,7 +7,7 @@ from camac.histograms import Pairs, Series, Spectrum
 from camac.runs import Channel, Run
 from camac.scripts import Service
 
-# The squares of so many words of 24 bits add up to less than 2^64.
+# The squares of this number of words of 24 bits add up to less than 2^64.
 MOST_SQUARES = 1 << 15
 
 

@@ -1,4 +1,4 @@
-"""Event files as arrays of numpy, where numpy is there: an extra, which nothing else of this package needs."""
+"""Event files as arrays of numpy, if numpy is there: an extra, which nothing else of this package needs."""
 import importlib
 import io
 import os
@@ -8,14 +8,14 @@ from camac.events import (
     GREATEST_COUNT, GREATEST_GL, GREATEST_WORD, HEADER, MARKER, NEW_FILE, TWO, Event, EventFileFault, File, Path, read_events, read_from,
 )
 
-# So many events are counted at once as a list, so many bytes of a file as arrays, where the file has at least so many.
+# The events that are counted at once as a list, and the bytes of a file as arrays; a shorter file is counted as lists.
 BATCH, PIECE, LONG = 4096, 1 << 22, 1 << 20
 # An array of numpy, which need not be here.
 Array = Any
 
 
 class EventArrays(NamedTuple):
-    """All events of a file. Element k tells of event k + 1: its bit of the graded-L pattern, the dataway cycles that it cost, and how many
+    """All events of a file. Element k is of event k + 1: its bit of the graded-L pattern, the dataway cycles that it cost, and how many
     of them had no X. Its words are words[first[k]:first[k + 1]]. A file of version one has no cycles and no missed."""
 
     gl: Array
@@ -28,7 +28,7 @@ class EventArrays(NamedTuple):
 def event_arrays(file: File) -> EventArrays:
     """Reads an event file, named by its path or open for reading bytes, into arrays.
 
-    Raises EventFileFault at the first wrong field, OSError where the file cannot be read, and ImportError where numpy is not there."""
+    Raises EventFileFault at the first wrong field, OSError if the file cannot be read, and ImportError if numpy is not there."""
     numpy = importlib.import_module("numpy")
     if hasattr(file, "read"):
         data = file.read()
@@ -40,10 +40,10 @@ def event_arrays(file: File) -> EventArrays:
 
 
 def event_pieces(path: Path) -> Iterator[Union[EventArrays, List[Event]]]:
-    """The events of a file, many at once: in arrays where numpy is there, and the file is of version two, good so far, and long enough that
+    """The events of a file, many at once: in arrays if numpy is there, and the file is of version two, good so far, and long enough that
     numpy pays for its loading; else in lists. What comes before a fault is given before it is raised.
 
-    Raises EventFileFault at the first wrong field, and OSError where the file cannot be read."""
+    Raises EventFileFault at the first wrong field, and OSError if the file cannot be read."""
     with open(path, "rb") as file:
         numpy = _numpy() if os.fstat(file.fileno()).st_size >= LONG and file.read(HEADER) == NEW_FILE else None
         if numpy is None:
@@ -85,14 +85,14 @@ def batches(events: Iterable[Event]) -> Iterator[List[Event]]:
 
 def _records(numpy: Any, data: Any, number: int) -> Optional[Tuple[EventArrays, int]]:
     """The whole records of version two at the begin of these bytes, the first of this number, and how many bytes they take. A record begins where a
-    number of four bytes begins with the marker: no word does. None where there is none, or that is not the whole truth: the file is wrong, or
+    number of four bytes begins with the marker: no word does. None if there is none, or that is not the whole truth: the file is wrong, or
     another number looks like a marker."""
     head = TWO.head.size // 4
     numbers = numpy.frombuffer(data, ">u4", count=len(data) // 4).astype("u4")
     starts = numpy.flatnonzero(numbers >> 16 == MARKER)
     starts = starts[starts + head <= len(numbers)]
     counts = (numbers[starts + 3] & 0xFFFF).astype("i8") if len(starts) else starts
-    # What the last record lacks may stand in what was not read yet.
+    # The rest of the last record may not be read yet.
     is_whole = starts + head + counts <= len(numbers)
     starts, counts = starts[is_whole], counts[is_whole]
     if not len(starts):

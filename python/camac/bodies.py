@@ -29,8 +29,8 @@ class Row(NamedTuple):
     line, depth   of its first token; 1 in the body itself, 1 more in each block
     word          the statement's word: "cfsa", "if", "=" ..
     times         the most times that one service or call makes it
-    each          what one time costs at most, with what stands in its block
-    share         its part of the body's bound, without what stands in its block
+    each          what one time costs at most, with its block
+    share         its part of the body's bound, without its block
     about         what the program says of its place: "at 1 5 0..15", "at 1 5 0 to 1 6 3", "turns 4", "crate 1", "proc NAME", or ""
     waits, slack  of the cycles of its share: those that auxiliary controllers may take, and those that the headings of procedures promise
                   and their bodies do not need"""
@@ -46,7 +46,7 @@ class Row(NamedTuple):
     slack: int = 0
 
     def own(self) -> int:
-        """The cycles of one time without what stands in its block: of a `lock` the waits for it."""
+        """The cycles of one time without its block: of a `lock` the waits for it."""
         return self.each.cycles if self.word not in BLOCKS else self.share.cycles // self.times if self.times else 0
 
     def counted(self) -> int:
@@ -87,8 +87,8 @@ BLOCKS = frozenset(("if", "else", "for", "while", "lock"))
 def costs(plan: File, script: File, program: Optional[File] = None) -> List[Body]:
     """Returns the bodies of an accepted script, in the order of the text, with what each statement has of the bound.
 
-    Raises Refused where plan or script is refused, UsageFault where the program has no `costs`, ProgramFault where a file cannot be
-    read, and OSError where there is no program."""
+    Raises Refused if plan or script is refused, UsageFault if the program has no `costs`, ProgramFault if a file cannot be
+    read, and OSError if there is no program."""
     return parse_costs(output_of("costs", "--", plan, script, program=program))
 
 
@@ -123,7 +123,7 @@ def parse_costs(printed: str) -> List[Body]:
 
 
 def rows_of_line(printed: str, line: int) -> List[Row]:
-    """The rows of a line of the script, in their order, in what `camac costs` prints. Waits and slack are not told."""
+    """The rows of a line of the script, in their order, in what `camac costs` prints. Waits and slack are not in it."""
     found = re.findall(rf"(?m)^line {line} .*$", printed)
     return [_read_row(it) for it in map(ROW.fullmatch, found) if it]
 

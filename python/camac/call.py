@@ -12,9 +12,9 @@ def call(
 
     The first demand is answered with the bit of this service, and the second ends the run. No demand of the branch is asked for, so the
     crates may be as they are after power came: demand outputs disabled, look-at-mes too. `events` is a file for the event, which must not
-    hold bytes; where it is not given, the event is dropped.
+    hold bytes; if it is not given, the event is dropped.
 
-    Raises ValueError where the script has no service of this name, and for the rest what `drive` raises."""
+    Raises ValueError if the script has no service of this name, and for the rest what `drive` raises."""
     bits = {it.name: it.gl for it in check(plan, script, program)}
     if service not in bits:
         raise ValueError(f"the script has no service {service!r}, but {', '.join(bits) or 'none'}")

@@ -1,4 +1,4 @@
-"""Which columns the words of a run have: those of a file of the user's, else those of its script."""
+"""The columns of the words of a run: those of the user's file, else those of its script."""
 from dataclasses import dataclass
 from typing import List, Optional, Tuple
 
@@ -13,16 +13,16 @@ from camac.words import Column, Words
 
 @dataclass(frozen=True)
 class Naming:
-    """What a user says of the words of events: a file that tells them (words.toml), and two names that he wants against each other."""
+    """What a user says of the words of events: a file (words.toml), and two names to draw against each other."""
 
     file: Optional[File] = None
     pair: Optional[Tuple[str, str]] = None
 
 
 def ask(naming: Naming, inputs: Inputs, plan: Plan, services: List[Service]) -> Asked:
-    """The columns of a run. Answers tell the words of each module, so those of a script are asked for of an event file alone, and of a pair.
+    """The columns of a run. Answers show the words of each module, so those of a script are used for an event file alone, and for a pair.
 
-    Raises UsageFault where a name of the pair is none of a column, WordsFault, ProgramFault, and OSError where a file cannot be read."""
+    Raises UsageFault if a name of the pair is none of a column, WordsFault, ProgramFault, and OSError if a file cannot be read."""
     names = Words()
     if naming.file is not None:
         names = read_words(naming.file, services)

@@ -1,4 +1,4 @@
-"""`camac diff`: what each service may take before and after a change of the script, or of the plan; and which commands a plan gains and loses."""
+"""`camac diff`: what each service may take before and after a change, and which commands a plan gains and loses."""
 from typing import Dict, Iterator, List, Mapping, NamedTuple, Optional, Sequence, Set, Tuple
 
 from camac import functions
@@ -8,12 +8,12 @@ from camac.scripts import Response, Service, check, response
 from camac.texts import plan_text
 from camac.toml_places import with_commands
 
-# What is compared of a service, in the order in which it is told.
+# The quantities that are compared of a service, in the order in which they are printed.
 QUANTITIES = ("cycles", "words", "steps", "start", "end")
 
 
 class Bounds(NamedTuple):
-    """What a service may take at most, and the most cycles from its look-at-me to its begin and its end; None where there is no such number."""
+    """What a service may take at most, and the most cycles from its look-at-me to its begin and its end; None if there is no such number."""
 
     cycles: int
     words: int
@@ -23,7 +23,7 @@ class Bounds(NamedTuple):
 
 
 class Change(NamedTuple):
-    """A service before and after; None where it is not there."""
+    """A service before and after; None if it is not there."""
 
     name: str
     before: Optional[Bounds]
@@ -58,7 +58,7 @@ def bounds_of(plan: File, script: File, every: Mapping[str, int], program: Optio
 
 
 def changes(before: Dict[str, Bounds], after: Dict[str, Bounds]) -> List[Change]:
-    """The services of both, in the order of the new one; those that are gone stand last."""
+    """The services of both, in the order of the new one; those that are gone are last."""
     return [Change(name, before.get(name), after.get(name)) for name in [*after, *(it for it in before if it not in after)]]
 
 

@@ -16,7 +16,7 @@ if TYPE_CHECKING:
 
 File = Union[str, bytes, "os.PathLike[str]", "os.PathLike[bytes]"]
 GREATEST_LINE = 4096
-# So many requested cycles are kept as they were read.
+# The requested cycles that are kept as they were read.
 MOST_CYCLES = 4096
 GREATEST = {"x": 1, "q": 1, "word": 0xFF_FFFF, "wait": 15, "gl": 0xFF_FFFF}
 # The most seconds that a wait of the system takes.
@@ -56,7 +56,7 @@ class Answer(_Numbers):
 
     def __new__(cls, x: int = 0, q: int = 0, word: int = 0, wait: int = 0, gl: int = 0) -> "Answer":
         try:
-            # No bit beyond those that a number may have, and no sign: this takes a third of the time of looking at one after another.
+            # One test for all: it takes a third of the time of one for each.
             is_good = not ((x | q) >> 1 or wait >> 4 or (word | gl) >> 24)
         except TypeError:
             is_good = False
@@ -91,19 +91,19 @@ class Branch(Protocol):
         says that no more demands are served, which ends the run."""
 
     def cycle(self, c: int, n: int, a: int, f: int, data: Optional[int]) -> Answer:
-        """Makes one dataway cycle in crate c, and answers x, q and wait, and the word where it reads. `data` is the word to write where f
-        is 16 to 23. It is None where f is 0 to 7, which reads, and where no data moves. Of the controller's commands (n is 28 or 30)
+        """Makes one dataway cycle in crate c, and answers x, q and wait, and the word if it reads. `data` is the word to write if f
+        is 16 to 23. It is None if f is 0 to 7, which reads, and if no data moves. Of the controller's commands (n is 28 or 30)
         the wait counts, and for 30 0 0 and 30 11 27 also `gl`."""
 
     def lock(self, c: int) -> Answer:
-        """Takes the lockout of crate c, and answers the wait. Where it raises an exception, the crate is not locked."""
+        """Takes the lockout of crate c, and answers the wait. If it raises an exception, the crate is not locked."""
 
     def unlock(self, c: int) -> None:
         """Releases the lockout of crate c."""
 
 
 class Ending(enum.Enum):
-    """How a run came to its end."""
+    """How a run ended."""
 
     ENDED = "ended"
     SHORT = "short"
@@ -117,7 +117,7 @@ class RunEnd(NamedTuple):
     how           ENDED at a demand; SHORT inside a service, which left no event; OVERRUN at a wait that is not permitted; REFUSED at an
                   answer that the program could not take
     line          the program's last line
-    events        how many events were written; None where the program does not say it (REFUSED)
+    events        how many events were written; None if the program does not say it (REFUSED)
     crate, wait   of an OVERRUN, else None"""
 
     how: Ending
@@ -153,7 +153,7 @@ class ProgramFault(DriveFault):
 
 
 def file_fault(what: str, name: File, why: Union[OSError, str]) -> ProgramFault:
-    """The fault of a file that cannot be opened, read or written (`what` is "read" or "write"), as the program tells it."""
+    """The fault of a file that cannot be opened, read or written (`what` is "read" or "write"), in the program's words."""
     reason = why if isinstance(why, str) else why.strerror or str(why)
     return ProgramFault(f"fault {what}\n  {os.fsdecode(name)}: {reason}", 3)
 
@@ -168,7 +168,7 @@ class UsageFault(ProgramFault):
 
 
 class ProtocolFault(DriveFault):
-    """The program wrote what is no request, or ended without a last line."""
+    """The program wrote a line that is no request, or ended without a last line."""
 
 
 class TimeFault(DriveFault):
@@ -176,8 +176,8 @@ class TimeFault(DriveFault):
 
 
 def find_program(program: Optional[File] = None) -> File:
-    """The program camac: what is named, else what the environment variable CAMAC_PROGRAM names, else `camac` in PATH, else `camac` at the
-    top of the clone that this package stands in. Raises FileNotFoundError where there is none."""
+    """The program camac: the one given, else the one that the environment variable CAMAC_PROGRAM names, else `camac` in PATH, else `camac` at the
+    top of the clone that this package is in. Raises FileNotFoundError if there is none."""
     found = program or os.environ.get("CAMAC_PROGRAM")
     if found:
         return found
@@ -213,7 +213,7 @@ def drive(
     `branch.lock` may come after the lockout was taken, so this one is released too. After one inside `branch.unlock` it is called again.
 
     Raises what the branch raises. The run ends first: the events of all services that ended are in the file. Raises Refused,
-    UsageFault, ProgramFault, ProtocolFault or TimeFault, all of them DriveFault, OSError where the program cannot be started, and
+    UsageFault, ProgramFault, ProtocolFault or TimeFault, all of them DriveFault, OSError if the program cannot be started, and
     ValueError, with nothing started, for a timeout out of its range."""
     if timeout is not None and not 0 <= timeout <= GREATEST_TIMEOUT:
         raise ValueError(f"a timeout is 0 to {GREATEST_TIMEOUT} seconds, not {timeout}")
@@ -241,7 +241,7 @@ class Lockouts:
         self.held: List[int] = []
 
     def lock(self, crate: int) -> Answer:
-        """Takes a lockout. Where that fails it is not held; where it was interrupted it may be."""
+        """Takes a lockout. If that fails it is not held; if it was interrupted it may be."""
         self.held.append(crate)
         try:
             return self.branch.lock(crate)
@@ -250,7 +250,7 @@ class Lockouts:
             raise
 
     def unlock(self, crate: int) -> None:
-        """Releases a lockout. Where that fails, it is still held."""
+        """Releases a lockout. If that fails, it is still held."""
         self.branch.unlock(crate)
         if crate in self.held:
             self.held.remove(crate)
@@ -291,7 +291,7 @@ class _Run:
         self.cycles: Dict[bytes, Tuple[int, int, int, int, Optional[int]]] = {}
 
     def serve(self) -> Optional[RunEnd]:
-        """Has the branch make all that is requested, and returns the end that the last line tells, or None where there is no last line."""
+        """Has the branch make all that is requested, and returns the end by the last line, or None if there is no last line."""
         while (line := self.program.read_line()) is not None:
             if line in self.cycles and self.is_open:
                 self.hand_on(line, self.branch.cycle(*self.cycles[line]))
@@ -306,7 +306,7 @@ class _Run:
         return None
 
     def answer(self, requested: "re.Match[bytes]") -> None:
-        """Has the branch answer a request. Where it has no more answers to give, the input is ended."""
+        """Has the branch answer a request. If it has no more answers to give, the input is ended."""
         if not self.is_open:
             raise ProtocolFault(f"camac wrote a request after the end of its input: {requested[0]!r}")
         answer = self.make(requested)
@@ -353,7 +353,7 @@ class _Program:
     """The program at work, with its standard streams. Its standard error is kept in a file, so that it can be of any length."""
 
     def __init__(self, words: List[File], timeout: Optional[float]) -> None:
-        # Both take as long to load as all of this package, and what needs no program needs neither.
+        # Both take as long to load as all of this package.
         import subprocess
         import tempfile
 
@@ -399,7 +399,7 @@ class _Program:
         return line
 
     def skip_to_end(self) -> Optional[RunEnd]:
-        """Ends the input, reads all output, and returns the end that its last line tells. The program has some time for that."""
+        """Ends the input, reads all output, and returns the end by its last line. The program has some time for that."""
         self.end_input()
         self.timeout = PATIENCE if self.timeout is None else self.timeout
         end = None
@@ -454,7 +454,7 @@ def _judge(end: Optional[RunEnd], status: int, errors: str) -> RunEnd:
 
 
 def read_end(last: bytes) -> Optional[RunEnd]:
-    """Reads the last line of a run; None where it is none."""
+    """Reads the last line of a run; None if it is none."""
     line = last.decode(errors="replace")
     if REFUSAL.fullmatch(line):
         return RunEnd(Ending.REFUSED, line)
@@ -468,6 +468,6 @@ def read_end(last: bytes) -> Optional[RunEnd]:
 
 
 def add_note(error: BaseException, note: str) -> None:
-    """Adds a line to what an exception says, where Python can (from 3.11 on)."""
+    """Adds a line to what an exception says, if Python can (from 3.11 on)."""
     if hasattr(error, "add_note"):
         error.add_note(note)

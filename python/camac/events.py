@@ -22,7 +22,7 @@ MEANINGS = {
     "V7": "truncated",
     "V9": "X count",
 }
-# How many bytes are asked for at once, of a file that gives what it has.
+# The bytes of one read.
 BLOCK = 65_536
 
 
@@ -61,7 +61,7 @@ class Event(NamedTuple):
 
 
 def record(event: Event) -> bytes:
-    """An event as it stands in an event file of version two, behind the header `NEW_FILE` and the events before it."""
+    """An event as it is in an event file of version two, behind the header `NEW_FILE` and the events before it."""
     head = TWO.head.pack(MARKER, event.gl, event.number, event.cycles, event.missed, len(event.words))
     return head + struct.pack(f">{len(event.words)}I", *event.words)
 
@@ -81,7 +81,7 @@ class EventFileFault(ValueError):
 
 class Whole(NamedTuple):
     """The events of a file up to its first fault. `size` is the number of bytes that hold them, with the header: a file that is cut
-    there is good. It is 0 where the header is not there. `fault` is None for a good file."""
+    there is good. It is 0 if the header is not there. `fault` is None for a good file."""
 
     events: List[Event]
     size: int
@@ -89,7 +89,7 @@ class Whole(NamedTuple):
 
 
 class _Words(Dict[int, Callable[[bytes, int], Tuple[int, ...]]]):
-    """Reads so many words at a place."""
+    """Reads a number of words at a place."""
 
     def __missing__(self, count: int) -> Callable[[bytes, int], Tuple[int, ...]]:
         self[count] = struct.Struct(f">{count}I").unpack_from
@@ -113,9 +113,9 @@ class _Source:
 
 def read_events(file: File) -> Iterator[Event]:
     """Yields the events of a file, named by its path or open for reading bytes, one after another. Each event is given as soon as it is
-    read, so a file may be longer than memory, and what stands before a fault is not lost. Bytes behind it may have been read by then.
+    read, so a file may be longer than memory, and what is before a fault is not lost. Bytes behind it may have been read by then.
 
-    Raises EventFileFault at the first wrong field, and OSError where the file cannot be read."""
+    Raises EventFileFault at the first wrong field, and OSError if the file cannot be read."""
     with contextlib.ExitStack() as opened:
         if isinstance(file, (str, bytes, os.PathLike)):
             file = opened.enter_context(open(file, "rb"))
@@ -165,7 +165,7 @@ def _read_records(source: _Source, form: Form, data: bytes, number: int = 1, pla
                 break
             yield Event(number, gl, cycles, missed, _WORDS[count](data, words_at))
             number, at, end = number + 1, end, end + head
-        # What is left is no record, or not yet a whole one.
+        # The rest is no record, or not yet a whole one.
         _refuse(form, data[at : end if end <= there else at + head], number, place + at, is_whole=end <= there)
         piece = source.more(end - there)
         if not piece:
@@ -202,7 +202,7 @@ def _wrong_field(form: Form, record: bytes, number: int) -> Optional[Tuple[str, 
 def whole(file: File) -> Whole:
     """Returns the events of a file up to its first fault, and where it breaks: for a file that a full disk or a signal has cut.
 
-    Raises OSError where the file cannot be read."""
+    Raises OSError if the file cannot be read."""
     events: List[Event] = []
     size, fault = _take_whole(file, events.append)
     return Whole(events, size, fault)

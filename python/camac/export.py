@@ -26,14 +26,14 @@ from camac.word_sources import words_of_script
 from camac.words import Words
 
 FORM = "camac export 1"
-# What stands in a column of whole numbers where a word does not have it; in one of fractions it is NaN.
+# The value in a column of whole numbers of a word that has none; in one of fractions it is NaN.
 MISSING = -1
 
 
 @dataclass(frozen=True)
 class About:
-    """What is known of the events: their file, plan and script, the text of the file of words, the record, and what follows from them. `sources` are the words
-    whose place the script fixes, `words` what the user tells of them."""
+    """The facts on the events: their file, plan and script, the text of the file of words, the record, and what follows from them. `sources` are the words
+    whose place the script fixes, `words` what the user says of them."""
 
     events: str
     plan: Optional[Source] = None
@@ -45,7 +45,7 @@ class About:
     words: Words = Words()
 
     def source_names(self) -> List[str]:
-        """The names of the words that the script tells, behind the empty one of all others."""
+        """The names that the script gives to words, behind the empty one of all others."""
         return ["", *(it.name for it in self.sources.fields)]
 
     def told(self) -> Dict[str, Any]:
@@ -57,7 +57,7 @@ class About:
 
 
 class Given(NamedTuple):
-    """The files of an export. What is None is not given."""
+    """The files of an export; None if one is not given."""
 
     events: File
     plan: Optional[File] = None
@@ -67,9 +67,9 @@ class Given(NamedTuple):
 
 
 def learn(given: Given, program: Optional[File] = None) -> About:
-    """Reads what is known of the events. A record stands for plan and script where these are not given; where they are, they have to be its own.
+    """Reads what is known of the events. If plan and script are not given, those of the record count; if they are, they have to be the same.
 
-    Raises WordsFault and ValueError for a file that cannot be read so, Refused where plan or script is refused, ProgramFault and OSError as
+    Raises WordsFault and ValueError for a file that cannot be read so, Refused if plan or script is refused, ProgramFault and OSError as
     `camac.check`."""
     about = About(os.path.basename(os.fsdecode(given.events)))
     if given.record is not None:
@@ -92,7 +92,7 @@ def learn(given: Given, program: Optional[File] = None) -> About:
 
 
 def _judge(plan: Source, script: Source, program: Optional[File]) -> Tuple[List[Service], Words]:
-    """The services of a script that is given as its text, and what it tells of words."""
+    """The services of a script that is given as its text, and what it says of words."""
     with tempfile.TemporaryDirectory(prefix="camac-") as room:
         files = []
         for name, source in (("plan", plan), ("script", script)):
@@ -173,13 +173,13 @@ def _named(numpy: Any, events: EventArrays, words: Words, taken: Set[str]) -> It
 
 
 def _free(title: str, taken: Set[str]) -> str:
-    """A name that may stand in a path of HDF5, and that no other column has."""
+    """A name that may be in a path of HDF5, and that no other column has."""
     plain = "".join(it if it.isprintable() and it not in "/." else "_" for it in title)
     return next(name for name in itertools.chain([plain], (f"{plain}_{number}" for number in itertools.count(2))) if name not in taken)
 
 
 def read_all(events: File) -> Tuple[EventArrays, Optional[EventFileFault]]:
-    """All events of a file, or those before its first fault, and this fault. Raises EventFileFault where it is none at all."""
+    """All events of a file, or those before its first fault, and this fault. Raises EventFileFault if it is none at all."""
     try:
         return event_arrays(events), None
     except EventFileFault as fault:
@@ -199,7 +199,7 @@ def export(given: Given, out: str, may_replace: bool = False, program: Optional[
     """Writes the events of a file as columns; the ending of `out` says how: .h5, .npz or .csv. Of the last there are three files, as
     run.events.csv, run.words.csv and run.about.json. What holds bytes is replaced only where `may_replace`.
 
-    Raises EventFileFault at the first wrong field, behind the events before it; FileExistsError where a file would be lost; ProgramFault where numpy
+    Raises EventFileFault at the first wrong field, behind the events before it; FileExistsError if a file would be lost; ProgramFault if numpy
     or h5py is not there; and what `learn` raises."""
     files = files_of(out)
     for file in files:

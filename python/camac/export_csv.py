@@ -1,4 +1,4 @@
-"""Events and their words as two tables of comma-separated values (RFC 4180, with LF): of columns of numpy, or, where that is not there, one event after
+"""Events and their words as two tables of comma-separated values (RFC 4180, with LF): of columns of numpy, or, if that is not there, one event after
 another, with the same bytes."""
 import csv
 import importlib
@@ -10,7 +10,7 @@ from camac.drive import File
 from camac.events import HEADER, NEW_FILE, Event, EventFileFault, read_events
 from camac.words import Words
 
-# So many rows are made at once.
+# The rows that are made at once.
 ROWS = 1 << 16
 
 
@@ -37,7 +37,7 @@ def write_series(series: Sequence[Series], out: BinaryIO) -> None:
     """Writes a table of columns."""
     numpy = importlib.import_module("numpy")
     out.write(_line([it.title or it.name for it in series]))
-    # A cell of a text as it stands in a row.
+    # A cell of a text as it is in a row.
     texts = {it.name: numpy.array([_line([text, ""])[:-2] for text in it.texts]) for it in series if it.texts}
     for begin in range(0, len(series[0].values), ROWS):
         parts = []
@@ -56,7 +56,7 @@ def _letters(numpy: Any, texts: Array) -> Array:
 
 
 def _digits(numpy: Any, values: Array) -> Array:
-    """Numbers as they stand in a table, a row each, filled up with 0. A number that is missing is below 0, or NaN."""
+    """Numbers as they are in a table, a row each, filled up with 0. A number that is missing is below 0, or NaN."""
     if values.dtype.kind == "f":
         distinct, at = numpy.unique(values, return_inverse=True)
         return _letters(numpy, numpy.array(["" if it != it else repr(it) for it in distinct.tolist()], "S")[at])
@@ -72,7 +72,7 @@ def _digits(numpy: Any, values: Array) -> Array:
 
 
 class Without(NamedTuple):
-    """What is written without numpy: an event file, and what is known of its words."""
+    """An event file and the columns of its words, to be written without numpy."""
 
     file: File
     sources: Words
@@ -99,7 +99,7 @@ class Without(NamedTuple):
 def write_events(its: Without, to_events: BinaryIO, to_words: BinaryIO) -> Optional[EventFileFault]:
     """Writes both tables of an event file, without numpy. Returns its first fault; the events before it are written.
 
-    Raises EventFileFault where it is none at all."""
+    Raises EventFileFault if it is none at all."""
     with open(its.file, "rb") as file:
         has_cycles = file.read(HEADER) == NEW_FILE
     for head, out in zip(its.heads(has_cycles), (to_events, to_words)):

@@ -18,7 +18,7 @@ class Laid(NamedTuple):
 def lay_out(files: Sequence[str], is_check: bool) -> List[Laid]:
     """Puts scripts into the one layout, each in one step; if `is_check`, nothing is written. A script that has no layout stays as it is.
 
-    Raises OSError where a file cannot be read or written."""
+    Raises OSError if a file cannot be read or written."""
     return [_lay_out(it, is_check) for it in files]
 
 

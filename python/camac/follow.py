@@ -12,16 +12,16 @@ from camac.runs import Channel, Seen, SeenOfBit
 from camac.scripts import Service
 from camac.words import Column, Words
 
-# So many bytes are read at once, so many events are shown, and the rate is that of so many seconds.
+# The bytes of one read, the events that are shown, and the seconds of the rate.
 MOST_BYTES, SHOWN_EVENTS, WINDOW = 8 << 20, 12, 10.0
 # So many bytes before the place that was reached have to be as they were: else it is another file.
 TAIL = 64
-# The rates that are kept: each of so many seconds.
+# The rates that are kept, and the seconds of each.
 STEP, STEPS = 2.0, 300
 
 
 class _Bit:
-    """What was seen of the events of one bit."""
+    """The counts of the events of one bit."""
 
     def __init__(self, ends: Tuple[Optional[int], Optional[int]]) -> None:
         self.cycles, self.words = (Spectrum(end) for end in ends)
@@ -36,7 +36,7 @@ class _Bit:
 
 
 class Counts:
-    """What was counted of a file since its begin. `services` are those of the script, `names` tell columns of the words."""
+    """The counts of a file since its begin. `services` are those of the script, `names` the columns of the words."""
 
     def __init__(self, services: Sequence[Service], names: Words) -> None:
         self.services, self.names = services, names
@@ -64,7 +64,7 @@ class Counts:
             self.channels[column].add_all(numbers, values)
 
     def seen(self) -> Dict[int, SeenOfBit]:
-        """By bit, what was seen of its services."""
+        """By bit, the counts of its services."""
         return {gl: SeenOfBit(_seen(it.cycles), _seen(it.words), 0, 0, 0, it.missed) for gl, it in sorted(self.bits.items()) if it.count}
 
     def list_channels(self) -> List[Channel]:
@@ -77,14 +77,14 @@ def _seen(its: Spectrum) -> Seen:
 
 
 class State(NamedTuple):
-    """Where a file stands: what is to be told of it, and whether that is bad."""
+    """The state of a file: what the page says of it, and whether that is bad."""
 
     text: str
     is_bad: bool = False
 
 
 class Follower:
-    """Follows a file from its begin on. `make_counts` makes what counts its events, anew where it is another file than before."""
+    """Follows a file from its begin on. `make_counts` makes what counts its events, anew if it is another file than before."""
 
     def __init__(self, path: File, make_counts: Callable[[], Counts], clock: Callable[[], float] = time.monotonic) -> None:
         self.path, self.make_counts, self.clock = path, make_counts, clock

@@ -23,7 +23,7 @@ NAMES = {
 
 
 def name(function: int) -> str:
-    """The name of a function, 0 to 31: `non-standard` (even codes) or `reserved` (odd codes) where it has none of its own."""
+    """The name of a function, 0 to 31: `non-standard` (even codes) or `reserved` (odd codes) if it has none of its own."""
     return NAMES.get(function, "reserved" if function % 2 else "non-standard")
 
 

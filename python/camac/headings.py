@@ -18,9 +18,9 @@ class Written(NamedTuple):
 
 def write_headings(plan: File, script: str, program: Optional[File] = None) -> List[Written]:
     """Puts the least numbers that are accepted into the headings of a script, and returns the headings that changed. Nothing else of the text
-    changes. Where no heading does, the file is not touched.
+    changes. If no heading does, the file is not touched.
 
-    Raises as `camac.bounds`, with nothing written, and OSError where the file cannot be read or written."""
+    Raises as `camac.bounds`, with nothing written, and OSError if the file cannot be read or written."""
     with open(script, "rb") as file:
         text = file.read()
     written = least_headings(text, bounds(plan, script, program))
@@ -33,7 +33,7 @@ def write_headings(plan: File, script: str, program: Optional[File] = None) -> L
 def least_headings(text: bytes, least: Sequence[Heading]) -> List[Written]:
     """The headings of a script that change where all get their least numbers, which are given in its order.
 
-    Raises ValueError where they are those of another text."""
+    Raises ValueError if they are those of another text."""
     bodies = read_headings(text)
     if [it.name for it in bodies] != [it.name for it in least]:
         raise ValueError("the script changed while it was judged")

@@ -41,7 +41,7 @@ class Totals:
 
 class Spectrum(Totals):
     """Counts on an axis from 0 to `end`, in at most `MOST` bins of one width, a power of two. Numbers from `end` on are counted as overflow.
-    Where no end is told the axis doubles until it holds all numbers."""
+    If no end is given the axis doubles until it holds all numbers."""
 
     __slots__ = ("end", "is_open", "shift", "counts", "overflow")
     MOST = 128
@@ -80,11 +80,10 @@ class Spectrum(Totals):
         self.counts = halved
 
     def integral(self) -> int:
-        """How many numbers stand on the axis."""
+        """How many numbers are on the axis."""
         return self.count - self.overflow
 
     def bins(self) -> Bins:
-        """All bins of the axis."""
         return Bins(0, 1 << self.shift, [self.counts[at] for at in range(((self.end - 1) >> self.shift) + 1)])
 
     def peak(self) -> Optional[int]:
@@ -123,7 +122,6 @@ class Series:
             self.last = value
 
     def widen(self, last: int) -> None:
-        """Makes room for the service of a number."""
         while last > self.per * self.MOST:
             self.per *= 2
             self.columns, self.rises = _halved(self.columns), _halved(self.rises)
@@ -146,7 +144,7 @@ def _halved(columns: Dict[int, Tuple[int, int]]) -> Dict[int, Tuple[int, int]]:
 
 
 class Pairs:
-    """Counts of pairs of numbers, each on an axis from 0 to its end, in at most 64 by 64 cells. Where no end is told an axis doubles until it
+    """Counts of pairs of numbers, each on an axis from 0 to its end, in at most 64 by 64 cells. If no end is given an axis doubles until it
     holds all numbers."""
 
     __slots__ = ("ends", "shifts", "cells", "count")
@@ -164,7 +162,6 @@ class Pairs:
         self.cells[across >> self.shifts[0], up >> self.shifts[1]] += 1
 
     def widen(self, *numbers: int) -> None:
-        """Makes room for two numbers."""
         for axis, number in enumerate(numbers):
             while number >= self.ends[axis]:
                 self._double(axis)

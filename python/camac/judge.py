@@ -14,15 +14,15 @@ if TYPE_CHECKING:
 ACCEPTED, REFUSED, FAULT = 0, 1, 3
 FORMATS = ("text", "json", "github", "sarif")
 LEVELS = {"refused": "error", "fault": "error", "warning": "warning", "written": "notice", "proposed": "notice", "remaining": "error"}
-# What GitHub wants to be escaped in a message, and in a property.
+# The characters that GitHub wants escaped in a message, and in a property.
 MESSAGE, PROPERTY = "%\r\n", "%\r\n:,"
-# Stands for what is left out before a part of a line.
+# The sign for the part of a line that is left out.
 CUT = ".."
 
 
 class Found(NamedTuple):
     """What was found in a file: `kind` is "refused", "warning", "fault", "written" (a heading or a loop that was changed), "proposed" (a change that
-    helps) or "remaining" (what refuses it with all that is proposed). `line` and `code` are None where there is none. `explanation` has what `camac
+    helps) or "remaining" (what refuses it with all that is proposed). `line` and `code` are None if there is none. `explanation` has what `camac
     explain` says of a refusal, by lines. `column` is that of a text's fault in its line, in characters from 1."""
 
     kind: str
@@ -78,7 +78,7 @@ class Judged(NamedTuple):
 
 def judge(plan: str, scripts: Sequence[str], program: Optional[File] = None, writes: bool = False, keeps: bool = False) -> List[Judged]:
     """Judges scripts on a plan. If `keeps`, what helps the loops of a refused script is proposed; if `writes`, the least headings are put into each
-    script before, and with `keeps` what its loops have to keep. A plan that is refused or cannot be read is told alone, since no script can be
+    script before, and with `keeps` what its loops have to keep. A plan that is refused or cannot be read is reported alone, since no script can be
     judged then."""
     its = TextFile(plan, is_plan=True)
     found = _faults(lambda: _look_at_plan(its, program), [its], program)
@@ -99,7 +99,7 @@ def _judge_script(plan: TextFile, name: str, program: Optional[File], writes: bo
     script = TextFile(name)
 
     def write() -> List[Found]:
-        # What few calls ask for is loaded by these.
+        # Few calls need these modules, so they are loaded here.
         from camac.headings import write_headings
         from camac.loops.search import write_keeps
 
@@ -139,7 +139,7 @@ def _faults(call: Callable[[], List[Found]], files: List[TextFile], program: Opt
         return call()
     except Refused as refusal:
         first, *explanation = lines_of("explain", "--", *files, program=program)
-        # The headings as they stand may be refused before what no heading mends.
+        # The headings as they are may be refused before what no heading mends.
         told = explanation if first == str(refusal) else []
         return [Found("refused", refusal.line, refusal.code, str(refusal).partition(": ")[2], tuple(told), _column(told))]
     except UsageFault:
@@ -153,7 +153,7 @@ def _faults(call: Callable[[], List[Found]], files: List[TextFile], program: Opt
 
 
 def _column(explanation: Sequence[str]) -> Optional[int]:
-    """Where the mark of an explanation stands in its line. Of a line that is shown in part it is not known."""
+    """Where the mark of an explanation is in its line. Of a line that is shown in part it is not known."""
     if len(explanation) < 2 or not re.fullmatch(r" +\| \s*\^", explanation[1]):
         return None
     shown, mark = explanation[0].partition(" | ")[2], explanation[1].partition(" | ")[2]
@@ -161,7 +161,7 @@ def _column(explanation: Sequence[str]) -> Optional[int]:
 
 
 def told(judged: Sequence[Judged], form: str) -> str:
-    """What is printed of all files, in one of `FORMATS`."""
+    """The output on all files, in one of `FORMATS`."""
     if form == "json":
         import json
 
@@ -183,5 +183,5 @@ NO_COSTS = "this program has no `costs`, so statements that are never reached (W
 
 
 def note(program: Optional[File] = None) -> Optional[str]:
-    """What is not looked for with this program."""
+    """The note on warnings that this program cannot give."""
     return None if looks_for_all(program) else NO_COSTS

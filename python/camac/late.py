@@ -1,4 +1,4 @@
-"""How late the services of a run ended: the cycles from a look-at-me to the end of its service, as far as a listing tells them.
+"""How late the services of a run ended: the cycles from a look-at-me to the end of its service, as far as a listing shows them.
 
 A stretch of a bit is graded-L operations, one after another, that each call a service up to this bit. A look-at-me of the bit that is
 answered in a stretch came after the operation before it: so the cycles since then count."""

@@ -11,12 +11,12 @@ STEP, WIDTH = 2, 120
 # Words that begin a declaration or a statement; `table` does where it names one.
 DECLARATIONS = frozenset(("cdlam", "var", "proc", "service"))
 STATEMENTS = frozenset(("cdreg", "cfsa", "cssa", "cfmad", "cfubc", "cfubr", "put", "if", "for", "while", "lock", "call")) | CRATE_CALLS | LAM_CALLS
-# Signs that stand without a blank on one side.
+# Signs without a blank on one side.
 TIGHT = frozenset(("(", ")", ",", "..", "{", "}"))
-# A procedure's name stands before its bracket without a blank.
+# A procedure's name is before its bracket without a blank.
 CALLED = re.compile(r"(?<!\S)((?:call|proc) \S+) \(")
 BEGIN = DECLARATIONS | STATEMENTS | {"}"}
-# What ends a statement that is laid out as a whole, besides the end of its line; and so long it is at most.
+# What ends a statement that is laid out as a whole, besides the end of its line; and its greatest length.
 BREAKS = BEGIN | {"table", "=", "{"}
 SHORT = 80
 ENDS = (["}"], ["}", "else", "{"])
@@ -33,8 +33,8 @@ class LayoutFault(Exception):
 
 
 class Piece(NamedTuple):
-    """A token, a comment, or a statement, a head or an end of a block that stands on a line alone; its line, how many lines ended between it and what
-    stands before it, whether it begins a line of the layout, and whether it is all of it."""
+    """A token, a comment, or a statement, a head or an end of a block that is on a line alone; its line, how many lines ended between it and what
+    is before it, whether it begins a line of the layout, and whether it is all of it."""
 
     text: str
     is_comment: bool
@@ -45,7 +45,7 @@ class Piece(NamedTuple):
 
 
 class Line(NamedTuple):
-    """A line of the layout: how far in it stands, its code and its comment, and whether a blank line stands before it."""
+    """A line of the layout: how far in it is, its code and its comment, and whether a blank line is before it."""
 
     indent: int
     code: str
@@ -54,7 +54,7 @@ class Line(NamedTuple):
 
 
 def formatted(text: bytes) -> bytes:
-    """A script in the one layout. Raises LayoutFault where it has a byte that begins no token or braces that are not closed, or where it would be too
+    """A script in the one layout. Raises LayoutFault if it has a byte that begins no token or braces that are not closed, or if it would be too
     long."""
     rows = rows_of(text)
     made = _written(_Layout(list(_pieces(rows))).lines()).encode("latin-1")
@@ -85,7 +85,7 @@ def _pieces(rows: List[Row]) -> Iterator[Piece]:
         if words:
             end = at + len(words)
             is_this, is_next = is_next, end == len(tokens) or is_first(tokens, end)
-            # An empty block stands behind its head.
+            # An empty block is behind its head.
             is_block = words[-1] != "{" or bool(comment) or tokens[end : end + 1] != ["}"]
             code = _whole(words) if is_this and is_next and is_block else ""
             if code:
@@ -102,7 +102,7 @@ def _pieces(rows: List[Row]) -> Iterator[Piece]:
 
 
 def _whole(words: List[str]) -> str:
-    """A line's tokens with the blanks between them, where they are one statement, or a head or an end of a block, and short enough; else nothing."""
+    """A line's tokens with the blanks between them, if they are one statement, or a head or an end of a block, and short enough; else nothing."""
     if words[0] == "}":
         return " ".join(words) if words in ENDS else ""
     # What assigns has one `=` behind a name, and so has `for`.
@@ -130,7 +130,7 @@ def _parts_of_row(tokens: List[str], start: int, end: int) -> Iterator[Tuple[str
 
 
 def _shown(sign: str) -> str:
-    """A byte as it is told."""
+    """A byte as a fault names it."""
     return sign if sign.isascii() and sign.isprintable() else f"0x{ord(sign):02x}"
 
 
@@ -139,7 +139,7 @@ def begins(tokens: Sequence[str]) -> Iterator[bool]:
 
 
 def is_first(tokens: Sequence[str], at: int) -> bool:
-    """Whether a token begins a declaration or a statement, or is a brace that ends a block, or stands after one."""
+    """Whether a token begins a declaration or a statement, or is a brace that ends a block, or is after one."""
     it = tokens[at]
     if it == "table":
         return at + 2 < len(tokens) and tokens[at + 2] == "="
@@ -228,7 +228,7 @@ class _Layout:
         return end
 
     def end(self, at: int) -> int:
-        """Where a line ends that begins here: behind its `{`, or before the next one. An empty block stands behind its head, and `else` behind the
+        """Where a line ends that begins here: behind its `{`, or before the next one. An empty block is behind its head, and `else` behind the
         `}` before it."""
         place = at
         while place < len(self.pieces):
@@ -241,7 +241,7 @@ class _Layout:
         return self.without_comments(place)
 
     def without_comments(self, end: int) -> int:
-        """Comments behind the last token of a statement stand between statements."""
+        """Comments behind the last token of a statement are between statements."""
         while self.pieces[end - 1].is_comment:
             end -= 1
         return end
@@ -250,7 +250,7 @@ class _Layout:
         return at + 1 < len(self.pieces) and self.pieces[at + 1].text == "else"
 
     def short_end(self, at: int) -> Optional[int]:
-        """Where a statement ends whose blocks have at most one statement each, stand on its line in the text, and have the room there."""
+        """Where a statement ends whose blocks have at most one statement each, are on its line in the text, and have the room there."""
         if not self.depth or self.pieces[at].text == "}":
             return None
         end = None
@@ -270,7 +270,7 @@ class _Layout:
         return end if self.depth * STEP + len(code) <= WIDTH else None
 
     def wrapped(self, words: List[str], comment: str, ended: int, more: int) -> int:
-        """Adds these words as a line, or as several where they are too many for one; the comment stands behind the last. Returns how much
+        """Adds these words as a line, or as several if they are too many for one; the comment is behind the last. Returns how much
         further in the statement goes on."""
         code = _spaced(words)
         if self.depth * STEP + more + len(code) <= WIDTH:
@@ -296,7 +296,7 @@ def _spaced(words: List[str]) -> str:
 
 
 def _written(lines: List[Line]) -> str:
-    """The text of lines. The comments behind the code of lines that follow each other stand below each other."""
+    """The text of lines. The comments behind the code of lines that follow each other are below each other."""
     made: List[str] = []
     width = 0
     for at, it in enumerate(lines):
@@ -314,7 +314,7 @@ def _is_in_row(it: Line) -> bool:
 
 
 def _width(lines: List[Line], at: int) -> int:
-    """How long the code is of the longest of the lines from one on whose comments stand below each other."""
+    """How long the code is of the longest of the lines from one on whose comments are below each other."""
     width = 0
     while at < len(lines) and _is_in_row(lines[at]) and not (width and lines[at].is_apart):
         width = max(width, lines[at].indent + len(lines[at].code))

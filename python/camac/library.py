@@ -41,11 +41,11 @@ if TYPE_CHECKING:
 
 Text = Union[bytes, bytearray, memoryview, str]
 ROOM = 4096
-# the bytes of the longest record of an event file; no lines of an answer are longer
+# The bytes of the longest record of an event file; no lines of an answer are longer.
 LONGEST = 16 + 4 * EVENT_WORDS
 # What the program says at the codes that it knows, with its status.
 FAULTS = {NO_MEMORY: ("fault memory", 3), LONG: ("fault input too long", 3)}
-# The subcommands of the program that the library can stand in for.
+# The subcommands of the program that the library has too.
 IN_PROCESS = "@library"
 COMMANDS = frozenset(("plan", "check", "explain", "bounds", "costs", "response"))
 SPENT_LINE = "refused A4 line 4294967296: too many answers"
@@ -123,7 +123,7 @@ class _Buffer:
 
 
 def _filled(call: Any, *given: Any, buffers: int = 1) -> Tuple[int, List[bytes]]:
-    """Calls with buffers, and once more with greater ones where one was too small. Returns the code and what was written."""
+    """Calls with buffers, and once more with greater ones if one was too small. Returns the code and what was written."""
     its = [_Buffer() for _ in range(buffers)]
     while True:
         code = call(*given, *(word for it in its for word in it.words()))
@@ -142,7 +142,7 @@ def _judged(name: str, *texts: Text) -> Verdict:
 
 
 def told(command: str, plan: File, *script: File, every: Iterable[str] = ()) -> Verdict:
-    """What the program prints when it is called with one of `COMMANDS` and these files. `every` has the words that follow this option of
+    """The output of the program when it is called with one of `COMMANDS` and these files. `every` has the words that follow this option of
     `response`, as NAME=CYCLES. Raises as the program fails: ProgramFault, UsageFault."""
     name = command if script or command == "plan" else f"{command}_plan"
     return judged(name, plan_text(plan), *map(script_text, script), every=every)
@@ -155,7 +155,7 @@ def judged(command: str, *texts: Text, every: Iterable[str] = ()) -> Verdict:
 
 
 def plan(plan: Text) -> Verdict:
-    """What `camac plan` prints of the text of a plan. All calls here raise ProgramFault where there is no memory, or where a text is too long."""
+    """What `camac plan` prints of the text of a plan. All calls here raise ProgramFault if there is no memory, or if a text is too long."""
     return _judged("plan", plan)
 
 
@@ -186,7 +186,7 @@ def costs(plan: Text, script: Text) -> Verdict:
 
 def response(plan: Text, script: Text, every: Optional[Mapping[str, int]] = None, within: Optional[Mapping[str, int]] = None) -> Verdict:
     """What `camac response` prints. `every` and `within` have the numbers of dataway cycles that follow these options, by service. It is not
-    accepted, too, where a service may end above its number in `within`. Raises UsageFault where a number is out of range (0 to 4,294,967,295,
+    accepted, too, where a service may end above its number in `within`. Raises UsageFault if a number is out of range (0 to 4,294,967,295,
     from 1 on in `every`), or the accepted script does not have the service."""
     return _judged("response", plan, script, _settings(settings(every)), _settings(settings(within)))
 
@@ -215,7 +215,7 @@ def run(plan: Text, script: Text, answers: Text) -> Tuple[Verdict, bytes]:
 
 
 def _check_taken(code: int) -> None:
-    """Raises what the code of an answer that was not taken calls for."""
+    """Raises the fault of an answer that was not taken, by its code."""
     if code == SPENT:
         raise OverflowError(SPENT_LINE)
     if code not in (OK, OVERRUN):
@@ -225,7 +225,7 @@ def _check_taken(code: int) -> None:
 class Session:
     """A run of an accepted script, an answer at a time. It is closed by `close`, at the end of a `with`, or when nothing refers to it.
 
-    Raises Refused where plan or script is refused, and ProgramFault as `check` does. After `close`, a call raises UsageFault.
+    Raises Refused if plan or script is refused, and ProgramFault as `check` does. After `close`, a call raises UsageFault.
 
     Each thread may have sessions of its own. A session may be closed by any thread at any time; its other calls have to come one after another,
     since what they return is filled again by the next one."""
@@ -234,7 +234,7 @@ class Session:
         calls = native.load()
         self._calls, self._session = calls.sessions, native.SessionStruct()
         self._want, self._answer, self._progress, self._words = Want(), native.AnswerStruct(), Progress(), (c_uint32 * EVENT_WORDS)()
-        # what ctypes hands on at each call, made once
+        # The arguments of each call, made once.
         self._at, self._to_want = byref(self._session), byref(self._want)
         self._to_answer, self._to_progress = byref(self._answer), byref(self._progress)
         self._room, self._longest, self._size = ctypes.create_string_buffer(LONGEST), c_size_t(LONGEST), c_size_t()
@@ -247,7 +247,7 @@ class Session:
             raise _fault(code)
 
     def wants(self) -> Optional[Want]:
-        """What the next answer is for; None where the run is over, by an overrun. The next call fills the same object again."""
+        """What the next answer is for; None if the run is over, by an overrun. The next call fills the same object again."""
         code = self._calls.camac_wants(self._at, self._to_want)
         if code == OVERRUN:
             return None
@@ -256,7 +256,7 @@ class Session:
         return self._want
 
     def next(self, answer: Answer) -> Progress:
-        """Takes an answer, and tells what it did. The next call fills the same object again. Raises OverflowError where the run has used
+        """Takes an answer, and returns what it did. The next call fills the same object again. Raises OverflowError if the run has used
         4,294,967,295 answers."""
         self._give(answer)
         _check_taken(self._calls.camac_next(self._at, self._to_answer, self._to_progress))
@@ -274,7 +274,7 @@ class Session:
         native.write_answer(self._answer, native.BEHIND_SIZE, word, gl, x, q, wait)
 
     def words(self) -> Tuple[int, ...]:
-        """The words of the event that the last answer left; none where it left none."""
+        """The words of the event that the last answer left; none if it left none."""
         count = self._calls.camac_words(self._at, self._words, EVENT_WORDS)
         return tuple(self._words[:count])
 
@@ -283,7 +283,7 @@ class Session:
         return self._bytes(self._calls.camac_item).decode()
 
     def record(self) -> bytes:
-        """The record of the event that the last answer left, as `camac run` writes it behind the header; nothing where it left none."""
+        """The record of the event that the last answer left, as `camac run` writes it behind the header; nothing if it left none."""
         return self._bytes(self._calls.camac_record)
 
     def _bytes(self, call: Any) -> bytes:
@@ -363,7 +363,7 @@ def play(
     record: "Union[File, Recording, None]" = None,
 ) -> RunEnd:
     """Plays a script against a branch, as `camac.drive` does, but in this process. `plan` may be "@sample". The event file is `events`, which
-    must not hold bytes; without it none is written. Each event stands there before the next operation is made. `record` is that of
+    must not hold bytes; without it none is written. Each event is there before the next operation is made. `record` is that of
     `camac.drive`. `program` and `timeout` are taken as `camac.drive` takes them, and have nothing to do here.
 
     Returns how the run ended, and raises what `camac.drive` raises, with the texts of the program: what the branch raises, Refused,
@@ -433,7 +433,7 @@ class _Game:
 
 @contextlib.contextmanager
 def _writes(path: File) -> Iterator[None]:
-    """Tells a fault of the system as the program does."""
+    """Raises a fault of the system in the program's words."""
     try:
         yield
     except OSError as why:
@@ -450,8 +450,8 @@ def _write(path: File, file: FileIO, data: bytes) -> None:
 
 @contextlib.contextmanager
 def _event_file(path: Optional[File]) -> Iterator[Optional[Callable[[bytes], None]]]:
-    """What writes into an event file, which has its header. What holds bytes is refused, as the program refuses it. At the end its bytes are on
-    the disk."""
+    """Yields a function that writes into an event file, behind its header. A file that holds bytes is refused, as by the program. At the end its bytes
+    are on the disk."""
     if path is None:
         yield None
         return

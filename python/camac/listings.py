@@ -33,7 +33,7 @@ class Demand(NamedTuple):
 
 
 class Cycle(NamedTuple):
-    """A dataway cycle: its command, the word that moved (all 24 bits; 0 where none did), X and Q of the reply, and how many cycles of
+    """A dataway cycle: its command, the word that moved (all 24 bits; 0 if none did), X and Q of the reply, and how many cycles of
     auxiliary controllers came before."""
 
     command: Command
@@ -71,7 +71,7 @@ def run(plan: File, script: File, answers: File, events: File, program: Optional
     """Plays a script against answers, and yields what it did, as it comes. The last item is the end of the run. The event file is
     created anew.
 
-    Raises Refused where plan or script is refused, ProgramFault where a file cannot be read or written, and OSError where there is no
+    Raises Refused if plan or script is refused, ProgramFault if a file cannot be read or written, and OSError if there is no
     program."""
     first = True
     for item in parse_listing(lines_of("run", "--", plan, script, answers, events, program=program)):
@@ -84,7 +84,7 @@ def run(plan: File, script: File, answers: File, events: File, program: Optional
 def parse_listing(lines: Iterable[str]) -> Iterator[Item]:
     """Yields the items of a listing, given by its lines.
 
-    Raises ValueError, with the number of the line, where one is none of a listing."""
+    Raises ValueError, with the number of the line, if one is none of a listing."""
     # There are few commands and few replies, so each is read once.
     commands: Dict[str, Optional[Tuple[Command, Move]]] = {}
     replies: Dict[str, Optional[Tuple[int, int, int]]] = {}
@@ -109,7 +109,7 @@ def parse_listing(lines: Iterable[str]) -> Iterator[Item]:
 
 
 def _read_command(text: str) -> Optional[Tuple[Command, Move]]:
-    """Reads a dataway cycle up to its word; None where its function does not move a word so."""
+    """Reads a dataway cycle up to its word; None if its function does not move a word so."""
     found = CYCLE.fullmatch(text)
     if found is None:
         return None

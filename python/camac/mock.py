@@ -178,7 +178,7 @@ class Scaler(Module):
 
 class Register(Module):
     """An output register at sub-address 0. F0 reads it, F16 writes it whole, F18 and F21 set and clear the bits that are 1 in the data,
-    F27 answers Q = 1 where it is not 0. It keeps as many bits as it is wide."""
+    F27 answers Q = 1 if it is not 0. It keeps as many bits as it is wide."""
 
     def __init__(self, width: int = 24, lam_at: Optional[int] = None) -> None:
         super().__init__(lam_at)
@@ -267,7 +267,7 @@ class MockBranch:
                  used up, `demand` answers None, and the run ends. A look-at-me stays raised until the script clears it
     auxiliaries  the auxiliary controllers of each crate that has some
 
-    `MockBranch.of_plan` takes bits and waits from a plan. Where no module stands, X is 0.
+    `MockBranch.of_plan` takes bits and waits from a plan. Without a module X is 0.
 
     Z and C (the commands at station 28) initialise and clear all modules of the crate. Z also sets inhibit and disables the demand output
     of the crate. A crate whose demand output is disabled adds no bits to a demand, and in one with inhibit nothing is triggered."""
@@ -294,7 +294,7 @@ class MockBranch:
         long as the plan's `waits` allows. Where `is_cold`, each crate is as after Z: inhibit on, its demand output and all look-at-mes
         disabled. So nothing calls before a start has enabled it.
 
-        Raises ValueError where the plan has no such station, and what `camac.plan` raises."""
+        Raises ValueError if the plan has no such station, and what `camac.plan` raises."""
         its = plan if isinstance(plan, Plan) else read_plan(plan)
         stations = {(crate.number, it.number): it.gl for crate in its.crates for it in crate.stations}
         for place in modules:
@@ -357,7 +357,6 @@ class MockBranch:
         return [module for (crate, _), module in self.modules.items() if crate == c]
 
     def initialise(self, c: int) -> None:
-        """Z in crate c."""
         for module in self.modules_of(c):
             module.initialise()
         self.inhibited.add(c)
@@ -433,8 +432,8 @@ class Recorded:
     """A branch that gives the answers of a recorded run, one after another: those of an answer file, of any length. With the plan and the script
     of that run `camac.play` and `camac.drive` make the same event file. A demand behind the last answer ends the run.
 
-    Raises OSError where the file cannot be read; later, from an operation, ValueError with file and line at a line that is no answer, and
-    EOFError where the answers end inside a service, which then leaves no event."""
+    Raises OSError if the file cannot be read; later, from an operation, ValueError with file and line at a line that is no answer, and
+    EOFError if the answers end inside a service, which then leaves no event."""
 
     def __init__(self, file: File) -> None:
         self._answers = _read_answers(file)

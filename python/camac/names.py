@@ -1,4 +1,4 @@
-"""The names of a script: where each is declared and used. The text may have faults; what stands before a name says what it is."""
+"""The names of a script: where each is declared and used. The text may have faults; what is before a name says what it is."""
 import enum
 import re
 from bisect import bisect_right
@@ -179,7 +179,7 @@ class Names:
 
 
 def fault_of_new_name(names: Names, symbol: Symbol, new: str) -> Optional[str]:
-    """Why a symbol cannot get a name; None where it can. A name of a body may stand in other bodies, too."""
+    """Why a symbol cannot get a name; None if it can. A name of a body may be in other bodies, too."""
     if not re.fullmatch(NAME, new) or len(new) > LONGEST:
         return f"`{new}` is no name: a letter, then letters, digits and `_`, at most 32 in all"
     if new in WORDS:

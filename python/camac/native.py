@@ -10,7 +10,7 @@ from ctypes import POINTER, c_char, c_char_p, c_size_t, c_uint8, c_uint16, c_uin
 from typing import Any, Dict, List, NamedTuple, Tuple
 
 NAME = "libcamac.so.0"
-# The version whose structs stand here. A library fits whose first two numbers are the same.
+# The version whose structs are here. A library fits whose first two numbers are the same.
 VERSION = 200
 OK, REFUSED, MISUSE, NO_MEMORY, OVERRUN, RANGE, SPENT, LONG = range(8)
 DEMAND, CYCLE, LOCK, STOPPED = range(1, 5)
@@ -57,7 +57,7 @@ BEHIND_SIZE = 4
 
 
 class Progress(_Sized):
-    """What an answer did, as camac.h tells it. Of an overrun `kind` is STOPPED, with its crate `c` and its `wait`."""
+    """What an answer did, as in camac.h. Of an overrun `kind` is STOPPED, with its crate `c` and its `wait`."""
 
     _fields_ = [
         ("size", c_uint32),
@@ -124,7 +124,7 @@ _RESULTS = {"words": c_size_t, "held": c_size_t, "file_header": c_size_t, "answe
 
 
 def find_library() -> str:
-    """The file of the library; its name alone where the system has to find it."""
+    """The file of the library; its name alone if the system has to find it."""
     named = os.environ.get("CAMAC_LIBRARY")
     if named:
         return named
@@ -141,7 +141,7 @@ def version_text(number: int) -> str:
 
 
 def _check_version(library: ctypes.CDLL, found: str) -> None:
-    """Raises OSError where a library is of a version that does not fit."""
+    """Raises OSError if a library is of a version that does not fit."""
     try:
         tell = library.camac_version
     except AttributeError:
@@ -160,7 +160,7 @@ def _declare(library: ctypes.CDLL, forms: Dict[str, List[Any]]) -> None:
 
 @functools.lru_cache(maxsize=None)
 def load() -> Calls:
-    """The library, with the types of its calls. Raises OSError where it cannot be loaded, or is of a version that does not fit."""
+    """The library, with the types of its calls. Raises OSError if it cannot be loaded, or is of a version that does not fit."""
     found = find_library()
     try:
         library = ctypes.CDLL(found)

@@ -1,4 +1,4 @@
-"""What the commands of this package write: to standard output, into what is there and is no regular file, or into a file that is put in its
+"""The output of the commands of this package: to standard output, into what is there and is no regular file, or into a file that is put in its
 place in one step, once it is whole."""
 import contextlib
 import errno
@@ -25,7 +25,7 @@ def bytes_output(path: Optional[str]) -> Iterator[BinaryIO]:
     that `path` leads to, with the mode of the old one. It takes that place at the end of the block. Where the block fails it is removed,
     and what was there stays.
 
-    Raises OSError with the name where it cannot be written, and BrokenPipeError where the reader of a pipe closed it."""
+    Raises OSError with the name if it cannot be written, and BrokenPipeError if the reader of a pipe closed it."""
     its: ContextManager[BinaryIO]
     if path is None:
         its = _buffered(_standard_output(), STANDARD_OUTPUT)
@@ -38,7 +38,7 @@ def bytes_output(path: Optional[str]) -> Iterator[BinaryIO]:
 
 
 def holds_bytes(path: Any) -> bool:
-    """Whether a regular file is there that is not empty: what would be lost, were it written over. Raises OSError where that cannot be told."""
+    """Whether a regular file is there that is not empty: what would be lost, were it written over. Raises OSError if that cannot be known."""
     try:
         its = os.stat(path)
     except FileNotFoundError:
@@ -52,7 +52,7 @@ def is_one_of(out: str, inputs: Sequence[str]) -> bool:
     return os.path.exists(out) and any(os.path.exists(it) and os.path.samefile(it, out) for it in names)
 
 
-# So many bytes of a picture, and of a page, are the same in all of them.
+# The first bytes of a picture, and of a page, which are the same in all of them.
 BEGIN = 56
 
 
@@ -80,7 +80,7 @@ def _standard_output() -> int:
 
 
 def _open_as_it_is(path: str) -> Optional[int]:
-    """Opens what is there and is no regular file, or is the file of a standard stream; None where a file is to be made."""
+    """Opens what is there and is no regular file, or is the file of a standard stream; None if a file is to be made."""
     try:
         its = os.stat(path)
     except FileNotFoundError:
@@ -167,7 +167,7 @@ def say(text: str) -> None:
 
 
 def end_by(number: signal.Signals) -> int:
-    """Ends this process by a signal, so that its caller sees what a program sees that does not handle it: a shell tells 128 and the number."""
+    """Ends this process by a signal, so that its caller sees what a program sees that does not handle it: a shell reports 128 and the number."""
     signal.signal(number, signal.SIG_DFL)
     os.kill(os.getpid(), number)
     return 128 + number

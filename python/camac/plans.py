@@ -7,7 +7,7 @@ from camac.program import knows_option, output_of, shown
 
 class Declaration(NamedTuple):
     """Commands that a module type declares: one function at the sub-addresses `first` to `last`. `width` is how many bits are moved, None
-    where no data moves, and of a probe, which has no register."""
+    if no data moves, and of a probe, which has no register."""
 
     function: int
     first: int
@@ -17,7 +17,7 @@ class Declaration(NamedTuple):
 
 
 class ModuleType(NamedTuple):
-    """A type of modules. `commands` and `probes` count its commands; `declarations` is empty where the program does not list them."""
+    """A type of modules. `commands` and `probes` count its commands; `declarations` is empty if the program does not list them."""
 
     name: str
     commands: int
@@ -49,12 +49,12 @@ class Plan(NamedTuple):
     crates: Tuple[Crate, ...]
 
     def type_at(self, crate: int, station: int) -> Optional[ModuleType]:
-        """The type of the module there; None where there is none."""
+        """The type of the module there; None if there is none."""
         names = (it.type for c in self.crates if c.number == crate for it in c.stations if it.number == station)
         return next((self.types[name] for name in names), None)
 
     def width(self, crate: int, station: int, sub_address: int, function: int) -> int:
-        """How many bits the register there has: 24 where it is not known."""
+        """How many bits the register there has: 24 if it is not known."""
         there = self.type_at(crate, station)
         for it in there.declarations if there else ():
             if it.function == function and it.first <= sub_address <= it.last:
@@ -69,7 +69,7 @@ class Plan(NamedTuple):
 def plan(path: File, program: Optional[File] = None) -> Plan:
     """Has the program read a plan, which may be "@sample".
 
-    Raises Refused with the first fault of the plan, ProgramFault where it cannot be read, and OSError where there is no program."""
+    Raises Refused with the first fault of the plan, ProgramFault if it cannot be read, and OSError if there is no program."""
     option = ["--commands"] if knows_option("plan", "--commands", program) else []
     return parse_plan(output_of("plan", *option, "--", path, program=program))
 

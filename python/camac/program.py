@@ -1,7 +1,7 @@
 """What the program camac prints, as text: it is called with the words of a subcommand, and its statuses become exceptions.
 
-Where no program is there, the library for C answers in this process what it can (`camac.library.COMMANDS`). So it does where `@library` is
-named as the program. What calls another process is loaded where it is called: it takes as long to load as all of this package."""
+If no program is there, the library for C answers in this process what it can (`camac.library.COMMANDS`). So it does where `@library` is
+named as the program. What calls another process is loaded when it is called: it takes as long to load as all of this package."""
 import functools
 import itertools
 import os
@@ -18,12 +18,12 @@ EVERY = "--every="
 
 
 def quickest() -> Optional[File]:
-    """The library, where it is there and no program is named: what is judged by it costs no other process."""
+    """The library, if it is there and no program is named: what is judged by it costs no other process."""
     return None if os.environ.get("CAMAC_PROGRAM") or not library.is_there() else IN_PROCESS
 
 
 def _find(command: str, program: Optional[File]) -> str:
-    """The program that answers a command, or `IN_PROCESS`. Raises FileNotFoundError where there is none of both."""
+    """The program that answers a command, or `IN_PROCESS`. Raises FileNotFoundError if there is none of both."""
     try:
         return os.fsdecode(find_program(program))
     except FileNotFoundError:
@@ -33,7 +33,7 @@ def _find(command: str, program: Optional[File]) -> str:
 
 
 def _told(*words: File) -> library.Verdict:
-    """What the library tells in the program's place. Before the files there may stand the options `--every=NAME=CYCLES`, and "--"."""
+    """The library's answer in the program's place. Before the files there may be the options `--every=NAME=CYCLES`, and "--"."""
     command, *files = words
     every = [it[len(EVERY) :] for it in itertools.takewhile(lambda it: it.startswith(EVERY), map(os.fsdecode, files))]
     files = files[len(every) :]
@@ -45,10 +45,10 @@ def _told(*words: File) -> library.Verdict:
 
 
 def output_of(*words: File, program: Optional[File] = None) -> str:
-    """Returns what the program prints when it is called with these words. A file name of the user stands behind "--".
+    """Returns what the program prints when it is called with these words. A file name of the user is behind "--".
 
-    Raises Refused where it refuses (status 1), UsageFault where it does not understand the words (status 2), ProgramFault at every other
-    status, and OSError where it cannot be started."""
+    Raises Refused if it refuses (status 1), UsageFault if it does not understand the words (status 2), ProgramFault at every other
+    status, and OSError if it cannot be started."""
     found = _find(os.fsdecode(words[0]), program)
     if found == IN_PROCESS:
         verdict = _told(*words)
@@ -64,7 +64,7 @@ def output_of(*words: File, program: Optional[File] = None) -> str:
 
 def lines_of(*words: File, program: Optional[File] = None) -> Iterator[str]:
     """Yields the lines that the program prints, without their LF, as they come. A status of 1 is none of its faults here: the last line
-    tells it. The program is ended with the generator.
+    says it. The program is ended with the generator.
 
     Raises UsageFault, ProgramFault and OSError as `output_of`, behind the last line."""
     found = _find(os.fsdecode(words[0]), program)
@@ -103,19 +103,19 @@ def _judge(status: int, printed: str, errors: str) -> None:
 
 
 def shown(line: str) -> str:
-    """A line as a fault tells it: it may be of any length, and hold anything."""
+    """A line for a fault: it may be of any length, and hold anything."""
     return repr(line if len(line) <= 80 else f"{line[:80]}..")
 
 
 def version(program: Optional[File] = None) -> str:
-    """The version as the program tells it: "camac 0.2.0"."""
+    """The version, as the program prints it: "camac 0.2.0"."""
     if _find("check", program) == IN_PROCESS:
         return f"camac {library.version()}"
     return output_of("--version", program=program).rstrip("\n")
 
 
 def verdict(command: str, plan: File, script: bytes, program: Optional[File] = None) -> library.Verdict:
-    """What the program tells of a script that is given as its text. `command` judges: "check", "bounds", "costs", "response" or "explain".
+    """The program's answer on a script that is given as its text. `command` judges: "check", "bounds", "costs", "response" or "explain".
 
     Raises ProgramFault and OSError as `output_of`."""
     if _find(command, program) == IN_PROCESS:
@@ -131,7 +131,7 @@ def verdict(command: str, plan: File, script: bytes, program: Optional[File] = N
 
 
 def explain_plan(plan: File, program: Optional[File] = None) -> library.Verdict:
-    """What `camac explain` tells of a plan alone. Raises ProgramFault and OSError as `output_of`."""
+    """The output of `camac explain` on a plan alone. Raises ProgramFault and OSError as `output_of`."""
     text = "".join(f"{it}\n" for it in lines_of("explain", "--", plan, program=program))
     return library.Verdict(not text.startswith("refused "), text)
 

@@ -1,4 +1,4 @@
-"""The record of a live run: a JSON file beside its event file that tells what made it, when, how it ended, and how long it took.
+"""The record of a live run: a JSON file beside its event file: what made it, when, how it ended, and how long it took.
 
 Times are the computer's clock, and seconds are measured in this process: from the answer to a demand that calls a service until the next
 demand is asked for, the modules wait for the service (dead time); the rest is spent in demands (live time). No proof says anything of them."""
@@ -26,7 +26,7 @@ from camac.scripts import Service, parse_verdict
 from camac.texts import plan_text, script_text
 
 FORM = "camac record 1"
-# While a run goes on, its record is written anew after so many seconds.
+# The seconds between two writings of a record while a run goes on.
 REFRESH = 5.0
 FAILED = "failed"
 OWN_FILE = "it holds bytes; a run needs a record of its own"
@@ -34,7 +34,7 @@ OWN_FILE = "it holds bytes; a run needs a record of its own"
 
 @dataclass(frozen=True)
 class Recording:
-    """Where the record of a run is to be written, and what its caller says of the run. Raises TypeError where that is no whole number, or no text."""
+    """Where the record of a run is to be written, and what its caller says of the run. Raises TypeError if that is no whole number, or no text."""
 
     file: File
     number: Optional[int] = None
@@ -48,7 +48,7 @@ class Recording:
 
 
 class Played(NamedTuple):
-    """What is played: the files of a run, and the program that judges them. `events` is None where no event file is written."""
+    """What is played: the files of a run, and the program that judges them. `events` is None if no event file is written."""
 
     plan: File
     script: File
@@ -68,7 +68,7 @@ class Source:
         return hashlib.sha256(self.data).hexdigest()
 
     def told(self) -> Dict[str, str]:
-        """As the record has it: the text; of what is no UTF-8, or has a NUL, as may stand in comments, the bytes in base 64."""
+        """As the record has it: the text; of what is no UTF-8, or has a NUL, as may be in comments, the bytes in base 64."""
         try:
             text = {"text": self.data.decode()}
         except UnicodeDecodeError:
@@ -95,7 +95,7 @@ class Record:
     versions            of the package, of the program and of Python
     number, title       what the caller says of it
     begin, end, told    when it began and ended, and when this was written (UTC, ISO 8601); `end` is None while it goes on, and after a crash
-    how, line           how it ended: the word and the last line of the program; "failed" and what failed where none came
+    how, line           how it ended: the word and the last line of the program; "failed" and what failed if none came
     events, size        the name of the event file, and its bytes at the end
     counts              of each service by its name how many events there are; None while the run goes on, and where the file cannot be read again
     demands, services   the seconds measured in demands and in services: live and dead time; None of a run that was not measured"""
@@ -140,7 +140,7 @@ class Record:
 
 
 def read_record(file: File) -> Record:
-    """Reads a record. Raises OSError where the file cannot be read, and ValueError, with its name, where it is none."""
+    """Reads a record. Raises OSError if the file cannot be read, and ValueError, with its name, if it is none."""
     with open(file, "rb") as opened:
         data = opened.read()
     try:
@@ -150,7 +150,7 @@ def read_record(file: File) -> Record:
 
 
 def parse_record(data: bytes) -> Record:
-    """Reads the text of a record. Raises ValueError, KeyError, TypeError or AttributeError where it is none."""
+    """Reads the text of a record. Raises ValueError, KeyError, TypeError or AttributeError if it is none."""
     told = json.loads(data)
     if not isinstance(told, dict) or told.get("form") != FORM:
         raise ValueError(f"its `form` is not {FORM!r}")
@@ -175,7 +175,7 @@ def parse_record(data: bytes) -> Record:
 def describe(of: Played, number: Optional[int] = None, title: str = "") -> Record:
     """The record of a run that has not begun.
 
-    Raises Refused where plan or script is refused, and ProgramFault and OSError as `camac.check`."""
+    Raises Refused if plan or script is refused, and ProgramFault and OSError as `camac.check`."""
     texts = Source(os.fsdecode(of.plan), plan_text(of.plan)), Source(os.fsdecode(of.script), script_text(of.script))
     verdict = output_of("check", "--", of.plan, of.script, program=of.program).splitlines()
     try:
@@ -192,7 +192,7 @@ def now() -> str:
 
 
 def count_events(events: File, services: List[Service]) -> Dict[str, int]:
-    """How many events of each service stand in an event file, up to its first fault."""
+    """How many events of each service are in an event file, up to its first fault."""
     counts: "collections.Counter[int]" = collections.Counter()
     try:
         for event in read_events(events):
@@ -205,7 +205,7 @@ def count_events(events: File, services: List[Service]) -> Dict[str, int]:
 def recorded(asked: Union[File, Recording], of: Played, branch: Branch, play: Callable[[Branch], RunEnd]) -> RunEnd:
     """Plays a run, and writes its record: before it begins, while it goes on, and at its end.
 
-    Raises what `describe` and the run raise, and ProgramFault where the record cannot be written; a file that holds bytes is none."""
+    Raises what `describe` and the run raise, and ProgramFault if the record cannot be written; a file that holds bytes is none."""
     its = asked if isinstance(asked, Recording) else Recording(asked)
     if holds_bytes(its.file):
         raise file_fault("write", its.file, OWN_FILE)
@@ -229,7 +229,7 @@ def recorded(asked: Union[File, Recording], of: Played, branch: Branch, play: Ca
 
 
 def refuse_foreign(file: File) -> None:
-    """Raises ProgramFault where a file holds bytes, and is none that `write_played` made."""
+    """Raises ProgramFault if a file holds bytes, and is none that `write_played` made."""
     if holds_bytes(file):
         try:
             is_own = read_record(file).begin is None
@@ -274,7 +274,7 @@ class _Writer:
         _write(self.file, self.record)
 
     def refresh(self, watched: "_Watched") -> None:
-        """Writes how far the run is, if that is some seconds old. Where it cannot be written the run goes on."""
+        """Writes how far the run is, if that is some seconds old. If it cannot be written the run goes on."""
         if time.monotonic() - self.at >= REFRESH:
             self.measured(watched)
             try:

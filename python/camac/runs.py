@@ -21,11 +21,11 @@ from camac.transfers import transfer_commands
 from camac.words import Column, Words
 
 Operation = Union[Cycle, Lock, Unlock]
-# Of a service that is shown cycle by cycle, so many operations are kept.
+# The operations that are kept of a service that is shown cycle by cycle.
 KEPT_OPERATIONS = 150
 GREATEST_MISSED = 65_535
 CONTROLLER_STATIONS = (28, 30)
-# A register of so many bits is taken for a scaler.
+# The bits of a register that is taken for a scaler.
 SCALER = (1 << 24) - 1
 
 
@@ -65,7 +65,7 @@ class Kept(NamedTuple):
 
 @dataclasses.dataclass(frozen=True)
 class Seen:
-    """What was seen of a number in so many services."""
+    """The counts of a number in some services."""
 
     count: int
     least: int
@@ -160,11 +160,11 @@ class Run:
     and its event words. `no_q` leaves out the commands of controllers (N28, N30), whose Q nobody reads, and those of `of_transfers`: there
     Q = 0 ends a scan or a block, or has a command sent again.
 
-    `has_listing` is False of an event file alone, which tells no waits, no Q, no commands and no locks; `has_cycles` is False of one of
+    `has_listing` is False of an event file alone, which has no waits, no Q, no commands and no locks; `has_cycles` is False of one of
     version one. `end` is the end of a run, `fault` the fault of an event file. `kept` are services to be shown cycle by cycle.
-    `by_place` has the words by the bit and by their place in the event, `channels` those of which a column is told, `pairs` those of two columns
-    that stand in one event, `seen` what was seen of the services of each bit, and `late` how late they ended, where a listing and `camac
-    response` tell that."""
+    `by_place` has the words by the bit and by their place in the event, `channels` those of a column, `pairs` those of two columns
+    that are in one event, `seen` what was seen of the services of each bit, and `late` how late they ended, where a listing and `camac
+    response` show that."""
 
     def __init__(self, has_listing: bool, asked: Optional[Asked] = None) -> None:
         self.has_listing, self.has_cycles = has_listing, True
@@ -217,13 +217,13 @@ class Run:
                     self.pairs.add(*(first[column] for column in self.asked.pair))
 
     def list_channels(self) -> List[Channel]:
-        """The channels that have a number, in the order in which their columns are told."""
+        """The channels that have a number, in the order of their columns."""
         columns = [column for gl in sorted({*self.gl}) for column in self.asked.names.columns(gl)]
         return [self.channels[it] for it in columns if it in self.channels]
 
 
 def is_event_file(file: File) -> bool:
-    """Whether a file begins as an event file does. Raises OSError where it cannot be read."""
+    """Whether a file begins as an event file does. Raises OSError if it cannot be read."""
     with open(file, "rb") as opened:
         return opened.read(6) == b"CAMACE"
 
@@ -237,9 +237,9 @@ def collect(
     asked: Optional[Asked] = None,
 ) -> Run:
     """Plays the answers, or reads the event file, and returns what the run did. `responses` are what `camac response` says of the script;
-    without them it is not told how late services ended. `asked` tells columns of the words of events.
+    without them it is not known how late services ended. `asked` has columns of the words of events.
 
-    Raises OSError where a file cannot be read, and Refused and ProgramFault as `camac.run`."""
+    Raises OSError if a file cannot be read, and Refused and ProgramFault as `camac.run`."""
     if is_event_file(inputs.source):
         collected = _read_event_file(inputs.source, services, asked)
     else:
@@ -263,7 +263,7 @@ def by_bit(bits: Sequence[int], *columns: Sequence[int]) -> Iterator[Tuple[int, 
 
 
 def _seen(run: Run) -> Dict[int, SeenOfBit]:
-    """By bit, what was seen of its services."""
+    """By bit, the counts of its services."""
     columns = by_bit(run.gl, run.cycles, run.words, run.waits, run.no_q, run.of_transfers, run.no_x)
     return {gl: SeenOfBit(_seen_of(its[0]), _seen_of(its[1]), *map(sum, its[2:])) for gl, its in columns}
 
@@ -273,7 +273,7 @@ def _seen_of(numbers: Sequence[int]) -> Seen:
 
 
 class _Collector:
-    """Gathers a run from the items of its listing. The last service is left open: the listing alone does not tell whether it ended."""
+    """Gathers a run from the items of its listing. The last service is left open: the listing alone does not show whether it ended."""
 
     def __init__(self, plan: Plan, bits: Dict[str, int], watch: Watch, meant: FrozenSet[Command], asked: Optional[Asked]) -> None:
         self.plan, self.bits, self.watch, self.meant = plan, bits, watch, meant
@@ -358,7 +358,7 @@ class _Collector:
 
 
 def _compare(collector: _Collector, path: File, services: List[Service]) -> Run:
-    """Reads the event file of a run beside its listing. An event stands there once its service ended."""
+    """Reads the event file of a run beside its listing. An event is there once its service ended."""
     run, of = collector.run, {it.gl: it for it in services}
     count = alike = missed = within = 0
     for batch in batches(read_events(path)):

@@ -40,9 +40,9 @@ class Heading(NamedTuple):
 
 class Response(NamedTuple):
     """How late a service of an accepted script can be, in dataway cycles (with those of auxiliary controllers): the name of its LAM, its
-    bit of the graded-L pattern, and its own bound. `every` is how soon its module may raise its look-at-me again, None where nothing was
+    bit of the graded-L pattern, and its own bound. `every` is how soon its module may raise its look-at-me again, None if nothing was
     said. `start` and `end` are the most cycles from a look-at-me until its service begins and has ended; within `longest` all look-at-mes
-    up to this bit are answered. These three are None where there is no such number."""
+    up to this bit are answered. These three are None if there is no such number."""
 
     name: str
     gl: int
@@ -60,7 +60,7 @@ class Response(NamedTuple):
 def check(plan: File, script: File, program: Optional[File] = None) -> List[Service]:
     """Has the program check a script, and returns its services in the order of the text.
 
-    Raises Refused where plan or script is refused, ProgramFault where one cannot be read, and OSError where there is no program."""
+    Raises Refused if plan or script is refused, ProgramFault if one cannot be read, and OSError if there is no program."""
     return parse_verdict(output_of("check", "--", plan, script, program=program))
 
 
@@ -91,7 +91,7 @@ def response(
     """Returns how late each service of a script can be, in the order of their bits. `every` has the rates that are known: of a service's
     name, how many cycles pass at least until its module raises its look-at-me again (1 to 4,294,967,295).
 
-    Raises as `check`, and UsageFault where the program has no `response`, or a rate is none of a service of the script."""
+    Raises as `check`, and UsageFault if the program has no `response`, or a rate is none of a service of the script."""
     rates = [f"{EVERY}{it}" for it in settings(every)]
     return parse_response(output_of("response", *rates, "--", plan, script, program=program))
 
@@ -114,6 +114,6 @@ def _read(line: str, found: "Optional[re.Match[str]]") -> "re.Match[str]":
 def source_lines(script: File) -> List[str]:
     """The lines of a script as the program counts them: by LF alone. A comment may hold any byte; what is no UTF-8 is shown as U+FFFD.
 
-    Raises OSError where it cannot be read."""
+    Raises OSError if it cannot be read."""
     with open(script, "rb") as file:
         return [line.decode("utf-8", "replace").rstrip("\r") for line in file.read().split(b"\n")]

@@ -18,10 +18,10 @@ from camac.plans import plan as read_plan
 from camac.program import quickest
 from camac.scripts import Response, response
 
-# While so many triggers one after another call nobody, all crates are silent: the run has come to its end.
+# After this number of triggers that call nobody all crates are silent, and the run ends.
 PATIENCE = 1000
 GREATEST_RATE = 1e7
-# The rates of a curve beside those that were told.
+# The rates of a curve, as multiples of the given ones.
 FACTORS = tuple(2.0**k for k in range(-3, 4))
 
 
@@ -41,7 +41,7 @@ class Setting(NamedTuple):
 class Simulated:
     """What was simulated of a service: the triggers that came, of them those that were lost, and for each look-at-me that was answered the cycles
     until its service had ended. `length` are the cycles of its services together; `again` of them were called once more for the same
-    look-at-me, which the service before had left up. `end` is the E of `camac response`, None where that has no number."""
+    look-at-me, which the service before had left up. `end` is the E of `camac response`, None if that has no number."""
 
     name: str
     gl: int
@@ -182,10 +182,10 @@ def declared_modules(plan: Plan, seed: int = 1) -> Dict[Place, Module]:
 def simulate(
     plan: File, script: File, setting: Setting, modules: Optional[Mapping[Place, Module]] = None, events: Optional[File] = None
 ) -> Simulation:
-    """Simulates a script. Where no modules are given, each one accepts what the plan declares of its type, as `declared_modules` makes it.
+    """Simulates a script. If no modules are given, each one accepts what the plan declares of its type, as `declared_modules` makes it.
     The event file is written to `events`, which must not hold bytes.
 
-    Raises UsageFault where a rate is none of a service of the script, or no module stands where one calls, and what `camac.check` and `camac.drive` raise."""
+    Raises UsageFault if a rate is none of a service of the script, or no module is where one calls, and what `camac.check` and `camac.drive` raise."""
     its = read_plan(plan)
     every = {name: _period(rate, setting) for name, rate in setting.rates.items()} if setting.is_regular else {}
     responses = response(plan, script, {**every, **setting.every})

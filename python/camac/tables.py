@@ -13,9 +13,9 @@ LISTING = "number,operation,service,pattern,crate,station,sub_address,function,m
 
 def write_events(file: File, out: TextIO) -> None:
     """Writes a line for each event: number, gl, cycles, missed, count and its words, all decimal. The file is read twice: each line has as
-    many columns of words as the longest event. What stands before a fault is written.
+    many columns of words as the longest event. What is before a fault is written.
 
-    Raises EventFileFault at the first wrong field, and OSError where the file cannot be read or written."""
+    Raises EventFileFault at the first wrong field, and OSError if the file cannot be read or written."""
     writer = csv.writer(out, lineterminator="\n")
     most = 0
     fault = None
@@ -38,7 +38,7 @@ def write_listing(lines: Iterable[str], out: TextIO) -> None:
     """Writes a line for each operation of a listing, given by its lines, and none for its last line. Numbers are decimal; what an operation
     does not have is empty.
 
-    Raises ValueError at a line that is none of a listing, and OSError where it cannot be written."""
+    Raises ValueError at a line that is none of a listing, and OSError if it cannot be written."""
     writer = csv.writer(out, lineterminator="\n")
     writer.writerow(LISTING)
     writer.writerows(_rows(parse_listing(lines)))

@@ -29,7 +29,7 @@ class TextFile:
         return self.file
 
     def text(self) -> bytes:
-        """Raises OSError where it cannot be read, and for the rest as `script_text`."""
+        """Raises OSError if it cannot be read, and for the rest as `script_text`."""
         if self.known is None:
             self.known = _read(_place(self.file) if self.is_plan else self.file)
         return self.known
@@ -43,7 +43,7 @@ def plan_text(plan: File) -> bytes:
 def script_text(script: File) -> bytes:
     """The text of a file.
 
-    Raises what the program's words raise: ProgramFault where it cannot be read, or is too long, and UsageFault for `@in`."""
+    Raises what the program's words raise: ProgramFault if it cannot be read, or is too long, and UsageFault for `@in`."""
     try:
         return script.text() if isinstance(script, TextFile) else _read(script)
     except OSError as why:
@@ -51,7 +51,6 @@ def script_text(script: File) -> bytes:
 
 
 def _place(plan: File) -> File:
-    """The file of a plan."""
     return os.path.join(os.path.dirname(__file__), "sample_plan.toml") if is_sample(plan) else plan
 
 

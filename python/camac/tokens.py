@@ -1,4 +1,4 @@
-"""The words, numbers and signs of a script, and where they stand."""
+"""The words, numbers and signs of a script, and where they are."""
 import re
 from typing import List, NamedTuple, Optional, Set, Tuple
 
@@ -17,7 +17,7 @@ _ODD = re.compile(r"[\v\f\x1c-\x1f\x85\xa0]")
 
 
 class Token(NamedTuple):
-    """A word, a number or a sign of a script, where it stands, and its line."""
+    """A word, a number or a sign of a script, where it is, and its line."""
 
     text: str
     start: int
@@ -46,7 +46,7 @@ def rows_of(text: bytes) -> List[Row]:
     letters = text.decode("latin-1")
     is_odd = _ODD.search(letters) is not None
     found: List[Row] = []
-    # Most tokens stand between blanks, where they are known by what was cut before. So cutting takes a third of its time.
+    # Most tokens are between blanks, and known from earlier cuts: this takes a third of the time.
     known: Set[str] = set()
     for line in letters.split("\n"):
         code, sign, comment = line.partition("#")

@@ -1,4 +1,4 @@
-"""Where the keys and values of a plan stand in its text. The text may have faults: what stands before the first one is found."""
+"""Where the keys and values of a plan are in its text. The text may have faults: what is before the first one is found."""
 import re
 from dataclasses import dataclass
 from typing import Any, Dict, Iterator, List, NamedTuple, Optional, Tuple, Union
@@ -166,7 +166,7 @@ def _scalar(word: str) -> Union[int, bool, str]:
 
 
 def _below(table: Table, it: _Token) -> Table:
-    """The table below another one, the last one of an array; made where it is not there."""
+    """The table below another one, the last one of an array; made if it is not there."""
     found = table.value.setdefault(it.text, Key(it.place, Table(it.place))).value
     if isinstance(found.value, list) and found.value:
         found = found.value[-1]
@@ -205,7 +205,7 @@ AT = re.compile(r"Line (\d+), column (\d+)")
 
 
 def place_of(text: str, sentence: str) -> Place:
-    """Where what a fault of a plan tells stands: "crate 1, station 5, gl: the value is 25", or "Line 8, column 8: ..". The first line where it is
+    """The place that a fault of a plan names: "crate 1, station 5, gl: the value is 25", or "Line 8, column 8: ..". The first line if it is
     not found."""
     at = AT.match(sentence)
     if at:
@@ -255,7 +255,7 @@ def declarations(text: str) -> Iterator[Tuple[str, Declaration]]:
 
 
 def with_commands(plan: Plan, text: str) -> Plan:
-    """A plan as the checker reads it, with the commands of its types as they stand in its text."""
+    """A plan as the checker reads it, with the commands of its types as they are in its text."""
     found: Dict[str, List[Declaration]] = {it: [] for it in plan.types}
     for name, it in declarations(text):
         found.setdefault(name, []).append(it)

@@ -1,6 +1,6 @@
-"""A script as a tree: its expressions and statements, and where they stand in the text.
+"""A script as a tree: its expressions and statements, and where they are in the text.
 
-Statements compare by identity, so that each can be a key. (None of these is a dataclass: to make those takes a call of camac-check 20 ms.)"""
+Statements compare by identity, so that each can be a key. (No dataclasses: they would take a call of camac-check 20 ms.)"""
 from typing import Dict, FrozenSet, Iterator, List, NamedTuple, Optional, Sequence, Tuple, Union
 
 # The numbers from the first to the second one.
@@ -14,7 +14,7 @@ class Number(NamedTuple):
 
 
 class Name(NamedTuple):
-    """A variable or a parameter. Where it stands in brackets, they belong to its place, as to that of an operation."""
+    """A variable or a parameter. Where it is in brackets, they belong to its place, as to that of an operation."""
 
     name: str
     start: int
@@ -33,7 +33,7 @@ Expression = Union[Number, Name, Operation]
 
 
 class Part(NamedTuple):
-    """A part of a condition: two sides with a sign, which is turned round where `not` stands before it; or `q` or `x`, without sides."""
+    """A part of a condition: two sides with a sign, which is turned round where `not` is before it; or `q` or `x`, without sides."""
 
     sides: Optional[Tuple[Expression, Expression]]
     sign: str
@@ -115,7 +115,7 @@ class Lock(Statement):
 
 
 class Loop(Statement):
-    """A loop: its own variable (that of a `for`, the measure of a `while`), where the word `keep` stands and what is kept, where its block begins,
+    """A loop: its own variable (that of a `for`, the measure of a `while`), where the word `keep` is and what is kept, where its block begins,
     and the other variables that its block writes, with the registers that it sets."""
 
     def __init__(self, line: int, start: int, name: str) -> None:

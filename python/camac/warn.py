@@ -28,7 +28,7 @@ class Code(enum.Enum):
 
 
 class Warned(NamedTuple):
-    """A warning: the line of the script, from 1, what it is about, a sentence, and the edits that mend it, where they are known."""
+    """A warning: the line of the script, from 1, what it is about, a sentence, and the edits that mend it, if they are known."""
 
     line: int
     code: Code
@@ -51,7 +51,7 @@ def warnings(plan: File, script: File, program: Optional[File] = None) -> List[W
 
 
 def look(plan: File, script: File, program: Optional[File] = None) -> Tuple[List[Service], List[Warned]]:
-    """Returns the services of an accepted script, and what `warnings` does: one judgement tells both."""
+    """Returns the services of an accepted script, and what `warnings` does: one judgement serves both."""
     script = script if isinstance(script, TextFile) else TextFile(script)
     bodies = costs(plan, script, program) if looks_for_all(program) else []
     services = services_of(bodies) if bodies else check(plan, script, program)
@@ -59,7 +59,7 @@ def look(plan: File, script: File, program: Optional[File] = None) -> Tuple[List
 
 
 def warnings_of(plan: File, text: bytes, services: List[Service], bodies: List[Body], program: Optional[File] = None) -> List[Warned]:
-    """What `warnings` returns of an accepted script that is given as its text, with its services and what `costs` tells of its bodies."""
+    """What `warnings` returns of an accepted script that is given as its text, with its services and its bodies by `costs`."""
     if not services:
         return [Warned(1, Code.NO_SERVICE, "this script has no service, so a run of it makes no cycle")]
     its = read_script(text)
@@ -68,7 +68,7 @@ def warnings_of(plan: File, text: bytes, services: List[Service], bodies: List[B
 
 
 def looks_for_all(program: Optional[File] = None) -> bool:
-    """Whether the program has `costs`, of which W1 and W2 are told."""
+    """Whether the program has `costs`, which W1 and W2 need."""
     return knows_command("costs", program)
 
 
@@ -101,7 +101,7 @@ def _left_calling(script: Script) -> Iterator[Warned]:
 
 
 def _touched(statements: List[Statement], places: Set[Place], lams: Dict[str, Place], before: Dict[str, Set[Place]]) -> Set[Place]:
-    """The places of modules that statements may read or clear, or whose look-at-me they may silence: all of `places` where one is computed.
+    """The places of modules that statements may read or clear, or whose look-at-me they may silence: all of `places` if one is computed.
     `before` has those of procedures."""
     registers: Dict[str, Set[Tuple[Optional[int], Optional[int]]]] = {}
     for it in statements:
@@ -125,7 +125,7 @@ def _touched(statements: List[Statement], places: Set[Place], lams: Dict[str, Pl
 
 
 def _held_up(script: Script, services: List[Service]) -> Iterator[Warned]:
-    """Short services that a longer one on a lower bit can hold up; the longest of those is told."""
+    """Short services that a longer one on a lower bit can hold up; the longest of those is named."""
     lines = {it.name: it.line for it in script.bodies}
     for it in services:
         lower = [other for other in services if other.gl < it.gl and other.cycles > SHORT]

@@ -21,9 +21,9 @@ from camac.scripts import Response, parse_response, response
 from camac.words import Words
 
 HOST = "127.0.0.1"
-# The file is looked at, and the page asks, after so many seconds.
+# The seconds between two looks at the file, and between two questions of the page.
 POLL, REFRESH = 1.0, 2.0
-# Spectra are drawn anew no sooner than after so many times the time that this takes.
+# Spectra are drawn again after this multiple of the time that drawing them takes.
 PAUSE = 250
 SHOWN_WORDS = 16
 PARTS = ("notes", "tiles", "services", "rate", "cycles", "channels", "last")
@@ -251,7 +251,7 @@ class _Handler(http.server.BaseHTTPRequestHandler):
 
     server: Server
     server_version, sys_version = "camac", ""
-    # A client that says nothing is left after so many seconds.
+    # The seconds after which a silent client is left.
     timeout = 20
 
     def do_GET(self) -> None:

@@ -1,4 +1,4 @@
-"""Reads words.toml, in which a user tells what the words of his events mean.
+"""Reads words.toml, in which a user says what the words of his events mean.
 
 The file is TOML of one kind: tables `[[word]]` with lines `KEY = VALUE`, whose values are strings of one line and numbers. It is read here, and
 not by Python's `tomllib`, since a fault has to name its line, and since Python has that from 3.11 on alone."""
@@ -45,10 +45,10 @@ class _Table(NamedTuple):
 
 
 def read_words(file: File, services: Sequence[Service] = ()) -> Words:
-    """Reads a file of words. `services` are those of the script whose events they are, as `camac.check` gives them: they tell which bit the name
+    """Reads a file of words. `services` are those of the script whose events they are, as `camac.check` gives them: by them it is known which bit the name
     of a service stands for.
 
-    Raises WordsFault at the first line that cannot be read, and ProgramFault where the file cannot be."""
+    Raises WordsFault at the first line that cannot be read, and ProgramFault if the file cannot be."""
     return parse_words(script_text(file), file, services)
 
 
@@ -120,7 +120,7 @@ class _Fields:
         self.table = _Table(0, {})
 
     def fail(self, key: str, text: str) -> NoReturn:
-        """Raises the fault of a key, or of the table where it does not have it."""
+        """Raises the fault of a key, or of the table if it does not have it."""
         raise WordsFault(self.file, self.table.keys.get(key, (self.table.line, ""))[0], text)
 
     def text(self, key: str) -> str:
@@ -204,7 +204,7 @@ class _Fields:
         return replace(its, of=of, tags=self.range("tag", 0, tag.greatest, (0, tag.greatest)))
 
     def test_name(self, its: Field) -> None:
-        """A name has one unit in all of the file. In a service it may stand twice at different places, or for different tags."""
+        """A name has one unit in all of the file. In a service it may be twice at different places, or for different tags."""
         if its.name == PLACE:
             self.fail("name", "`place` is what each word has; choose another name")
         for it in self.fields:

@@ -21,11 +21,11 @@ from camac.tree import (
 from camac.words import WHOLE, Field, Words
 
 COMMENT = re.compile("#[^\n]*")
-# So much of an expression stands in a name.
+# The most characters of an expression in a name.
 GREATEST_TEXT = 40
 SHORT_BITS = 16
 SUB_ADDRESSES = 16
-# So many statements are gone through for a service.
+# The most statements that are gone through for a service.
 PATIENCE = 200_000
 
 
@@ -39,7 +39,7 @@ class Origin:
     bits: int
 
 
-# What is known of a variable or an expression: its number, or where it was read; None where nothing is.
+# What is known of a variable or an expression: its number, or where it was read; None if nothing is.
 Known = Union[int, Origin, None]
 Address = Tuple[Known, Known, Known]
 
@@ -133,7 +133,7 @@ class _Walk:
         self.block(body.statements, _State(parameters, {}))
 
     def choice(self, it: If, state: _State) -> None:
-        """Either arm is gone. Both have to put as many words; it is not told what these are."""
+        """Either arm is gone. Both have to put as many words; their columns stay unknown."""
         counts = [self.counted(block, state) for block in (it.body, it.other)]
         if counts[0] != counts[1]:
             raise _Lost
@@ -233,7 +233,7 @@ def words_of_script(plan: Plan, script: File, services: Sequence[Service]) -> Wo
     """The columns of an accepted script, of which `services` are what `camac.check` gives. A column is a word whose place is fixed. It has the
     name of its module and its address, or the line and the text of the expression that is put.
 
-    Raises ProgramFault where the script cannot be read."""
+    Raises ProgramFault if the script cannot be read."""
     text = script_text(script)
     its = read_script(text)
     bits = {it.name: it.gl for it in services}

@@ -1,6 +1,6 @@
 """What the words of events mean: their columns, each with a name and a unit.
 
-A column is a number that stands in words of a service: at a place in the event, in some bits, or chosen by a tag in the same word.
+A column is a number that is in words of a service: at a place in the event, in some bits, or chosen by a tag in the same word.
 `read_words` reads columns from a file of the user's (words.toml); `words_of_script` takes them from a script, where the place of a word is
 fixed."""
 import importlib
@@ -27,10 +27,10 @@ class Field:
     gl             the bit of the graded-L pattern whose service it is, from 1 to 24
     bits           the first and last bit of the word; bit k has the value 2^k
     places         the first and last place in the event, from 1
-    count          where it is not None, only events of exactly so many words have it
+    count          if it is not None, only events of exactly so many words have it
     of, tags       the name of the field of the same word, or PLACE, whose number chooses the column, and the first and last such number
     scale, offset  a number means scale * number + offset
-    line           where it stands in the file of the user, or in the script
+    line           where it is in the file of the user, or in the script
     is_expression  whether nothing is known of it but the expression in the script"""
 
     name: str
@@ -48,7 +48,7 @@ class Field:
 
     @property
     def is_plain(self) -> bool:
-        """Whether a number means itself."""
+        """Whether value and number are the same."""
         return (self.scale, self.offset) == (1, 0)
 
     @property
@@ -61,13 +61,13 @@ class Field:
         return (word >> self.bits[0]) & self.greatest
 
     def value(self, number: Any) -> Any:
-        """What a number, or an array of them, means in the unit."""
+        """The value of a number, or of an array of them, in the unit."""
         return number if self.is_plain else self.scale * number + self.offset
 
 
 @dataclass(frozen=True)
 class Column:
-    """The numbers of a field, or those of them that have one tag. Where a field has a column for each of several tags, the tag stands behind
+    """The numbers of a field, or those of them that have one tag. Where a field has a column for each of several tags, the tag is behind
     the name: "adc[3]"."""
 
     field: Field
@@ -96,7 +96,7 @@ class Column:
 
 
 class Value(NamedTuple):
-    """A number in an event: its column, the place of its word from 1, and the number as it stands in the bits."""
+    """A number in an event: its column, the place of its word from 1, and the number as it is in the bits."""
 
     column: Column
     place: int
@@ -113,7 +113,7 @@ class Numbers(NamedTuple):
 
 class Values(NamedTuple):
     """The numbers of a column, or of all columns of a field, in the order of the file: the index of each one's word in `EventArrays.words`,
-    and the numbers as they stand in the bits."""
+    and the numbers as they are in the bits."""
 
     at: Array
     numbers: Array
@@ -133,7 +133,7 @@ class _Reader:
         return self.columns.get(place if self.field.of else 0)
 
     def split(self, events: Sequence[int], words: Sequence[int], place: int) -> Iterator[Numbers]:
-        """The numbers in the words of many events, by column. They stand at this place, where the place chooses the column."""
+        """The numbers in the words of many events, by column. They are at this place, where the place chooses the column."""
         low, mask = self.field.bits[0], self.field.greatest
         if self.tag is None:
             column = self.column(0, place)
@@ -158,7 +158,7 @@ class _Reader:
 
 
 class Words:
-    """The columns of words, by the bit of their service. Fields stand in the order in which they are told."""
+    """The columns of words, by the bit of their service. Fields are in the order of the file."""
 
     def __init__(self, fields: Sequence[Field] = ()) -> None:
         self.fields = tuple(fields)
@@ -169,7 +169,7 @@ class Words:
         self._layouts: Dict[Tuple[int, int], List[Tuple[_Reader, ...]]] = {}
 
     def tag_of(self, its: Field) -> Optional[Field]:
-        """The field whose number chooses the column of another one: it stands in the same words. None where none does."""
+        """The field whose number chooses the column of another one: it is in the same words. None if none does."""
         for it in self.fields:
             if it.gl == its.gl and it.name == its.of and it.places[0] <= its.places[0] and its.places[1] <= it.places[1]:
                 return it
@@ -187,7 +187,7 @@ class Words:
         return found
 
     def values(self, event: Event) -> Iterator[Value]:
-        """The numbers in an event, by place. A word of which nothing is told has none."""
+        """The numbers in an event, by place. A word without a column has none."""
         layout = self._layout(event.gl, len(event.words))
         for place, (word, readers) in enumerate(zip(event.words, layout), 1):
             for it in readers:
@@ -224,7 +224,7 @@ class Words:
         return self._layouts[key]
 
     def values_of(self, its: Union[Field, Column], events: EventArrays) -> Values:
-        """The numbers of a field, or of a column of one, in the events of a file. Raises ImportError where numpy is not there."""
+        """The numbers of a field, or of a column of one, in the events of a file. Raises ImportError if numpy is not there."""
         numpy = importlib.import_module("numpy")
         field, tags = (its, its.tags) if isinstance(its, Field) else (its.field, (its.tag or 0, its.tag or 0))
         places = field.places
@@ -250,7 +250,7 @@ def _rows(numpy: Any, field: Field, places: Range, events: EventArrays) -> Array
     starts = events.first[its] + places[0] - 1
     lengths = numpy.clip(numpy.minimum(counts[its], places[1]) - places[0] + 1, 0, None)
     before = numpy.cumsum(lengths) - lengths
-    # Numbers of four bytes, where they are enough, take half of the memory; they count modulo 2^32.
+    # Numbers of four bytes, if they are enough, take half of the memory; they count modulo 2^32.
     kind = "u4" if len(events.words) < 1 << 32 else "i8"
     found = numpy.repeat((starts - before).astype(kind), lengths)
     found += numpy.arange(len(found), dtype=kind)

@@ -1,1 +1,1 @@
-"""What the tests share: the program, rows, folders, branches, programs in C, editors and browsers."""
+"""Shared by the tests: the program, rows, folders, branches, programs in C, editors and browsers."""

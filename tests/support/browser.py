@@ -1,4 +1,4 @@
-"""A browser for tests: headless Chromium, where it is, spoken to through two pipes by its own protocol (Chrome DevTools Protocol)."""
+"""A browser for tests: headless Chromium, if it is there, spoken to through two pipes by its own protocol (Chrome DevTools Protocol)."""
 import base64
 import fcntl
 import json
@@ -10,7 +10,7 @@ import tempfile
 import time
 
 CHROMIUM = next(filter(None, map(shutil.which, ("chromium", "chromium-browser", "google-chrome"))), None)
-# A machine may be busy: so many seconds may pass before the browser says anything.
+# The seconds that may pass before the browser answers: a machine may be busy.
 PATIENCE = 300
 FLAGS = (
     "--headless --no-sandbox --disable-gpu --disable-dev-shm-usage --hide-scrollbars --no-first-run --disable-extensions "

@@ -1,4 +1,4 @@
-"""What tests of pictures share: a bench of two crates and its script, the largest plan, answers, sums made apart from the Python package,
+"""Shared by tests of pictures: a bench of two crates and its script, the largest plan, answers, sums made apart from the Python package,
 and a reader of pages."""
 import html.parser
 import os
@@ -229,7 +229,7 @@ class Sums:
 
 
 class Page(html.parser.HTMLParser):
-    """What stands under each heading of a page: tables (rows of texts), tips of marks, counts of histograms, texts of pictures."""
+    """What is under each heading of a page: tables (rows of texts), tips of marks, counts of histograms, texts of pictures."""
 
     def __init__(self, text):
         super().__init__()

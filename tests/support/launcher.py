@@ -1,4 +1,4 @@
-"""What tests of ./camac and ./install share: a copy of the repository, a call of any command, a folder for each test, stand-ins for commands."""
+"""Shared by tests of ./camac and ./install: a copy of the repository, a call of any command, a folder for each test, stand-ins for commands."""
 import pathlib
 import shutil
 import subprocess

@@ -1,4 +1,4 @@
-"""What tests of live runs share: a folder for each test, a branch that answers from a list, and the program's Python package."""
+"""Shared by tests of live runs: a folder for each test, a branch that answers from a list, and the program's Python package."""
 import pathlib
 import select
 import subprocess
@@ -24,8 +24,6 @@ def script(body, cycles=100, words=100):
 
 
 class Case(unittest.TestCase):
-    """A test in a folder of its own."""
-
     def setUp(self):
         room = tempfile.TemporaryDirectory(prefix="camac-live-")
         self.addCleanup(room.cleanup)
@@ -85,7 +83,7 @@ class Pipes:
         self.process.communicate()
 
     def read(self):
-        """What stands on the pipe as soon as something does; nothing at the end of the output."""
+        """What is on the pipe as soon as something does; nothing at the end of the output."""
         if not select.select([self.process.stdout], [], [], PATIENCE)[0]:
             raise TimeoutError("the program wrote nothing")
         return self.process.stdout.read(65_536)

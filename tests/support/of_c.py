@@ -1,4 +1,4 @@
-"""What tests in C share: the library for C, made of the archive of its crate as ./install makes it, and programs compiled against it.
+"""Shared by tests in C: the library for C, made of the archive of its crate as ./install makes it, and programs compiled against it.
 
 The archive is crates/camac_c/out/libcamac_c.a (after `rt ci` tools/proved_library makes it), or what the environment variable CAMAC_ARCHIVE names."""
 import atexit
@@ -18,7 +18,7 @@ STANDARD = {".c": ("gcc", "-std=c99"), ".cpp": ("g++", "-std=c++17")}
 
 
 def lacking():
-    """Why there is no library to test with; nothing where there is one."""
+    """Why there is no library to test with; nothing if there is one."""
     tools = [it for it in TOOLS if not shutil.which(it)]
     if tools:
         return f"{tools[0]} is not here"
@@ -29,7 +29,7 @@ def lacking():
 
 @functools.lru_cache(maxsize=None)
 def prefix():
-    """A folder in which headers, library and the files for pkg-config and CMake stand as ./install puts them."""
+    """A folder in which headers, library and the files for pkg-config and CMake are as ./install puts them."""
     room = tempfile.TemporaryDirectory(prefix="camac-library-")
     atexit.register(room.cleanup)
     folder = pathlib.Path(room.name)

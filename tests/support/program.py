@@ -1,4 +1,4 @@
-"""The program, and what tests of its commands share: the straight-line script with its bytes, the words of faults, a folder for each test.
+"""The program, and data for tests of its commands: the straight-line script with its bytes, the words of faults, a folder for each test.
 
 The program is crates/camac/out/camac (cd crates/camac && rt run makes it), or what the environment variable CAMAC_PROGRAM names."""
 import errno
@@ -31,7 +31,7 @@ CLOSED = "it is closed, or a folder"
 
 
 def fault(kind, name, why):
-    """What is told of a file, or of a standard stream: `why` is an error of the system, or words of the program's own."""
+    """The lines of a fault of a file, or of a standard stream: `why` is an error of the system, or words of the program's own."""
     return f"fault {kind}\n  {name}: {why if isinstance(why, str) else os.strerror(why)}\n".encode()
 
 

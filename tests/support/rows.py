@@ -1,4 +1,4 @@
-"""The worked rows of tests/rows, read. tests/rows/README.md tells the form of a row."""
+"""The worked rows of tests/rows, read. tests/rows/README.md shows the form of a row."""
 import re
 import struct
 import typing
@@ -7,11 +7,11 @@ from support.program import TOP
 
 INPUTS = ("PLAN", "SCRIPT", "ANSWERS")
 PLAYED = re.compile(r"(plan|plan --commands|check|explain|bounds|costs|response(?: --(?:every|within) \w+=\d+)*|run|drive) ([01])")
-# What needs no script.
+# The commands that need no script.
 OF_A_PLAN = ("plan", "plan --commands", "explain")
 EVENT = re.compile(r"gl (\d+) cycles (\d+) missed (\d+) words((?: [0-9a-f]{6})*)")
 NO_EVENTS = b"CAMACEV2"
-# Where there is no event file; what a row says of an event file without a byte.
+# The text in the place of an event file that was not made, or has no byte.
 NOT_MADE = b"no file"
 
 
@@ -24,7 +24,7 @@ class Case(typing.NamedTuple):
     status: int
     printed: bytes
     inputs: typing.Dict[str, bytes]
-    # None where the event file is not looked at
+    # None if the event file is not looked at
     events: typing.Optional[bytes]
 
 

@@ -1,4 +1,4 @@
-"""What the program prints of the bench of two crates, as text: for tests of pictures that need no program."""
+"""The output of the program for the bench of two crates, for tests of pictures that need no program."""
 import contextlib
 from unittest import mock
 
@@ -76,7 +76,7 @@ line 36 depth 1 cclc times 1 cycles 1 words 0 steps 1 share 1 0 1 at 2 2 0
 """
 # The commands of the scan in `adc`.
 SCAN = frozenset(camac.Command(1, 7, a, 0) for a in range(8))
-# What the words of the bench are.
+# The columns of the bench's words.
 WORDS = Words(
     [
         Field("channel", 3, bits=(16, 19)),

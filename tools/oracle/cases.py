@@ -15,7 +15,7 @@ from oracle.reader.plan import read_plan, sample_plan
 from oracle.reader.refusals import EVENT_FILE_LIMIT, TEXT_LIMIT, Refused
 
 STEPS_OF_A_RUN = 3_000
-# Of so many cases one has 1,000,000 answers, and one more cycles with X = 0 than an event counts.
+# One case in this number has 1,000,000 answers, and one has more cycles with X = 0 than an event counts.
 ROUND = 2_000
 MISSED = b"cdlam adc 1 1 5 12\nservice adc within 196611 cycles event 0 words { for i = 1 to 65535 { cclc adc } cclc adc }\n"
 
@@ -26,7 +26,7 @@ class Case(NamedTuple):
 
 
 def script_case(random: Random) -> Case:
-    """A plan, a script for it, and answers where it is accepted."""
+    """A plan, a script for it, and answers if it is accepted."""
     text = None if random.random() < 0.35 else make_plan(random)
     return played(random, Inputs(text, make_script(random, sample_plan() if text is None else read_plan(text))))
 
@@ -36,7 +36,7 @@ def edge_case(random: Random) -> Case:
 
 
 def played(random: Random, inputs: Inputs) -> Case:
-    """The script is judged, and played where it is accepted."""
+    """The script is judged, and played if it is accepted."""
     commands = ["check", "bounds" if random.random() < 0.4 else "costs"]
     try:
         checker = checked(inputs)

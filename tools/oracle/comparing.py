@@ -1,4 +1,4 @@
-"""Compares what the program answers with what the reader says that it has to answer."""
+"""Compares the answers of the program with those of the reader."""
 from __future__ import annotations
 
 import collections
@@ -57,7 +57,7 @@ class Comparison:
             self.differences.append(Difference(number, command, case.inputs, wanted, answered))
 
     def run(self, first: int, count: int, seconds: Optional[float] = None, most: int = 5) -> None:
-        """Compares `count` cases, or as many as so many seconds of processor time allow, and stops at `most` differences."""
+        """Compares `count` cases, or as many as fit into `seconds` of processor time, and stops at `most` differences."""
         began = used()
         for number in range(first, first + count):
             if len(self.differences) >= most or seconds is not None and used() - began >= seconds:
@@ -65,7 +65,7 @@ class Comparison:
             self.compare(number)
 
     def missing(self) -> List[str]:
-        """The codes that no case has reached, of those that this Python can tell."""
+        """The codes that no case has reached, of those that this Python can find."""
         return [it for it in (*TEXTS, "G4") if not self.reached[it] and (READS_ALL or it != "P1")]
 
     def table(self) -> str:

@@ -1,30 +1,27 @@
 """Mutants, and which of them share a round."""
 
-import difflib
 import os
-import re
+from pathlib import Path
 
-from rounds.repository import read
-from rounds.source import functions_in, module_of
+# A crate's rounds run side by side, so none has more bodies.
+MOST = 12
 
 
 class Body:
-    """A mutant: what it makes of the crate's files, and which functions it changes."""
+    """A mutant: by file the lines that it changes, and the functions that it changes. If a line is in no function, the mutant is wide."""
 
     def __init__(self, crate, file):
         self.crate, self.file = crate, file
-        self.name = re.sub(r"\.edit$", "", os.path.basename(file))
-        self.label = f"{crate.name}/{self.name}"
-        self.fault, self.texts, self.changes, self.functions = None, {}, {}, []
-        self.is_wide = self.is_alone = False
+        self.label = f"{crate.name}/{os.path.basename(file).removesuffix('.edit')}"
+        self.fault, self.is_wide, self.lines, self.functions = None, False, {}, []
         try:
             self.apply()
-        except ValueError as why:
+        except (ValueError, OSError) as why:
             self.fault = f"BAD EDIT: {why}"
 
     def apply(self):
-        path, old = "", None
-        for line in read(self.file).split("\n"):
+        path, old, texts = "", None, {}
+        for line in Path(self.file).read_text("utf-8").split("\n"):
             if line.startswith("file: "):
                 path = line.removeprefix("file: ").strip()
                 if not path.startswith("src/"):
@@ -33,62 +30,48 @@ class Body:
                 old = line.removeprefix("old: ")
             elif line.startswith("new:"):
                 if not path or not old:
-                    raise ValueError("a line 'new:' stands before any 'file:' or 'old:'")
-                text = self.texts.get(path) or read(f"{self.crate.folder}/{path}")
+                    raise ValueError("a line 'new:' comes before any 'file:' or 'old:'")
+                text = texts.get(path) or Path(f"{self.crate.folder}/{path}").read_text("utf-8")
                 if text.count(old) != 1:
-                    raise ValueError(f"a text 'old:' stands in {path} {text.count(old)} times, and not once")
-                self.texts[path] = text.replace(old, line.removeprefix("new:").removeprefix(" "))
+                    raise ValueError(f"a text 'old:' is in {path} {text.count(old)} times, not once")
+                texts[path] = text.replace(old, line.removeprefix("new:").removeprefix(" "))
                 old = None
-        if not self.texts:
+        if not texts:
             raise ValueError("it has no pair of lines 'old:' and 'new:'")
-        for path, text in self.texts.items():
-            self.changes[path] = self.lines_changed(path, text)
+        for path, text in texts.items():
+            before, after = Path(f"{self.crate.folder}/{path}").read_text("utf-8").split("\n"), text.split("\n")
+            self.lines[path] = {at: line for at, line in enumerate(after) if line != before[at]}
+            for at in self.lines[path]:
+                inside = [it for it in self.crate.functions if it.file == path and it.first <= at <= it.last]
+                self.is_wide = self.is_wide or not inside
+                self.functions += [it for it in inside if it not in self.functions]
 
-    def lines_changed(self, path, text):
-        """Returns what the body changes, as (first line, line after, new lines), and notes the functions."""
-        was = read(f"{self.crate.folder}/{path}")
-        functions = functions_in(was, module_of(path), self.crate.types)
-        matcher = difflib.SequenceMatcher(None, was.split("\n"), text.split("\n"), autojunk=False)
-        changes = []
-        for kind, first, after, new_first, new_after in matcher.get_opcodes():
-            if kind == "equal":
-                continue
-            changes.append((first, after, text.split("\n")[new_first:new_after]))
-            inside = [it for it in functions if it.first <= first and max(first, after - 1) <= it.last]
-            self.is_wide = self.is_wide or not inside
-            self.functions += [it for it in inside if it not in self.functions]
-        return changes
-
-    def shares_no_round(self, other):
-        """Whether the two bodies change one function. A body that changes a table or a constant may change any."""
-        mine, others = ({it.path for it in body.functions} for body in (self, other))
-        return any(it.is_wide or it.is_alone for it in (self, other)) or mine & others
+    def excludes(self, other):
+        """Whether the two can share no round: they change one function, or one of them a table or constant on which any may rest."""
+        return self.is_wide or other.is_wide or bool({*self.functions} & {*other.functions})
 
 
-def bodies_of(crate, with_must_fail):
-    found = []
-    for folder in ["mutants", *["must-fail"] * with_must_fail]:
-        folder = f"{crate.folder}/{folder}"
-        if os.path.isdir(folder):
-            found += [Body(crate, f"{folder}/{it}") for it in sorted(os.listdir(folder)) if it.endswith(".edit")]
-    return found
+def bodies_of(crate):
+    """Returns the mutants of a crate, by their names."""
+    folder = f"{crate.folder}/mutants"
+    return [Body(crate, f"{folder}/{it}") for it in sorted(os.listdir(folder)) if it.endswith(".edit")] if os.path.isdir(folder) else []
 
 
-# A round begins with as much work as the proof of a function of so many lines.
-BEGIN = 40
+def unchanged(bodies):
+    """Returns bodies without their changes, one for the same functions."""
+    tried = {tuple(it.functions): it for it in bodies if not it.fault and not it.is_wide}
+    for it in tried.values():
+        it.lines = {}
+    return [*tried.values()]
 
 
-def packed(bodies, apart, weight, most):
-    """Returns rounds of bodies that change different functions, the dearest first. Two bodies of a pair in 'apart' share none. A round has no more
-    than 'most' lines to prove, if it can."""
+def packed(bodies, apart=frozenset()):
+    """Returns rounds of these bodies. Two bodies of a pair in 'apart' share none."""
     rounds = []
-    for body in sorted(bodies, key=lambda it: (-weight([it]), it.name)):
-        free = [it for it in rounds if not any(body.shares_no_round(other) or frozenset((body, other)) in apart for other in it)]
-        dearer = {id(it): weight([*it, body]) - weight(it) for it in free}
-        free = [it for it in free if weight(it) + dearer[id(it)] <= most and dearer[id(it)] <= weight([body]) + BEGIN]
-        best = min(free, key=lambda it: dearer[id(it)], default=None)
-        if best is None:
-            rounds.append([body])
-        else:
-            best.append(body)
-    return sorted(rounds, key=weight, reverse=True)
+    for body in bodies:
+        free = (it for it in rounds if len(it) < MOST and not any(body.excludes(other) or frozenset((body, other)) in apart for other in it))
+        some = next(free, None)
+        if some is None:
+            rounds.append(some := [])
+        some.append(body)
+    return rounds

@@ -7,8 +7,9 @@ import os
 import shutil
 import subprocess
 import sys
+from pathlib import Path
 
-from rounds.source import Calls, functions_in, module_of, types_in
+from rounds.source import functions_in, types_in
 
 TOP = os.environ.get("CAMAC_TOP") or os.path.realpath(f"{os.path.dirname(os.path.realpath(__file__))}/../..")
 PARTS = ("src", "specs", "proofs")
@@ -23,121 +24,68 @@ class Crate:
         self.name, self.uses, self.all, self.is_for_c = name, uses, all_crates, is_for_c
         self.folder = f"{TOP}/crates/{name}"
         self.rlib = f"{self.folder}/out/rlib/{name}.rlib"
-        self.is_program = os.path.isfile(f"{self.folder}/src/main.rt")
-
-    def direct(self):
-        return [self.all[it] for it in self.uses if it in self.all]
-
-    def sources(self):
-        """Returns the text of each source file and the module of its items."""
-        files = [it.removeprefix(f"{self.folder}/") for it in self.files() if it.endswith(".rt")]
-        return {it: (read(f"{self.folder}/{it}"), module_of(it)) for it in files}
-
-    @functools.cached_property
-    def types(self):
-        """The module of each type of the crate."""
-        return {name: it for text, module in self.sources().values() for name, it in types_in(text, module).items()}
 
     @functools.cached_property
     def functions(self):
-        """The functions of the crate, as its sources stood when they were first asked for."""
-        return [it for text, module in self.sources().values() for it in functions_in(text, module, self.types)]
-
-    @functools.cached_property
-    def calls(self):
-        return Calls(self.functions)
+        """The functions of the crate, as its sources were when first asked for."""
+        files = [it.removeprefix(f"{self.folder}/") for it in self.files() if it.endswith(".rt")]
+        texts = {it: Path(f"{self.folder}/{it}").read_text("utf-8") for it in files}
+        types = {name: module for file, text in texts.items() for name, module in types_in(text, file).items()}
+        return [it for file, text in texts.items() for it in functions_in(text, file, types)]
 
     def proof_of(self, function):
-        """Returns the folder of a function's proof, below proofs/, or None where none can be told. Functions of a cycle share a folder that is
-        named by the cycle; a function that calls itself has a cycle of its own name."""
+        """Returns the folder of a function's proof, below proofs/, or None if there is none. Functions of a cycle share the folder of the cycle; a function that
+        calls itself has a cycle of its own name."""
         if function.cycle:
-            found = glob.glob(f"{glob.escape(self.folder)}/proofs/**/+{function.cycle}", recursive=True)
+            found = glob.glob(f"{glob.escape(self.folder)}/proofs/**/{function.cycle}", recursive=True)
             return os.path.relpath(found[0], f"{self.folder}/proofs") if found else None
         *above, name = function.path.split("::")
         return "/".join([*above, f"+{name}" if function.calls_itself else name])
 
     def below(self):
+        """Returns the crates below this one, lowest first."""
         found = []
-        for it in self.direct():
+        for it in [self.all[it] for it in self.uses if it in self.all]:
             found += [other for other in [*it.below(), it] if other not in found]
         return found
 
     def files(self):
-        found = []
-        for part in PARTS:
-            for at, folders, names in os.walk(f"{self.folder}/{part}"):
-                folders.sort()
-                found += [f"{at}/{name}" for name in sorted(names)]
-        return found
+        parts = [os.walk(f"{self.folder}/{part}") for part in PARTS]
+        return sorted(f"{at}/{name}" for part in parts for at, _, names in part for name in names)
 
     def sum(self):
         """Returns a sum of all that the built library is made from."""
         total = hashlib.sha256()
         for crate in [*self.below(), self]:
-            total.update(repr([crate.name, crate.uses]).encode())
-            for file in crate.files():
-                text = read_bytes(file)
-                total.update(repr([file.removeprefix(crate.folder), len(text)]).encode() + text)
+            texts = [(file.removeprefix(crate.folder), Path(file).read_bytes()) for file in crate.files()]
+            total.update(repr([crate.name, crate.uses, texts]).encode())
         return total.hexdigest()
 
     def is_built(self):
-        """Whether the library stands, and nothing that it is made from is newer."""
+        """Whether the library is there, and nothing that it is made from is newer."""
         if not os.path.isdir(self.rlib):
             return False
         built = os.path.getmtime(self.rlib)
-        sources = [file for it in [self, *self.below()] for file in it.files()]
-        return all(os.path.getmtime(it) <= built for it in sources) or read(f"{self.rlib}.sum") == self.sum()
+        return all(os.path.getmtime(file) <= built for it in [self, *self.below()] for file in it.files())
 
     def words(self, jobs=1):
-        """Returns what the prover is told of the crate and of the libraries below it."""
-        kit = os.path.dirname(doc())
-        words = ["--crate-name", self.name, f"src/{'main' if self.is_program else 'lib'}.rt"]
-        if self.is_for_c:
-            words += ["--crate-type", "staticlib"]
-        for it in ["std", *[it for it in self.uses if it not in self.all]]:
-            words += ["--extern", f"{it}={kit}/rlibs/{it}.rlib"]
-        words += ["-L", f"dependency={kit}/rlibs"]
-        for it in self.direct():
-            words += ["--extern", f"{it.name}={it.rlib}"]
-        for it in self.below():
-            words += ["-L", f"dependency={os.path.dirname(it.rlib)}"]
+        """Returns the prover's options for the crate and for the libraries below it."""
+        kit, root = os.path.dirname(doc()), "src/main.rt" if os.path.isfile(f"{self.folder}/src/main.rt") else "src/lib.rt"
+        words = ["--crate-name", self.name, root, *["--crate-type", "staticlib"] * self.is_for_c]
+        for it in ["std", *self.uses]:
+            words += ["--extern", f"{it}={self.all[it].rlib if it in self.all else f'{kit}/rlibs/{it}.rlib'}"]
+        for it in [f"{kit}/rlibs", *[os.path.dirname(it.rlib) for it in self.below()]]:
+            words += ["-L", f"dependency={it}"]
         words += ["--antt-project", f"{kit}/rattle/logic/antt-project.json", "--logic-built", f"{kit}/logic_built"]
         return [*words, "--links", f"{self.name}=", "--jobs", str(jobs)]
 
-    def build(self, jobs):
-        os.makedirs(os.path.dirname(self.rlib), exist_ok=True)
-        made_from = self.sum()
-        ran = rattle("build", [*self.words(jobs), "--statements", "-o", self.rlib], self.folder)
-        if ran.returncode:
-            raise Stop(f"{self.name} is not proved, so nothing above it can be tried:\n{ran.stdout[-2000:]}")
-        write(f"{self.rlib}.sum", made_from)
 
-
-def read(file):
-    try:
-        with open(file, encoding="utf-8") as it:
-            return it.read()
-    except OSError:
-        return ""
-
-
-def write(file, text):
-    with open(file, "w", encoding="utf-8") as it:
-        it.write(text)
-
-
-def read_bytes(file):
-    with open(file, "rb") as it:
-        return it.read()
-
-
+@functools.lru_cache(None)
 def doc():
-    """Returns the first page of the toolchain's guides, which stands at the top of the toolchain."""
-    if not hasattr(doc, "page"):
-        if not shutil.which("rt") or not shutil.which("rattle"):
-            raise Stop("the toolchain's commands rt and rattle are not here: README.md says what is needed")
-        doc.page = subprocess.run(["rt", "doc"], capture_output=True, text=True, check=True).stdout.strip()
-    return doc.page
+    """Returns the path of the toolchain's first guide, which is at the top of the toolchain."""
+    if not shutil.which("rt") or not shutil.which("rattle"):
+        raise Stop("the toolchain's commands rt and rattle are not here: README.md says what is needed")
+    return subprocess.run(["rt", "doc"], capture_output=True, text=True, check=True).stdout.strip()
 
 
 def rattle(verb, words, folder):
@@ -146,8 +94,8 @@ def rattle(verb, words, folder):
 
 
 def crates():
-    found = {}
-    for line in read(f"{TOP}/crates.txt").split("\n"):
+    found, list_of_crates = {}, Path(f"{TOP}/crates.txt")
+    for line in list_of_crates.read_text("utf-8").split("\n") if list_of_crates.exists() else ():
         name, colon, uses = line.partition("#")[0].partition(":")
         if colon:
             name, *kinds = name.split()
@@ -159,15 +107,10 @@ def crates():
 
 def build_below(chosen, jobs):
     """Builds the libraries that are not there or not current, lowest first."""
-    for crate in chosen:
-        for it in crate.below():
-            if not it.is_built():
-                print(f"{it.name}: building its library, which is not there or not current", file=sys.stderr, flush=True)
-                it.build(jobs)
-
-
-def changed_since(commit, known):
-    ran = subprocess.run(["git", "diff", "--name-only", commit, "--", "crates"], cwd=TOP, capture_output=True, text=True)
-    if ran.returncode:
-        raise Stop(f"git knows no commit {commit}")
-    return [it for it in known if any(line.startswith(f"crates/{it}/") for line in ran.stdout.split("\n"))]
+    for it in dict.fromkeys(it for crate in chosen for it in crate.below()):
+        if not it.is_built():
+            print(f"{it.name}: building its library, which is not there or not current", file=sys.stderr, flush=True)
+            os.makedirs(os.path.dirname(it.rlib), exist_ok=True)
+            ran = rattle("build", [*it.words(jobs), "--statements", "-o", it.rlib], it.folder)
+            if ran.returncode:
+                raise Stop(f"{it.name} is not proved, so nothing above it can be tried:\n{ran.stdout[-2000:]}")

@@ -11,7 +11,6 @@ from camac.program import quickest, version
 
 
 def add_to(commands: Any) -> None:
-    """Adds the command to those of the package."""
     raw = argparse.RawDescriptionHelpFormatter
     _fill(commands.add_parser("check", prog="camac-check", help="Judges scripts, and warns of probable mistakes", epilog=STATUS, formatter_class=raw))
 

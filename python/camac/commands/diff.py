@@ -21,7 +21,6 @@ Status: 0 no bound has grown; 1 one has, or a plan or script is refused; 2 usage
 
 
 def add_to(commands: Any) -> None:
-    """Adds the command to those of the package."""
     raw = argparse.RawDescriptionHelpFormatter
     it = commands.add_parser("diff", help="Compares what services may take before and after a change", description=ABOUT, epilog=STATUS, formatter_class=raw)
     it.add_argument("old", metavar="OLD", help="a script, or with --script a plan")

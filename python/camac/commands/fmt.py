@@ -15,7 +15,6 @@ Status: 0 done; 1 a script has no layout, or with --check another one; 2 usage; 
 
 
 def add_to(commands: Any) -> None:
-    """Adds the command to those of the package."""
     raw = argparse.RawDescriptionHelpFormatter
     it = commands.add_parser("fmt", prog="camac-fmt", help="Lays scripts out", description=ABOUT, epilog=STATUS, formatter_class=raw)
     it.add_argument("files", nargs="+", metavar="SCRIPT", help="scripts; - is standard input, whose layout goes to standard output")

@@ -7,13 +7,12 @@ A language server (Language Server Protocol 3.17) for scripts and plans. An edit
 
 
 def add_to(commands: Any) -> None:
-    """Adds the command to those of the package."""
     it = commands.add_parser("lsp", prog="camac-lsp", help="Serves editors over standard input and output", description=ABOUT)
     it.set_defaults(do=do, out=None)
 
 
 def do(_: argparse.Namespace) -> int:
-    # What a server needs would take a fifth of the time in which every other command starts.
+    # The modules of the server would take a fifth of the time in which every other command starts.
     from camac.lsp.server import serve
 
     return serve()

@@ -52,7 +52,7 @@ def main(parse: Parse, words: Optional[List[str]] = None) -> int:
 
 
 def _run(parse: Parse, words: List[str]) -> int:
-    """Runs a command, and returns its status. Help is told as all that is printed."""
+    """Runs a command, and returns its status. Help is written as all that is printed."""
     told = io.StringIO()
     try:
         with contextlib.redirect_stdout(told):

@@ -15,7 +15,7 @@ from camac.scripts import check
 from camac.simulate import GREATEST_RATE, PATIENCE, Setting, Simulated, Simulation, curve, simulate
 
 GREATEST_CYCLE, GREATEST_SERVICES = 1e6, 10_000_000
-# So many services are simulated for each rate of a curve, at most.
+# The most services that are simulated for each rate of a curve.
 OF_A_CURVE = 500
 SHARES = ((0.5, "50 %"), (0.9, "90 %"), (0.99, "99 %"), (0.999, "99.9 %"), (1.0, "most"))
 ABOUT = """\
@@ -31,7 +31,6 @@ Status: 0 done; 1 plan or script is refused; 2 usage; 3 a file or the program fa
 
 
 def add_to(commands: Any) -> None:
-    """Adds the command to those of the package."""
     raw = argparse.RawDescriptionHelpFormatter
     it = commands.add_parser("simulate", help="Prints what is lost at a rate, and how long look-at-mes wait", epilog=ABOUT, formatter_class=raw)
     it.add_argument("plan", metavar="PLAN", help="a plan: a TOML file, or @sample, the built-in plan")

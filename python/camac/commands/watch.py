@@ -14,7 +14,6 @@ Status: 1 plan or script is refused; 2 usage; 3 a file or the program failed, or
 
 
 def add_to(commands: Any) -> None:
-    """Adds the command to those of the package."""
     it = commands.add_parser("watch", help="Shows a live run in a browser", epilog=ABOUT, formatter_class=argparse.RawDescriptionHelpFormatter)
     it.add_argument("events", metavar="EVENTS", help="an event file, which may grow, and need not be there yet")
     it.add_argument("--port", type=int, default=8080, metavar="PORT", help="the port on 127.0.0.1 (8080); 0 is any that is free")

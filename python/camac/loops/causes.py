@@ -11,7 +11,7 @@ NONE: Causes = frozenset()
 
 
 def causes_of(stopped: Stopped, known: Known) -> Set[Cause]:
-    """The loops that forget what a refusal is about, each with a variable. The costs of a body are about all that stands in it."""
+    """The loops that forget what a refusal is about, each with a variable. The costs of a body are about all that is in it."""
     it = stopped.about
     if isinstance(it, Body):
         return causes_before(stopped, known)
@@ -44,7 +44,7 @@ def foreseen(known: Known) -> Iterator[Causes]:
     """The causes of refusals that are sure to come, of each by itself: values that leave their range, words of more than 24 bits, and ranges that
     are not kept."""
     for it, state in known.before.items():
-        # The parts of a condition behind the first one are looked at where that is true.
+        # The parts of a condition behind the first one are looked at if that is true.
         for expression in expressions_of(it)[: 2 if isinstance(it, (If, While)) else None]:
             variables = known.heads[it].variables if isinstance(it, While) else state.variables
             if isinstance(it, Plain) and it.word == "put" and value_of(expression, variables)[1] >= WORD or _leaves(expression, variables):

@@ -1,4 +1,4 @@
-"""Changes of single statements, for where no range that is kept helps: a sum that grows no further than it can, a difference that falls no lower
+"""Changes of single statements, for when no range that is kept helps: a sum that grows no further than it can, a difference that falls no lower
 than 0, a comparison in the place of a difference, a value as two words."""
 import enum
 import re
@@ -31,7 +31,7 @@ class Kind(enum.Enum):
 
 
 class Change(NamedTuple):
-    """A part of the text from `start` to `end`, in bytes, what takes its place, a remark on it, and the statements that then stand there."""
+    """A part of the text from `start` to `end`, in bytes, what takes its place, a remark on it, and the statements that are then there."""
 
     kind: Kind
     start: int
@@ -55,7 +55,7 @@ def changed(kind: Kind, it: Statement, text: str, remark: str = "") -> Change:
 
 
 class Changes:
-    """What may stand in the place of statements of a script."""
+    """What may be in the place of statements of a script."""
 
     def __init__(self, text: bytes) -> None:
         self.text = text
@@ -143,6 +143,6 @@ def _falls(it: Statement, state: State) -> Iterator[Operation]:
 
 
 def _greatest(fall: Operation, state: State) -> int:
-    """What has to be added to a difference so that it is not below 0; 0 where that is too much."""
+    """What has to be added to a difference so that it is not below 0; 0 if that is too much."""
     most = value_of(fall.right, state.variables)[1]
     return most if value_of(fall.left, state.variables)[1] + most <= MOST else 0

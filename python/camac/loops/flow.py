@@ -6,7 +6,7 @@ from camac.loops.widths import WORD, Widths
 from camac.tree import Assign, Body, Cycle, For, If, Lock, Loop, Plain, SetRegister, Statement, Transfer, While
 
 SHORT_WORD = 65_535
-# Statements, and those that stand in their places.
+# Statements, and those that are in their places.
 Replaced = Mapping[Statement, Sequence[Statement]]
 
 
@@ -15,7 +15,7 @@ class Flow:
 
     def __init__(self, widths: Widths, replaced: Replaced) -> None:
         self.widths, self.replaced = widths, replaced
-        # So many statements were gone through.
+        # The statements that were gone through.
         self.work = 0
         self.rules: Dict[Type[Statement], Callable[..., Optional[State]]] = {
             Assign: self.assign, SetRegister: self.set_register, Cycle: self.cycle, Transfer: self.transfer, Plain: self.plain,
@@ -39,7 +39,7 @@ class Flow:
         return state
 
     def reach(self, it: Statement, state: State) -> None:
-        """Is told what is known before each statement."""
+        """Is called with what is known before each statement."""
 
     def assign(self, it: Assign, state: State) -> Optional[State]:
         state.variables[it.name] = value_of(it.value, state.variables)
@@ -131,7 +131,7 @@ class Headed(Flow):
 
 
 def entry_of(body: Body) -> Optional[State]:
-    """What is known where a body begins; None where it is never called."""
+    """What is known where a body begins; None if it is never called."""
     if any(low > high for low, high in body.variables.values()):
         return None
     return State({name: (low, high, NO_CAUSE) for name, (low, high) in body.variables.items()}, {})

@@ -36,7 +36,7 @@ class GuardFinder:
         self.gone: Dict[Loop, Optional[Turns]] = {}
 
     def find(self, loop: Loop, name: str) -> Tuple[Guards, Guards]:
-        """The guards that keep a variable from growing without end in a loop, where there are some. The second ones leave out the last step, if
+        """The guards that keep a variable from growing without end in a loop, if there are some. The second ones leave out the last step, if
         nothing looks at what that makes."""
         outer = _where_it_grows(self.body, loop, name)
         limits = self.limits(outer, name)
@@ -47,7 +47,7 @@ class GuardFinder:
         return wide, [(it, _guard(self.text, it, limit._replace(before=limit.before - limit.step), BUT_THE_LAST))]
 
     def limits(self, loop: Loop, name: str) -> Dict[Assign, Limit]:
-        """The statements by which a variable grows in a loop, and how far; none where that is not known."""
+        """The statements by which a variable grows in a loop, and how far; none if that is not known."""
         entry = self.known.before.get(loop)
         if not entry or entry.variables[name][1] == MOST:
             return {}
@@ -61,7 +61,7 @@ class GuardFinder:
         return limits if all(it.before + it.step < MOST for it in limits.values()) else {}
 
     def turns(self, loop: Loop, entry: State) -> Optional[Turns]:
-        """A loop gone through turn by turn; None where it has too many turns."""
+        """A loop gone through turn by turn; None if it has too many turns."""
         if loop not in self.gone:
             turns = Turns(self.known.widths, self.known.replaced, loop, self.left)
             try:
@@ -88,7 +88,7 @@ def _contains(block: Sequence[Statement], it: Statement) -> bool:
 
 
 def loops_around(block: Sequence[Statement], it: Statement) -> List[Loop]:
-    """The loops of a block around a statement, the outermost first, and itself where it is one."""
+    """The loops of a block around a statement, the outermost first, and itself if it is one."""
     for one in block:
         if _contains([one], it):
             inner = [loop for its in blocks_of(one) if _contains(its, it) for loop in loops_around(its, it)]
@@ -170,7 +170,7 @@ def _step(it: Assign, state: Optional[State]) -> int:
 
 
 def _added(it: Assign) -> Optional[List[Tuple[int, Expression]]]:
-    """What an assignment adds to its variable, 1, or takes from it, -1; None where it does more."""
+    """What an assignment adds to its variable, 1, or takes from it, -1; None if it does more."""
     terms = list(_terms(it.value, 1))
     own = [(sign, one) for sign, one in terms if isinstance(one, Name) and one.name == it.name]
     others = [(sign, one) for sign, one in terms if it.name not in names_in(one)]

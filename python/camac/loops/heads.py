@@ -11,14 +11,14 @@ FULL = (0, MOST)
 # So many turns are gone through before ranges are widened, while no more statements are gone through in all; then fewer. Past the last number
 # of statements nothing is known of what grows.
 PLAIN_TURNS, PLAIN_WORK, FEW_TURNS, MOST_WORK = 64, 20_000, 3, 60_000
-# So often ranges that were widened are taken back.
+# How often ranges that were widened are taken back.
 TAKEN_BACK = 4
 Ranges = Dict[str, Range]
 Kept = Mapping[Tuple[Loop, str], Range]
 
 
 def steps_of(statements: Iterable[Statement]) -> List[int]:
-    """The numbers at which a range may end: those that stand in statements, and those beside them; and the greatest numbers of widths."""
+    """The numbers at which a range may end: those that are in statements, and those beside them; and the greatest numbers of widths."""
     found = {0, MOST, *(2**bits - 1 for bits in range(1, 33))}
     for statement in statements:
         for expression in expressions_of(statement):
@@ -84,7 +84,7 @@ class Least(Headed):
             state.variables[name] = low, high, NO_CAUSE
 
     def after(self, it: Loop, state: State, current: Ranges) -> Ranges:
-        """The ranges after a turn from these; the same where there is none."""
+        """The ranges after a turn from these; the same if there is none."""
         self.put(current, state)
         after = self.turn(it, state)
         return {name: after.variables[name][:2] for name in current} if after else current

@@ -1,10 +1,10 @@
-"""Makes what is found for a script as little as it may be."""
+"""Makes the changes that are found for a script as small as they can be."""
 from typing import Callable, Iterable, Sequence, Set, TypeVar
 
 from camac.loops.proposals import Found
 from camac.loops.ranges import Cause
 
-# So many are left out one by one.
+# The most that are left out one by one.
 FEW = 8
 T = TypeVar("T")
 # Whether the checker takes what is found so far.
@@ -22,7 +22,7 @@ def leave_out(found: Found, sure: Set[Cause], is_good: IsGood) -> None:
 
 
 def leave_out_of(its: Sequence[T], without: Callable[[Sequence[T]], bool]) -> None:
-    """Leaves out as many of these as may be: all at once where there are many, else one by one. `without` tells whether some are left out."""
+    """Leaves out as many of these as may be: all at once if there are many, else one by one. `without` leaves some out, and returns whether the rest is good."""
     if len(its) > FEW and without(its):
         return
     if len(its) > 1:

@@ -15,7 +15,7 @@ Bounds = Tuple[int, int]
 
 
 class Wide(NamedTuple):
-    """A variable that a loop keeps, on a line, in a range; the least range, or None where it need not be kept at all; and the edits that mend it."""
+    """A variable that a loop keeps, on a line, in a range; the least range, or None if it need not be kept at all; and the edits that mend it."""
 
     line: int
     name: str
@@ -37,7 +37,7 @@ class Split(NamedTuple):
 
 def wide_keeps(plan: File, text: bytes, bodies: Sequence[Body], program: Optional[File] = None) -> Iterator[Wide]:
     """Finds what the bodies of a script keep in wider ranges than they have to. Each that may be left out is tried alone, and the least ranges of the others are tried
-    together, and one by one where they are refused together.
+    together, and one by one if they are refused together.
 
     Raises ProgramFault and OSError as `camac.check`."""
     loops = [it for body in bodies for it in all_in(body.statements) if isinstance(it, Loop)]
@@ -103,7 +103,7 @@ def splits(plan: File, text: bytes, bodies: Sequence[Body], program: Optional[Fi
 
 
 def _bounds(plan: File, text: bytes, program: Optional[File]) -> List[Bounds]:
-    """The least cycles and words of each service and procedure; nothing where the text is refused."""
+    """The least cycles and words of each service and procedure; nothing if the text is refused."""
     told = verdict("bounds", plan, text, program)
     return [(it.cycles, it.words) for it in parse_bounds(told.text)] if told.accepted else []
 
@@ -113,7 +113,7 @@ def _is_less(one: Bounds, other: Bounds) -> bool:
 
 
 def _starts(loop: For) -> Tuple[int, ...]:
-    """The numbers of a loop's variable at which a condition on it alone changes, in its block; none where its ends are not known."""
+    """The numbers of a loop's variable at which a condition on it alone changes, in its block; none if its ends are not known."""
     first, last = constant(loop.first), constant(loop.last)
     if first is None or last is None:
         return ()

@@ -12,7 +12,7 @@ U = TypeVar("U")
 
 class Proposal(NamedTuple):
     """A change of a script that is proposed: what it is, the line of what it changes, that in one line as it is then, and the edits that make it.
-    A remark stands in the text as a comment. What is kept changes nothing at run time."""
+    A remark is in the text as a comment. What is kept changes nothing at run time."""
 
     kind: Kind
     line: int
@@ -21,7 +21,7 @@ class Proposal(NamedTuple):
 
 
 class Remaining(NamedTuple):
-    """What still refuses a script: the rule, the line in the script as it was, where there is one, and the rule in words."""
+    """What still refuses a script: the rule, the line in the script as it was, if there is one, and the rule in words."""
 
     code: str
     line: Optional[int]
@@ -29,7 +29,7 @@ class Remaining(NamedTuple):
 
 
 class Proposals(NamedTuple):
-    """What is proposed for a script, by lines; what refuses it with all of that, None where it is accepted; and how often the checker was asked."""
+    """What is proposed for a script, by lines; what refuses it with all of that, None if it is accepted; and how often the checker was asked."""
 
     proposals: Tuple[Proposal, ...]
     remaining: Optional[Remaining]
@@ -70,16 +70,16 @@ class Found:
             yield Proposal(change.kind, it.line, f"{new}  # {change.remark}" if change.remark else new, (change.edit(),))
 
     def cut(self, place: int) -> None:
-        """Leaves out what stands behind a place in the text."""
+        """Leaves out what is behind a place in the text."""
         self.kept = {it: its for it, its in self.kept.items() if it[0].start <= place}
         self.changed = {it: change for it, change in self.changed.items() if it.start <= place}
 
     def without_ranges(self, its: Iterable[Cause], is_good: Callable[[], bool]) -> bool:
-        """Leaves ranges out if the rest is good, and tells whether it is."""
+        """Leaves ranges out if the rest is good, and returns whether it is."""
         return _without(self.kept, its, is_good)
 
     def without_changes(self, its: Iterable[Statement], is_good: Callable[[], bool]) -> bool:
-        """Leaves changes out if the rest is good, and tells whether it is."""
+        """Leaves changes out if the rest is good, and returns whether it is."""
         return _without(self.changed, its, is_good)
 
 

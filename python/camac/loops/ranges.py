@@ -76,7 +76,7 @@ def constant(it: Expression) -> Optional[int]:
 
 
 def _narrowed(sign: str, value: Value, other: Value) -> Optional[Value]:
-    """What is left of a value that meets the comparison with some number of the other; None where nothing is."""
+    """What is left of a value that meets the comparison with some number of the other; None if nothing is."""
     low, high, causes = value
     if sign == "!=":
         if other[0] == other[1]:

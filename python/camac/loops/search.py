@@ -21,9 +21,9 @@ from camac.scripts import parse_bounds
 from camac.texts import GREATEST_TEXT
 from camac.tree import Assign, Body, Loop, Range, Statement, all_in
 
-# So often the checker is asked at most; the last calls are for headings.
+# The most calls of the checker; the last ones are for headings.
 MOST_CALLS, LAST_CALLS = 200, 8
-# So many statements are gone through, and so many turn by turn, before nothing more is looked for. A second is enough for both.
+# The statements that are gone through at most, and those turn by turn. A second is enough for both.
 MOST_WORK, TURN_WORK = 75_000, 40_000
 # A longer script is left as it is: with what is tried it might be too long.
 MOST_BYTES = GREATEST_TEXT - 100_000
@@ -33,10 +33,10 @@ CHECK, BOUNDS = "check", "bounds"
 
 def propose(plan: File, script: bytes, program: Optional[File] = None, keeps_only: bool = False) -> Proposals:
     """Returns what the loops of a script have to keep, so that the checker accepts it, or that its first refusal comes later: the fewest ranges,
-    and the least. Where no range can be kept, statements get another form, but for `keeps_only`. Nothing is proposed for a script that is accepted,
+    and the least. If no range can be kept, statements get another form, but for `keeps_only`. Nothing is proposed for a script that is accepted,
     or is refused for what no range mends. If its headings are too small, and else it would be accepted, the least ones are proposed, too.
 
-    Raises ProgramFault and OSError as `camac.check`, and Refused where the plan is refused."""
+    Raises ProgramFault and OSError as `camac.check`, and Refused if the plan is refused."""
     is_long = len(script) > MOST_BYTES
     told = verdict(CHECK if is_long else BOUNDS, plan, script, program)
     refusal = None if told.accepted else Refused(told.text.partition("\n")[0])
@@ -56,9 +56,9 @@ def _remaining(refusal: Refused, line: Optional[int]) -> Remaining:
 
 def write_keeps(plan: File, script: str, program: Optional[File] = None) -> List[Proposal]:
     """Puts what the loops of a script have to keep into it, as `propose` finds it, and returns that. Nothing else of the text changes, and nothing
-    that it does at run time. Where there is nothing to keep, the file is not touched.
+    that it does at run time. If there is nothing to keep, the file is not touched.
 
-    Raises as `propose`, with nothing written, and OSError where the file cannot be read or written."""
+    Raises as `propose`, with nothing written, and OSError if the file cannot be read or written."""
     with open(script, "rb") as file:
         text = file.read()
     found = [it for it in propose(plan, text, program, keeps_only=True).proposals if it.kind is Kind.KEEP]
@@ -134,7 +134,7 @@ class _Search:
         return known
 
     def help(self, stopped: Stopped) -> bool:
-        """Keeps or changes something more because of a refusal, and tells whether there was something."""
+        """Keeps or changes something more because of a refusal, and returns whether there was something."""
         about = stopped.about
         body = next((it for it in self.bodies if about is not None and it.start <= about.start < it.end), None)
         if body is None:

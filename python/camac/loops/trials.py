@@ -43,14 +43,14 @@ class Trials:
                 self.at[it.line + len(self.breaks)] = it
 
     def judged(self, command: str, edits: Sequence[Edit]) -> Verdict:
-        """What `camac check`, or `camac bounds`, which does not look at headings, tells of the script with these changes."""
+        """What `camac check`, or `camac bounds`, which does not look at headings, says of the script with these changes."""
         self.calls += 1
         # What is replaced keeps its lines.
         kept = [it._replace(text=it.text + "\n" * self.text.count(b"\n", it.start, it.end)) for it in edits]
         return verdict(command, self.plan, edited(self.text, [*self.breaks, *kept]), self.program)
 
     def stopped(self, command: str, edits: Sequence[Edit]) -> Optional[Stopped]:
-        """What refuses the script with these changes; None where it is accepted."""
+        """What refuses the script with these changes; None if it is accepted."""
         told = self.judged(command, edits)
         return None if told.accepted else self.read(Refused(told.text.partition("\n")[0]))
 

@@ -9,7 +9,7 @@ from camac.plans import plan as read_plan
 from camac.texts import plan_text
 
 WORD = 24
-# `explain` tells of it which numbers a read may give.
+# `explain` says which numbers a read of it may give.
 READ = "proc p(v in 0..0) within 0 cycles event 0 words steps 0 {{ cdreg r 1 {} {} {} cfsa {} r -> v v = v - 4294967295 }}"
 MAY_STAND = re.compile(r"^The left of `-` may be 0 to (\d+), ", re.M)
 Key = Tuple[int, int, int, int, int, int, int]
@@ -24,7 +24,7 @@ class Widths:
         self.found: Dict[Key, int] = {}
 
     def greatest(self, function: int, address: Address) -> int:
-        """The greatest width of a read at the places of an address that declare it; 24 where none does."""
+        """The greatest width of a read at the places of an address that declare it; 24 if none does."""
         crate, station, sub = address
         key = function, crate[0], crate[1], station[0], station[1], sub[0], sub[1]
         if key not in self.found:
@@ -42,7 +42,7 @@ class Widths:
         return widest or WORD
 
     def _at(self, name: str, crate: int, station: int, sub: int, function: int) -> Optional[int]:
-        """The width there; None where the command is not declared."""
+        """The width there; None if the command is not declared."""
         key = name, sub, function
         if key not in self.asked:
             its = self.plan.types[name].declarations

@@ -1,4 +1,4 @@
-"""What mends a fault: changes of a text, each with its title."""
+"""Fixes of faults: changes of a text, each with its title."""
 import re
 from typing import Iterator, List, NamedTuple, Optional, Sequence, Tuple
 
@@ -21,7 +21,7 @@ MOST_TURNS = 65_535
 OF_HEADINGS = frozenset(("E11", "E12", "E18"))
 # Rules of the checker that a loop breaks when it forgets a variable.
 OF_LOOPS = frozenset(("E1", "E2", "E4", "E5", "E8", "E9", "E10", "E11", "E12", "E14", "E16", "E18", "E21"))
-# What loops keep is looked for at once in a script of so many bytes, else where it is asked for.
+# What loops keep is looked for at once in a script of at most so many bytes, else when it is asked for.
 QUICK = 8_000
 TITLES = {Code.UNUSED_KEEP: "Remove what is kept for nothing", Code.WIDE_KEEP: "Keep the least range", Code.SPLIT: "Split the loop, as it was tried"}
 
@@ -35,7 +35,7 @@ class Fix(NamedTuple):
 
 
 def fixes(judged: Judged, lines: range, warned: Sequence[Warned]) -> Iterator[Fix]:
-    """What mends the refusals and warnings on some lines of camac."""
+    """The fixes of the refusals and warnings on some lines of camac."""
     for it in refusals(judged):
         if judged.text.line_at(it.start) in lines:
             yield from _of_refusal(judged, it)
@@ -62,7 +62,7 @@ def _of_refusal(judged: Judged, it: Refusal) -> Iterator[Fix]:
 
 
 def _number(judged: Judged, it: Refusal) -> Optional[Fix]:
-    """The number that a refusal tells, put after its word."""
+    """The number in a refusal, put after its word."""
     turns, annotated, heading = TURNS.search(it.sentence), ANNOTATED.search(it.sentence), HEADING.search(it.sentence)
     if heading:
         word, number = WORD_BEFORE[heading[2]], heading[1]

@@ -1,4 +1,4 @@
-"""What may stand at a place: words of the language as the checker expects them, names, and what the plan declares."""
+"""What may be at a place: words of the language as the checker expects them, names, and what the plan declares."""
 import re
 from typing import Any, Callable, Dict, FrozenSet, Iterator, List, NamedTuple, Set
 
@@ -21,7 +21,7 @@ NOT_DECLARED = re.compile(r"is not declared above as an? (LAM|table|variable|reg
 # A name that no script has, as long as a name may be.
 NO_NAME = "no_name_that_anybody_would_choose"[:32]
 TYPED = re.compile(rb"[A-Za-z0-9_]*$")
-# What the checker calls what may stand somewhere, and the words that this is.
+# What the checker calls what may be somewhere, and the words that this is.
 GROUPS: Dict[str, FrozenSet[str]] = {
     "a declaration": DECLARATIONS | {"table"},
     "a statement": STATEMENTS,
@@ -33,15 +33,15 @@ Item = Dict[str, Any]
 
 
 class Expected(NamedTuple):
-    """What may stand at a place: groups as the checker calls them, and words."""
+    """What may be at a place: groups as the checker calls them, and words."""
 
     groups: Set[str]
     words: Set[str]
 
 
 def expected(ask: Callable[[bytes], str], before: bytes) -> Expected:
-    """What may stand behind a text, as the checker tells of it where it ends there. `ask` gives what `camac explain` says of a script. This alone
-    knows how that is told."""
+    """What may be behind a text, as the checker says if the text ends there. `ask` gives what `camac explain` says of a script. Only this
+    knows the form of that sentence."""
     told = ask(before)
     found = MAY_STAND.search(told)
     if found:
@@ -56,13 +56,13 @@ def expected(ask: Callable[[bytes], str], before: bytes) -> Expected:
 
 
 def kind_of_name(ask: Callable[[bytes], str], before: bytes) -> Set[Kind]:
-    """What a name behind a text has to be; nothing where it is a new one."""
+    """What a name behind a text has to be; nothing if it is a new one."""
     found = NOT_DECLARED.search(ask(before + b" " + NO_NAME.encode()))
     return {it for it in Kind if found and it.value == found[1]} | ({Kind.PARAMETER} if found and found[1] == "variable" else set())
 
 
 def complete(judged: Judged, place: int) -> List[Item]:
-    """What may stand at a place in bytes, in the place of the word that is begun there."""
+    """What may be at a place in bytes, in the place of the word that is begun there."""
     before = judged.text.data[:place]
     if before[before.rfind(b"\n") + 1 :].lstrip().startswith(b"#") or b"#" in before[before.rfind(b"\n") + 1 :]:
         return []
@@ -135,7 +135,7 @@ def _parts_of_address(judged: Judged, words: List[str]) -> Iterator[Item]:
 
 
 def _functions(judged: Judged, start: int) -> Iterator[Item]:
-    """The functions that the plan declares at the register of the statement, or at the registers of its body where it has none yet."""
+    """The functions that the plan declares at the register of the statement, or at the registers of its body if it has none yet."""
     names, data = judged.names, judged.text.data
     after = re.match(rb"[0-9]*[ \t]*", data[start : start + 40])
     here = names.at(start + after.end()) if after else None

@@ -75,7 +75,7 @@ def of_plan(judge: Judge, text: Text) -> List[Diagnostic]:
 
 
 def warned(judged: Judged) -> List[Warned]:
-    """The warnings of a script; none where it is refused. This may take long."""
+    """The warnings of a script; none if it is refused. This may take long."""
     told = judged.ask("check")
     if not told.accepted:
         return []
@@ -91,7 +91,6 @@ def of_warning(it: Warned, text: Text) -> Diagnostic:
 
 
 def line_range(text: Text, line: int) -> Range:
-    """The code of a line of camac."""
     at, its = text.line_starts[min(line, len(text.line_starts)) - 1], text.line_of(line)
     code = its.partition(b"#")[0].rstrip() or its.rstrip()
     return text.range(at + len(code) - len(code.lstrip()), at + len(code))

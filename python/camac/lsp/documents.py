@@ -1,4 +1,4 @@
-"""Open texts: their lines, columns in UTF-16, places in bytes, and the changes that a client tells."""
+"""Open texts: their lines, columns in UTF-16, places in bytes, and the changes that a client sends."""
 import bisect
 import re
 from functools import cached_property
@@ -118,5 +118,5 @@ class Text:
         return text
 
     def edits(self, edits: Sequence[Edit]) -> List[Dict[str, Any]]:
-        """Changes by places in bytes, as the protocol tells them."""
+        """Changes by places in bytes, in the protocol's form."""
         return [{"range": self.range(it.start, it.end), "newText": it.text} for it in sorted(edits)]

@@ -1,4 +1,4 @@
-"""What is told of the place under the pointer, in Markdown."""
+"""The hover text of the place under the pointer, in Markdown."""
 import re
 from typing import Iterator, List, NamedTuple, Optional
 
@@ -16,7 +16,7 @@ OF_FUNCTIONS = ("cfsa", "cssa", "cfmad", "cfubc", "cfubr")
 
 
 class Told(NamedTuple):
-    """What is told, and of which part of the text, in bytes."""
+    """A hover text, and its part of the document, in bytes."""
 
     text: str
     start: int
@@ -24,7 +24,7 @@ class Told(NamedTuple):
 
 
 def hover(judged: Judged, place: int, choice: Choice) -> Optional[Told]:
-    """What is told of a place in bytes; None where there is nothing to tell."""
+    """The hover text of a place in bytes; None if there is none."""
     mention = judged.names.at(place)
     if mention:
         told = list(_of_name(judged, mention, choice))

@@ -15,7 +15,7 @@ from camac.tokens import Token, tokens_of
 from camac.tree import Loop, Range, all_in
 
 ABOUT = re.compile(r"at (\S+) (\S+) (\S+)(?: to (\S+) (\S+) (\S+))?")
-# So many lines around a place are looked at for the statement there, and so many cycles of a register are told.
+# The lines around a place in which the statement is looked for, and the cycles of a register that are shown.
 AROUND = 8
 
 
@@ -42,7 +42,7 @@ def addresses_of(about: str) -> List[Address]:
 
 
 def statement_tokens(judged: Judged, place: int) -> List[Token]:
-    """The tokens of the statement at a place, without what stands in its block; nothing where there is none."""
+    """The tokens of the statement at a place, without what is in its block; nothing if there is none."""
     block = judged.names.block_at(place)
     if block is None or place <= block.brace:
         return []
@@ -65,7 +65,7 @@ def _tokens_around(data: bytes, block: Block, place: int) -> List[Token]:
 
 
 def row_of(judged: Judged, first: Token) -> Optional[Row]:
-    """The row of `costs` of a statement, given by its first token; None where the script is refused."""
+    """The row of `costs` of a statement, given by its first token; None if the script is refused."""
     told, text = judged.ask("costs"), judged.text
     if not told.accepted:
         return None
@@ -84,7 +84,7 @@ def _has_row(word: str, is_first: bool) -> bool:
 
 
 def range_at(judged: Judged, mention: Mention) -> Optional[Range]:
-    """The range of a variable before the statement that names it, as `camac-check --keeps` reckons it; None where the statement is not reached, or the
+    """The range of a variable before the statement that names it, as `camac-check --keeps` reckons it; None if the statement is not reached, or the
     text has a fault. This alone says what is known of a variable."""
     block, told = judged.names.block_at(mention.start), judged.ask("check")
     if block is None or not (told.accepted or told.text.startswith("refused E")):
@@ -119,7 +119,7 @@ def addresses(judged: Judged, mention: Mention) -> List[Tuple[int, Address]]:
 
 
 def written_addresses(judged: Judged, mention: Mention) -> List[Tuple[int, Address]]:
-    """The addresses that stand in numbers after `cdreg` of a register."""
+    """The addresses that are in numbers after `cdreg` of a register."""
     found = []
     for it in judged.names.of(mention.symbol):
         words = [token.text for token in statement_tokens(judged, it.start)] if it.declares else []

@@ -15,7 +15,7 @@ LONGEST_HEADER = 1 << 16
 
 
 class ResponseError(Exception):
-    """Why a request has no result, as the client is told."""
+    """Why a request has no result, as the client gets it."""
 
     def __init__(self, code: int, text: str) -> None:
         super().__init__(text)
@@ -33,7 +33,7 @@ class Ended(Exception):
 def read_message(stream: BinaryIO) -> Message:
     """The next message. Lines that are no header are passed over, so that a wrong length costs what it hides and no more.
 
-    Raises Garbled where the bytes behind a header are no message, and Ended at the end of the stream, also within a message."""
+    Raises Garbled if the bytes behind a header are no message, and Ended at the end of the stream, also within a message."""
     size = _read_headers(stream)
     data = stream.read(size)
     if len(data) < size:
@@ -75,7 +75,7 @@ def write_message(stream: BinaryIO, message: Message) -> None:
 
 
 class Connection:
-    """What a client sends, in its order, and what it is sent. A thread of its own reads, so that a request can be cancelled while it waits."""
+    """The messages from and to a client, in their order. A thread of its own reads, so that a request can be cancelled while it waits."""
 
     def __init__(self, source: BinaryIO, target: BinaryIO) -> None:
         self.source, self.target = source, target
@@ -114,7 +114,7 @@ class Connection:
         return False
 
     def next(self, timeout: Optional[float]) -> Optional[Message]:
-        """The next message that is to be answered; None where none comes in time. Raises Ended at the end of the stream."""
+        """The next message that is to be answered; None if none comes in time. Raises Ended at the end of the stream."""
         while True:
             try:
                 it = self.arrived.get(timeout=timeout)

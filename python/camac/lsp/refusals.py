@@ -9,7 +9,7 @@ from camac.tokens import PIECE, is_token, tokens_of
 
 FIRST = re.compile(r"refused ([A-Z]\d+) line (\d+): (.*)")
 MARK = re.compile(r"[ |\t]*\^")
-# So many are told at most.
+# The most refusals that are shown.
 MOST = 10
 SIGN = re.compile(rb"[\x00-\xff][\x80-\xbf]*")
 # What takes the place of each byte of statements that are left out.
@@ -87,7 +87,7 @@ def _place(judged: Judged, data: bytes, code: str, line: int) -> Tuple[int, int]
 
 
 def _without_body(data: bytes, place: int) -> Optional[bytes]:
-    """The text without the statements of the body that has a place; None where they are left out already."""
+    """The text without the statements of the body that has a place; None if they are left out already."""
     depth, brace, start = 0, -1, -1
     for it in BODY.finditer(data):
         if it[1] and not depth:

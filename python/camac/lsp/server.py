@@ -1,4 +1,4 @@
-"""The server: what is done at each message of a client."""
+"""The server: its answers to the messages of a client."""
 import signal
 import sys
 import threading
@@ -21,14 +21,14 @@ from camac.lsp.workspace import Choice, Document, Judged, Workspace, is_plan_tex
 from camac.names import Mention, Names
 from camac.warn import Warned
 
-# So long nothing has to come before warnings are looked for, and so often plans on the disk are looked at.
+# The seconds without a message before warnings are looked for, and between two looks at the plans on the disk.
 QUIET, LOOK = 0.3, 1.0
-# So long a document that changes all the time is not judged.
+# The seconds after which a document is judged although it still changes.
 LONGEST = 0.1
 SWITCH = 0.000_5
 KEEPS = "camac.keeps"
 INFO = 3
-# What keeps a message from being answered. The client is told, and the server goes on.
+# The faults that keep a message from being answered. The client gets them, and the server goes on.
 FAULTS = (DriveFault, OSError, ValueError, RecursionError)
 OF_PARAMS = (LookupError, TypeError, AttributeError)
 Params = Dict[str, Any]
@@ -97,7 +97,7 @@ class Server:
         }
 
     def serve(self) -> int:
-        """Answers until the client says `exit`, and returns the status: 1 where it did not say `shutdown` before."""
+        """Answers until the client says `exit`, and returns the status: 1 if it did not say `shutdown` before."""
         # So the search for warnings holds up no answer.
         sys.setswitchinterval(SWITCH)
         try:
@@ -145,7 +145,7 @@ class Server:
         return self.requests[method](params)
 
     def guarded(self, call: Callable[[], None]) -> None:
-        """Does what a notification asks for. A fault is told, and the server goes on."""
+        """Does what a notification asks for. A fault is reported, and the server goes on."""
         try:
             call()
         except (*FAULTS, *OF_PARAMS) as why:
@@ -186,7 +186,7 @@ class Server:
         return self.workspace.documents[uri]
 
     def script(self, params: Params) -> Optional[Judged]:
-        """What is said of the script that a request is about; None where that is a plan."""
+        """What is said of the script that a request is about; None if that is a plan."""
         its = self.document(params)
         return None if its.is_plan else self.workspace.judged(its)
 
@@ -216,7 +216,7 @@ class Server:
             self.refresh(its)
 
     def refresh(self, its: Document) -> None:
-        """Has published what is said of a document, and of all scripts where it is a plan. While more messages wait it is put off, but not for long."""
+        """Has published what is said of a document, and of all scripts if it is a plan. While more messages wait it is put off, but not for long."""
         self.stale.setdefault(its.uri, time.monotonic())
         for other in self.workspace.documents.values() if its.is_plan else ():
             self.stale.setdefault(other.uri, time.monotonic())
@@ -250,7 +250,7 @@ class Server:
         self.client.notify("textDocument/publishDiagnostics", uri=its.uri, diagnostics=found, **version)
 
     def kept_warnings(self, its: Document) -> List[diagnostics.Diagnostic]:
-        """The warnings of an earlier version whose lines still stand there, or as much further down as the text is longer."""
+        """The warnings of an earlier version whose lines are still there, or as much further down as the text is longer."""
         old, warned = self.warned.get(its.uri, (its.text, []))
         more = len(its.text.line_starts) - len(old.line_starts)
         found = []
@@ -262,7 +262,7 @@ class Server:
         return found
 
     def pause(self) -> None:
-        """What is done between messages: warnings are looked for where nothing came for a while, and plans on the disk are looked at."""
+        """What is done between messages: warnings are looked for if nothing came for a while, and plans on the disk are looked at."""
         self.publish_stale()
         now = time.monotonic()
         for uri in [uri for uri, due in self.due.items() if due <= now] if self.client.is_idle() else ():
@@ -293,7 +293,7 @@ class Server:
         self.client.put(Own(uri=uri, judged=judged, found=found))
 
     def publish_late(self, own: Message) -> None:
-        """Publishes a script's warnings, where it is still the version of which they are told."""
+        """Publishes a script's warnings, if it is still their version."""
         its = self.workspace.documents.get(own["uri"])
         if its is None or its.judged is not own["judged"] or its.text is not its.judged.text:
             return
@@ -428,6 +428,6 @@ def serve() -> int:
     signal.signal(signal.SIGTERM, lambda number, _: sys.exit(128 + number))
     # The thread that reads may still wait at the end, so this is not sys.stdin, which Python closes then.
     source, target = open(0, "rb", closefd=False), sys.stdout.buffer
-    # What is printed by mistake goes to standard error, since standard output has the messages alone.
+    # Standard output has the messages alone, so a mistaken print goes to standard error.
     sys.stdout = sys.stderr
     return Server(source, target).serve()

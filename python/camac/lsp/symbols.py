@@ -76,7 +76,7 @@ def folds(text: Text, is_plan: bool) -> Iterator[Item]:
 
 
 def renamed(judged: Judged, mention: Mention, new: str) -> Tuple[Edit, ...]:
-    """The edits that give a name another name. Raises ResponseError where it cannot be, or the checker would judge the script otherwise."""
+    """The edits that give a name another name. Raises ResponseError if it cannot be, or the checker would judge the script otherwise."""
     why = fault_of_new_name(judged.names, mention.symbol, new)
     if why:
         raise ResponseError(FAILED, why)

@@ -34,7 +34,7 @@ class Choice(NamedTuple):
 
 
 def path_of(uri: str) -> Optional[pathlib.Path]:
-    """The file of a URI; None where it is none of a file."""
+    """The file of a URI; None if it is none of a file."""
     its = urlsplit(uri)
     return pathlib.Path(unquote(its.path)) if its.scheme == "file" else None
 
@@ -75,7 +75,7 @@ def _is_plan(path: str, _changed: int) -> bool:
 
 
 class Judge:
-    """What the checker says of scripts on one plan, given as its text. The plan stands in a file of its own as long as this is used."""
+    """What the checker says of scripts on one plan, given as its text. The plan is in a file of its own as long as this is used."""
 
     def __init__(self, data: bytes, room: str) -> None:
         self.data, self.program = data, quickest()
@@ -146,7 +146,7 @@ class Workspace:
         self.on_choice: Callable[[Document, Choice], None] = lambda document, choice: None
 
     def judged(self, document: Document) -> Judged:
-        """What is said of a script as it is, on its plan as that is: in the editor, where it is open, else on the disk. Raises OSError where its plan
+        """What is said of a script as it is, on its plan as that is: in the editor, if it is open, else on the disk. Raises OSError if its plan
         cannot be read."""
         choice = choose(document.text.line(0), document.path)
         if choice != document.choice:

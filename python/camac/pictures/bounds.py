@@ -15,7 +15,7 @@ def draw_bounds(services: Sequence[Service], run: Optional[Run] = None) -> Canva
 
 
 def draw_seen(services: Sequence[Service], seen: Optional[Mapping[int, SeenOfBit]], has_cycles: bool = True) -> Canvas:
-    """Draws the same of what was seen, by bit; None where there is no run."""
+    """Draws the same of what was seen, by bit; None if there is no run."""
     canvas = Canvas("The bounds of the script: at most, of annotated")
     canvas.text(CYCLES[0], 14, "cycles: at most, of annotated", "mute s11")
     canvas.text(WORDS[0], 14, "words: at most, of annotated", "mute s11")

@@ -11,12 +11,12 @@ FIRST_BAR, BAR, STEP = 22, 20, 21
 DEEPEST = 16
 # Where the heading promises more than FAR times what is needed, the picture is cut at SHOWN times, so that what is needed has room.
 FAR, SHOWN = 1.5, 1.3
-# Narrower bars are not drawn, and marks narrower than MARK tell nothing.
+# Narrower bars are not drawn, and marks narrower than MARK have no tip.
 NARROWEST, MARK = 0.8, 2
 
 
 class Node:
-    """A statement with what is in its block: the cycles of both, of them waits and what is not needed; and the statement that it stands
+    """A statement with what is in its block: the cycles of both, of them waits and what is not needed; and the statement that it is
     in, by its place."""
 
     __slots__ = ("row", "cycles", "waits", "slack", "parent", "has_block")
@@ -115,7 +115,7 @@ def _draw_whole(canvas: Canvas, y: float, body: Body, scale: Scale) -> None:
 
 
 def _draw_seen(canvas: Canvas, y: float, seen: Seen, scale: Scale) -> None:
-    """Two triangles above the first bar: the mean and the most of a run. Where they are near to each other, one text tells both."""
+    """Two triangles above the first bar: the mean and the most of a run. If they are near to each other, one text says both."""
     for value in (seen.mean, seen.most):
         x = min(value * scale.cycle, WIDE)
         canvas.path(f"M{number(x)} {number(y - 1)}l-4 -7h8z", "ink")
@@ -129,7 +129,7 @@ def _draw_seen(canvas: Canvas, y: float, seen: Seen, scale: Scale) -> None:
 
 
 def _draw_nodes(canvas: Canvas, y: float, nodes: List[Node], scale: Scale, of: Tuple[Body, Sequence[str]]) -> None:
-    """The bars of the statements, each below the one that it stands in and as wide as its cycles."""
+    """The bars of the statements, each below the one that it is in and as wide as its cycles."""
     begins: List[float] = []
     free: Dict[Optional[int], float] = {None: 0.0}
     for at, node in enumerate(nodes):

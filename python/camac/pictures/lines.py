@@ -37,7 +37,7 @@ class Part:
 
 
 class Line(NamedTuple):
-    """What stands on a line: its parts, the first of which has its number, and the cycles of the widest statement with its block."""
+    """What is on a line: its parts, the first of which has its number, and the cycles of the widest statement with its block."""
 
     parts: List[Part]
     whole: int
@@ -89,8 +89,6 @@ def draw_lines(
 
 
 class _Table:
-    """The place at which the next line stands."""
-
     def __init__(self, canvas: Canvas, y: float, most: int, lines: Dict[int, Line]) -> None:
         self.canvas, self.most, self.lines = canvas, most, lines
         self.y = y
@@ -170,7 +168,7 @@ def _shown_lines(body: Body, lines_of: Dict[int, Line], source: Sequence[str]) -
 
 
 def _short(value: int, room: int) -> str:
-    """The number, or where it has no room its power of ten: 4.3e9."""
+    """The number, or if it has no room its power of ten: 4.3e9."""
     text = f"{value:,}"
     if len(text) <= room:
         return text

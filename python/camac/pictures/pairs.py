@@ -8,12 +8,12 @@ from camac.pictures.svg import LEVELS, Canvas, count, cut
 from camac.words import Column
 
 LEFT, TOP, SIDE = 84, 30, 384
-# Where the scale of colours stands.
+# Where the scale of colours is.
 SCALE = LEFT + SIDE + 40
 
 
 def draw_pairs(across: Column, up: Column, pairs: Pairs) -> Canvas:
-    """Draws how often two numbers stand in one event: the fuller the colour, the more often."""
+    """Draws how often two numbers are in one event: the fuller the colour, the more often."""
     canvas = Canvas(f"{up.name} against {across.name}")
     canvas.text(0, 14, cut(f"{up.name} against {across.name}", 80), "b")
     if not pairs.count:

@@ -11,7 +11,7 @@ from camac.scripts import Service
 LEFT, STEP, TALLEST = 86, 34, 104
 CRATE_HEIGHT, BOX_HEIGHT = 160, 132
 BADGE = (24, 17)
-# So many characters a line of a graded-L bit has at most.
+# The most characters in the line of a graded-L bit.
 LONGEST_LINE = 122
 NORMAL_STATIONS = range(1, 24)
 # The controller takes the stations 24 and 25; its own commands go to 28 and 30.
@@ -19,8 +19,8 @@ CONTROLLER = 24
 
 
 class Scene(NamedTuple):
-    """What a picture of a plan tells of: services by bit (None where no script is known), and cycles of the run by crate and station
-    (None where they are not known)."""
+    """The contents of a picture of a plan: services by bit (None if no script is known), and cycles of the run by crate and station
+    (None if they are not known)."""
 
     plan: Plan
     services: Optional[Dict[int, Service]]
@@ -120,7 +120,7 @@ def _draw_demand(canvas: Canvas, y: float, gl: int, scene: Scene, place: str) ->
 
 
 def _station_tip(crate: Crate, station: Station, scene: Scene) -> List[str]:
-    """What is told of a station: itself, its bit, its cycles in the run, and each of its commands."""
+    """The tip of a station: itself, its bit, its cycles in the run, and each of its commands."""
     lines = [f"crate {crate.number} station {station.number}: {station.type}"]
     if station.gl:
         service = (scene.services or {}).get(station.gl)

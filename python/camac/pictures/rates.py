@@ -61,7 +61,7 @@ class Plot:
 
 def draw_rates(simulations: Sequence[Simulation], told: Simulation, cycle: float) -> Canvas:
     """Draws two plots for each service: over its rate the share that is answered, and the cycles that its look-at-mes wait. `told` is the
-    simulation of the rates that were told; `cycle` are the seconds of a cycle."""
+    simulation of the rates that were given; `cycle` are the seconds of a cycle."""
     canvas = Canvas("Look-at-mes that are answered, and how long they wait, over the rate")
     y = 0.0
     for at, it in enumerate(told.services):
@@ -99,7 +99,7 @@ def _draw_waits(canvas: Canvas, y: float, its: Sequence[Simulated], told: Simula
 
 
 def _draw_tips(canvas: Canvas, y: float, its: Sequence[Simulated]) -> None:
-    """Of each rate, what was simulated: a column over each plot tells it."""
+    """Of each rate a column over each plot, whose tip has what was simulated."""
     step = WIDE / max(len(its) - 1, 1)
     for at, it in enumerate(its):
         tip = f"{_rate(it.rate)} triggers a second: {share(it.live() * it.came, it.came)} of {count(it.came, 'trigger')} answered\n"

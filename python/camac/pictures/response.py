@@ -14,7 +14,7 @@ NO_NUMBER = "no number (-): no bound was found for when all look-at-mes up to th
 
 class Piece(NamedTuple):
     """A part of the time from a look-at-me to the end of its service: its colour, its cycles, whose they are, its term of the sum, and what
-    is told of it."""
+    is said of it."""
 
     kind: str
     cycles: int
@@ -121,7 +121,7 @@ def _latest_call(of: Response, first: int, lower: Sequence[Response]) -> Tuple[i
     """Which call of a stretch waits longest, and after how many cycles of the stretch it begins. `first` are the cycles of the service that
     may be in progress.
 
-    Raises ValueError where no call of a stretch waits so long as the program says."""
+    Raises ValueError if no call of a stretch waits so long as the program says."""
     begins, longest = 0, of.longest or 0
     for call in range(1, of.calls(longest) + 1):
         before = first + (call - 1) * of.cycles

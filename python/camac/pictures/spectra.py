@@ -16,9 +16,9 @@ PANEL = (WIDTH - GAP * (ACROSS - 1)) / ACROSS
 LEFT, WIDE, TOP, HIGH, ROW = 38, PANEL - 52, 46, 80, 164
 FOOT = TOP + HIGH
 MOST = 96
-# So many characters a title has at most.
+# The most characters in a title.
 TITLE = 32
-# On a logarithmic axis the foot stands at this count, so that a count of one is seen.
+# On a logarithmic axis the foot is at this count, so that a count of one is seen.
 LEAST = 0.5
 LINEAR, LOGARITHMIC, BOTH = "lin", "log", "both"
 Number = Union[int, float]
@@ -103,7 +103,7 @@ def channel_groups(channels: Sequence[Channel], scale: str = LINEAR) -> List[Gro
 
 
 def _grouped(shown: Sequence[Shown], scale: str) -> List[Group]:
-    """The panels by their axes: those of one width stand beside each other, lines over the run last."""
+    """The panels by their axes: those of one width are beside each other, lines over the run last."""
     groups: Dict[Tuple[bool, int], List[Shown]] = {}
     for it in shown[:MOST]:
         groups.setdefault((it.series is not None, 0 if it.series else it.spectrum.end), []).append(it)

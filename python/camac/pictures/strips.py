@@ -41,7 +41,7 @@ def draw_strip(kept: Kept, service: Optional[Service], why: str, has_legend: boo
 
 
 class _Strip:
-    """The place at which the next cell stands, and the locks that are held there."""
+    """The place at which the next cell is, and the locks that are held there."""
 
     def __init__(self, canvas: Canvas) -> None:
         self.canvas, self.x, self.y = canvas, 0.0, 26.0

@@ -3,7 +3,7 @@ import re
 from typing import Callable, Dict, List, Optional, Sequence, Tuple, Union
 
 WIDTH = 960
-# Of each name the colour in the light and in the dark theme. What is told by text has a contrast of 4.5 or more (WCAG 2).
+# Of each name the colour in the light and in the dark theme. Text has a contrast of 4.5 or more (WCAG 2).
 COLOURS: Dict[str, Tuple[str, str]] = {
     "ground": ("#ffffff", "#16191d"),
     "face": ("#f3f5f7", "#20262c"),
@@ -83,7 +83,7 @@ def variables(theme: int) -> str:
 
 
 def _colour_rules(colour: Callable[[str], str]) -> str:
-    """The rules of colours; `colour` gives that of a name. Outlines stand first, so that a class of areas fills what is outlined."""
+    """The rules of colours; `colour` gives that of a name. Outlines are first, so that a class of areas fills what is outlined."""
     rules = [f"svg.camac{{background:{colour('ground')}}}"]
     rules += [f"svg.camac .l-{name}{{stroke:{colour(name)};fill:none}}" for name in COLOURS]
     rules += [f"svg.camac .{name}{{fill:{colour(name)}}}" for name in COLOURS]
@@ -109,7 +109,7 @@ def page_style() -> str:
 
 
 def picture_style() -> str:
-    """The style of a picture that stands alone, by plain colours, which every reader of SVG knows."""
+    """The style of a picture by itself, by plain colours, which every reader of SVG knows."""
     light, dark = _colour_rules(lambda name: COLOURS[name][LIGHT]), _colour_rules(lambda name: COLOURS[name][DARK])
     return f"{light}@media (prefers-color-scheme:dark){{{dark}}}{_form_rules()}"
 
@@ -132,7 +132,7 @@ class Canvas:
         self.parts.append(head + (f"><title>{escape(tip)}</title></rect>" if tip else "/>"))
 
     def hit(self, box: Box, tip: str, extra: str = "") -> None:
-        """A place without a mark of its own that tells of what is there."""
+        """A place without a mark of its own, with a tip."""
         self.rect(box, "hit", tip, extra)
 
     def text(self, x: float, y: float, text: object, kind: str = "", extra: str = "") -> None:
@@ -155,7 +155,7 @@ class Canvas:
             self.parts.append(f'<path d="{"".join(way)}" class="{kind}"/>')
 
     def legend(self, x: float, y: float, names: Sequence[Tuple[str, str]], step: Callable[[str], float]) -> float:
-        """Small boxes with their words; returns where the next one would stand."""
+        """Small boxes with their words; returns where the next one would be."""
         for kind, word in names:
             self.rect((x, y, 11, 11), kind)
             self.text(x + 16, y + 10, word, "s11")

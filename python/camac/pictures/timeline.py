@@ -11,7 +11,7 @@ COLUMNS, LEAST_COLUMNS = 260, 12
 HIGH, LOW, MOST_HIGH_PANELS = 110, 56, 6
 # A label is so much below another one at least.
 APART = 13
-# Where the annotated number is above so many times the bound, it stands outside of the picture.
+# Where the annotated number is above so many times the bound, it is outside of the picture.
 FAR = 2
 
 
@@ -193,7 +193,7 @@ def _draw_strip(canvas: Canvas, y: float, kind: str, cycles: Dict[int, int], of:
 
 
 def _column_tip(run: Run, axis: Axis, at: int, it: Column, service: Service) -> str:
-    """What is told of a column."""
+    """The tip of a column."""
     first = at * axis.per + 1
     last = min(first + axis.per - 1, axis.total)
     lines = [f"service {first:,}" if axis.per == 1 else f"services {first:,} to {last:,}: {it.services:,} of {service.name}"]

@@ -16,7 +16,7 @@ __all__ = ["Report", "report"]
 
 
 class Report(NamedTuple):
-    """The page, and the status: 0; 1 where plan, script, an answer or the event file is refused, where a wait was not permitted, or where
+    """The page, and the status: 0; 1 if plan, script, an answer or the event file is refused, if a wait was not permitted, or if
     numbers that have to agree differ."""
 
     text: str
@@ -29,7 +29,7 @@ def report(
     """Makes the page of a run, or of the refusal of plan or script. `every` are the rates of modules, as `camac.response` takes them; `naming`
     says what the words of events are.
 
-    Raises OSError where a file cannot be read, UsageFault where a rate is none of a service or a name none of a word, WordsFault, and
+    Raises OSError if a file cannot be read, UsageFault if a rate is none of a service or a name none of a word, WordsFault, and
     ProgramFault as `camac.run`."""
     try:
         plan = read_plan(inputs.plan, program)

@@ -1,4 +1,4 @@
-"""The page where plan or script is refused: what `camac explain` says, the lines around the place, and the plan where it is good."""
+"""The page where plan or script is refused: what `camac explain` says, the lines around the place, and the plan if it is good."""
 import re
 from typing import List, Optional
 
@@ -12,7 +12,7 @@ from camac.report.sections import base_name
 from camac.runs import Inputs
 from camac.scripts import source_lines
 
-# So many lines before and behind the place are shown.
+# The lines that are shown before and behind the place.
 AROUND = 6
 
 

@@ -34,7 +34,7 @@ ENDS = {
     Ending.OVERRUN: "a wait that the plan does not permit: the run stopped",
     Ending.REFUSED: "an answer that the program could not take: the run stopped",
 }
-# So many strips are shown; of the services, the first ones and those with most missed cycles, then most cycles.
+# The strips that are shown; of the services, the first ones and those with most missed cycles, then most cycles.
 MOST_STRIPS, FIRST_SERVICES, WORST_SERVICES = 6, 150, 50
 NO_DEMAND_WAS_SERVED = (
     "No demand called a service. Is the look-at-me of the module enabled (F26), the demand output on, and the GL bit the one of the plan?"
@@ -42,7 +42,7 @@ NO_DEMAND_WAS_SERVED = (
 
 
 class Facts(NamedTuple):
-    """All that the page tells. `bodies` and `responses` are None where the program does not tell the cost of lines, or how late services
+    """The contents of the page. `bodies` and `responses` are None if the program does not print the cost of lines, or how late services
     can be."""
 
     inputs: Inputs
@@ -169,7 +169,7 @@ def _late_table(responses: List[Response], run: Run) -> str:
 
 
 def _number(number: Optional[int], word: str) -> Union[int, str]:
-    """The number, or the word that stands where there is none."""
+    """The number, or a word if there is none."""
     return word if number is None else number
 
 
@@ -216,7 +216,7 @@ def _kinds_table(facts: Facts) -> str:
     return _known_table(run, columns, rows)
 
 
-# The columns of which an event file tells nothing, and those of which one of version one tells nothing either.
+# The columns that an event file does not have, and those that one of version one does not have either.
 OF_LISTINGS = ("waits mean", "waits", "in a lock", "Q = 0", "Q end")
 OF_CYCLES = ("cycles least", "mean", "most", "cycles", "of bound", "X = 0")
 

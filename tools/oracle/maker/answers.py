@@ -53,7 +53,7 @@ class Made(Answers):
 
 
 def make_answers(random: Random, checker: Checker, steps: int) -> bytes:
-    """Answers for an accepted script, so many that its run takes at most about so many steps."""
+    """Answers for an accepted script, whose run then takes at most about this number of steps."""
     longest = max([1] + [cost.steps for it, cost in zip(checker.script.bodies, checker.costs) if it.is_service])
     demands = min(random.choice((1, 2, 3, 8)), max(1, steps // longest))
     answers = Made(random, checker, random.choice((1, 4, 12, 40, 40, 150, 400)), demands)

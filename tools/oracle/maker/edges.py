@@ -49,7 +49,7 @@ def count(random: Random) -> str:
 
 
 def watch(random: Random, name: str) -> str:
-    """Nothing, or a loop whose steps tell the range of a variable."""
+    """Nothing, or a loop whose steps show the range of a variable."""
     return random.choice(("",f"for i = 1 to {name} {{}}", f"for i = {name} to 60000 {{}}"))
 
 
@@ -117,7 +117,7 @@ def locks(random: Random) -> str:
 
 
 def comparison(random: Random) -> str:
-    """What a condition tells of the variables on both sides."""
+    """What a condition says of the variables on both sides."""
     sign = random.choice(("<", "<=", ">", ">=", "==", "!="))
     edge = some(random, 0, 7, 255)
     sides = "v {0} t", "t {0} v", "v {0} {1}", "(v) {0} v", "not v {0} t", "v {0} t and t {0} 9", "v + 1 {0} t"

@@ -48,12 +48,12 @@ class Modules(Answers):
         return answer
 
     def reply(self, most: int) -> Answer:
-        """The answer to a cycle or a lock before which so many waits are permitted."""
+        """The answer to a cycle or a lock, with at most this number of waits."""
         chance = self.random.random
         return Answer(int(chance() < 0.9), int(chance() < 0.8), self.random.randrange(2**24), self.random.choice((0, most, most // 2)), 0)
 
     def pattern(self) -> Optional[int]:
-        """The pattern of a graded-L operation; None where no look-at-me will ever come, since cycles pass in services alone."""
+        """The pattern of a graded-L operation; None if no look-at-me will ever come, since cycles pass in services alone."""
         for it in self.services:
             while self.due.get(it.name, self.now + 1) <= self.now:
                 self.raise_at(it, self.due.pop(it.name))

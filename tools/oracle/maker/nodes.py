@@ -56,7 +56,7 @@ def text_of(nodes: List[Node]) -> str:
 
 
 def remove_at(nodes: List[Node], line: int) -> bool:
-    """Takes the statement of a line out, and tells whether there was one."""
+    """Takes the statement of a line out, and returns whether there was one."""
     for node in nodes:
         for block in node.blocks():
             for it in block:

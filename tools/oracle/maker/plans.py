@@ -77,7 +77,7 @@ def tables_of(random: Random) -> Table:
 
 
 def all_tables(table: Table) -> List[Table]:
-    """A table with all that stand in it."""
+    """A table with all that are in it."""
     found = [table]
     for value in table.values():
         for it in value if isinstance(value, list) else [value]:
@@ -130,7 +130,7 @@ def table_twice(random: Random, plan: Table, _table: Table) -> None:
 
 
 def nested_value(random: Random, _plan: Table, table: Table) -> None:
-    """A value that stands as deep as it may, or deeper, in arrays, tables and dotted keys."""
+    """A value that is as deep as it may be, or deeper, in arrays, tables and dotted keys."""
     value: Any = random.choice((1, 1.5, OPEN, [[OPEN], {"x.y": 1}]))
     for _ in range(random.choice((2, 5, 8, 11, 12, 13, 14, 15, 16, 17, 30, 90))):
         value = [value] if random.random() < 0.6 else {random.choice(("x", "x.y", "x.y.z")): value}
@@ -144,7 +144,7 @@ BREAKS: List[Callable[[Random, Table, Table], None]] = [
 
 
 def break_plan(random: Random, plan: Table) -> None:
-    """Puts a fault into a plan: a key that is unknown, lacks, or has a wrong value; or something twice."""
+    """Puts a fault into a plan: a key that is unknown, missing, or has a wrong value; or something twice."""
     random.choice(BREAKS)(random, plan, random.choice(all_tables(plan)))
 
 
@@ -195,7 +195,6 @@ def text_of(random: Random, plan: Table) -> bytes:
 
 
 def make_plan(random: Random) -> bytes:
-    """A plan with no fault."""
     return text_of(random, tables_of(random))
 
 

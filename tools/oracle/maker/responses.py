@@ -14,7 +14,7 @@ TYPE = b'[[type]]\nname = "A"\ncommands = [ { f = 0, a = 0 } ]\n'
 
 
 def make_plan(random: Random, bits: List[int]) -> Tuple[bytes, List[Tuple[int, int]]]:
-    """A plan of two crates with a station for each bit, and where these stand."""
+    """A plan of two crates with a station for each bit, and where these are."""
     places = [(random.choice((1, 2)), n) for n in range(1, len(bits) + 1)]
     text = TYPE
     for crate in (1, 2):

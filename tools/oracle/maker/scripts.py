@@ -19,7 +19,7 @@ VARIABLES = ("v", "k", "i", "t", "sum", "N1", "v_2", "Z" * 32)
 SIGNS = ("{", "}", "(", ")", "+", "-", "*", "/", "%", "=", ",", "<", "<=", ">", ">=", "==", "!=", "->", "<-", "..")
 WORD = re.compile(r"[A-Za-z]\w*|\d+|->|<-|[<>=!]=|\.\.|[^\s\w]", re.ASCII)
 AFTER_BRANCH = re.compile(r"(cdreg|cdlam)\s+\w+\s+$")
-# Words that can stand in each other's place.
+# Words that can be in each other's place.
 LIKE = (
     ("cfsa", "cssa"), ("on", "off"), ("cclc", "ctlm"), ("cccz", "cccc", "ctci", "ctcd", "ctgl"), ("ccci", "cccd"), ("q", "x"),
     ("<", "<=", ">", ">=", "==", "!="), ("+", "-", "*"), ("/", "%"), ("->", "<-"),
@@ -82,7 +82,7 @@ class ScriptMaker:
         return [it for it in self.nodes if isinstance(it, BodyNode)]
 
     def refusal(self) -> Optional[Refused]:
-        """What refuses the script whatever its headings promise; where nothing does, they get the least numbers."""
+        """What refuses the script whatever its headings promise; if nothing does, they get the least numbers."""
         checker = Checker(read_script(text_of(self.nodes).encode()), self.plan, True)
         try:
             checker.judge()
@@ -93,7 +93,7 @@ class ScriptMaker:
         return None
 
     def repair(self) -> bool:
-        """Takes out what is refused, statement by statement, and tells whether the rest is accepted. Now and then it leaves a refusal."""
+        """Takes out what is refused, statement by statement, and returns whether the rest is accepted. Now and then it leaves a refusal."""
         for _ in range(40):
             try:
                 refused = self.refusal()
@@ -138,7 +138,7 @@ class ScriptMaker:
 
 
 def another(random: Random, word: str, words: List[str]) -> str:
-    """A word that can stand in the place of another: a number near it, a sign or word of its kind, a name."""
+    """A word that can be in the place of another: a number near it, a sign or word of its kind, a name."""
     if word.isdigit():
         number = int(word)
         near = [number + 1, max(0, number - 1)] * 2 + [2 * number, random.choice(EDGES), random.choice((*EDGES, 4_294_967_296))]

@@ -61,7 +61,7 @@ class Maker:
         return f"({made})" if depth < 2 or self.odds(0.2) else made
 
     def at_most(self, most: int) -> str:
-        """An expression that is at most so much, mostly at its edge."""
+        """An expression that is at most this number, mostly at its edge."""
         if most < 0 or self.odds(0.04):
             return self.expression()
         if self.odds(0.04):
@@ -125,7 +125,7 @@ class Maker:
         return f"{number} + {self.variable()} % {count + self.odds(0.04)}"
 
     def register(self) -> Tuple[str, List[Node]]:
-        """A register, and the statement before it that sets it, where none is set yet. Now and then one that may be unset."""
+        """A register, and the statement before it that sets it, if none is set yet. Now and then one that may be unset."""
         if self.spots and self.odds(0.04):
             name = self.random.choice(list(self.spots))
             self.registers[name] = self.spots[name]
@@ -288,7 +288,7 @@ class Maker:
         return [start, Node(f"for {turn} = 0 to {self.random.randrange(4)} keep {count} in 0..{most}", [counting, *self.block()])]
 
     def watch(self) -> List[Node]:
-        """A loop whose cost tells the least or the greatest number that a variable can be."""
+        """A loop whose cost shows the least or the greatest number of a variable."""
         turn, watched = self.free_variable(), self.variable()
         ends = self.random.choice((f"1 to {watched}", f"{watched} to 65000", f"{watched} to {self.variable()}", f"0 to {watched} % 65535"))
         return [Node(f"for {turn} = {ends}", [])]

@@ -1,1 +1,1 @@
-"""What plans, scripts, answers and event files mean, from their bytes to what the program has to print."""
+"""The meaning of plans, scripts, answers and event files, from their bytes to the lines of the program."""

@@ -31,7 +31,7 @@ class Answers:
         self.at = self.line = 0
 
     def next(self) -> Optional[Answer]:
-        """The answer of the next line, or None at the end. A1, A2 or A4 where the line is none."""
+        """The answer of the next line, or None at the end. A1, A2 or A4 if the line is none."""
         if self.at >= len(self.text):
             return None
         self.line += 1

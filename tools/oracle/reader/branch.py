@@ -8,15 +8,13 @@ from oracle.reader.plan import CONTROLLER, Plan
 
 
 class Overrun(Exception):
-    """A wait that a crate does not permit."""
-
     def __init__(self, crate: int, wait: int) -> None:
         super().__init__(crate, wait)
         self.crate, self.wait = crate, wait
 
 
 class Command(NamedTuple):
-    """A command, and what is written: None where nothing is."""
+    """A command, and what is written: None if nothing is."""
 
     crate: int
     station: int
@@ -43,7 +41,7 @@ class Branch:
         self.locked: Set[int] = set()
 
     def permit(self, crate: int, wait: int) -> None:
-        """Overrun where a wait is not permitted."""
+        """Overrun if a wait is not permitted."""
         if wait and (crate in self.locked or wait > self.plan.waits(crate)):
             raise Overrun(crate, wait)
 
@@ -72,5 +70,4 @@ class Branch:
         return Reply(1, 0, 0)
 
     def demand(self, gl: int) -> int:
-        """The pattern of a graded-L operation."""
         return gl & sum(self.plan.bits(it) for it in self.plan.crates if it not in self.silent)

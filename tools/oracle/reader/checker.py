@@ -76,7 +76,7 @@ class Checker:
         return state, cost
 
     def writes(self, name: str, line: int) -> None:
-        """E17 where the variable of an enclosing `for` is written."""
+        """E17 if the variable of an enclosing `for` is written."""
         if name in self.loop_variables:
             raise Refused("E17", line)
 

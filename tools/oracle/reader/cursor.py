@@ -1,4 +1,4 @@
-"""The token in hand, the names in sight, the limits, and expressions and conditions: what every rule of the grammar needs."""
+"""The token in hand, the names in sight, the limits, and expressions and conditions: the common parts of the grammar's rules."""
 from __future__ import annotations
 
 from typing import Container, Dict, List, Set
@@ -21,7 +21,7 @@ class Cursor:
         self.tokens = read_tokens(text)
         self.at = 0
         self.script = Script()
-        # What S4 looks at: tables, LAMs, variables, procedures, and the parameters of the procedure in hand.
+        # The names for S4: tables, LAMs, variables, procedures, and the parameters of the procedure in hand.
         self.declared: Set[str] = set()
         self.seen: Set[str] = set()
         self.registers: Set[str] = set()
@@ -74,7 +74,7 @@ class Cursor:
         return self.token.text
 
     def within(self, count: int, limit: str) -> None:
-        """S6 at the token in hand where it is the one too many of `count` before it."""
+        """S6 at the token in hand if it is the one too many of `count` before it."""
         if count >= LIMITS[limit]:
             self.stop("S6")
 
@@ -165,7 +165,7 @@ class Cursor:
         return Keep(name, first, self.number())
 
     def keeps(self, own: str) -> List[Keep]:
-        """The list after `keep`, where there is one. `own` is the loop's variable or measure, which it may not hold."""
+        """The list after `keep`, if there is one. `own` is the loop's variable or measure, which it may not hold."""
         kept: List[Keep] = []
         while self.sees("," if kept else "keep"):
             self.take(self.token.kind)

@@ -1,4 +1,4 @@
-"""What the program has to answer on the bytes of its inputs, by subcommand."""
+"""The right answers of the program to the bytes of its inputs, by subcommand."""
 from __future__ import annotations
 
 import functools
@@ -18,13 +18,13 @@ GOOD, REFUSED, MISUSE, FAULT = range(4)
 
 
 class Told(NamedTuple):
-    """A status, what stands on standard output and on standard error, and in EVENTS (None where it is not made)."""
+    """A status, what is on standard output and on standard error, and in EVENTS (None if it is not made)."""
 
     status: int
     out: bytes
     err: bytes = b""
     events: Optional[bytes] = None
-    # What was reached, for the table: a code, `accepted`, or how a run ended.
+    # The entry in the table: a code, `accepted`, or how a run ended.
     reached: str = ""
 
 
@@ -123,7 +123,7 @@ TELL: Dict[str, Callable[[Inputs], Told]] = {
 
 
 def tell(command: str, inputs: Inputs) -> Told:
-    """What the program has to answer. `LeftOut` where this reader does not judge the plan."""
+    """What the program has to answer. `LeftOut` if this reader does not judge the plan."""
     try:
         return TELL[command](inputs)
     except Refused as refused:
@@ -135,7 +135,7 @@ def tell(command: str, inputs: Inputs) -> Told:
 
 
 def words_of(command: str) -> Tuple[str, ...]:
-    """The inputs and outputs that stand after a subcommand."""
+    """The inputs and outputs that are after a subcommand."""
     return {
         "plan": ("plan",), "check": ("plan", "script"), "bounds": ("plan", "script"), "costs": ("plan", "script"),
         "response": ("plan", "script"), "run": ("plan", "script", "answers", "EVENTS"), "drive": ("plan", "script", "EVENTS"), "events": ("file",),

@@ -37,7 +37,7 @@ class Fields:
         raise Refused(code, self.at)
 
     def take(self, size: int, code: str, least: int, most: int) -> int:
-        """A number of `size` bytes. V7 where the bytes end in it, `code` where it is out of range."""
+        """A number of `size` bytes. V7 if the bytes end in it, `code` if it is out of range."""
         if len(self.data) - self.at < size:
             self.stop("V7")
         number = int.from_bytes(self.data[self.at : self.at + size], "big")

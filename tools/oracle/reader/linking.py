@@ -1,4 +1,4 @@
-"""What links a script to a plan: LAMs to stations and services to graded-L bits."""
+"""The links from a script to a plan: LAMs to stations and services to graded-L bits."""
 from __future__ import annotations
 
 from typing import List, Optional, Tuple

@@ -73,7 +73,7 @@ def for_(checker: Checker, known: Known, it: For) -> Tuple[State, Cost]:
 
 
 def falls_by(it: While) -> Optional[int]:
-    """What each turn takes from the measure, or None where the rule on measures is broken."""
+    """What each turn takes from the measure, or None if the rule on measures is broken."""
     falls = [one for one in it.body if isinstance(one, Assign) and one.name == it.measure]
     written = [one for one in everything(it.body) if written_by(one) == it.measure]
     if len(falls) != 1 or len(written) != 1:

@@ -15,9 +15,9 @@ PIECES = re.compile(
 
 
 def judge_nesting(text: bytes) -> None:
-    """P11 where more than 16 stand in each other."""
+    """P11 if more than 16 are in each other."""
     heading, dots, part = 0, 0, "key"
-    # each bracket with the dots of the key that it stands at
+    # each bracket with the dots of the key that it is at
     brackets: List[Tuple[str, int]] = []
     for piece in PIECES.finditer(text):
         sign = (piece[1] or b"").decode()

@@ -91,7 +91,7 @@ class Table:
         return value
 
     def number(self, key: str, least: int, most: int, missing: Optional[int] = None) -> Optional[int]:
-        """A whole number; where the key is not there, what stands for it. It must be there where `missing` is None."""
+        """A whole number, or `missing` if the key is not there. If `missing` is None, the key must be there."""
         if key not in self.values and missing is not None:
             return missing
         number = self.value(key, int)
@@ -109,7 +109,7 @@ class Table:
 
 
 def read_plan(text: bytes) -> Plan:
-    """The plan of a text, or the first fault of the walk (`Refused`). `LeftOut` where this reader does not judge it."""
+    """The plan of a text, or the first fault of the walk (`Refused`). `LeftOut` if this reader does not judge it."""
     judge_nesting(text)
     top = Table(read_toml(text), "buffer type crate")
     plan = Plan(top.number("buffer", 1, 4096, 4096))

@@ -62,7 +62,7 @@ def join(a: State, b: State) -> State:
 
 
 def value_of(known: Known, expression: Expression, line: int) -> Range:
-    """The range of an expression. E4 where it may leave 0 to 4,294,967,295."""
+    """The range of an expression. E4 if it may leave 0 to 4,294,967,295."""
     if isinstance(expression, int):
         return expression, expression
     if isinstance(expression, str):

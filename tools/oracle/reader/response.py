@@ -1,4 +1,4 @@
-"""How long look-at-mes wait at most: the lines of `response`, over the bounds of services and what was said of their rates."""
+"""How long look-at-mes wait at most: the lines of `response`, over the bounds and the rates of services."""
 from __future__ import annotations
 
 import functools
@@ -17,7 +17,7 @@ class WordFault(Exception):
 
 
 class Service(NamedTuple):
-    """A service: its name, its graded-L bit, its bound in cycles, and the least cycles between two look-at-mes (None where nothing was said)."""
+    """A service: its name, its graded-L bit, its bound in cycles, and the least cycles between two look-at-mes (None if nothing was said)."""
 
     name: str
     bit: int
@@ -25,7 +25,7 @@ class Service(NamedTuple):
     every: Optional[int]
 
     def calls(self, elapsed: int) -> int:
-        """How often it is called at most within so many cycles."""
+        """How often it is called at most within this number of cycles."""
         return 1 if self.every is None else elapsed // self.every + 1
 
 
@@ -42,7 +42,7 @@ class NoNumber(Exception):
 
 
 class Search:
-    """Finds the least numbers that stand still. All of one service share the limit of rounds."""
+    """Finds the least numbers that do not change. All of one service share the limit of rounds."""
 
     def __init__(self) -> None:
         self.rounds = 0
@@ -76,7 +76,7 @@ def response_of(services: Tuple[Service, ...], its: Service) -> Optional[Respons
 
 
 def rates_of(words: List[str]) -> Tuple[Dict[str, int], Dict[str, int]]:
-    """What --every and --within say, by service. WordFault where one of them names a service twice."""
+    """The numbers of --every and --within, by service. WordFault if one of them names a service twice."""
     rates: Dict[str, Dict[str, int]] = {it: {} for it in OPTIONS}
     for option, word in zip(words[::2], words[1::2]):
         name, _, cycles = word.partition("=")
@@ -101,7 +101,7 @@ def line_of(its: Service, found: Optional[Response], within: Optional[int]) -> s
 
 
 def response_lines(checker: Checker, every: Dict[str, int], within: Dict[str, int]) -> Tuple[List[str], bool]:
-    """The lines of an accepted script, and whether each end keeps to what --within says. WordFault where a service is not the script's."""
+    """The lines of an accepted script, and whether each end keeps to what --within says. WordFault if a service is not the script's."""
     services = services_of(checker, every)
     for option, rates in zip(OPTIONS, (every, within)):
         for name in rates:

@@ -61,7 +61,7 @@ class Shares:
         self.checker = checker
 
     def found(self, it: Statement) -> Tuple[State, Cost]:
-        """What was known before a statement (None where it cannot be reached), and what one time of it costs."""
+        """What was known before a statement (None if it cannot be reached), and what one time of it costs."""
         return self.checker.judged.get(id(it), (None, NOTHING))
 
     def block_cost(self, block: List[Statement]) -> Cost:
@@ -83,7 +83,7 @@ class Shares:
             yield from self.inside(it, depth, here)
 
     def own(self, it: Statement, known: State, each: Cost) -> Cost:
-        """What one time costs without what stands in its block."""
+        """The cost of one time without its block."""
         if known is None:
             return NOTHING
         if isinstance(it, If):
@@ -104,7 +104,7 @@ class Shares:
             yield from self.rows(it.body, depth + 1, here)
 
     def arms(self, it: If, depth: int, here: Counted) -> Iterator[Row]:
-        """For each number the greater arm counts, the first where both are alike."""
+        """For each number the greater arm counts, the first if both are alike."""
         first, second = self.block_cost(it.body), self.block_cost(it.otherwise or [])
         of_first = Cost(*(int(a >= b) for a, b in zip(first, second)))
         yield from self.rows(it.body, depth + 1, here._replace(weight=multiplied(here.weight, of_first)))
@@ -115,7 +115,7 @@ class Shares:
             yield from self.rows(it.otherwise, depth + 1, here._replace(weight=multiplied(here.weight, of_second)))
 
     def tail(self, it: Statement, known: State) -> str:
-        """What else there is to tell. The address of a LAM and the name of a procedure are known in any case."""
+        """The tail of a row. The address of a LAM and the name of a procedure are known in any case."""
         if isinstance(it, LamCall):
             lam = self.checker.script.lams[it.lam]
             return f" at {lam.crate} {lam.station} {lam.sub}"

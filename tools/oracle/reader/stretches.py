@@ -16,7 +16,7 @@ class Called(NamedTuple):
 
 
 class Ended(NamedTuple):
-    """The end of a service: which one of its stretch it is, and the cycles since its look-at-me was raised (None where that is not known)."""
+    """The end of a service: which one of its stretch it is, and the cycles since its look-at-me was raised (None if that is not known)."""
 
     number: int
     waited: Optional[int]
@@ -25,7 +25,7 @@ class Ended(NamedTuple):
 class Watch:
     """Watches a service. `faults` has what breaks the law, `broken` the calls that break a rate, `ended` the ends while rates are kept.
 
-    `raised` has the cycles of the run at which its look-at-mes were raised. Where it is empty, calls alone are watched.
+    `raised` has the cycles of the run at which its look-at-mes were raised. If it is empty, calls alone are watched.
     """
 
     def __init__(self, its: Service, found: Optional[Response], raised: Sequence[int] = ()) -> None:

@@ -17,7 +17,7 @@ END = re.compile(r"[ \t]*(?:#[^\n\x00-\x08\x0b-\x1f\x7f]*)?(?:\n|$)")
 
 
 def read_subset(text: bytes) -> Dict[str, Any]:
-    """The top table of a text. `LeftOut` where another reader is needed."""
+    """The top table of a text. `LeftOut` if another reader is needed."""
     try:
         return Subset(text.decode()).top
     except UnicodeDecodeError:
@@ -44,7 +44,7 @@ class Subset:
             self.take(BLANK)
 
     def sees(self, pattern: "re.Pattern[str]") -> Optional[Match[str]]:
-        """What stands here, which is passed over."""
+        """Whether this is next, which is then passed over."""
         found = pattern.match(self.text, self.at)
         if found:
             self.at = found.end()

@@ -16,16 +16,16 @@ try:
 except ImportError:
     tomllib = None
 
-# Strings, comments, brackets, commas, line ends: what tells where an inline table goes over several lines.
+# Strings, comments, brackets, commas, line ends: the parts that show an inline table over several lines.
 PIECES = re.compile(r'("""(?:[^\\]|\\.)*?"""|\'\'\'.*?\'\'\'|"(?:[^"\\\n]|\\.)*"|\'[^\'\n]*\')|(#[^\n]*)|([{}\[\],\n])|([^"\'#{}\[\],\n]+|.)', re.DOTALL)
 NEWER = re.compile(r"\\[ex]|\d\d:\d\d|\d{4}-\d\d-\d\d")
 LEAST, MOST = -(2**63), 2**63 - 1
-# Whether this Python reads all of TOML 1.0, so that P1 can be told.
+# Whether this Python reads all of TOML 1.0, so that P1 can be judged.
 READS_ALL = tomllib is not None
 
 
 def read_toml(text: bytes) -> Dict[str, Any]:
-    """The top table of a text. P1 where it is no TOML, or has a number of more than 64 bits."""
+    """The top table of a text. P1 if it is no TOML, or has a number of more than 64 bits."""
     if tomllib is None:
         return read_subset(text)
     try:

@@ -15,7 +15,7 @@ if TYPE_CHECKING:
 
 
 def moved(known: Known, tally: str, cycles: int, dear: int, kept: int, words: int) -> Tuple[State, Cost]:
-    """What is known after a transfer of so many cycles, each of which costs `dear`, and what it costs."""
+    """What is known after a transfer of this number of cycles, each of which costs `dear`, and its cost."""
     return known.with_variable(tally, (0, kept)), Cost(cycles * dear, words, 1 + cycles)
 
 

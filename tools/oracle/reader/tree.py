@@ -1,4 +1,4 @@
-"""The tree of a script. Names stand in it as they are written; brackets do not."""
+"""The tree of a script. Names are in it as they are written, and brackets are not."""
 from __future__ import annotations
 
 from dataclasses import dataclass, field
@@ -59,7 +59,7 @@ class SetRegister(Statement):
 
 @dataclass
 class Cycle(Statement):
-    """`cfsa`, or `cssa` where it is short."""
+    """`cfsa`, or `cssa` if it is short."""
 
     is_short: bool
     function: int
@@ -79,7 +79,7 @@ class Scan(Statement):
 
 @dataclass
 class Block(Statement):
-    """`cfubc`, or `cfubr` where it has a limit."""
+    """`cfubc`, or `cfubr` if it has a limit."""
 
     function: int
     register: str
