@@ -14,6 +14,7 @@ use crate::statement::accept_block;
 use camac_branch::Plan;
 use camac_check_known::{Around, CheckFault, Costs, Facts};
 use camac_check_result::Bounds;
+use camac_check_rows::Rows;
 use camac_check_rules::{Body, Case, CheckRule};
 use camac_check_simple::Context;
 use camac_lang::{Item, Procedure, Script, Service};
@@ -130,7 +131,7 @@ fn procedure_in_64_bits(
     let body = Body::Procedure(context.procedures.len());
     let around = Around::alone_in(alloc, body);
     let known = at_entry(alloc, &procedure.parameters)?;
-    let found = accept_block(alloc, context, &around, &procedure.body, known)?;
+    let found = accept_block(alloc, context, &around, &procedure.body, known, &mut Rows::none())?;
     let most = Bounds {
         cycles,
         words,
@@ -162,7 +163,7 @@ fn accept_in_64_bits(
     let body = Body::Service(service.lam);
     let around = Around::alone_in(alloc, body);
     let known = Facts::at_start(alloc);
-    let found = accept_block(alloc, context, &around, &service.body, Some(known))?;
+    let found = accept_block(alloc, context, &around, &service.body, Some(known), &mut Rows::none())?;
     let most = Bounds {
         cycles,
         words,
@@ -194,7 +195,7 @@ fn needs_in_64_bits(
     let body = Body::Service(service.lam);
     let around = Around::alone_in(alloc, body);
     let known = Facts::at_start(alloc);
-    let found = accept_block(alloc, context, &around, &service.body, Some(known))?;
+    let found = accept_block(alloc, context, &around, &service.body, Some(known), &mut Rows::none())?;
     event_fits(context.plan, found.costs.words(), service.line)?;
     Ok(within(body, most(), found.costs, service.line)?)
 }

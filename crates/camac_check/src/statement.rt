@@ -1,27 +1,34 @@
 // The rules of all statements, and of blocks of them.
 
-ghost use Rattle.std.specs.Prelude.{◌≡◌, IfOk, map};
-ghost use Rattle.camac_lang.specs.Tree.{choose, locked, while_};
+ghost use Rattle.std.specs.Prelude.{◌≡◌, IsTrue, OnOk, Some, map};
+ghost use Rattle.camac_lang.specs.Tree.{choose, for_, locked, while_};
 ghost use Rattle.camac_lang.specs.View.{expression_of, keep_of, part_of, statement_of, statements_of};
 ghost use Rattle.camac_check_rules.specs.Loops.{for_rule, with_fixed};
 ghost use Rattle.camac_check_rules.specs.Costs.{unreached};
 ghost use Rattle.camac_check_rules.specs.Refusal.{if_reached};
 ghost use Rattle.camac_check_rules.specs.Statements.{accept_statement, accept_block};
+ghost use Rattle.camac_check_rows.specs.Kept.{with_rows};
+ghost use Rattle.camac_check_rows.specs.Rows.{block_rows, statement_rows};
+ghost use Rattle.camac_check_rows.specs.Statements.{is_simple};
 ghost use Rattle.camac_check.specs.Ends.{loop_end};
 ghost use Rattle.camac_check_simple.specs.Gives.{Gives, by_code, verdict_of};
 
 use crate::procedure::call;
 use camac_check_known::{Around, CheckFault, Costs, Facts, join, split, waits_of};
 use camac_check_loops::{for_limits, keeps_after, turn_bound, while_head};
+use camac_check_rows::{
+    Detail, Kind, Rows, detail_of, loop_row, once, own_row, simple_row, times_at, turning,
+};
 use camac_check_rules::Body;
 use camac_check_simple::{
     BlockTransfer, Context, Findings, Place, assign, crate_call, lam_call, lock_crate, put,
     q_repeat, q_stop, scan, set_register, single,
 };
 use camac_lang::{Expr, Keep, Part, Stmt};
-use std::alloc::{AllocError, Global};
+use camac_range::Range;
+use std::alloc::Global;
 
-/// Checks a block from what is known at its beginning, if it can be reached.
+/// Checks a block from what is known at its beginning, if it can be reached, and puts the rows of its statements.
 #[cycle(statements)]
 pub fn accept_block(
     alloc: Global,
@@ -29,13 +36,15 @@ pub fn accept_block(
     around: &Around,
     block: &[Stmt],
     known: Option<Facts>,
+    rows: &mut Rows,
 ) -> Result<Findings, CheckFault>
-    ensures { Gives verdict_of result (if_reached unreached known (accept_block (by_code context.now) around.now (statements_of block.now))) }
+    ensures found { Gives verdict_of result (if_reached unreached known (accept_block (by_code context.now) around.now (statements_of block.now))) }
+    ensures rows { OnOk result (rows.new ≡ with_rows rows.old (block_rows (by_code context.now) around.now (statements_of block.now) known)) }
 {
     let mut here = known;
     let mut costs = Costs::new(0, 0, 0);
     'statements: for statement in block {
-        let next = match accept_next(alloc, context, around, statement, here) {
+        let next = match accept_next(alloc, context, around, statement, here, rows) {
             Ok(next) => next,
             Err(fault) => return Err(fault),
         };
@@ -43,28 +52,6 @@ pub fn accept_block(
         costs = costs.then(next.costs);
     }
     Ok(Findings { known: here, costs })
-}
-
-/// Checks a statement, if it can be reached.
-pub fn accept_statement(
-    alloc: Global,
-    context: &Context,
-    around: &Around,
-    statement: &Stmt,
-    known: &Option<Facts>,
-) -> Result<Findings, CheckFault>
-    ensures { Gives verdict_of result (if_reached unreached known.now (accept_statement (by_code context.now) around.now (statement_of statement.now))) }
-{
-    accept_next(alloc, context, around, statement, copy(alloc, known)?)
-}
-
-fn copy(alloc: Global, known: &Option<Facts>) -> Result<Option<Facts>, AllocError>
-    ensures { IfOk result (λ k. k ≡ known.now) }
-{
-    match known {
-        Some(known) => Ok(Some(known.try_clone(alloc)?)),
-        None => Ok(None),
-    }
 }
 
 // Checks a statement, if it can be reached. What was known before it is changed in place.
@@ -76,37 +63,168 @@ fn accept_next(
     around: &Around,
     statement: &Stmt,
     known: Option<Facts>,
+    rows: &mut Rows,
 ) -> Result<Findings, CheckFault>
-    ensures { Gives verdict_of result (if_reached unreached known (accept_statement (by_code context.now) around.now (statement_of statement.now))) }
+    ensures found { Gives verdict_of result (if_reached unreached known (accept_statement (by_code context.now) around.now (statement_of statement.now))) }
+    ensures rows { OnOk result (rows.new ≡ with_rows rows.old (statement_rows (by_code context.now) around.now (statement_of statement.now) known)) }
 {
     match known {
-        Some(known) => accept_reached(alloc, context, around, statement, known),
-        None => Ok(Findings {
-            known: None,
-            costs: Costs::new(0, 0, 0),
-        }),
+        Some(known) => accept_reached(alloc, context, around, statement, known, rows),
+        None => {
+            rows.pass_over(alloc, context, statement)?;
+            Ok(Findings {
+                known: None,
+                costs: Costs::new(0, 0, 0),
+            })
+        }
     }
 }
 
 // Checks a statement that can be reached.
 #[cycle(statements)]
-#[tactic(auto, unfolding(camac_check_rules::specs::Refusal::go_on, camac_check_rules::specs::Refusal::if_reached))]
+#[tactic(auto, using(crate::proofs::Rows::choice_rows, camac_check_rows::proofs::Kept::arms_found, camac_check_rows::proofs::Kept::are_places), unfolding(camac_check_rules::specs::Refusal::go_on, camac_check_rules::specs::Refusal::if_reached))]
 fn accept_reached(
     alloc: Global,
     context: &Context,
     around: &Around,
     statement: &Stmt,
     known: Facts,
+    rows: &mut Rows,
 ) -> Result<Findings, CheckFault>
-    ensures { Gives verdict_of result (accept_statement (by_code context.now) around.now (statement_of statement.now) known) }
+    ensures found { Gives verdict_of result (accept_statement (by_code context.now) around.now (statement_of statement.now) known) }
+    ensures rows { OnOk result (rows.new ≡ with_rows rows.old (statement_rows (by_code context.now) around.now (statement_of statement.now) (Some known))) }
 {
-    let place = Place { context, around };
+    let here = Place { context, around };
+    match statement {
+        Stmt::If { line, test, then } => {
+            accept_if(alloc, &here, *line, &test.parts, then, known, rows)
+        }
+        Stmt::IfElse {
+            line,
+            test,
+            then,
+            otherwise,
+        } => {
+            let place = rows.open()?;
+            let ways = split(alloc, *line, &test.parts, known)?;
+            let times = times_at(&ways.fails);
+            let first = accept_block(alloc, context, around, then, ways.holds, rows)?;
+            let other = rows.open()?;
+            let second = accept_block(alloc, context, around, otherwise, ways.fails, rows)?;
+            rows.head_arms(place, other, *line, times, first.costs, second.costs);
+            Ok(Findings {
+                known: join(alloc, first.known, second.known)?,
+                costs: first.costs.or(second.costs),
+            })
+        }
+        Stmt::Lock {
+            line,
+            crate_no,
+            body,
+        } => accept_lock(alloc, &here, *line, crate_no, body, known, rows),
+        Stmt::For {
+            line,
+            variable,
+            from,
+            to,
+            keeps,
+            body,
+        } => {
+            let counted = Counted {
+                line: *line,
+                variable: *variable,
+                from,
+                to,
+                keeps,
+            };
+            accept_for(alloc, &here, &counted, body, known, rows)
+        }
+        Stmt::While {
+            line,
+            test,
+            turns,
+            measure,
+            keeps,
+            body,
+        } => {
+            let limited = Limited {
+                line: *line,
+                test: &test.parts,
+                turns: *turns,
+                measure: *measure,
+                keeps,
+            };
+            accept_while(alloc, &here, &limited, body, known, rows)
+        }
+        Stmt::Assign { .. }
+        | Stmt::SetRegister { .. }
+        | Stmt::Single { .. }
+        | Stmt::Scan { .. }
+        | Stmt::QStop { .. }
+        | Stmt::QRepeat { .. }
+        | Stmt::Put { .. }
+        | Stmt::CrateCall { .. }
+        | Stmt::LamCall { .. }
+        | Stmt::Call { .. } => accept_simple(alloc, &here, statement, known, rows),
+    }
+}
+
+// Checks a statement that holds no others.
+#[tactic(auto, using(crate::proofs::Rows::off), unfolding(camac_check_rules::specs::Refusal::if_reached))]
+fn accept_simple(
+    alloc: Global,
+    place: &Place,
+    statement: &Stmt,
+    known: Facts,
+    rows: &mut Rows,
+) -> Result<Findings, CheckFault>
+    requires { IsTrue (is_simple (statement_of statement.now)) }
+    ensures found { Gives verdict_of result (accept_statement (by_code place.now.context.now) place.now.around.now (statement_of statement.now) known) }
+    ensures rows { OnOk result (rows.new ≡ with_rows rows.old (statement_rows (by_code place.now.context.now) place.now.around.now (statement_of statement.now) (Some known))) }
+{
+    if rows.are_kept() {
+        with_its_row(alloc, place, statement, known, rows)
+    } else {
+        by_its_rule(alloc, place, statement, known)
+    }
+}
+
+// The same where rows are kept. It stands apart, so that a check makes no room for its row.
+#[inline(never)]
+#[tactic(auto, using(crate::proofs::Rows::simple_found), unfolding(camac_check_rules::specs::Refusal::if_reached))]
+fn with_its_row(
+    alloc: Global,
+    place: &Place,
+    statement: &Stmt,
+    known: Facts,
+    rows: &mut Rows,
+) -> Result<Findings, CheckFault>
+    requires { IsTrue (is_simple (statement_of statement.now)) }
+    ensures found { Gives verdict_of result (accept_statement (by_code place.now.context.now) place.now.around.now (statement_of statement.now) known) }
+    ensures rows { OnOk result (rows.new ≡ with_rows rows.old (statement_rows (by_code place.now.context.now) place.now.around.now (statement_of statement.now) (Some known))) }
+{
+    let detail = detail_of(place.context, statement, Some(&known))?;
+    let found = by_its_rule(alloc, place, statement, known)?;
+    rows.put(simple_row(statement, 1, found.costs, detail))?;
+    Ok(found)
+}
+
+// The rule of a statement that holds no others.
+fn by_its_rule(
+    alloc: Global,
+    place: &Place,
+    statement: &Stmt,
+    known: Facts,
+) -> Result<Findings, CheckFault>
+    requires { IsTrue (is_simple (statement_of statement.now)) }
+    ensures { Gives verdict_of result (accept_statement (by_code place.now.context.now) place.now.around.now (statement_of statement.now) known) }
+{
     match statement {
         Stmt::Assign {
             line,
             variable,
             value,
-        } => assign(around, *line, *variable, value, known),
+        } => assign(place.around, *line, *variable, value, known),
         Stmt::SetRegister {
             line,
             register,
@@ -121,9 +239,9 @@ fn accept_reached(
             function,
             register,
             data,
-        } => single(&place, *line, *size, *function, *register, data, known),
-        Stmt::CrateCall { line, crate_no, .. } => crate_call(&place, *line, crate_no, known),
-        Stmt::LamCall { line, call, lam } => lam_call(&place, *line, *call, *lam, known),
+        } => single(place, *line, *size, *function, *register, data, known),
+        Stmt::CrateCall { line, crate_no, .. } => crate_call(place, *line, crate_no, known),
+        Stmt::LamCall { line, call, lam } => lam_call(place, *line, *call, *lam, known),
         Stmt::Scan {
             line,
             function,
@@ -132,7 +250,7 @@ fn accept_reached(
             max,
             tally,
         } => scan(
-            &place,
+            place,
             *line,
             *function,
             (*first, *last),
@@ -154,7 +272,7 @@ fn accept_reached(
                 table: *table,
                 tally: *tally,
             };
-            q_stop(&place, *line, transfer, max, known)
+            q_stop(place, *line, transfer, max, known)
         }
         Stmt::QRepeat {
             line,
@@ -171,74 +289,21 @@ fn accept_reached(
                 table: *table,
                 tally: *tally,
             };
-            q_repeat(&place, *line, transfer, max, limit, known)
+            q_repeat(place, *line, transfer, max, limit, known)
         }
         Stmt::Call {
             line,
             procedure,
             arguments,
-        } => call(alloc, context, *line, *procedure, arguments, known),
-        Stmt::If { line, test, then } => accept_if(alloc, &place, *line, &test.parts, then, known),
-        Stmt::IfElse {
-            line,
-            test,
-            then,
-            otherwise,
-        } => {
-            let ways = split(alloc, *line, &test.parts, known)?;
-            let first = accept_block(alloc, context, around, then, ways.holds)?;
-            let second = accept_block(alloc, context, around, otherwise, ways.fails)?;
-            Ok(Findings {
-                known: join(alloc, first.known, second.known)?,
-                costs: first.costs.or(second.costs),
-            })
-        }
-        Stmt::Lock {
-            line,
-            crate_no,
-            body,
-        } => accept_lock(alloc, &place, *line, crate_no, body, known),
-        Stmt::For {
-            line,
-            variable,
-            from,
-            to,
-            keeps,
-            body,
-        } => {
-            let counted = Counted {
-                line: *line,
-                variable: *variable,
-                from,
-                to,
-                keeps,
-            };
-            accept_for(alloc, &place, &counted, body, known)
-        }
-        Stmt::While {
-            line,
-            test,
-            turns,
-            measure,
-            keeps,
-            body,
-        } => {
-            let limited = Limited {
-                line: *line,
-                test: &test.parts,
-                turns: *turns,
-                measure: *measure,
-                keeps,
-            };
-            accept_while(alloc, &place, &limited, body, known)
-        }
+        } => call(alloc, place.context, *line, *procedure, arguments, known),
+        _ => unreachable!(),
     }
 }
 
 // Checks an `if`. It stands apart, as those below do, so that no other statement makes room for its variables.
 #[inline(never)]
 #[cycle(statements)]
-#[tactic(auto, unfolding(camac_check_rules::specs::Refusal::go_on, camac_check_rules::specs::Refusal::if_reached))]
+#[tactic(auto, using(crate::proofs::Rows::if_rows, crate::proofs::Rows::headed_are, camac_check_rows::proofs::Kept::is_place), unfolding(camac_check_rules::specs::Refusal::go_on, camac_check_rules::specs::Refusal::if_reached))]
 fn accept_if(
     alloc: Global,
     place: &Place,
@@ -246,21 +311,27 @@ fn accept_if(
     test: &[Part],
     then: &[Stmt],
     known: Facts,
+    rows: &mut Rows,
 ) -> Result<Findings, CheckFault>
-    ensures { Gives verdict_of result (accept_statement (by_code place.now.context.now) place.now.around.now (choose line (map part_of test.now) (statements_of then.now)) known) }
+    ensures found { Gives verdict_of result (accept_statement (by_code place.now.context.now) place.now.around.now (choose line (map part_of test.now) (statements_of then.now)) known) }
+    ensures rows { OnOk result (rows.new ≡ with_rows rows.old (statement_rows (by_code place.now.context.now) place.now.around.now (choose line (map part_of test.now) (statements_of then.now)) (Some known))) }
 {
+    let at = rows.open()?;
     let ways = split(alloc, line, test, known)?;
-    let first = accept_block(alloc, place.context, place.around, then, ways.holds)?;
+    let first = accept_block(alloc, place.context, place.around, then, ways.holds, rows)?;
+    let costs = first.costs.or(Costs::new(0, 0, 0));
+    let own = own_row(line, Kind::If, 1, costs, Costs::new(0, 0, 1), Detail::Nothing);
+    rows.head(at, own, once());
     Ok(Findings {
         known: join(alloc, first.known, ways.fails)?,
-        costs: first.costs.or(Costs::new(0, 0, 0)),
+        costs,
     })
 }
 
-// Checks a `locked`.
+// Checks a `lock`.
 #[inline(never)]
 #[cycle(statements)]
-#[tactic(auto, unfolding(camac_check_rules::specs::Refusal::go_on, camac_check_rules::specs::Refusal::if_reached))]
+#[tactic(auto, using(crate::proofs::Rows::lock_rows, crate::proofs::Rows::headed_are, camac_check_rows::proofs::Kept::is_place), unfolding(camac_check_rules::specs::Refusal::go_on, camac_check_rules::specs::Refusal::if_reached))]
 fn accept_lock(
     alloc: Global,
     place: &Place,
@@ -268,15 +339,23 @@ fn accept_lock(
     crate_no: &Expr,
     body: &[Stmt],
     known: Facts,
+    rows: &mut Rows,
 ) -> Result<Findings, CheckFault>
-    ensures { Gives verdict_of result (accept_statement (by_code place.now.context.now) place.now.around.now (locked line (expression_of crate_no.now) (statements_of body.now)) known) }
+    ensures found { Gives verdict_of result (accept_statement (by_code place.now.context.now) place.now.around.now (locked line (expression_of crate_no.now) (statements_of body.now)) known) }
+    ensures rows { OnOk result (rows.new ≡ with_rows rows.old (statement_rows (by_code place.now.context.now) place.now.around.now (locked line (expression_of crate_no.now) (statements_of body.now)) (Some known))) }
 {
     let c = lock_crate(place, line, crate_no, &known)?;
     let inside = place.around.with_locked(alloc, c)?;
-    let inner = accept_block(alloc, place.context, &inside, body, Some(known))?;
+    let at = rows.open()?;
+    let inner = accept_block(alloc, place.context, &inside, body, Some(known), rows)?;
+    let waits = waits_of(place.context.plan, c);
+    let costs = inner.costs.in_lock(waits);
+    let share = Costs::new(u64::from(waits), 0, 2);
+    let own = own_row(line, Kind::Lock, 1, costs, share, Detail::Crates(Range::only(c)));
+    rows.head(at, own, once());
     Ok(Findings {
         known: inner.known,
-        costs: inner.costs.in_lock(waits_of(place.context.plan, c)),
+        costs,
     })
 }
 
@@ -293,15 +372,17 @@ struct Limited<'a> {
 // Checks a `while`.
 #[inline(never)]
 #[cycle(statements)]
-#[tactic(auto, unfolding(camac_check_rules::specs::Refusal::go_on, camac_check_rules::specs::Refusal::if_reached))]
+#[tactic(auto, using(crate::proofs::Rows::while_rows, crate::proofs::Rows::headed_are, camac_check_rows::proofs::Kept::is_place), unfolding(camac_check_rules::specs::Refusal::go_on, camac_check_rules::specs::Refusal::if_reached))]
 fn accept_while(
     alloc: Global,
     place: &Place,
     limited: &Limited,
     body: &[Stmt],
     known: Facts,
+    rows: &mut Rows,
 ) -> Result<Findings, CheckFault>
-    ensures { Gives verdict_of result (accept_statement (by_code place.now.context.now) place.now.around.now (while_ limited.now.line (map part_of limited.now.test.now) limited.now.turns limited.now.measure (map keep_of limited.now.keeps.now) (statements_of body.now)) known) }
+    ensures found { Gives verdict_of result (accept_statement (by_code place.now.context.now) place.now.around.now (while_ limited.now.line (map part_of limited.now.test.now) limited.now.turns limited.now.measure (map keep_of limited.now.keeps.now) (statements_of body.now)) known) }
+    ensures rows { OnOk result (rows.new ≡ with_rows rows.old (statement_rows (by_code place.now.context.now) place.now.around.now (while_ limited.now.line (map part_of limited.now.test.now) limited.now.turns limited.now.measure (map keep_of limited.now.keeps.now) (statements_of body.now)) (Some known))) }
 {
     let Limited {
         line,
@@ -314,15 +395,13 @@ fn accept_while(
     let top = while_head(around.body(), line, turns, measure, keeps, body, known)?;
     let ways = split(alloc, line, test, top)?;
     let most = turn_bound(&ways.holds, turns);
-    let turn = accept_block(alloc, place.context, around, body, ways.holds)?;
-    end_loop(
-        around.body(),
-        line,
-        keeps,
-        ways.fails,
-        u64::from(most),
-        turn,
-    )
+    let at = rows.open()?;
+    let turn = accept_block(alloc, place.context, around, body, ways.holds, rows)?;
+    let most = u64::from(most);
+    let found = end_loop(around.body(), line, keeps, ways.fails, most, turn)?;
+    let own = loop_row(line, Kind::While, found.costs, most);
+    rows.head(at, own, turning(most));
+    Ok(found)
 }
 
 // The head of a `for`: its line, its variable with the first and the last value, and what it keeps.
@@ -338,16 +417,18 @@ struct Counted<'a> {
 // Checks a `for`.
 #[inline(never)]
 #[cycle(statements)]
-#[tactic(auto, unfolding(camac_check_rules::specs::Refusal::go_on, camac_check_rules::specs::Refusal::if_reached))]
+#[tactic(auto, using(crate::proofs::Rows::for_rows, crate::proofs::Rows::headed_are, camac_check_rows::proofs::Kept::is_place), unfolding(camac_check_rules::specs::Refusal::go_on, camac_check_rules::specs::Refusal::if_reached))]
 fn accept_for(
     alloc: Global,
     place: &Place,
     counted: &Counted,
     body: &[Stmt],
     known: Facts,
+    rows: &mut Rows,
 ) -> Result<Findings, CheckFault>
-    ensures { Gives verdict_of result (for_rule (by_code place.now.context.now) place.now.around.now counted.now.line counted.now.variable (expression_of counted.now.from.now) (expression_of counted.now.to.now) (map keep_of counted.now.keeps.now) (statements_of body.now)
+    ensures found { Gives verdict_of result (for_rule (by_code place.now.context.now) place.now.around.now counted.now.line counted.now.variable (expression_of counted.now.from.now) (expression_of counted.now.to.now) (map keep_of counted.now.keeps.now) (statements_of body.now)
         (accept_block (by_code place.now.context.now) (with_fixed counted.now.variable place.now.around.now) (statements_of body.now)) known) }
+    ensures rows { OnOk result (rows.new ≡ with_rows rows.old (statement_rows (by_code place.now.context.now) place.now.around.now (for_ counted.now.line counted.now.variable (expression_of counted.now.from.now) (expression_of counted.now.to.now) (map keep_of counted.now.keeps.now) (statements_of body.now)) (Some known))) }
 {
     let Counted {
         line,
@@ -360,15 +441,13 @@ fn accept_for(
     let limits = for_limits(around, line, variable, from, to, keeps, &known)?;
     let inside = around.with_fixed(alloc, variable)?;
     let facts = limits.facts(alloc, variable, keeps, body, known)?;
-    let turn = accept_block(alloc, place.context, &inside, body, facts.head)?;
-    end_loop(
-        around.body(),
-        line,
-        keeps,
-        Some(facts.after),
-        limits.turns(),
-        turn,
-    )
+    let at = rows.open()?;
+    let turn = accept_block(alloc, place.context, &inside, body, facts.head, rows)?;
+    let turns = limits.turns();
+    let found = end_loop(around.body(), line, keeps, Some(facts.after), turns, turn)?;
+    let own = loop_row(line, Kind::For, found.costs, turns);
+    rows.head(at, own, turning(turns));
+    Ok(found)
 }
 
 // What a loop of at most so many turns leaves and costs, where this is known after it and this was found of a turn.

@@ -9,7 +9,7 @@ ghost use Rattle.camac_word.specs.Watched.{inner_of, has_failed};
 ghost use Rattle.camac_word.specs.Writing.{Writes};
 
 use crate::bodies::{BodyCosts, Owner};
-use crate::row::{Detail, Kind, Row};
+use camac_check_rows::{Detail, Kind, Row};
 use camac_check::Checked;
 use camac_check_known::{Costs, Region};
 use camac_lang::{Lam, Procedure, Service};

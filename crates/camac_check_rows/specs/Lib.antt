@@ -1,0 +1,4 @@
+pub mod Statements
+pub mod Weights
+pub mod Rows
+pub mod Kept
