@@ -28,8 +28,7 @@ use Rattle.camac_check_rows.specs.declared.row.Row.{Row}
 use Rattle.camac_check_rows.specs.declared.inside.Weight.{Weight}
 use Rattle.camac_check_rows.specs.Statements.{is_simple, kind_of, detail_of, first_row}
 use Rattle.camac_check_rows.specs.Weights.{once, turning, first_arm, second_arm, inside_row}
-use Rattle.camac_check_rows.specs.Kept.{blank, count, headed_last, with_rows}
-use Rattle.camac_check_rows.proofs.Kept.{head_found}
+use Rattle.camac_check_rows.specs.Kept.{with_rows}
 use Rattle.camac_check_rows.specs.Rows.{found, Turning, turning_from, loop_detail, loop_share, lock_share, lock_detail, lock_inside, lock_head, statement_verdict, block_verdict, simple_row, else_row, times_at, inside, statement_rows, block_rows}
 
 -- what was found is the verdict
@@ -147,11 +146,6 @@ while_rows c around line test most m keeps body k top arms v is split_is all =
 pub rows_next : (c : Context) (around : Around) (s : Statement) (rest : Block) (k : Known) (v : Verdict) → if_reached unreached k (accept_statement c around s) ≡ Ok v
     → block_rows c around (next s rest) k ≡ statement_rows c around s k ++ block_rows c around rest v.after
 rows_next c around s rest k v e = ap (λ w. statement_rows c around s k ++ block_rows c around rest w.after) (verdict_is c around s k v e)
-
--- the rows of a block were headed by the row of their statement
-pub headed_are : (k a m n : Option (List Row)) (xs all : List Row) (i : ℕ) (own : Row) (w : Weight)
-    → i ≡ count k → a ≡ with_rows k (blank ∷ []) → m ≡ with_rows a xs → n ≡ option_map (headed_last i own w) m → all ≡ own ∷ map (inside_row capped w) xs → n ≡ with_rows k all
-headed_are k a m n xs all i own w ei ea em en is = head_found k a m n xs i own w ei ea em en ∙ ap (with_rows k) (sym is)
 
 -- nothing is kept
 pub off : (k : Option (List Row)) (xs : List Row) → is_some k ≡ false → k ≡ with_rows k xs

@@ -17,7 +17,8 @@ use crate::procedure::call;
 use camac_check_known::{Around, CheckFault, Costs, Facts, join, split, waits_of};
 use camac_check_loops::{for_limits, keeps_after, turn_bound, while_head};
 use camac_check_rows::{
-    Detail, Kind, Rows, detail_of, loop_row, once, own_row, simple_row, times_at, turning,
+    Detail, Kind, Rows, detail_of, else_row, first_arm, loop_row, once, own_row, second_arm,
+    simple_row, times_at, turning,
 };
 use camac_check_rules::Body;
 use camac_check_simple::{
@@ -82,7 +83,7 @@ fn accept_next(
 
 // Checks a statement that can be reached.
 #[cycle(statements)]
-#[tactic(auto, using(crate::proofs::Rows::choice_rows, camac_check_rows::proofs::Kept::arms_found, camac_check_rows::proofs::Kept::are_places), unfolding(camac_check_rules::specs::Refusal::go_on, camac_check_rules::specs::Refusal::if_reached))]
+#[tactic(auto, using(crate::proofs::Rows::choice_rows, camac_check_rows::proofs::Kept::arms_put), unfolding(camac_check_rules::specs::Refusal::go_on, camac_check_rules::specs::Refusal::if_reached))]
 fn accept_reached(
     alloc: Global,
     context: &Context,
@@ -105,16 +106,20 @@ fn accept_reached(
             then,
             otherwise,
         } => {
-            let place = rows.open()?;
             let ways = split(alloc, *line, &test.parts, known)?;
             let times = times_at(&ways.fails);
-            let first = accept_block(alloc, context, around, then, ways.holds, rows)?;
-            let other = rows.open()?;
-            let second = accept_block(alloc, context, around, otherwise, ways.fails, rows)?;
-            rows.head_arms(place, other, *line, times, first.costs, second.costs);
+            let mut one = rows.inside(alloc);
+            let first = accept_block(alloc, context, around, then, ways.holds, &mut one)?;
+            let mut two = rows.inside(alloc);
+            let second = accept_block(alloc, context, around, otherwise, ways.fails, &mut two)?;
+            let costs = first.costs.or(second.costs);
+            let own = own_row(*line, Kind::If, 1, costs, Costs::new(0, 0, 1), Detail::Nothing);
+            rows.put_block(own, &one, first_arm(first.costs, second.costs))?;
+            let other = else_row(*line, times, second.costs);
+            rows.put_block(other, &two, second_arm(first.costs, second.costs))?;
             Ok(Findings {
                 known: join(alloc, first.known, second.known)?,
-                costs: first.costs.or(second.costs),
+                costs,
             })
         }
         Stmt::Lock {
@@ -303,7 +308,7 @@ fn by_its_rule(
 // Checks an `if`. It stands apart, as those below do, so that no other statement makes room for its variables.
 #[inline(never)]
 #[cycle(statements)]
-#[tactic(auto, using(crate::proofs::Rows::if_rows, crate::proofs::Rows::headed_are, camac_check_rows::proofs::Kept::is_place), unfolding(camac_check_rules::specs::Refusal::go_on, camac_check_rules::specs::Refusal::if_reached))]
+#[tactic(auto, using(crate::proofs::Rows::if_rows, camac_check_rows::proofs::Kept::block_put), unfolding(camac_check_rules::specs::Refusal::go_on, camac_check_rules::specs::Refusal::if_reached))]
 fn accept_if(
     alloc: Global,
     place: &Place,
@@ -316,12 +321,12 @@ fn accept_if(
     ensures found { Gives verdict_of result (accept_statement (by_code place.now.context.now) place.now.around.now (choose line (map part_of test.now) (statements_of then.now)) known) }
     ensures rows { OnOk result (rows.new ≡ with_rows rows.old (statement_rows (by_code place.now.context.now) place.now.around.now (choose line (map part_of test.now) (statements_of then.now)) (Some known))) }
 {
-    let at = rows.open()?;
     let ways = split(alloc, line, test, known)?;
-    let first = accept_block(alloc, place.context, place.around, then, ways.holds, rows)?;
+    let mut inner = rows.inside(alloc);
+    let first = accept_block(alloc, place.context, place.around, then, ways.holds, &mut inner)?;
     let costs = first.costs.or(Costs::new(0, 0, 0));
     let own = own_row(line, Kind::If, 1, costs, Costs::new(0, 0, 1), Detail::Nothing);
-    rows.head(at, own, once());
+    rows.put_block(own, &inner, once())?;
     Ok(Findings {
         known: join(alloc, first.known, ways.fails)?,
         costs,
@@ -331,7 +336,7 @@ fn accept_if(
 // Checks a `lock`.
 #[inline(never)]
 #[cycle(statements)]
-#[tactic(auto, using(crate::proofs::Rows::lock_rows, crate::proofs::Rows::headed_are, camac_check_rows::proofs::Kept::is_place), unfolding(camac_check_rules::specs::Refusal::go_on, camac_check_rules::specs::Refusal::if_reached))]
+#[tactic(auto, using(crate::proofs::Rows::lock_rows, camac_check_rows::proofs::Kept::block_put), unfolding(camac_check_rules::specs::Refusal::go_on, camac_check_rules::specs::Refusal::if_reached))]
 fn accept_lock(
     alloc: Global,
     place: &Place,
@@ -346,15 +351,15 @@ fn accept_lock(
 {
     let c = lock_crate(place, line, crate_no, &known)?;
     let inside = place.around.with_locked(alloc, c)?;
-    let at = rows.open()?;
-    let inner = accept_block(alloc, place.context, &inside, body, Some(known), rows)?;
+    let mut inner = rows.inside(alloc);
+    let found = accept_block(alloc, place.context, &inside, body, Some(known), &mut inner)?;
     let waits = waits_of(place.context.plan, c);
-    let costs = inner.costs.in_lock(waits);
+    let costs = found.costs.in_lock(waits);
     let share = Costs::new(u64::from(waits), 0, 2);
     let own = own_row(line, Kind::Lock, 1, costs, share, Detail::Crates(Range::only(c)));
-    rows.head(at, own, once());
+    rows.put_block(own, &inner, once())?;
     Ok(Findings {
-        known: inner.known,
+        known: found.known,
         costs,
     })
 }
@@ -372,7 +377,7 @@ struct Limited<'a> {
 // Checks a `while`.
 #[inline(never)]
 #[cycle(statements)]
-#[tactic(auto, using(crate::proofs::Rows::while_rows, crate::proofs::Rows::headed_are, camac_check_rows::proofs::Kept::is_place), unfolding(camac_check_rules::specs::Refusal::go_on, camac_check_rules::specs::Refusal::if_reached))]
+#[tactic(auto, using(crate::proofs::Rows::while_rows, camac_check_rows::proofs::Kept::block_put), unfolding(camac_check_rules::specs::Refusal::go_on, camac_check_rules::specs::Refusal::if_reached))]
 fn accept_while(
     alloc: Global,
     place: &Place,
@@ -395,12 +400,12 @@ fn accept_while(
     let top = while_head(around.body(), line, turns, measure, keeps, body, known)?;
     let ways = split(alloc, line, test, top)?;
     let most = turn_bound(&ways.holds, turns);
-    let at = rows.open()?;
-    let turn = accept_block(alloc, place.context, around, body, ways.holds, rows)?;
+    let mut inner = rows.inside(alloc);
+    let turn = accept_block(alloc, place.context, around, body, ways.holds, &mut inner)?;
     let most = u64::from(most);
     let found = end_loop(around.body(), line, keeps, ways.fails, most, turn)?;
     let own = loop_row(line, Kind::While, found.costs, most);
-    rows.head(at, own, turning(most));
+    rows.put_block(own, &inner, turning(most))?;
     Ok(found)
 }
 
@@ -417,7 +422,7 @@ struct Counted<'a> {
 // Checks a `for`.
 #[inline(never)]
 #[cycle(statements)]
-#[tactic(auto, using(crate::proofs::Rows::for_rows, crate::proofs::Rows::headed_are, camac_check_rows::proofs::Kept::is_place), unfolding(camac_check_rules::specs::Refusal::go_on, camac_check_rules::specs::Refusal::if_reached))]
+#[tactic(auto, using(crate::proofs::Rows::for_rows, camac_check_rows::proofs::Kept::block_put), unfolding(camac_check_rules::specs::Refusal::go_on, camac_check_rules::specs::Refusal::if_reached))]
 fn accept_for(
     alloc: Global,
     place: &Place,
@@ -441,12 +446,12 @@ fn accept_for(
     let limits = for_limits(around, line, variable, from, to, keeps, &known)?;
     let inside = around.with_fixed(alloc, variable)?;
     let facts = limits.facts(alloc, variable, keeps, body, known)?;
-    let at = rows.open()?;
-    let turn = accept_block(alloc, place.context, &inside, body, facts.head, rows)?;
+    let mut inner = rows.inside(alloc);
+    let turn = accept_block(alloc, place.context, &inside, body, facts.head, &mut inner)?;
     let turns = limits.turns();
     let found = end_loop(around.body(), line, keeps, Some(facts.after), turns, turn)?;
     let own = loop_row(line, Kind::For, found.costs, turns);
-    rows.head(at, own, turning(turns));
+    rows.put_block(own, &inner, turning(turns))?;
     Ok(found)
 }
 

@@ -76,26 +76,6 @@ pub fn push_inside(rows: &mut Vec<Row>, inner: &[Row], weight: Weight) -> Result
     Ok(())
 }
 
-/// Counts the rows of a block as those of its statement.
-pub fn weigh(rows: &mut [Row], weight: Weight)
-    ensures { rows.new ≡ map (inside_row capped weight) rows.old }
-{
-    'each: for row in rows.iter_mut() {
-        count_inside(row, weight);
-    }
-}
-
-fn count_inside(row: &mut Row, weight: Weight)
-    ensures { row.new ≡ inside_row capped weight row.old }
-{
-    row.depth = row.depth.saturating_add(1);
-    row.times = weight.times.saturating_mul(row.times);
-    if weight.times == 0 {
-        row.each = Costs::new(0, 0, 0);
-    }
-    row.share = weighed(weight, row.share);
-}
-
 fn inside_row(row: &Row, weight: Weight) -> Row
     ensures { result ≡ inside_row capped weight row.now }
 {

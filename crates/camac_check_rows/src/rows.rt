@@ -1,19 +1,17 @@
 // Where a walk puts the rows of the statements: in a list, or nowhere.
 
-ghost use Rattle.std.specs.Prelude.{◌≡◌, ◌≤◌, ◌<◌, ◌∷◌, [], IfOk, OnOk, None, Some, is_some, length, map, option_map, unwrap_or};
+ghost use Rattle.std.specs.Prelude.{◌≡◌, ◌++◌, ◌∷◌, [], OnOk, None, Some, is_some, map, unwrap_or};
 ghost use Rattle.camac_lang.specs.View.{statement_of};
 ghost use Rattle.camac_check_rules.specs.Capped.{capped};
 ghost use Rattle.camac_check_rules.specs.Cycles.{Around as Surroundings};
 ghost use Rattle.camac_check_simple.specs.Gives.{by_code};
-ghost use Rattle.camac_check_rows.specs.Kept.{ArePlaces, IsPlace, blank, count, headed, headed_arms, headed_last, with_rows};
+ghost use Rattle.camac_check_rows.specs.Kept.{none_yet, with_rows};
 ghost use Rattle.camac_check_rows.specs.Rows.{statement_rows};
 ghost use Rattle.camac_check_rows.specs.Weights.{inside_row};
 
-use crate::inside::{Weight, first_arm, second_arm, weigh};
-use crate::row::{Detail, Kind, Row};
-use crate::statement::{else_row, own_row};
+use crate::inside::{Weight, push_inside};
+use crate::row::Row;
 use crate::unreached::unreached_rows;
-use camac_check_known::Costs;
 use camac_check_simple::Context;
 use camac_lang::Stmt;
 use std::alloc::{AllocError, Global};
@@ -51,21 +49,22 @@ impl Rows {
         }
     }
 
+    /// For the rows of a block: keeps all if these are kept.
+    pub fn inside(&self, alloc: Global) -> Rows
+        ensures { result ≡ none_yet self.now }
+    {
+        if self.are_kept() {
+            Rows::new(alloc)
+        } else {
+            Rows::none()
+        }
+    }
+
     /// Whether they are kept.
     pub fn are_kept(&self) -> bool
         ensures { result ≡ is_some self.now }
     {
         self.kept.is_some()
-    }
-
-    /// How many there are.
-    pub fn count(&self) -> usize
-        ensures { result ≡ count self.now }
-    {
-        match &self.kept {
-            Some(rows) => rows.len(),
-            None => 0,
-        }
     }
 
     /// The rows that were kept.
@@ -88,55 +87,22 @@ impl Rows {
         }
     }
 
-    /// Keeps the next place for the row of a statement whose block comes first, and tells it.
-    pub fn open(&mut self) -> Result<usize, AllocError>
-        ensures place { IfOk result (λ i. i ≡ count self.old) }
-        ensures kept { OnOk result (self.new ≡ with_rows self.old (blank ∷ [])) }
-    {
-        let place = self.count();
-        let nothing = Costs::new(0, 0, 0);
-        self.put(own_row(0, Kind::If, 0, nothing, nothing, Detail::Nothing))?;
-        Ok(place)
-    }
-
-    /// Puts the row of a statement into its place. All rows after it are of its block.
-    pub fn head(&mut self, place: usize, row: Row, weight: Weight)
-        requires { IsPlace place self.old }
-        ensures { self.new ≡ option_map (headed_last place row weight) self.old }
+    /// Puts the row of a statement, and then the rows of its block.
+    pub fn put_block(&mut self, row: Row, block: &Rows, weight: Weight) -> Result<(), AllocError>
+        ensures { OnOk result (self.new ≡ with_rows self.old (row ∷ map (inside_row capped weight) (unwrap_or block.now []))) }
     {
         match &mut self.kept {
-            Some(rows) => {
-                let to = rows.len();
-                head(rows, place, to, row, weight);
-            }
-            None => {}
+            Some(rows) => push_block(rows, row, block.as_slice(), weight),
+            None => Ok(()),
         }
     }
 
-    /// Puts the rows of a choice and of its `else`, which is made so many times, into their places. Between them stand the rows of the
-    /// first arm, and after both those of the second.
-    pub fn head_arms(
-        &mut self,
-        place: usize,
-        other: usize,
-        line: u32,
-        times: u64,
-        first: Costs,
-        second: Costs,
-    )
-        requires { ArePlaces place other self.old }
-        ensures { self.new ≡ option_map (headed_arms place other line times first second) self.old }
+    fn as_slice(&self) -> &[Row]
+        ensures { result.now ≡ unwrap_or self.now [] }
     {
-        match &mut self.kept {
-            Some(rows) => {
-                let to = rows.len();
-                let row = else_row(line, times, second);
-                head(rows, other, to, row, second_arm(first, second));
-                let share = Costs::new(0, 0, 1);
-                let own = own_row(line, Kind::If, 1, first.or(second), share, Detail::Nothing);
-                head(rows, place, other, own, first_arm(first, second));
-            }
-            None => {}
+        match &self.kept {
+            Some(rows) => rows,
+            None => &[],
         }
     }
 
@@ -156,12 +122,14 @@ impl Rows {
     }
 }
 
-// Puts the row of a statement into its place, and counts the rows after it, up to this number, as those of its block.
-fn head(rows: &mut Vec<Row>, place: usize, to: usize, row: Row, weight: Weight)
-    requires order { place < to }
-    requires there { to ≤ length rows.old.items }
-    ensures { rows.new.items ≡ headed place to row weight rows.old.items }
+fn push_block(
+    rows: &mut Vec<Row>,
+    row: Row,
+    block: &[Row],
+    weight: Weight,
+) -> Result<(), AllocError>
+    ensures { OnOk result (rows.new.items ≡ rows.old.items ++ (row ∷ map (inside_row capped weight) block.now)) }
 {
-    rows[place] = row;
-    weigh(&mut rows[place + 1..to], weight);
+    rows.push(row)?;
+    push_inside(rows, block, weight)
 }

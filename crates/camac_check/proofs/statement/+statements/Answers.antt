@@ -15,13 +15,13 @@ use Rattle.camac_check_rows.specs.declared.row.Detail.TheVariants as detail
 use Rattle.camac_check_rows.specs.declared.row.Kind.TheVariants as kind
 use Rattle.camac_check_rows.specs.declared.row.Row.{Row}
 use Rattle.camac_check_rows.specs.Kept.{with_rows}
-use Rattle.camac_check_rows.specs.Rows.{block_rows, statement_rows}
+use Rattle.camac_check_rows.specs.Rows.{block_rows, statement_rows, times_at}
 use Rattle.camac_check_rows.specs.Statements.{first_row}
 use Rattle.camac_check_rows.specs.Weights.{first_arm, inside_row, once, second_arm}
-use Rattle.camac_check_rows.proofs.Kept.{arms_found, no_more, then_rows}
+use Rattle.camac_check_rows.proofs.Kept.{arms_put, block_put, no_more, then_rows}
 use Rattle.camac_check_rows.proofs.Trees.{choose_else_is, next_of}
 use Rattle.camac_check.proofs.Blocks.{rest_rule, capped_twice, block_starts, block_goes_on, block_stops, block_ends}
-use Rattle.camac_check.proofs.Rows.{choice_rows, end_is, for_is, for_rows, headed_are, if_rows, lock_rows, loop_row_is, own_row_is, rows_next, while_is, while_rows}
+use Rattle.camac_check.proofs.Rows.{choice_rows, end_is, for_is, for_rows, if_rows, lock_rows, loop_row_is, own_row_is, rows_next, while_is, while_rows}
 use Rattle.camac_check.proofs.statement.+statements.Goals as goal
 
 pub accept_block-statements-init : goal.accept_block-statements-init
@@ -113,11 +113,11 @@ accept_if-returns-in_ok-join-clause-rows t c =
     let fails = c.in_ok-ways.ways.fails in
     let first = verdict_of c.in_ok-first.first in
     let inner = block_rows context around (statements_of c.args.then.now) holds in
-    headed_are c.args.rows.now c.open-at.new.self c.accept_block-first.new.rows c.head.new.self inner _ c.in_ok-at.at c.own_row-own.result c.once.result
-    c.in_ok-at.ensures.place c.in_ok-at.ensures.kept c.in_ok-first.ensures.rows c.head.ensures
-    (if_rows context around c.args.line (map part_of c.args.test.now) (statements_of c.args.then.now) c.args.known (branches holds fails) first c.in_ok-ways.ensures c.in_ok-first.ensures.found
+    block_put c.args.rows.now c.inside-inner.result c.accept_block-first.new.rows c.put_block.new.self inner c.own_row-own.result c.once.result
+    c.inside-inner.ensures c.in_ok-first.ensures.rows c.in_ok-put_block.ensures
+    ∙ ap (with_rows c.args.rows.now) (sym (if_rows context around c.args.line (map part_of c.args.test.now) (statements_of c.args.then.now) c.args.known (branches holds fails) first c.in_ok-ways.ensures c.in_ok-first.ensures.found
     ∙ own_row_is c.args.line kind.If _ _ _ _ detail.Nothing c.own_row-own.result inner c.once.result once c.own_row-own.ensures
-    (c.or-costs.ensures ∙ ap (λ z. capped (choice_costs first.costs z)) c.new.ensures) c.new-2.ensures c.once.ensures)
+    (c.or-costs.ensures ∙ ap (λ z. capped (choice_costs first.costs z)) c.new.ensures) c.new-2.ensures c.once.ensures))
 
 pub accept_lock-returns-clause-rows : goal.accept_lock-returns-clause-rows
 accept_lock-returns-clause-rows t c =
@@ -125,12 +125,12 @@ accept_lock-returns-clause-rows t c =
     let around = c.args.place.now.around.now in
     let n = c.in_ok-c.c in
     let inner = block_rows context (with_locked n around) (statements_of c.args.body.now) (Some c.args.known) in
-    headed_are c.args.rows.now c.open-at.new.self c.accept_block-inner.new.rows c.head.new.self inner _ c.in_ok-at.at c.own_row-own.result c.once.result
-    c.in_ok-at.ensures.place c.in_ok-at.ensures.kept (c.in_ok-inner.ensures.rows ∙ ap (λ r. with_rows c.open-at.new.self (block_rows context r (statements_of c.args.body.now) (Some c.args.known))) c.in_ok-inside.ensures) c.head.ensures
-    (lock_rows context around c.args.line (expression_of c.args.crate_no.now) (statements_of c.args.body.now) c.args.known n (verdict_of c.in_ok-inner.inner) c.in_ok-c.ensures
-    (ap (λ r. accept_block context r (statements_of c.args.body.now) c.args.known) (sym c.in_ok-inside.ensures) ∙ c.in_ok-inner.ensures.found)
+    block_put c.args.rows.now c.inside-inner.result c.accept_block-found.new.rows c.put_block.new.self inner c.own_row-own.result c.once.result
+    c.inside-inner.ensures (c.in_ok-found.ensures.rows ∙ ap (λ r. with_rows c.inside-inner.result (block_rows context r (statements_of c.args.body.now) (Some c.args.known))) c.in_ok-inside.ensures) c.in_ok-put_block.ensures
+    ∙ ap (with_rows c.args.rows.now) (sym (lock_rows context around c.args.line (expression_of c.args.crate_no.now) (statements_of c.args.body.now) c.args.known n (verdict_of c.in_ok-found.found) c.in_ok-c.ensures
+    (ap (λ r. accept_block context r (statements_of c.args.body.now) c.args.known) (sym c.in_ok-inside.ensures) ∙ c.in_ok-found.ensures.found)
     ∙ own_row_is c.args.line kind.Lock _ _ _ _ _ c.own_row-own.result inner c.once.result once c.own_row-own.ensures
-    (c.in_lock-costs.ensures) c.new-share.ensures c.once.ensures)
+    (c.in_lock-costs.ensures) c.new-share.ensures c.once.ensures))
 
 pub accept_while-returns-clause-rows : goal.accept_while-returns-clause-rows
 accept_while-returns-clause-rows t c =
@@ -145,13 +145,13 @@ accept_while-returns-clause-rows t c =
     let inner = block_rows (by_code context) around body arms.holds in
     let v = verdict_of c.in_ok-found.found in
     let turns : c.from-most.result ≡ turn_bound arms.holds it.turns = c.from-most.ensures ∙ c.turn_bound-most.ensures in
-    headed_are c.args.rows.now c.open-at.new.self c.accept_block-turn.new.rows c.head.new.self inner _ c.in_ok-at.at c.loop_row-own.result c.turning.result
-    c.in_ok-at.ensures.place c.in_ok-at.ensures.kept c.in_ok-turn.ensures.rows c.head.ensures
-    (while_rows (by_code context) around it.line test it.turns it.measure keeps body c.args.known top arms v (ap (λ b. while_head b it.line it.turns it.measure keeps body c.args.known) (sym c.body.ensures) ∙ c.in_ok-top.ensures) c.in_ok-ways.ensures
+    block_put c.args.rows.now c.inside-inner.result c.accept_block-turn.new.rows c.put_block.new.self inner c.loop_row-own.result c.turning.result
+    c.inside-inner.ensures c.in_ok-turn.ensures.rows c.in_ok-put_block.ensures
+    ∙ ap (with_rows c.args.rows.now) (sym (while_rows (by_code context) around it.line test it.turns it.measure keeps body c.args.known top arms v (ap (λ b. while_head b it.line it.turns it.measure keeps body c.args.known) (sym c.body.ensures) ∙ c.in_ok-top.ensures) c.in_ok-ways.ensures
     (while_is context around it.line test it.turns it.measure keeps body c.args.known top arms (verdict_of c.in_ok-turn.turn) v
     (ap (λ b. while_head b it.line it.turns it.measure keeps body c.args.known) (sym c.body.ensures) ∙ c.in_ok-top.ensures) c.in_ok-ways.ensures c.in_ok-turn.ensures.found
     (end_is c.body-2.result around.body it.line keeps arms.fails arms.fails c.from-most.result _ _ _ c.body-2.ensures refl turns c.in_ok-found.ensures))
-    ∙ loop_row_is it.line kind.While v.costs c.from-most.result _ c.loop_row-own.result inner c.turning.result c.loop_row-own.ensures turns c.turning.ensures)
+    ∙ loop_row_is it.line kind.While v.costs c.from-most.result _ c.loop_row-own.result inner c.turning.result c.loop_row-own.ensures turns c.turning.ensures))
 
 pub accept_for-returns-clause-rows : goal.accept_for-returns-clause-rows
 accept_for-returns-clause-rows t c =
@@ -168,14 +168,14 @@ accept_for-returns-clause-rows t c =
     let v = verdict_of c.in_ok-found.found in
     let rows_at : Around → Known → List Row = λ r h. block_rows (by_code context) r body h in
     let inner = rows_at (with_fixed it.variable around) (for_head it.variable l keeps body k) in
-    let there = c.in_ok-turn.ensures.rows ∙ ap₂ (λ r h. with_rows c.open-at.new.self (rows_at r h)) c.in_ok-inside.ensures c.in_ok-facts.ensures.head in
+    let there = c.in_ok-turn.ensures.rows ∙ ap₂ (λ r h. with_rows c.inside-inner.result (rows_at r h)) c.in_ok-inside.ensures c.in_ok-facts.ensures.head in
     let turn = ap₂ (λ r h. if_reached unreached h (accept_block (by_code context) r body)) (sym c.in_ok-inside.ensures) (sym c.in_ok-facts.ensures.head) ∙ c.in_ok-turn.ensures.found in
-    headed_are c.args.rows.now c.open-at.new.self c.accept_block-turn.new.rows c.head.new.self inner _ c.in_ok-at.at c.loop_row-own.result c.turning.result
-    c.in_ok-at.ensures.place c.in_ok-at.ensures.kept there c.head.ensures
-    (for_rows (by_code context) around it.line it.variable first last keeps body k l v c.in_ok-limits.ensures.rule
+    block_put c.args.rows.now c.inside-inner.result c.accept_block-turn.new.rows c.put_block.new.self inner c.loop_row-own.result c.turning.result
+    c.inside-inner.ensures there c.in_ok-put_block.ensures
+    ∙ ap (with_rows c.args.rows.now) (sym (for_rows (by_code context) around it.line it.variable first last keeps body k l v c.in_ok-limits.ensures.rule
     (for_is context around it.line it.variable first last keeps body k l (verdict_of c.in_ok-turn.turn) v c.in_ok-limits.ensures.rule turn
     (end_is c.body.result around.body it.line keeps (Some c.in_ok-facts.facts.after) _ c.turns-turns.result _ _ _ c.body.ensures c.in_ok-facts.ensures.after c.turns-turns.ensures c.in_ok-found.ensures))
-    ∙ loop_row_is it.line kind.For v.costs c.turns-turns.result _ c.loop_row-own.result inner c.turning.result c.loop_row-own.ensures c.turns-turns.ensures c.turning.ensures)
+    ∙ loop_row_is it.line kind.For v.costs c.turns-turns.result _ c.loop_row-own.result inner c.turning.result c.loop_row-own.ensures c.turns-turns.ensures c.turning.ensures))
 
 pub accept_reached-returns-in_ok-join-in-IfElse-clause-rows : goal.accept_reached-returns-in_ok-join-in-IfElse-clause-rows
 accept_reached-returns-in_ok-join-in-IfElse-clause-rows t c =
@@ -192,14 +192,18 @@ accept_reached-returns-in_ok-join-in-IfElse-clause-rows t c =
     let old = c.args.rows.now in
     let xs = block_rows context around a holds in
     let ys = block_rows context around b fails in
-    arms_found old c.open-place.new.self c.accept_block-first-in-IfElse.new.rows c.open-other.new.self c.accept_block-second-in-IfElse.new.rows c.head_arms.new.self xs ys
-    c.in_ok-place-in-IfElse.place c.in_ok-other-in-IfElse.other line c.times_at-times.result one.costs two.costs
-    c.in_ok-place-in-IfElse.ensures.place c.in_ok-place-in-IfElse.ensures.kept
-    (c.in_ok-first-in-IfElse.ensures.rows ∙ ap (λ p. with_rows c.open-place.new.self (block_rows context around (statements_of p) holds)) c.deref-in-IfElse-2.ensures.value)
-    c.in_ok-other-in-IfElse.ensures.place c.in_ok-other-in-IfElse.ensures.kept
-    (c.in_ok-second-in-IfElse.ensures.rows ∙ ap (λ p. with_rows c.open-other.new.self (block_rows context around (statements_of p) fails)) c.deref-in-IfElse-3.ensures.value) c.head_arms.ensures
-    ∙ ap (λ n. with_rows old (first_row line kind.If 1 (capped (choice_costs one.costs two.costs)) (costs 0 0 1) detail.Nothing ∷ map (inside_row capped (first_arm one.costs two.costs)) xs
-    ++ first_row line kind.Else n two.costs no_costs detail.Nothing ∷ map (inside_row capped (second_arm one.costs two.costs)) ys)) c.times_at-times.ensures
+    let own : c.own_row-own.result ≡ first_row line kind.If 1 (capped (choice_costs one.costs two.costs)) (costs 0 0 1) detail.Nothing =
+    c.own_row-own.ensures ∙ ap₂ (λ x y. first_row line kind.If 1 x y detail.Nothing) c.or-costs.ensures c.new.ensures in
+    let other : c.else_row-other.result ≡ first_row line kind.Else (times_at fails) two.costs no_costs detail.Nothing =
+    c.else_row-other.ensures ∙ ap (λ n. first_row line kind.Else n two.costs no_costs detail.Nothing) c.times_at-times.ensures in
+    arms_put old c.inside-one.result c.inside-two.result c.accept_block-first-in-IfElse.new.rows c.accept_block-second-in-IfElse.new.rows c.put_block.new.self c.put_block-2.new.self xs ys
+    c.own_row-own.result c.else_row-other.result c.first_arm.result c.second_arm.result c.inside-one.ensures c.inside-two.ensures
+    (c.in_ok-first-in-IfElse.ensures.rows ∙ ap (λ p. with_rows c.inside-one.result (block_rows context around (statements_of p) holds)) c.deref-in-IfElse-2.ensures.value)
+    (c.in_ok-second-in-IfElse.ensures.rows ∙ ap (λ p. with_rows c.inside-two.result (block_rows context around (statements_of p) fails)) c.deref-in-IfElse-3.ensures.value)
+    c.in_ok-put_block.ensures c.in_ok-put_block-2.ensures
+    ∙ ap₂ (λ x y. with_rows old (x ∷ map (inside_row capped c.first_arm.result) xs ++ y ∷ map (inside_row capped c.second_arm.result) ys)) own other
+    ∙ ap₂ (λ v w. with_rows old (first_row line kind.If 1 (capped (choice_costs one.costs two.costs)) (costs 0 0 1) detail.Nothing ∷ map (inside_row capped v) xs
+    ++ first_row line kind.Else (times_at fails) two.costs no_costs detail.Nothing ∷ map (inside_row capped w) ys)) c.first_arm.ensures c.second_arm.ensures
     ∙ ap (with_rows old)
     (sym (choice_rows context around line test a b c.args.known (branches holds fails) one two
     (ap (λ p. split line (map part_of p) c.args.known) (sym c.deref-in-IfElse.ensures.value) ∙ c.in_ok-ways-in-IfElse.ensures)
