@@ -114,9 +114,9 @@ fn accept_reached(
             let second = accept_block(alloc, context, around, otherwise, ways.fails, &mut two)?;
             let costs = first.costs.or(second.costs);
             let own = own_row(*line, Kind::If, 1, costs, Costs::new(0, 0, 1), Detail::Nothing);
-            rows.put_block(own, &one, first_arm(first.costs, second.costs))?;
+            rows.put_block(own, one, first_arm(first.costs, second.costs))?;
             let other = else_row(*line, times, second.costs);
-            rows.put_block(other, &two, second_arm(first.costs, second.costs))?;
+            rows.put_block(other, two, second_arm(first.costs, second.costs))?;
             Ok(Findings {
                 known: join(alloc, first.known, second.known)?,
                 costs,
@@ -326,7 +326,7 @@ fn accept_if(
     let first = accept_block(alloc, place.context, place.around, then, ways.holds, &mut inner)?;
     let costs = first.costs.or(Costs::new(0, 0, 0));
     let own = own_row(line, Kind::If, 1, costs, Costs::new(0, 0, 1), Detail::Nothing);
-    rows.put_block(own, &inner, once())?;
+    rows.put_block(own, inner, once())?;
     Ok(Findings {
         known: join(alloc, first.known, ways.fails)?,
         costs,
@@ -357,7 +357,7 @@ fn accept_lock(
     let costs = found.costs.in_lock(waits);
     let share = Costs::new(u64::from(waits), 0, 2);
     let own = own_row(line, Kind::Lock, 1, costs, share, Detail::Crates(Range::only(c)));
-    rows.put_block(own, &inner, once())?;
+    rows.put_block(own, inner, once())?;
     Ok(Findings {
         known: found.known,
         costs,
@@ -405,7 +405,7 @@ fn accept_while(
     let most = u64::from(most);
     let found = end_loop(around.body(), line, keeps, ways.fails, most, turn)?;
     let own = loop_row(line, Kind::While, found.costs, most);
-    rows.put_block(own, &inner, turning(most))?;
+    rows.put_block(own, inner, turning(most))?;
     Ok(found)
 }
 
@@ -451,7 +451,7 @@ fn accept_for(
     let turns = limits.turns();
     let found = end_loop(around.body(), line, keeps, Some(facts.after), turns, turn)?;
     let own = loop_row(line, Kind::For, found.costs, turns);
-    rows.put_block(own, &inner, turning(turns))?;
+    rows.put_block(own, inner, turning(turns))?;
     Ok(found)
 }
 

@@ -1,6 +1,6 @@
 // Where a walk puts the rows of the statements: in a list, or nowhere.
 
-ghost use Rattle.std.specs.Prelude.{◌≡◌, ◌++◌, ◌∷◌, [], OnOk, None, Some, is_some, map, unwrap_or};
+ghost use Rattle.std.specs.Prelude.{◌≡◌, ◌∷◌, [], OnOk, None, Some, is_some, map, unwrap_or};
 ghost use Rattle.camac_lang.specs.View.{statement_of};
 ghost use Rattle.camac_check_rules.specs.Capped.{capped};
 ghost use Rattle.camac_check_rules.specs.Cycles.{Around as Surroundings};
@@ -88,21 +88,18 @@ impl Rows {
     }
 
     /// Puts the row of a statement, and then the rows of its block.
-    pub fn put_block(&mut self, row: Row, block: &Rows, weight: Weight) -> Result<(), AllocError>
-        ensures { OnOk result (self.new ≡ with_rows self.old (row ∷ map (inside_row capped weight) (unwrap_or block.now []))) }
+    pub fn put_block(&mut self, row: Row, block: Rows, weight: Weight) -> Result<(), AllocError>
+        ensures { OnOk result (self.new ≡ with_rows self.old (row ∷ map (inside_row capped weight) (unwrap_or block []))) }
     {
         match &mut self.kept {
-            Some(rows) => push_block(rows, row, block.as_slice(), weight),
+            Some(rows) => {
+                rows.push(row)?;
+                match block.kept {
+                    Some(block) => push_inside(rows, block, weight),
+                    None => Ok(()),
+                }
+            }
             None => Ok(()),
-        }
-    }
-
-    fn as_slice(&self) -> &[Row]
-        ensures { result.now ≡ unwrap_or self.now [] }
-    {
-        match &self.kept {
-            Some(rows) => rows,
-            None => &[],
         }
     }
 
@@ -120,16 +117,4 @@ impl Rows {
             None => Ok(()),
         }
     }
-}
-
-fn push_block(
-    rows: &mut Vec<Row>,
-    row: Row,
-    block: &[Row],
-    weight: Weight,
-) -> Result<(), AllocError>
-    ensures { OnOk result (rows.new.items ≡ rows.old.items ++ (row ∷ map (inside_row capped weight) block.now)) }
-{
-    rows.push(row)?;
-    push_inside(rows, block, weight)
 }

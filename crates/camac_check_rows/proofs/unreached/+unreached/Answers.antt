@@ -20,8 +20,8 @@ push_unreached-statements-preserved t c = λ around.
     let after = inside context w (block_rows context around rest None) in
     let there = next_of xs i c.statement-item.result lt c.statement-item.is in
     ap (λ ys. ys ++ after) c.in_ok-push_inside.ensures
-    ∙ append_assoc rows (inside context w c.deref.result.now) after
-    ∙ ap (λ ys. rows ++ (inside context w ys ++ after)) (c.deref.ensures.value ∙ c.in_ok-inner.ensures around)
+    ∙ append_assoc rows (inside context w c.in_ok-inner.inner.items) after
+    ∙ ap (λ ys. rows ++ (inside context w ys ++ after)) (c.in_ok-inner.ensures around)
     ∙ ap (λ ys. rows ++ ys) (sym (none_next context around w s rest))
     ∙ ap (λ b. rows ++ inside context w (block_rows context around b None)) (sym there)
     ∙ c.statements.invariant around
