@@ -131,7 +131,8 @@ fn procedure_in_64_bits(
     let body = Body::Procedure(context.procedures.len());
     let around = Around::alone_in(alloc, body);
     let known = at_entry(alloc, &procedure.parameters)?;
-    let found = accept_block(alloc, context, &around, &procedure.body, known, &mut Rows::none())?;
+    let mut none = Rows::none();
+    let found = accept_block(alloc, context, &around, &procedure.body, known, &mut none)?;
     let most = Bounds {
         cycles,
         words,
@@ -162,8 +163,9 @@ fn accept_in_64_bits(
 {
     let body = Body::Service(service.lam);
     let around = Around::alone_in(alloc, body);
-    let known = Facts::at_start(alloc);
-    let found = accept_block(alloc, context, &around, &service.body, Some(known), &mut Rows::none())?;
+    let known = Some(Facts::at_start(alloc));
+    let mut none = Rows::none();
+    let found = accept_block(alloc, context, &around, &service.body, known, &mut none)?;
     let most = Bounds {
         cycles,
         words,
@@ -194,8 +196,9 @@ fn needs_in_64_bits(
 {
     let body = Body::Service(service.lam);
     let around = Around::alone_in(alloc, body);
-    let known = Facts::at_start(alloc);
-    let found = accept_block(alloc, context, &around, &service.body, Some(known), &mut Rows::none())?;
+    let known = Some(Facts::at_start(alloc));
+    let mut none = Rows::none();
+    let found = accept_block(alloc, context, &around, &service.body, known, &mut none)?;
     event_fits(context.plan, found.costs.words(), service.line)?;
     Ok(within(body, most(), found.costs, service.line)?)
 }

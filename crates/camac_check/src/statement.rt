@@ -17,7 +17,7 @@ use crate::procedure::call;
 use camac_check_known::{Around, CheckFault, Costs, Facts, join, split, waits_of};
 use camac_check_loops::{for_limits, keeps_after, turn_bound, while_head};
 use camac_check_rows::{
-    Detail, Kind, Rows, detail_of, else_row, first_arm, loop_row, once, own_row, second_arm,
+    Kind, Rows, detail_of, else_row, first_arm, if_row, lock_row, loop_row, once, second_arm,
     simple_row, times_at, turning,
 };
 use camac_check_rules::Body;
@@ -26,7 +26,6 @@ use camac_check_simple::{
     q_repeat, q_stop, scan, set_register, single,
 };
 use camac_lang::{Expr, Keep, Part, Stmt};
-use camac_range::Range;
 use std::alloc::Global;
 
 /// Checks a block from what is known at its beginning, if it can be reached, and puts the rows of its statements.
@@ -113,7 +112,7 @@ fn accept_reached(
             let mut two = rows.inside(alloc);
             let second = accept_block(alloc, context, around, otherwise, ways.fails, &mut two)?;
             let costs = first.costs.or(second.costs);
-            let own = own_row(*line, Kind::If, 1, costs, Costs::new(0, 0, 1), Detail::Nothing);
+            let own = if_row(*line, costs);
             rows.put_block(own, one, first_arm(first.costs, second.costs))?;
             let other = else_row(*line, times, second.costs);
             rows.put_block(other, two, second_arm(first.costs, second.costs))?;
@@ -254,15 +253,7 @@ fn by_its_rule(
             last,
             max,
             tally,
-        } => scan(
-            place,
-            *line,
-            *function,
-            (*first, *last),
-            max,
-            *tally,
-            known,
-        ),
+        } => scan(place, *line, *function, (*first, *last), max, *tally, known),
         Stmt::QStop {
             line,
             function,
@@ -323,10 +314,10 @@ fn accept_if(
 {
     let ways = split(alloc, line, test, known)?;
     let mut inner = rows.inside(alloc);
-    let first = accept_block(alloc, place.context, place.around, then, ways.holds, &mut inner)?;
+    let (context, around) = (place.context, place.around);
+    let first = accept_block(alloc, context, around, then, ways.holds, &mut inner)?;
     let costs = first.costs.or(Costs::new(0, 0, 0));
-    let own = own_row(line, Kind::If, 1, costs, Costs::new(0, 0, 1), Detail::Nothing);
-    rows.put_block(own, inner, once())?;
+    rows.put_block(if_row(line, costs), inner, once())?;
     Ok(Findings {
         known: join(alloc, first.known, ways.fails)?,
         costs,
@@ -355,9 +346,7 @@ fn accept_lock(
     let found = accept_block(alloc, place.context, &inside, body, Some(known), &mut inner)?;
     let waits = waits_of(place.context.plan, c);
     let costs = found.costs.in_lock(waits);
-    let share = Costs::new(u64::from(waits), 0, 2);
-    let own = own_row(line, Kind::Lock, 1, costs, share, Detail::Crates(Range::only(c)));
-    rows.put_block(own, inner, once())?;
+    rows.put_block(lock_row(line, costs, waits, c), inner, once())?;
     Ok(Findings {
         known: found.known,
         costs,

@@ -3,6 +3,7 @@
 ghost use Rattle.std.specs.Prelude.{◌≡◌, ◌<◌, ◌+◌, ◌-◌, ◌^◌, IfOk, option_map};
 ghost use Rattle.camac_lang.specs.Tree.{line_of};
 ghost use Rattle.camac_lang.specs.View.{expression_of, statement_of};
+ghost use Rattle.camac_range.specs.Interval.{only};
 ghost use Rattle.camac_check_rules.specs.Calls.{lam_region};
 ghost use Rattle.camac_check_simple.specs.Gives.{by_code};
 ghost use Rattle.camac_check_rules.specs.Costs.{costs, no_costs};
@@ -16,15 +17,8 @@ use camac_lang::{CrateCall, Expr, LamCall, Stmt, WordSize};
 use camac_range::Range;
 use std::alloc::AllocError;
 
-/// The row of a statement on this line, before it is counted how often its block is.
-pub fn own_row(
-    line: u32,
-    kind: Kind,
-    times: u64,
-    each: Costs,
-    share: Costs,
-    detail: Detail,
-) -> Row
+// The row of a statement on this line, before it is counted how often its block is.
+fn own_row(line: u32, kind: Kind, times: u64, each: Costs, share: Costs, detail: Detail) -> Row
     ensures { result ≡ first_row line kind times each share detail }
 {
     Row {
@@ -42,7 +36,16 @@ pub fn own_row(
 pub fn simple_row(statement: &Stmt, times: u64, each: Costs, detail: Detail) -> Row
     ensures { result ≡ first_row (line_of (statement_of statement.now)) (kind_of (statement_of statement.now)) times each each detail }
 {
-    own_row(statement.line(), kind_of(statement), times, each, each, detail)
+    let line = statement.line();
+    own_row(line, kind_of(statement), times, each, each, detail)
+}
+
+/// The row of an `if` on this line: its share is a step.
+pub fn if_row(line: u32, each: Costs) -> Row
+    ensures { result ≡ first_row line Kind.If 1 each (costs 0 0 1) Detail.Nothing }
+{
+    let step = Costs::new(0, 0, 1);
+    own_row(line, Kind::If, 1, each, step, Detail::Nothing)
 }
 
 /// The row of the `else` of a choice on this line: it has no share.
@@ -68,7 +71,17 @@ pub fn loop_row(line: u32, kind: Kind, each: Costs, turns: u64) -> Row
     requires { turns < 2 ^ 64 - 1 }
     ensures { result ≡ first_row line kind 1 each (costs 0 0 (turns + 1)) (Detail.Turns turns) }
 {
-    own_row(line, kind, 1, each, Costs::new(0, 0, turns + 1), Detail::Turns(turns))
+    let share = Costs::new(0, 0, turns + 1);
+    own_row(line, kind, 1, each, share, Detail::Turns(turns))
+}
+
+/// The row of a `lock` of this crate: its share is the waits, a step for taking the crate, and one for its release.
+pub fn lock_row(line: u32, each: Costs, waits: u8, crate_no: u32) -> Row
+    ensures { result ≡ first_row line Kind.Lock 1 each (costs waits 0 2) (Detail.Crates (only crate_no)) }
+{
+    let share = Costs::new(u64::from(waits), 0, 2);
+    let taken = Detail::Crates(Range::only(crate_no));
+    own_row(line, Kind::Lock, 1, each, share, taken)
 }
 
 fn kind_of(statement: &Stmt) -> Kind

@@ -4,7 +4,7 @@ use Rattle.camac_lang.specs.View.{condition_of, expression_of, keep_of, part_of,
 use Rattle.camac_model.specs.Fine.{Bounds}
 use Rattle.camac_check_rules.specs.Capped.{capped}
 use Rattle.camac_check_rules.specs.Conditions.{branches, split}
-use Rattle.camac_check_rules.specs.Costs.{choice_costs, costs, no_costs, plus, unreached, verdict}
+use Rattle.camac_check_rules.specs.Costs.{choice_costs, costs, lock_costs, no_costs, plus, unreached, verdict}
 use Rattle.camac_check_rules.specs.Cycles.{Around, with_locked}
 use Rattle.camac_check_rules.specs.Known.{Known}
 use Rattle.camac_check_rules.specs.Loops.{for_head, turn_bound, while_head, with_fixed}
@@ -113,11 +113,11 @@ accept_if-returns-in_ok-join-clause-rows t c =
     let fails = c.in_ok-ways.ways.fails in
     let first = verdict_of c.in_ok-first.first in
     let inner = block_rows context around (statements_of c.args.then.now) holds in
-    block_put c.args.rows.now c.inside-inner.result c.accept_block-first.new.rows c.put_block.new.self inner c.own_row-own.result c.once.result
+    block_put c.args.rows.now c.inside-inner.result c.accept_block-first.new.rows c.put_block.new.self inner c.if_row.result c.once.result
     c.inside-inner.ensures c.in_ok-first.ensures.rows c.in_ok-put_block.ensures
     ∙ ap (with_rows c.args.rows.now) (sym (if_rows context around c.args.line (map part_of c.args.test.now) (statements_of c.args.then.now) c.args.known (branches holds fails) first c.in_ok-ways.ensures c.in_ok-first.ensures.found
-    ∙ own_row_is c.args.line kind.If _ _ _ _ detail.Nothing c.own_row-own.result inner c.once.result once c.own_row-own.ensures
-    (c.or-costs.ensures ∙ ap (λ z. capped (choice_costs first.costs z)) c.new.ensures) c.new-2.ensures c.once.ensures))
+    ∙ own_row_is c.args.line kind.If _ _ _ _ detail.Nothing c.if_row.result inner c.once.result once c.if_row.ensures
+    (c.or-costs.ensures ∙ ap (λ z. capped (choice_costs first.costs z)) c.new.ensures) refl c.once.ensures))
 
 pub accept_lock-returns-clause-rows : goal.accept_lock-returns-clause-rows
 accept_lock-returns-clause-rows t c =
@@ -125,12 +125,13 @@ accept_lock-returns-clause-rows t c =
     let around = c.args.place.now.around.now in
     let n = c.in_ok-c.c in
     let inner = block_rows context (with_locked n around) (statements_of c.args.body.now) (Some c.args.known) in
-    block_put c.args.rows.now c.inside-inner.result c.accept_block-found.new.rows c.put_block.new.self inner c.own_row-own.result c.once.result
+    block_put c.args.rows.now c.inside-inner.result c.accept_block-found.new.rows c.put_block.new.self inner c.lock_row.result c.once.result
     c.inside-inner.ensures (c.in_ok-found.ensures.rows ∙ ap (λ r. with_rows c.inside-inner.result (block_rows context r (statements_of c.args.body.now) (Some c.args.known))) c.in_ok-inside.ensures) c.in_ok-put_block.ensures
     ∙ ap (with_rows c.args.rows.now) (sym (lock_rows context around c.args.line (expression_of c.args.crate_no.now) (statements_of c.args.body.now) c.args.known n (verdict_of c.in_ok-found.found) c.in_ok-c.ensures
     (ap (λ r. accept_block context r (statements_of c.args.body.now) c.args.known) (sym c.in_ok-inside.ensures) ∙ c.in_ok-found.ensures.found)
-    ∙ own_row_is c.args.line kind.Lock _ _ _ _ _ c.own_row-own.result inner c.once.result once c.own_row-own.ensures
-    (c.in_lock-costs.ensures) c.new-share.ensures c.once.ensures))
+    ∙ own_row_is c.args.line kind.Lock _ _ _ _ _ c.lock_row.result inner c.once.result once c.lock_row.ensures
+    (c.in_lock-costs.ensures ∙ ap (λ w. capped (lock_costs w (verdict_of c.in_ok-found.found).costs)) c.waits_of-waits.ensures)
+    (ap (λ w. costs w 0 2) c.waits_of-waits.ensures) c.once.ensures))
 
 pub accept_while-returns-clause-rows : goal.accept_while-returns-clause-rows
 accept_while-returns-clause-rows t c =
@@ -192,12 +193,12 @@ accept_reached-returns-in_ok-join-in-IfElse-clause-rows t c =
     let old = c.args.rows.now in
     let xs = block_rows context around a holds in
     let ys = block_rows context around b fails in
-    let own : c.own_row-own.result ≡ first_row line kind.If 1 (capped (choice_costs one.costs two.costs)) (costs 0 0 1) detail.Nothing =
-    c.own_row-own.ensures ∙ ap₂ (λ x y. first_row line kind.If 1 x y detail.Nothing) c.or-costs.ensures c.new.ensures in
+    let own : c.if_row-own.result ≡ first_row line kind.If 1 (capped (choice_costs one.costs two.costs)) (costs 0 0 1) detail.Nothing =
+    c.if_row-own.ensures ∙ ap (λ x. first_row line kind.If 1 x (costs 0 0 1) detail.Nothing) c.or-costs.ensures in
     let other : c.else_row-other.result ≡ first_row line kind.Else (times_at fails) two.costs no_costs detail.Nothing =
     c.else_row-other.ensures ∙ ap (λ n. first_row line kind.Else n two.costs no_costs detail.Nothing) c.times_at-times.ensures in
     arms_put old c.inside-one.result c.inside-two.result c.accept_block-first-in-IfElse.new.rows c.accept_block-second-in-IfElse.new.rows c.put_block.new.self c.put_block-2.new.self xs ys
-    c.own_row-own.result c.else_row-other.result c.first_arm.result c.second_arm.result c.inside-one.ensures c.inside-two.ensures
+    c.if_row-own.result c.else_row-other.result c.first_arm.result c.second_arm.result c.inside-one.ensures c.inside-two.ensures
     (c.in_ok-first-in-IfElse.ensures.rows ∙ ap (λ p. with_rows c.inside-one.result (block_rows context around (statements_of p) holds)) c.deref-in-IfElse-2.ensures.value)
     (c.in_ok-second-in-IfElse.ensures.rows ∙ ap (λ p. with_rows c.inside-two.result (block_rows context around (statements_of p) fails)) c.deref-in-IfElse-3.ensures.value)
     c.in_ok-put_block.ensures c.in_ok-put_block-2.ensures
