@@ -18,7 +18,7 @@ use camac_check_known::{Around, CheckFault, Costs, Facts, join, split, waits_of}
 use camac_check_loops::{for_limits, keeps_after, turn_bound, while_head};
 use camac_check_rows::{
     Kind, Rows, detail_of, else_row, first_arm, if_row, lock_row, loop_row, once, second_arm,
-    simple_row, times_at, turning,
+    times_at, turning,
 };
 use camac_check_rules::Body;
 use camac_check_simple::{
@@ -113,9 +113,9 @@ fn accept_reached(
             let second = accept_block(alloc, context, around, otherwise, ways.fails, &mut two)?;
             let costs = first.costs.or(second.costs);
             let own = if_row(*line, costs);
-            rows.put_block(own, one, first_arm(first.costs, second.costs))?;
+            rows.put_block(own, &one, first_arm(first.costs, second.costs))?;
             let other = else_row(*line, times, second.costs);
-            rows.put_block(other, two, second_arm(first.costs, second.costs))?;
+            rows.put_block(other, &two, second_arm(first.costs, second.costs))?;
             Ok(Findings {
                 known: join(alloc, first.known, second.known)?,
                 costs,
@@ -209,7 +209,7 @@ fn with_its_row(
 {
     let detail = detail_of(place.context, statement, Some(&known))?;
     let found = by_its_rule(alloc, place, statement, known)?;
-    rows.put(simple_row(statement, 1, found.costs, detail))?;
+    rows.put(statement, found.costs, detail)?;
     Ok(found)
 }
 
@@ -317,7 +317,7 @@ fn accept_if(
     let (context, around) = (place.context, place.around);
     let first = accept_block(alloc, context, around, then, ways.holds, &mut inner)?;
     let costs = first.costs.or(Costs::new(0, 0, 0));
-    rows.put_block(if_row(line, costs), inner, once())?;
+    rows.put_block(if_row(line, costs), &inner, once())?;
     Ok(Findings {
         known: join(alloc, first.known, ways.fails)?,
         costs,
@@ -346,7 +346,7 @@ fn accept_lock(
     let found = accept_block(alloc, place.context, &inside, body, Some(known), &mut inner)?;
     let waits = waits_of(place.context.plan, c);
     let costs = found.costs.in_lock(waits);
-    rows.put_block(lock_row(line, costs, waits, c), inner, once())?;
+    rows.put_block(lock_row(line, costs, waits, c), &inner, once())?;
     Ok(Findings {
         known: found.known,
         costs,
@@ -394,7 +394,7 @@ fn accept_while(
     let most = u64::from(most);
     let found = end_loop(around.body(), line, keeps, ways.fails, most, turn)?;
     let own = loop_row(line, Kind::While, found.costs, most);
-    rows.put_block(own, inner, turning(most))?;
+    rows.put_block(own, &inner, turning(most))?;
     Ok(found)
 }
 
@@ -440,7 +440,7 @@ fn accept_for(
     let turns = limits.turns();
     let found = end_loop(around.body(), line, keeps, Some(facts.after), turns, turn)?;
     let own = loop_row(line, Kind::For, found.costs, turns);
-    rows.put_block(own, inner, turning(turns))?;
+    rows.put_block(own, &inner, turning(turns))?;
     Ok(found)
 }
 

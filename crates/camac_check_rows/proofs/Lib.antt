@@ -1,4 +1,4 @@
 pub mod Lams
 pub mod Trees
 pub mod Kept
-pub mod Unreached
+pub mod Passed

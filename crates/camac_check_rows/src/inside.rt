@@ -66,33 +66,32 @@ pub fn second_arm(first: Costs, second: Costs) -> Weight
     }
 }
 
-/// Puts the rows of a block, counted as those of its statement, after the others.
-pub fn push_inside(rows: &mut Vec<Row>, block: Vec<Row>, weight: Weight) -> Result<(), AllocError>
-    ensures { OnOk result (rows.new.items ≡ rows.old.items ++ map (inside_row capped weight) block.items) }
+/// Puts the rows of a block after those of its statement.
+pub fn push_inside(rows: &mut Vec<Row>, inner: &[Row], weight: Weight) -> Result<(), AllocError>
+    ensures { OnOk result (rows.new.items ≡ rows.old.items ++ map (inside_row capped weight) inner.now) }
 {
-    let mut block = block;
-    weigh(&mut block, weight);
-    Ok(rows.append(&mut block)?)
+    'inner: for row in inner {
+        rows.push(inside_row(row, weight))?;
+    }
+    Ok(())
 }
 
-// In place, so that no row is made anew for each block around it.
-fn weigh(rows: &mut [Row], weight: Weight)
-    ensures { rows.new ≡ map (inside_row capped weight) rows.old }
+fn inside_row(row: &Row, weight: Weight) -> Row
+    ensures { result ≡ inside_row capped weight row.now }
 {
-    'each: for row in rows.iter_mut() {
-        count_inside(row, weight);
+    Row {
+        line: row.line,
+        depth: row.depth.saturating_add(1),
+        kind: row.kind,
+        times: weight.times.saturating_mul(row.times),
+        each: if weight.times == 0 {
+            Costs::new(0, 0, 0)
+        } else {
+            row.each
+        },
+        share: weighed(weight, row.share),
+        detail: row.detail,
     }
-}
-
-fn count_inside(row: &mut Row, weight: Weight)
-    ensures { row.new ≡ inside_row capped weight row.old }
-{
-    row.depth = row.depth.saturating_add(1);
-    row.times = weight.times.saturating_mul(row.times);
-    if weight.times == 0 {
-        row.each = Costs::new(0, 0, 0);
-    }
-    row.share = weighed(weight, row.share);
 }
 
 fn weighed(weight: Weight, share: Costs) -> Costs

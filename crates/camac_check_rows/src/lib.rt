@@ -11,4 +11,4 @@ mod unreached;
 pub use inside::{Weight, first_arm, once, second_arm, turning};
 pub use row::{Detail, Kind, Row};
 pub use rows::Rows;
-pub use statement::{detail_of, else_row, if_row, lock_row, loop_row, simple_row, times_at};
+pub use statement::{detail_of, else_row, if_row, lock_row, loop_row, times_at};

@@ -1,17 +1,21 @@
 // Where a walk puts the rows of the statements: in a list, or nowhere.
 
 ghost use Rattle.std.specs.Prelude.{◌≡◌, ◌∷◌, [], OnOk, None, Some, is_some, map, unwrap_or};
+ghost use Rattle.camac_lang.specs.Tree.{line_of};
 ghost use Rattle.camac_lang.specs.View.{statement_of};
 ghost use Rattle.camac_check_rules.specs.Capped.{capped};
 ghost use Rattle.camac_check_rules.specs.Cycles.{Around as Surroundings};
 ghost use Rattle.camac_check_simple.specs.Gives.{by_code};
 ghost use Rattle.camac_check_rows.specs.Kept.{none_yet, with_rows};
 ghost use Rattle.camac_check_rows.specs.Rows.{statement_rows};
+ghost use Rattle.camac_check_rows.specs.Statements.{first_row, kind_of};
 ghost use Rattle.camac_check_rows.specs.Weights.{inside_row};
 
 use crate::inside::{Weight, push_inside};
-use crate::row::Row;
+use crate::row::{Detail, Row};
+use crate::statement::simple_row;
 use crate::unreached::unreached_rows;
+use camac_check_known::Costs;
 use camac_check_simple::Context;
 use camac_lang::Stmt;
 use std::alloc::{AllocError, Global};
@@ -77,24 +81,26 @@ impl Rows {
         }
     }
 
-    /// Puts a row after the others.
-    pub fn put(&mut self, row: Row) -> Result<(), AllocError>
-        ensures { OnOk result (self.new ≡ with_rows self.old (row ∷ [])) }
+    /// Puts the row of a statement that is reached and holds no others: its share is all that it can cost.
+    pub fn put(&mut self, statement: &Stmt, each: Costs, detail: Detail) -> Result<(), AllocError>
+        ensures { OnOk result (self.new ≡ with_rows self.old (first_row (line_of (statement_of statement.now)) (kind_of (statement_of statement.now)) 1 each each detail ∷ [])) }
     {
         match &mut self.kept {
-            Some(rows) => Ok(rows.push(row)?),
+            Some(rows) => Ok(rows.push(simple_row(statement, 1, each, detail))?),
             None => Ok(()),
         }
     }
 
     /// Puts the row of a statement, and then the rows of its block.
-    pub fn put_block(&mut self, row: Row, block: Rows, weight: Weight) -> Result<(), AllocError>
-        ensures { OnOk result (self.new ≡ with_rows self.old (row ∷ map (inside_row capped weight) (unwrap_or block []))) }
+    pub fn put_block(&mut self, row: Row, block: &Rows, weight: Weight) -> Result<(), AllocError>
+        ensures { OnOk result (self.new ≡ with_rows self.old (row ∷ map (inside_row capped weight) (unwrap_or block.now []))) }
     {
+        // The kit's borrow checker wants the type of the detail named here.
+        let detail: Detail = row.detail;
         match &mut self.kept {
             Some(rows) => {
-                rows.push(row)?;
-                match block.kept {
+                rows.push(Row { detail, ..row })?;
+                match &block.kept {
                     Some(block) => push_inside(rows, block, weight),
                     None => Ok(()),
                 }

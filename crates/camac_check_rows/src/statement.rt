@@ -145,7 +145,7 @@ pub fn detail_of(
     statement: &Stmt,
     known: Option<&Facts>,
 ) -> Result<Detail, AllocError>
-    ensures { IfOk result (λ d. d ≡ detail_of (by_code context.now) (statement_of statement.now) (option_map (λ k. k.now) known)) }
+    ensures { IfOk result (λ d. d ≡ detail_of (by_code context.now) (statement_of statement.now) (option_map (λ k. k.now) known.entry)) }
 {
     match statement {
         Stmt::Single { register, .. }
@@ -163,7 +163,7 @@ pub fn detail_of(
 }
 
 fn region_of(known: Option<&Facts>, register: usize) -> Option<Region>
-    ensures { result ≡ known_region (option_map (λ k. k.now) known) register }
+    ensures { result ≡ known_region (option_map (λ k. k.now) known.entry) register }
 {
     match known {
         Some(known) => known.register(register),
@@ -191,7 +191,7 @@ fn between(first: Option<Region>, last: Option<Region>) -> Detail
 
 // The crates that an expression may name.
 fn crate_detail(line: u32, crate_no: &Expr, known: Option<&Facts>) -> Result<Detail, AllocError>
-    ensures { IfOk result (λ d. d ≡ crate_detail line (expression_of crate_no.now) (option_map (λ k. k.now) known)) }
+    ensures { IfOk result (λ d. d ≡ crate_detail line (expression_of crate_no.now) (option_map (λ k. k.now) known.entry)) }
 {
     let Some(known) = known else {
         return Ok(Detail::Nothing);

@@ -80,7 +80,7 @@ fn push_unreached(
 {
     'statements: for statement in block {
         let inner = unreached_rows(alloc, context, statement)?;
-        push_inside(rows, inner, weight)?;
+        push_inside(rows, &inner, weight)?;
     }
     Ok(())
 }

@@ -1,4 +1,4 @@
-use Rattle.std.proofs.Common.{[], ◌∷◌, ap, ◌∙◌}
+use Rattle.std.proofs.Common.{ap, refl, ◌∙◌}
 use Rattle.camac_lang.specs.View.{statement_of}
 use Rattle.camac_check_simple.specs.Gives.{by_code, verdict_of}
 use Rattle.camac_check_rows.specs.Kept.{with_rows}
@@ -10,4 +10,4 @@ returns-clause-rows c =
     c.in_ok-put.ensures
     ∙ ap (with_rows c.args.rows.now)
     (simple_found (by_code c.args.place.now.context.now) c.args.place.now.around.now (statement_of c.args.statement.now) c.args.known (verdict_of c.in_ok-found.found)
-    c.in_ok-detail.detail (c.simple_row.result ∷ []) c.requires c.in_ok-found.ensures c.in_ok-detail.ensures (ap (λ r. r ∷ []) c.simple_row.ensures))
+    c.in_ok-detail.detail _ c.requires c.in_ok-found.ensures c.in_ok-detail.ensures refl)

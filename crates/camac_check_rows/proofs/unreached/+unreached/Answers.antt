@@ -3,7 +3,7 @@ use Rattle.camac_lang.specs.View.{statement_of, statements_of}
 use Rattle.camac_check_simple.specs.Gives.{by_code}
 use Rattle.camac_check_rows.proofs.Trees.{next_of}
 use Rattle.camac_check_rows.specs.Rows.{block_rows, inside}
-use Rattle.camac_check_rows.proofs.Unreached.{none_choice, none_next}
+use Rattle.camac_check_rows.proofs.Passed.{none_choice, none_next}
 use Rattle.camac_check_rows.proofs.Trees.{choose_else_is}
 use Rattle.camac_check_rows.proofs.unreached.+unreached.Goals as goal
 
@@ -20,8 +20,8 @@ push_unreached-statements-preserved t c = λ around.
     let after = inside context w (block_rows context around rest None) in
     let there = next_of xs i c.statement-item.result lt c.statement-item.is in
     ap (λ ys. ys ++ after) c.in_ok-push_inside.ensures
-    ∙ append_assoc rows (inside context w c.in_ok-inner.inner.items) after
-    ∙ ap (λ ys. rows ++ (inside context w ys ++ after)) (c.in_ok-inner.ensures around)
+    ∙ append_assoc rows (inside context w c.deref.result.now) after
+    ∙ ap (λ ys. rows ++ (inside context w ys ++ after)) (c.deref.ensures.value ∙ c.in_ok-inner.ensures around)
     ∙ ap (λ ys. rows ++ ys) (sym (none_next context around w s rest))
     ∙ ap (λ b. rows ++ inside context w (block_rows context around b None)) (sym there)
     ∙ c.statements.invariant around
