@@ -82,7 +82,7 @@ fn accept_next(
 
 // Checks a statement that can be reached.
 #[cycle(statements)]
-#[tactic(auto, using(crate::proofs::Rows::choice_rows, camac_check_rows::proofs::Kept::arms_put), unfolding(camac_check_rules::specs::Refusal::go_on, camac_check_rules::specs::Refusal::if_reached))]
+#[tactic(auto, unfolding(camac_check_rules::specs::Refusal::go_on, camac_check_rules::specs::Refusal::if_reached))]
 fn accept_reached(
     alloc: Global,
     context: &Context,
@@ -195,7 +195,7 @@ fn accept_simple(
 
 // The same where rows are kept. It stands apart, so that a check makes no room for its row.
 #[inline(never)]
-#[tactic(auto, using(crate::proofs::Rows::simple_found), unfolding(camac_check_rules::specs::Refusal::if_reached))]
+#[tactic(auto, unfolding(camac_check_rules::specs::Refusal::if_reached))]
 fn with_its_row(
     alloc: Global,
     place: &Place,
@@ -292,14 +292,18 @@ fn by_its_rule(
             procedure,
             arguments,
         } => call(alloc, place.context, *line, *procedure, arguments, known),
-        _ => unreachable!(),
+        Stmt::If { .. }
+        | Stmt::IfElse { .. }
+        | Stmt::For { .. }
+        | Stmt::While { .. }
+        | Stmt::Lock { .. } => unreachable!(),
     }
 }
 
 // Checks an `if`. It stands apart, as those below do, so that no other statement makes room for its variables.
 #[inline(never)]
 #[cycle(statements)]
-#[tactic(auto, using(crate::proofs::Rows::if_rows, camac_check_rows::proofs::Kept::block_put), unfolding(camac_check_rules::specs::Refusal::go_on, camac_check_rules::specs::Refusal::if_reached))]
+#[tactic(auto, unfolding(camac_check_rules::specs::Refusal::go_on, camac_check_rules::specs::Refusal::if_reached))]
 fn accept_if(
     alloc: Global,
     place: &Place,
@@ -314,8 +318,8 @@ fn accept_if(
 {
     let ways = split(alloc, line, test, known)?;
     let mut inner = rows.inside(alloc);
-    let (context, around) = (place.context, place.around);
-    let first = accept_block(alloc, context, around, then, ways.holds, &mut inner)?;
+    let around = place.around;
+    let first = accept_block(alloc, place.context, around, then, ways.holds, &mut inner)?;
     let costs = first.costs.or(Costs::new(0, 0, 0));
     rows.put_block(if_row(line, costs), &inner, once())?;
     Ok(Findings {
@@ -327,7 +331,7 @@ fn accept_if(
 // Checks a `lock`.
 #[inline(never)]
 #[cycle(statements)]
-#[tactic(auto, using(crate::proofs::Rows::lock_rows, camac_check_rows::proofs::Kept::block_put), unfolding(camac_check_rules::specs::Refusal::go_on, camac_check_rules::specs::Refusal::if_reached))]
+#[tactic(auto, unfolding(camac_check_rules::specs::Refusal::go_on, camac_check_rules::specs::Refusal::if_reached))]
 fn accept_lock(
     alloc: Global,
     place: &Place,
@@ -366,7 +370,7 @@ struct Limited<'a> {
 // Checks a `while`.
 #[inline(never)]
 #[cycle(statements)]
-#[tactic(auto, using(crate::proofs::Rows::while_rows, camac_check_rows::proofs::Kept::block_put), unfolding(camac_check_rules::specs::Refusal::go_on, camac_check_rules::specs::Refusal::if_reached))]
+#[tactic(auto, unfolding(camac_check_rules::specs::Refusal::go_on, camac_check_rules::specs::Refusal::if_reached))]
 fn accept_while(
     alloc: Global,
     place: &Place,
@@ -411,7 +415,7 @@ struct Counted<'a> {
 // Checks a `for`.
 #[inline(never)]
 #[cycle(statements)]
-#[tactic(auto, using(crate::proofs::Rows::for_rows, camac_check_rows::proofs::Kept::block_put), unfolding(camac_check_rules::specs::Refusal::go_on, camac_check_rules::specs::Refusal::if_reached))]
+#[tactic(auto, unfolding(camac_check_rules::specs::Refusal::go_on, camac_check_rules::specs::Refusal::if_reached))]
 fn accept_for(
     alloc: Global,
     place: &Place,

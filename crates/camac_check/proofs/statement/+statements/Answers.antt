@@ -1,5 +1,7 @@
 use Rattle.std.proofs.Common.{◌≡◌, ◌<◌, ◌≤◌, ◌+◌, ◌++◌, List, ◌∷◌, Some, length, drop, map, refl, sym, ap, ap₂, ◌∙◌, subst, arith}
+use Rattle.std.specs.Prelude.{OnOk}
 use Rattle.std.proofs.lemmas.List.{drop_all}
+use Rattle.camac_lang.specs.Tree.{for_, while_}
 use Rattle.camac_lang.specs.View.{condition_of, expression_of, keep_of, part_of, statement_of, statements_of}
 use Rattle.camac_model.specs.Fine.{Bounds}
 use Rattle.camac_check_rules.specs.Capped.{capped}
@@ -22,6 +24,7 @@ use Rattle.camac_check_rows.proofs.Kept.{arms_put, block_put, no_more, then_rows
 use Rattle.camac_check_rows.proofs.Trees.{choose_else_is, next_of}
 use Rattle.camac_check.proofs.Blocks.{rest_rule, capped_twice, block_starts, block_goes_on, block_stops, block_ends}
 use Rattle.camac_check.proofs.Rows.{choice_rows, end_is, for_is, for_rows, if_rows, lock_rows, loop_row_is, own_row_is, rows_next, while_is, while_rows}
+use Rattle.camac_check.proofs.Trees.{for_tree, while_tree}
 use Rattle.camac_check.proofs.statement.+statements.Goals as goal
 
 pub accept_block-statements-init : goal.accept_block-statements-init
@@ -105,27 +108,28 @@ accept_block-returns-clause-rows t c =
     ∙ ap (λ l. with_rows rows (block_rows (by_code context) around (statements_of l) known)) (sym (drop_all c.statements.statement-index xs le))
     ∙ c.statements.invariant.rows
 
-pub accept_if-returns-in_ok-join-clause-rows : goal.accept_if-returns-in_ok-join-clause-rows
-accept_if-returns-in_ok-join-clause-rows t c =
+pub accept_if-returns-clause-rows : goal.accept_if-returns-clause-rows
+accept_if-returns-clause-rows t c =
     let context = by_code c.args.place.now.context.now in
     let around = c.args.place.now.around.now in
     let holds = c.in_ok-ways.ways.holds in
     let fails = c.in_ok-ways.ways.fails in
     let first = verdict_of c.in_ok-first.first in
     let inner = block_rows context around (statements_of c.args.then.now) holds in
-    block_put c.args.rows.now c.inside-inner.result c.accept_block-first.new.rows c.put_block.new.self inner c.if_row.result c.once.result
+    block_put c.args.rows.now c.inside-inner.result c.accept_block.new.rows c.put_block.new.self inner c.if_row.result c.once.result
     c.inside-inner.ensures c.in_ok-first.ensures.rows c.in_ok-put_block.ensures
     ∙ ap (with_rows c.args.rows.now) (sym (if_rows context around c.args.line (map part_of c.args.test.now) (statements_of c.args.then.now) c.args.known (branches holds fails) first c.in_ok-ways.ensures c.in_ok-first.ensures.found
     ∙ own_row_is c.args.line kind.If _ _ _ _ detail.Nothing c.if_row.result inner c.once.result once c.if_row.ensures
     (c.or-costs.ensures ∙ ap (λ z. capped (choice_costs first.costs z)) c.new.ensures) refl c.once.ensures))
 
 pub accept_lock-returns-clause-rows : goal.accept_lock-returns-clause-rows
+unfolding if_reached
 accept_lock-returns-clause-rows t c =
     let context = by_code c.args.place.now.context.now in
     let around = c.args.place.now.around.now in
     let n = c.in_ok-c.c in
     let inner = block_rows context (with_locked n around) (statements_of c.args.body.now) (Some c.args.known) in
-    block_put c.args.rows.now c.inside-inner.result c.accept_block-found.new.rows c.put_block.new.self inner c.lock_row.result c.once.result
+    block_put c.args.rows.now c.inside-inner.result c.accept_block.new.rows c.put_block.new.self inner c.lock_row.result c.once.result
     c.inside-inner.ensures (c.in_ok-found.ensures.rows ∙ ap (λ r. with_rows c.inside-inner.result (block_rows context r (statements_of c.args.body.now) (Some c.args.known))) c.in_ok-inside.ensures) c.in_ok-put_block.ensures
     ∙ ap (with_rows c.args.rows.now) (sym (lock_rows context around c.args.line (expression_of c.args.crate_no.now) (statements_of c.args.body.now) c.args.known n (verdict_of c.in_ok-found.found) c.in_ok-c.ensures
     (ap (λ r. accept_block context r (statements_of c.args.body.now) c.args.known) (sym c.in_ok-inside.ensures) ∙ c.in_ok-found.ensures.found)
@@ -146,7 +150,7 @@ accept_while-returns-clause-rows t c =
     let inner = block_rows (by_code context) around body arms.holds in
     let v = verdict_of c.in_ok-found.found in
     let turns : c.from-most.result ≡ turn_bound arms.holds it.turns = c.from-most.ensures ∙ c.turn_bound-most.ensures in
-    block_put c.args.rows.now c.inside-inner.result c.accept_block-turn.new.rows c.put_block.new.self inner c.loop_row-own.result c.turning.result
+    block_put c.args.rows.now c.inside-inner.result c.accept_block.new.rows c.put_block.new.self inner c.loop_row-own.result c.turning.result
     c.inside-inner.ensures c.in_ok-turn.ensures.rows c.in_ok-put_block.ensures
     ∙ ap (with_rows c.args.rows.now) (sym (while_rows (by_code context) around it.line test it.turns it.measure keeps body c.args.known top arms v (ap (λ b. while_head b it.line it.turns it.measure keeps body c.args.known) (sym c.body.ensures) ∙ c.in_ok-top.ensures) c.in_ok-ways.ensures
     (while_is context around it.line test it.turns it.measure keeps body c.args.known top arms (verdict_of c.in_ok-turn.turn) v
@@ -171,7 +175,7 @@ accept_for-returns-clause-rows t c =
     let inner = rows_at (with_fixed it.variable around) (for_head it.variable l keeps body k) in
     let there = c.in_ok-turn.ensures.rows ∙ ap₂ (λ r h. with_rows c.inside-inner.result (rows_at r h)) c.in_ok-inside.ensures c.in_ok-facts.ensures.head in
     let turn = ap₂ (λ r h. if_reached unreached h (accept_block (by_code context) r body)) (sym c.in_ok-inside.ensures) (sym c.in_ok-facts.ensures.head) ∙ c.in_ok-turn.ensures.found in
-    block_put c.args.rows.now c.inside-inner.result c.accept_block-turn.new.rows c.put_block.new.self inner c.loop_row-own.result c.turning.result
+    block_put c.args.rows.now c.inside-inner.result c.accept_block.new.rows c.put_block.new.self inner c.loop_row-own.result c.turning.result
     c.inside-inner.ensures there c.in_ok-put_block.ensures
     ∙ ap (with_rows c.args.rows.now) (sym (for_rows (by_code context) around it.line it.variable first last keeps body k l v c.in_ok-limits.ensures.rule
     (for_is context around it.line it.variable first last keeps body k l (verdict_of c.in_ok-turn.turn) v c.in_ok-limits.ensures.rule turn
@@ -197,11 +201,11 @@ accept_reached-returns-in_ok-join-in-IfElse-clause-rows t c =
     c.if_row-own.ensures ∙ ap (λ x. first_row line kind.If 1 x (costs 0 0 1) detail.Nothing) c.or-costs.ensures in
     let other : c.else_row-other.result ≡ first_row line kind.Else (times_at fails) two.costs no_costs detail.Nothing =
     c.else_row-other.ensures ∙ ap (λ n. first_row line kind.Else n two.costs no_costs detail.Nothing) c.times_at-times.ensures in
-    arms_put old c.inside-one.result c.inside-two.result c.accept_block-first-in-IfElse.new.rows c.accept_block-second-in-IfElse.new.rows c.put_block.new.self c.put_block-2.new.self xs ys
+    arms_put old c.inside-one.result c.inside-two.result c.accept_block.new.rows c.accept_block-in-IfElse.new.rows c.put_block.new.self c.put_block-in-IfElse.new.self xs ys
     c.if_row-own.result c.else_row-other.result c.first_arm.result c.second_arm.result c.inside-one.ensures c.inside-two.ensures
     (c.in_ok-first-in-IfElse.ensures.rows ∙ ap (λ p. with_rows c.inside-one.result (block_rows context around (statements_of p) holds)) c.deref-in-IfElse-2.ensures.value)
     (c.in_ok-second-in-IfElse.ensures.rows ∙ ap (λ p. with_rows c.inside-two.result (block_rows context around (statements_of p) fails)) c.deref-in-IfElse-3.ensures.value)
-    c.in_ok-put_block.ensures c.in_ok-put_block-2.ensures
+    c.in_ok-put_block-in-IfElse.ensures c.in_ok-put_block-in-IfElse-2.ensures
     ∙ ap₂ (λ x y. with_rows old (x ∷ map (inside_row capped c.first_arm.result) xs ++ y ∷ map (inside_row capped c.second_arm.result) ys)) own other
     ∙ ap₂ (λ v w. with_rows old (first_row line kind.If 1 (capped (choice_costs one.costs two.costs)) (costs 0 0 1) detail.Nothing ∷ map (inside_row capped v) xs
     ++ first_row line kind.Else (times_at fails) two.costs no_costs detail.Nothing ∷ map (inside_row capped w) ys)) c.first_arm.ensures c.second_arm.ensures
@@ -211,3 +215,26 @@ accept_reached-returns-in_ok-join-in-IfElse-clause-rows t c =
     (ap (λ p. if_reached unreached holds (accept_block context around (statements_of p))) (sym c.deref-in-IfElse-2.ensures.value) ∙ c.in_ok-first-in-IfElse.ensures.found)
     (ap (λ p. if_reached unreached fails (accept_block context around (statements_of p))) (sym c.deref-in-IfElse-3.ensures.value) ∙ c.in_ok-second-in-IfElse.ensures.found))
     ∙ sym (ap (λ q. statement_rows context around q (Some c.args.known)) (ap statement_of c.in-IfElse.is ∙ choose_else_is line c.in-IfElse.test c.in-IfElse.then c.in-IfElse.otherwise)))
+
+pub accept_next-returns-in_ok-pass_over-in-None-clause-rows : goal.accept_next-returns-in_ok-pass_over-in-None-clause-rows
+accept_next-returns-in_ok-pass_over-in-None-clause-rows t c =
+    c.in_ok-pass_over-in-None.ensures c.args.around.now
+    ∙ ap (λ k. with_rows c.args.rows.now (statement_rows (by_code c.args.context.now) c.args.around.now (statement_of c.args.statement.now) k)) (sym c.in-None.is)
+
+pub accept_reached-returns-in-For-clause-rows : goal.accept_reached-returns-in-For-clause-rows
+accept_reached-returns-in-For-clause-rows t c =
+    let it = c.in-For in
+    subst (λ s. OnOk c.accept_for.result (c.accept_for.new.rows ≡ with_rows c.args.rows.now (statement_rows (by_code c.args.context.now) c.args.around.now s (Some c.args.known))))
+    (ap₂ (λ ks b. for_ it.line it.variable (expression_of it.from) (expression_of it.to) (map keep_of ks) (statements_of b)) c.deref-in-For.ensures.value c.deref-in-For-2.ensures.value
+    ∙ sym (ap statement_of it.is ∙ for_tree it.line it.variable it.from it.to it.keeps it.body))
+    c.accept_for.ensures.rows
+
+pub accept_reached-returns-in-While-clause-rows : goal.accept_reached-returns-in-While-clause-rows
+accept_reached-returns-in-While-clause-rows t c =
+    let it = c.in-While in
+    let test = ap (map part_of) c.deref-in-While.ensures.value in
+    subst (λ s. OnOk c.accept_while.result (c.accept_while.new.rows ≡ with_rows c.args.rows.now (statement_rows (by_code c.args.context.now) c.args.around.now s (Some c.args.known))))
+    (ap (λ q. while_ it.line q it.turns it.measure (map keep_of c.deref-in-While-2.result.now) (statements_of c.deref-in-While-3.result.now)) test
+    ∙ ap₂ (λ ks b. while_ it.line (condition_of it.test) it.turns it.measure (map keep_of ks) (statements_of b)) c.deref-in-While-2.ensures.value c.deref-in-While-3.ensures.value
+    ∙ sym (ap statement_of it.is ∙ while_tree it.line it.test it.turns it.measure it.keeps it.body))
+    c.accept_while.ensures.rows
