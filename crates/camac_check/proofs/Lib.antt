@@ -7,4 +7,3 @@ pub mod Heading
 pub mod Relinked
 pub mod Found
 pub mod Rows
-pub mod Trees

@@ -1,6 +1,6 @@
 -- The rows of each statement, from what the steps of its rule found.
 use Rattle.std.proofs.Common.{◌≡◌, ℕ, ◌+◌, List, [], ◌∷◌, ◌++◌, map, Option, Some, None, Result, Ok, false, refl, sym, ap, ap₂, ◌∙◌}
-use Rattle.std.specs.Prelude.{IsTrue, is_some, option_map, unwrap_or}
+use Rattle.std.specs.Prelude.{IsTrue, is_some, unwrap_or}
 use Rattle.camac_lang.specs.Tree.{Expression, Condition, Keep, Statement, assign, set_register, single, address_scan, q_stop, q_repeat, put, crate_call, lam_call, choose, choose_else, for_, while_, locked, call, Block, next, line_of}
 use Rattle.camac_range.specs.Interval.{only}
 use Rattle.camac_branch.specs.Plan.{crate_waits}
@@ -13,7 +13,7 @@ use Rattle.camac_check_simple.specs.Gives.{by_code}
 use Rattle.camac_check_rules.specs.Known.{Facts, Known}
 use Rattle.camac_check_rules.specs.Joined.{join}
 use Rattle.camac_check_rules.specs.Conditions.{Branches, branches, split}
-use Rattle.camac_check_rules.specs.Costs.{costs, no_costs, choice_costs, lock_costs, loop_costs, Verdict, verdict, unreached}
+use Rattle.camac_check_rules.specs.Costs.{costs, no_costs, choice_costs, lock_costs, Verdict, verdict, unreached}
 use Rattle.camac_check_rules.specs.Cycles.{Context, Around, with_locked}
 use Rattle.camac_check_rules.specs.Calls.{lock_rule}
 use Rattle.camac_check_rules.specs.Loops.{Limits, with_fixed, for_limits, for_head, for_after, turns_between, while_head, turn_bound}
@@ -28,15 +28,11 @@ use Rattle.camac_check_rows.specs.declared.row.Row.{Row}
 use Rattle.camac_check_rows.specs.declared.inside.Weight.{Weight}
 use Rattle.camac_check_rows.specs.Statements.{is_simple, kind_of, detail_of, first_row}
 use Rattle.camac_check_rows.specs.Weights.{once, turning, first_arm, second_arm, inside_row}
-use Rattle.camac_check_rows.specs.Kept.{with_rows}
-use Rattle.camac_check_rows.specs.Rows.{found, Turning, turning_from, loop_detail, loop_share, lock_share, lock_detail, lock_inside, lock_head, statement_verdict, block_verdict, simple_row, else_row, times_at, inside, statement_rows, block_rows}
+use Rattle.camac_check_rows.specs.Rows.{found, Turning, turning_from, loop_detail, loop_share, lock_share, lock_detail, lock_inside, lock_head, statement_verdict, block_verdict, simple_row, else_row, times_at, inside, statement_rows, block_rows, with_rows}
 
 -- what was found is the verdict
 pub verdict_is : (c : Context) (around : Around) (s : Statement) (k : Known) (v : Verdict) → if_reached unreached k (accept_statement c around s) ≡ Ok v → statement_verdict c around s k ≡ v
 verdict_is c around s k v e = ap (λ q. found unreached q) e
-
-pub block_is : (c : Context) (around : Around) (b : Block) (k : Known) (v : Verdict) → if_reached unreached k (accept_block c around b) ≡ Ok v → block_verdict c around b k ≡ v
-block_is c around b k v e = ap (λ q. found unreached q) e
 
 pub simple_is : (c : Context) (around : Around) (s : Statement) (k : Facts) (v : Verdict) → if_reached unreached (Some k) (accept_statement c around s) ≡ Ok v
     → simple_row c around s (Some k) ≡ first_row (line_of s) (kind_of s) 1 v.costs v.costs (detail_of c s (Some k))

@@ -5,7 +5,7 @@ use Rattle.camac_check_rules.specs.Capped.{capped}
 use Rattle.camac_check_rows.specs.declared.row.Row.{Row}
 use Rattle.camac_check_rows.specs.declared.inside.Weight.{Weight}
 use Rattle.camac_check_rows.specs.Weights.{inside_row}
-use Rattle.camac_check_rows.specs.Kept.{none_yet, with_rows}
+use Rattle.camac_check_rows.specs.Rows.{none_yet, with_rows}
 
 pub no_more : (k : Option (List Row)) → with_rows k [] ≡ k
 no_more None = refl

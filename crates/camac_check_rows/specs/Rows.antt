@@ -1,5 +1,5 @@
 -- What each statement has of the bound of its body: rows over what the checker's rules find. No rule is stated here.
-use Rattle.std.specs.Prelude.{ℕ, ◌+◌, List, [], ◌∷◌, ◌++◌, map, Option, Some, None, Result, Ok, Err, unwrap_or}
+use Rattle.std.specs.Prelude.{ℕ, ◌+◌, List, [], ◌∷◌, ◌++◌, map, Option, Some, None, Result, Ok, Err, option_map, unwrap_or}
 use Rattle.camac_range.specs.Interval.{only}
 use Rattle.camac_lang.specs.Tree.{Expression, Condition, Keep, Statement, choose, choose_else, for_, while_, locked, Block, done, next, line_of}
 use Rattle.camac_branch.specs.Plan.{crate_waits}
@@ -154,3 +154,11 @@ abbrev mutual
   pub block_rows : Context → Around → Block → Known → List Row
   block_rows c around done k = []
   block_rows c around (next s rest) k = statement_rows c around s k ++ block_rows c around rest (statement_verdict c around s k).after
+
+-- these after those that are kept, if rows are kept
+abbrev pub with_rows : Option (List Row) → List Row → Option (List Row)
+with_rows kept rows = option_map (λ before. before ++ rows) kept
+
+-- where those of a block are put
+abbrev pub none_yet : Option (List Row) → Option (List Row)
+none_yet kept = option_map (λ before. []) kept

@@ -6,8 +6,7 @@ ghost use Rattle.camac_lang.specs.View.{statement_of};
 ghost use Rattle.camac_check_rules.specs.Capped.{capped};
 ghost use Rattle.camac_check_rules.specs.Cycles.{Around as Surroundings};
 ghost use Rattle.camac_check_simple.specs.Gives.{by_code};
-ghost use Rattle.camac_check_rows.specs.Kept.{none_yet, with_rows};
-ghost use Rattle.camac_check_rows.specs.Rows.{statement_rows};
+ghost use Rattle.camac_check_rows.specs.Rows.{none_yet, statement_rows, with_rows};
 ghost use Rattle.camac_check_rows.specs.Statements.{first_row, kind_of};
 ghost use Rattle.camac_check_rows.specs.Weights.{inside_row};
 

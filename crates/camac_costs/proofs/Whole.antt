@@ -11,8 +11,7 @@ use Rattle.camac_check_rules.specs.Cycles.{Context, Around}
 use Rattle.camac_check_rules.specs.Statements.{accept_block}
 use Rattle.camac_costs.specs.declared.bodies.Owner.{Owner}
 use Rattle.camac_check_rows.specs.declared.row.Row.{Row}
-use Rattle.camac_check_rows.specs.Kept.{with_rows}
-use Rattle.camac_check_rows.specs.Rows.{block_rows, found}
+use Rattle.camac_check_rows.specs.Rows.{block_rows, found, with_rows}
 use Rattle.camac_costs.specs.Body.{BodyRows}
 use Rattle.camac_costs.specs.Bodies.{body_costs, rows_if}
 

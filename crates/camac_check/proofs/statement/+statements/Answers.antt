@@ -16,15 +16,13 @@ use Rattle.camac_check_simple.specs.Gives.{Fails, by_code, verdict_of}
 use Rattle.camac_check_rows.specs.declared.row.Detail.TheVariants as detail
 use Rattle.camac_check_rows.specs.declared.row.Kind.TheVariants as kind
 use Rattle.camac_check_rows.specs.declared.row.Row.{Row}
-use Rattle.camac_check_rows.specs.Kept.{with_rows}
-use Rattle.camac_check_rows.specs.Rows.{block_rows, statement_rows, times_at}
+use Rattle.camac_check_rows.specs.Rows.{block_rows, statement_rows, times_at, with_rows}
 use Rattle.camac_check_rows.specs.Statements.{first_row}
 use Rattle.camac_check_rows.specs.Weights.{first_arm, inside_row, once, second_arm}
 use Rattle.camac_check_rows.proofs.Kept.{arms_put, block_put, no_more, then_rows}
-use Rattle.camac_check_rows.proofs.Trees.{choose_else_is, next_of}
+use Rattle.camac_check_rows.proofs.Trees.{choose_else_is, for_tree, next_of, while_tree}
 use Rattle.camac_check.proofs.Blocks.{rest_rule, capped_twice, block_starts, block_goes_on, block_stops, block_ends}
 use Rattle.camac_check.proofs.Rows.{choice_rows, end_is, for_is, for_rows, if_rows, lock_rows, loop_row_is, own_row_is, rows_next, while_is, while_rows}
-use Rattle.camac_check.proofs.Trees.{for_tree, while_tree}
 use Rattle.camac_check.proofs.statement.+statements.Goals as goal
 
 pub accept_block-statements-init : goal.accept_block-statements-init
@@ -101,11 +99,10 @@ accept_block-returns-clause-rows t c =
     let context = c.args.context.now in
     let around = c.args.around.now in
     let xs = c.args.block.now in
-    let known = c.statements.here in
     let rows = c.statements.rows in
     let le : length xs ≤ c.statements.statement-index = omega arith in
     sym (no_more rows)
-    ∙ ap (λ l. with_rows rows (block_rows (by_code context) around (statements_of l) known)) (sym (drop_all c.statements.statement-index xs le))
+    ∙ ap (λ l. with_rows rows (block_rows (by_code context) around (statements_of l) c.statements.here)) (sym (drop_all c.statements.statement-index xs le))
     ∙ c.statements.invariant.rows
 
 pub accept_if-returns-clause-rows : goal.accept_if-returns-clause-rows
@@ -113,12 +110,11 @@ accept_if-returns-clause-rows t c =
     let context = by_code c.args.place.now.context.now in
     let around = c.args.place.now.around.now in
     let holds = c.in_ok-ways.ways.holds in
-    let fails = c.in_ok-ways.ways.fails in
     let first = verdict_of c.in_ok-first.first in
     let inner = block_rows context around (statements_of c.args.then.now) holds in
     block_put c.args.rows.now c.inside-inner.result c.accept_block.new.rows c.put_block.new.self inner c.if_row.result c.once.result
     c.inside-inner.ensures c.in_ok-first.ensures.rows c.in_ok-put_block.ensures
-    ∙ ap (with_rows c.args.rows.now) (sym (if_rows context around c.args.line (map part_of c.args.test.now) (statements_of c.args.then.now) c.args.known (branches holds fails) first c.in_ok-ways.ensures c.in_ok-first.ensures.found
+    ∙ ap (with_rows c.args.rows.now) (sym (if_rows context around c.args.line (map part_of c.args.test.now) (statements_of c.args.then.now) c.args.known (branches holds c.in_ok-ways.ways.fails) first c.in_ok-ways.ensures c.in_ok-first.ensures.found
     ∙ own_row_is c.args.line kind.If _ _ _ _ detail.Nothing c.if_row.result inner c.once.result once c.if_row.ensures
     (c.or-costs.ensures ∙ ap (λ z. capped (choice_costs first.costs z)) c.new.ensures) refl c.once.ensures))
 
@@ -168,7 +164,6 @@ accept_for-returns-clause-rows t c =
     let keeps = map keep_of it.keeps.now in
     let body = statements_of c.args.body.now in
     let l = c.in_ok-limits.limits in
-    let head = c.in_ok-facts.facts.head in
     let k = c.args.known in
     let v = verdict_of c.in_ok-found.found in
     let rows_at : Around → Known → List Row = λ r h. block_rows (by_code context) r body h in

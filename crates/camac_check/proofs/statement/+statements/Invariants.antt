@@ -5,8 +5,7 @@ use Rattle.camac_check_rules.specs.Costs.{unreached, verdict}
 use Rattle.camac_check_rules.specs.Refusal.{if_reached}
 use Rattle.camac_check_rules.specs.Statements.{accept_block}
 use Rattle.camac_check_simple.specs.Gives.{by_code}
-use Rattle.camac_check_rows.specs.Kept.{with_rows}
-use Rattle.camac_check_rows.specs.Rows.{block_rows}
+use Rattle.camac_check_rows.specs.Rows.{block_rows, with_rows}
 use Rattle.camac_check.proofs.Blocks.{rest_rule}
 use Rattle.camac_check.proofs.statement.+statements.Given as goal
 
