@@ -1,5 +1,5 @@
 -- A block, a statement at a time: what was found so far, and then the rest.
-use Rattle.std.proofs.Common.{◌≡◌, ℕ, suc, ◌+◌, ◌<◌, List, length, get_or, drop, drop-cons, add-one, Option, Some, None, Result, Ok, Err, refl, sym, ap, ◌∙◌, arith}
+use Rattle.std.proofs.Common.{◌≡◌, ℕ, Option, Some, None, Result, Ok, Err, refl, sym, ap, ◌∙◌, arith}
 use Rattle.camac_lang.specs.Tree.{Statement, Block, done, next}
 use Rattle.camac_model.specs.Fine.{Bounds}
 use Rattle.camac_check_rules.specs.Fault.{Fault, broken}
@@ -9,8 +9,6 @@ use Rattle.camac_check_rules.specs.Costs.{costs, no_costs, plus, Verdict, verdic
 use Rattle.camac_check_rules.specs.Capped.{capped}
 use Rattle.camac_check_rules.specs.Cycles.{Around}
 use Rattle.camac_check_rules.specs.Statements.{accept_statement, accept_block}
-use Rattle.camac_lang.specs.View.{statement_of, statements_of}
-use Rattle.camac_lang.specs.declared.tree.Stmt.{Stmt}
 use Rattle.camac_check_simple.specs.declared.context.Context as code
 use Rattle.camac_check_known.specs.declared.fault.CheckFault.{CheckFault}
 use Rattle.camac_check_known.specs.declared.fault.CheckFault.TheVariants.{OutOfMemory, Broken}
@@ -109,10 +107,3 @@ block_refused context around (Some k) c s rest f e = block_fails context around 
 pub block_stops : (context : code.Context) (around : Around) (known : Option Facts) (c : Bounds) (s : Statement) (rest : Block) (e : CheckFault) → Fails e (if_reached unreached known (accept_statement (by_code context) around s)) → Fails e (rest_rule context around (verdict known c) (next s rest))
 block_stops context around known c s rest OutOfMemory h = tt
 block_stops context around known c s rest (Broken rule line case) h = block_refused context around known c s rest (broken rule line case) h
-
--- the list of a block from its next statement on
-pub next_of : (xs : List Stmt) (i : ℕ) (x : Stmt) → i < length xs → x ≡ get_or xs i x → statements_of (drop i xs) ≡ next (statement_of x) (statements_of (drop (i + 1) xs))
-next_of xs i x h is =
-    ap statements_of (drop-cons xs i x h)
-    ∙ ap (λ y. next (statement_of y) (statements_of (drop (suc i) xs))) (sym is)
-    ∙ ap (λ j. next (statement_of x) (statements_of (drop j xs))) (sym (add-one i))

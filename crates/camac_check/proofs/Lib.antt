@@ -6,3 +6,4 @@ pub mod Needs
 pub mod Heading
 pub mod Relinked
 pub mod Found
+pub mod Rows

@@ -14,6 +14,7 @@ use crate::statement::accept_block;
 use camac_branch::Plan;
 use camac_check_known::{Around, CheckFault, Costs, Facts};
 use camac_check_result::Bounds;
+use camac_check_rows::Rows;
 use camac_check_rules::{Body, Case, CheckRule};
 use camac_check_simple::Context;
 use camac_lang::{Item, Procedure, Script, Service};
@@ -130,7 +131,8 @@ fn procedure_in_64_bits(
     let body = Body::Procedure(context.procedures.len());
     let around = Around::alone_in(alloc, body);
     let known = at_entry(alloc, &procedure.parameters)?;
-    let found = accept_block(alloc, context, &around, &procedure.body, known)?;
+    let mut none = Rows::none();
+    let found = accept_block(alloc, context, &around, &procedure.body, known, &mut none)?;
     let most = Bounds {
         cycles,
         words,
@@ -161,8 +163,9 @@ fn accept_in_64_bits(
 {
     let body = Body::Service(service.lam);
     let around = Around::alone_in(alloc, body);
-    let known = Facts::at_start(alloc);
-    let found = accept_block(alloc, context, &around, &service.body, Some(known))?;
+    let known = Some(Facts::at_start(alloc));
+    let mut none = Rows::none();
+    let found = accept_block(alloc, context, &around, &service.body, known, &mut none)?;
     let most = Bounds {
         cycles,
         words,
@@ -193,8 +196,9 @@ fn needs_in_64_bits(
 {
     let body = Body::Service(service.lam);
     let around = Around::alone_in(alloc, body);
-    let known = Facts::at_start(alloc);
-    let found = accept_block(alloc, context, &around, &service.body, Some(known))?;
+    let known = Some(Facts::at_start(alloc));
+    let mut none = Rows::none();
+    let found = accept_block(alloc, context, &around, &service.body, known, &mut none)?;
     event_fits(context.plan, found.costs.words(), service.line)?;
     Ok(within(body, most(), found.costs, service.line)?)
 }

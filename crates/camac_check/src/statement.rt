@@ -1,27 +1,33 @@
 // The rules of all statements, and of blocks of them.
 
-ghost use Rattle.std.specs.Prelude.{◌≡◌, IfOk, map};
-ghost use Rattle.camac_lang.specs.Tree.{choose, locked, while_};
+ghost use Rattle.std.specs.Prelude.{◌≡◌, IsTrue, OnOk, Some, map};
+ghost use Rattle.camac_lang.specs.Tree.{choose, for_, locked, while_};
 ghost use Rattle.camac_lang.specs.View.{expression_of, keep_of, part_of, statement_of, statements_of};
 ghost use Rattle.camac_check_rules.specs.Loops.{for_rule, with_fixed};
 ghost use Rattle.camac_check_rules.specs.Costs.{unreached};
 ghost use Rattle.camac_check_rules.specs.Refusal.{if_reached};
 ghost use Rattle.camac_check_rules.specs.Statements.{accept_statement, accept_block};
+ghost use Rattle.camac_check_rows.specs.Rows.{block_rows, statement_rows, with_rows};
+ghost use Rattle.camac_check_rows.specs.Statements.{is_simple};
 ghost use Rattle.camac_check.specs.Ends.{loop_end};
 ghost use Rattle.camac_check_simple.specs.Gives.{Gives, by_code, verdict_of};
 
 use crate::procedure::call;
 use camac_check_known::{Around, CheckFault, Costs, Facts, join, split, waits_of};
 use camac_check_loops::{for_limits, keeps_after, turn_bound, while_head};
+use camac_check_rows::{
+    Kind, Rows, detail_of, else_row, first_arm, if_row, lock_row, loop_row, once, second_arm,
+    times_at, turning,
+};
 use camac_check_rules::Body;
 use camac_check_simple::{
     BlockTransfer, Context, Findings, Place, assign, crate_call, lam_call, lock_crate, put,
     q_repeat, q_stop, scan, set_register, single,
 };
 use camac_lang::{Expr, Keep, Part, Stmt};
-use std::alloc::{AllocError, Global};
+use std::alloc::Global;
 
-/// Checks a block from what is known at its beginning, if it can be reached.
+/// Checks a block from what is known at its beginning, if it can be reached, and puts the rows of its statements.
 #[cycle(statements)]
 pub fn accept_block(
     alloc: Global,
@@ -29,13 +35,15 @@ pub fn accept_block(
     around: &Around,
     block: &[Stmt],
     known: Option<Facts>,
+    rows: &mut Rows,
 ) -> Result<Findings, CheckFault>
-    ensures { Gives verdict_of result (if_reached unreached known (accept_block (by_code context.now) around.now (statements_of block.now))) }
+    ensures found { Gives verdict_of result (if_reached unreached known (accept_block (by_code context.now) around.now (statements_of block.now))) }
+    ensures rows { OnOk result (rows.new ≡ with_rows rows.old (block_rows (by_code context.now) around.now (statements_of block.now) known)) }
 {
     let mut here = known;
     let mut costs = Costs::new(0, 0, 0);
     'statements: for statement in block {
-        let next = match accept_next(alloc, context, around, statement, here) {
+        let next = match accept_next(alloc, context, around, statement, here, rows) {
             Ok(next) => next,
             Err(fault) => return Err(fault),
         };
@@ -43,28 +51,6 @@ pub fn accept_block(
         costs = costs.then(next.costs);
     }
     Ok(Findings { known: here, costs })
-}
-
-/// Checks a statement, if it can be reached.
-pub fn accept_statement(
-    alloc: Global,
-    context: &Context,
-    around: &Around,
-    statement: &Stmt,
-    known: &Option<Facts>,
-) -> Result<Findings, CheckFault>
-    ensures { Gives verdict_of result (if_reached unreached known.now (accept_statement (by_code context.now) around.now (statement_of statement.now))) }
-{
-    accept_next(alloc, context, around, statement, copy(alloc, known)?)
-}
-
-fn copy(alloc: Global, known: &Option<Facts>) -> Result<Option<Facts>, AllocError>
-    ensures { IfOk result (λ k. k ≡ known.now) }
-{
-    match known {
-        Some(known) => Ok(Some(known.try_clone(alloc)?)),
-        None => Ok(None),
-    }
 }
 
 // Checks a statement, if it can be reached. What was known before it is changed in place.
@@ -76,15 +62,20 @@ fn accept_next(
     around: &Around,
     statement: &Stmt,
     known: Option<Facts>,
+    rows: &mut Rows,
 ) -> Result<Findings, CheckFault>
-    ensures { Gives verdict_of result (if_reached unreached known (accept_statement (by_code context.now) around.now (statement_of statement.now))) }
+    ensures found { Gives verdict_of result (if_reached unreached known (accept_statement (by_code context.now) around.now (statement_of statement.now))) }
+    ensures rows { OnOk result (rows.new ≡ with_rows rows.old (statement_rows (by_code context.now) around.now (statement_of statement.now) known)) }
 {
     match known {
-        Some(known) => accept_reached(alloc, context, around, statement, known),
-        None => Ok(Findings {
-            known: None,
-            costs: Costs::new(0, 0, 0),
-        }),
+        Some(known) => accept_reached(alloc, context, around, statement, known, rows),
+        None => {
+            rows.pass_over(alloc, context, statement)?;
+            Ok(Findings {
+                known: None,
+                costs: Costs::new(0, 0, 0),
+            })
+        }
     }
 }
 
@@ -97,88 +88,16 @@ fn accept_reached(
     around: &Around,
     statement: &Stmt,
     known: Facts,
+    rows: &mut Rows,
 ) -> Result<Findings, CheckFault>
-    ensures { Gives verdict_of result (accept_statement (by_code context.now) around.now (statement_of statement.now) known) }
+    ensures found { Gives verdict_of result (accept_statement (by_code context.now) around.now (statement_of statement.now) known) }
+    ensures rows { OnOk result (rows.new ≡ with_rows rows.old (statement_rows (by_code context.now) around.now (statement_of statement.now) (Some known))) }
 {
-    let place = Place { context, around };
+    let here = Place { context, around };
     match statement {
-        Stmt::Assign {
-            line,
-            variable,
-            value,
-        } => assign(around, *line, *variable, value, known),
-        Stmt::SetRegister {
-            line,
-            register,
-            crate_no,
-            station,
-            sub_address,
-        } => set_register(*line, *register, crate_no, station, sub_address, known),
-        Stmt::Put { line, value } => put(*line, value, known),
-        Stmt::Single {
-            line,
-            size,
-            function,
-            register,
-            data,
-        } => single(&place, *line, *size, *function, *register, data, known),
-        Stmt::CrateCall { line, crate_no, .. } => crate_call(&place, *line, crate_no, known),
-        Stmt::LamCall { line, call, lam } => lam_call(&place, *line, *call, *lam, known),
-        Stmt::Scan {
-            line,
-            function,
-            first,
-            last,
-            max,
-            tally,
-        } => scan(
-            &place,
-            *line,
-            *function,
-            (*first, *last),
-            max,
-            *tally,
-            known,
-        ),
-        Stmt::QStop {
-            line,
-            function,
-            register,
-            table,
-            max,
-            tally,
-        } => {
-            let transfer = BlockTransfer {
-                f: *function,
-                register: *register,
-                table: *table,
-                tally: *tally,
-            };
-            q_stop(&place, *line, transfer, max, known)
+        Stmt::If { line, test, then } => {
+            accept_if(alloc, &here, *line, &test.parts, then, known, rows)
         }
-        Stmt::QRepeat {
-            line,
-            function,
-            register,
-            table,
-            max,
-            limit,
-            tally,
-        } => {
-            let transfer = BlockTransfer {
-                f: *function,
-                register: *register,
-                table: *table,
-                tally: *tally,
-            };
-            q_repeat(&place, *line, transfer, max, limit, known)
-        }
-        Stmt::Call {
-            line,
-            procedure,
-            arguments,
-        } => call(alloc, context, *line, *procedure, arguments, known),
-        Stmt::If { line, test, then } => accept_if(alloc, &place, *line, &test.parts, then, known),
         Stmt::IfElse {
             line,
             test,
@@ -186,18 +105,26 @@ fn accept_reached(
             otherwise,
         } => {
             let ways = split(alloc, *line, &test.parts, known)?;
-            let first = accept_block(alloc, context, around, then, ways.holds)?;
-            let second = accept_block(alloc, context, around, otherwise, ways.fails)?;
+            let times = times_at(&ways.fails);
+            let mut one = rows.inside(alloc);
+            let first = accept_block(alloc, context, around, then, ways.holds, &mut one)?;
+            let mut two = rows.inside(alloc);
+            let second = accept_block(alloc, context, around, otherwise, ways.fails, &mut two)?;
+            let costs = first.costs.or(second.costs);
+            let own = if_row(*line, costs);
+            rows.put_block(own, &one, first_arm(first.costs, second.costs))?;
+            let other = else_row(*line, times, second.costs);
+            rows.put_block(other, &two, second_arm(first.costs, second.costs))?;
             Ok(Findings {
                 known: join(alloc, first.known, second.known)?,
-                costs: first.costs.or(second.costs),
+                costs,
             })
         }
         Stmt::Lock {
             line,
             crate_no,
             body,
-        } => accept_lock(alloc, &place, *line, crate_no, body, known),
+        } => accept_lock(alloc, &here, *line, crate_no, body, known, rows),
         Stmt::For {
             line,
             variable,
@@ -213,7 +140,7 @@ fn accept_reached(
                 to,
                 keeps,
             };
-            accept_for(alloc, &place, &counted, body, known)
+            accept_for(alloc, &here, &counted, body, known, rows)
         }
         Stmt::While {
             line,
@@ -230,8 +157,145 @@ fn accept_reached(
                 measure: *measure,
                 keeps,
             };
-            accept_while(alloc, &place, &limited, body, known)
+            accept_while(alloc, &here, &limited, body, known, rows)
         }
+        Stmt::Assign { .. }
+        | Stmt::SetRegister { .. }
+        | Stmt::Single { .. }
+        | Stmt::Scan { .. }
+        | Stmt::QStop { .. }
+        | Stmt::QRepeat { .. }
+        | Stmt::Put { .. }
+        | Stmt::CrateCall { .. }
+        | Stmt::LamCall { .. }
+        | Stmt::Call { .. } => accept_simple(alloc, &here, statement, known, rows),
+    }
+}
+
+// Checks a statement that holds no others.
+#[tactic(auto, using(crate::proofs::Rows::off), unfolding(camac_check_rules::specs::Refusal::if_reached))]
+fn accept_simple(
+    alloc: Global,
+    place: &Place,
+    statement: &Stmt,
+    known: Facts,
+    rows: &mut Rows,
+) -> Result<Findings, CheckFault>
+    requires { IsTrue (is_simple (statement_of statement.now)) }
+    ensures found { Gives verdict_of result (accept_statement (by_code place.now.context.now) place.now.around.now (statement_of statement.now) known) }
+    ensures rows { OnOk result (rows.new ≡ with_rows rows.old (statement_rows (by_code place.now.context.now) place.now.around.now (statement_of statement.now) (Some known))) }
+{
+    if rows.are_kept() {
+        with_its_row(alloc, place, statement, known, rows)
+    } else {
+        by_its_rule(alloc, place, statement, known)
+    }
+}
+
+// The same where rows are kept. It stands apart, so that a check makes no room for its row.
+#[inline(never)]
+#[tactic(auto, unfolding(camac_check_rules::specs::Refusal::if_reached))]
+fn with_its_row(
+    alloc: Global,
+    place: &Place,
+    statement: &Stmt,
+    known: Facts,
+    rows: &mut Rows,
+) -> Result<Findings, CheckFault>
+    requires { IsTrue (is_simple (statement_of statement.now)) }
+    ensures found { Gives verdict_of result (accept_statement (by_code place.now.context.now) place.now.around.now (statement_of statement.now) known) }
+    ensures rows { OnOk result (rows.new ≡ with_rows rows.old (statement_rows (by_code place.now.context.now) place.now.around.now (statement_of statement.now) (Some known))) }
+{
+    let detail = detail_of(place.context, statement, Some(&known))?;
+    let found = by_its_rule(alloc, place, statement, known)?;
+    rows.put(statement, found.costs, detail)?;
+    Ok(found)
+}
+
+// The rule of a statement that holds no others.
+fn by_its_rule(
+    alloc: Global,
+    place: &Place,
+    statement: &Stmt,
+    known: Facts,
+) -> Result<Findings, CheckFault>
+    requires { IsTrue (is_simple (statement_of statement.now)) }
+    ensures { Gives verdict_of result (accept_statement (by_code place.now.context.now) place.now.around.now (statement_of statement.now) known) }
+{
+    match statement {
+        Stmt::Assign {
+            line,
+            variable,
+            value,
+        } => assign(place.around, *line, *variable, value, known),
+        Stmt::SetRegister {
+            line,
+            register,
+            crate_no,
+            station,
+            sub_address,
+        } => set_register(*line, *register, crate_no, station, sub_address, known),
+        Stmt::Put { line, value } => put(*line, value, known),
+        Stmt::Single {
+            line,
+            size,
+            function,
+            register,
+            data,
+        } => single(place, *line, *size, *function, *register, data, known),
+        Stmt::CrateCall { line, crate_no, .. } => crate_call(place, *line, crate_no, known),
+        Stmt::LamCall { line, call, lam } => lam_call(place, *line, *call, *lam, known),
+        Stmt::Scan {
+            line,
+            function,
+            first,
+            last,
+            max,
+            tally,
+        } => scan(place, *line, *function, (*first, *last), max, *tally, known),
+        Stmt::QStop {
+            line,
+            function,
+            register,
+            table,
+            max,
+            tally,
+        } => {
+            let transfer = BlockTransfer {
+                f: *function,
+                register: *register,
+                table: *table,
+                tally: *tally,
+            };
+            q_stop(place, *line, transfer, max, known)
+        }
+        Stmt::QRepeat {
+            line,
+            function,
+            register,
+            table,
+            max,
+            limit,
+            tally,
+        } => {
+            let transfer = BlockTransfer {
+                f: *function,
+                register: *register,
+                table: *table,
+                tally: *tally,
+            };
+            q_repeat(place, *line, transfer, max, limit, known)
+        }
+        Stmt::Call {
+            line,
+            procedure,
+            arguments,
+        } => call(alloc, place.context, *line, *procedure, arguments, known),
+        Stmt::If { .. }
+        | Stmt::IfElse { .. }
+        | Stmt::For { .. }
+        | Stmt::While { .. }
+        | Stmt::Lock { .. } => unreachable!(),
     }
 }
 
@@ -246,18 +310,24 @@ fn accept_if(
     test: &[Part],
     then: &[Stmt],
     known: Facts,
+    rows: &mut Rows,
 ) -> Result<Findings, CheckFault>
-    ensures { Gives verdict_of result (accept_statement (by_code place.now.context.now) place.now.around.now (choose line (map part_of test.now) (statements_of then.now)) known) }
+    ensures found { Gives verdict_of result (accept_statement (by_code place.now.context.now) place.now.around.now (choose line (map part_of test.now) (statements_of then.now)) known) }
+    ensures rows { OnOk result (rows.new ≡ with_rows rows.old (statement_rows (by_code place.now.context.now) place.now.around.now (choose line (map part_of test.now) (statements_of then.now)) (Some known))) }
 {
     let ways = split(alloc, line, test, known)?;
-    let first = accept_block(alloc, place.context, place.around, then, ways.holds)?;
+    let mut inner = rows.inside(alloc);
+    let around = place.around;
+    let first = accept_block(alloc, place.context, around, then, ways.holds, &mut inner)?;
+    let costs = first.costs.or(Costs::new(0, 0, 0));
+    rows.put_block(if_row(line, costs), &inner, once())?;
     Ok(Findings {
         known: join(alloc, first.known, ways.fails)?,
-        costs: first.costs.or(Costs::new(0, 0, 0)),
+        costs,
     })
 }
 
-// Checks a `locked`.
+// Checks a `lock`.
 #[inline(never)]
 #[cycle(statements)]
 #[tactic(auto, unfolding(camac_check_rules::specs::Refusal::go_on, camac_check_rules::specs::Refusal::if_reached))]
@@ -268,15 +338,21 @@ fn accept_lock(
     crate_no: &Expr,
     body: &[Stmt],
     known: Facts,
+    rows: &mut Rows,
 ) -> Result<Findings, CheckFault>
-    ensures { Gives verdict_of result (accept_statement (by_code place.now.context.now) place.now.around.now (locked line (expression_of crate_no.now) (statements_of body.now)) known) }
+    ensures found { Gives verdict_of result (accept_statement (by_code place.now.context.now) place.now.around.now (locked line (expression_of crate_no.now) (statements_of body.now)) known) }
+    ensures rows { OnOk result (rows.new ≡ with_rows rows.old (statement_rows (by_code place.now.context.now) place.now.around.now (locked line (expression_of crate_no.now) (statements_of body.now)) (Some known))) }
 {
     let c = lock_crate(place, line, crate_no, &known)?;
     let inside = place.around.with_locked(alloc, c)?;
-    let inner = accept_block(alloc, place.context, &inside, body, Some(known))?;
+    let mut inner = rows.inside(alloc);
+    let found = accept_block(alloc, place.context, &inside, body, Some(known), &mut inner)?;
+    let waits = waits_of(place.context.plan, c);
+    let costs = found.costs.in_lock(waits);
+    rows.put_block(lock_row(line, costs, waits, c), &inner, once())?;
     Ok(Findings {
-        known: inner.known,
-        costs: inner.costs.in_lock(waits_of(place.context.plan, c)),
+        known: found.known,
+        costs,
     })
 }
 
@@ -300,8 +376,10 @@ fn accept_while(
     limited: &Limited,
     body: &[Stmt],
     known: Facts,
+    rows: &mut Rows,
 ) -> Result<Findings, CheckFault>
-    ensures { Gives verdict_of result (accept_statement (by_code place.now.context.now) place.now.around.now (while_ limited.now.line (map part_of limited.now.test.now) limited.now.turns limited.now.measure (map keep_of limited.now.keeps.now) (statements_of body.now)) known) }
+    ensures found { Gives verdict_of result (accept_statement (by_code place.now.context.now) place.now.around.now (while_ limited.now.line (map part_of limited.now.test.now) limited.now.turns limited.now.measure (map keep_of limited.now.keeps.now) (statements_of body.now)) known) }
+    ensures rows { OnOk result (rows.new ≡ with_rows rows.old (statement_rows (by_code place.now.context.now) place.now.around.now (while_ limited.now.line (map part_of limited.now.test.now) limited.now.turns limited.now.measure (map keep_of limited.now.keeps.now) (statements_of body.now)) (Some known))) }
 {
     let Limited {
         line,
@@ -314,15 +392,13 @@ fn accept_while(
     let top = while_head(around.body(), line, turns, measure, keeps, body, known)?;
     let ways = split(alloc, line, test, top)?;
     let most = turn_bound(&ways.holds, turns);
-    let turn = accept_block(alloc, place.context, around, body, ways.holds)?;
-    end_loop(
-        around.body(),
-        line,
-        keeps,
-        ways.fails,
-        u64::from(most),
-        turn,
-    )
+    let mut inner = rows.inside(alloc);
+    let turn = accept_block(alloc, place.context, around, body, ways.holds, &mut inner)?;
+    let most = u64::from(most);
+    let found = end_loop(around.body(), line, keeps, ways.fails, most, turn)?;
+    let own = loop_row(line, Kind::While, found.costs, most);
+    rows.put_block(own, &inner, turning(most))?;
+    Ok(found)
 }
 
 // The head of a `for`: its line, its variable with the first and the last value, and what it keeps.
@@ -345,9 +421,11 @@ fn accept_for(
     counted: &Counted,
     body: &[Stmt],
     known: Facts,
+    rows: &mut Rows,
 ) -> Result<Findings, CheckFault>
-    ensures { Gives verdict_of result (for_rule (by_code place.now.context.now) place.now.around.now counted.now.line counted.now.variable (expression_of counted.now.from.now) (expression_of counted.now.to.now) (map keep_of counted.now.keeps.now) (statements_of body.now)
+    ensures found { Gives verdict_of result (for_rule (by_code place.now.context.now) place.now.around.now counted.now.line counted.now.variable (expression_of counted.now.from.now) (expression_of counted.now.to.now) (map keep_of counted.now.keeps.now) (statements_of body.now)
         (accept_block (by_code place.now.context.now) (with_fixed counted.now.variable place.now.around.now) (statements_of body.now)) known) }
+    ensures rows { OnOk result (rows.new ≡ with_rows rows.old (statement_rows (by_code place.now.context.now) place.now.around.now (for_ counted.now.line counted.now.variable (expression_of counted.now.from.now) (expression_of counted.now.to.now) (map keep_of counted.now.keeps.now) (statements_of body.now)) (Some known))) }
 {
     let Counted {
         line,
@@ -360,15 +438,13 @@ fn accept_for(
     let limits = for_limits(around, line, variable, from, to, keeps, &known)?;
     let inside = around.with_fixed(alloc, variable)?;
     let facts = limits.facts(alloc, variable, keeps, body, known)?;
-    let turn = accept_block(alloc, place.context, &inside, body, facts.head)?;
-    end_loop(
-        around.body(),
-        line,
-        keeps,
-        Some(facts.after),
-        limits.turns(),
-        turn,
-    )
+    let mut inner = rows.inside(alloc);
+    let turn = accept_block(alloc, place.context, &inside, body, facts.head, &mut inner)?;
+    let turns = limits.turns();
+    let found = end_loop(around.body(), line, keeps, Some(facts.after), turns, turn)?;
+    let own = loop_row(line, Kind::For, found.costs, turns);
+    rows.put_block(own, &inner, turning(turns))?;
+    Ok(found)
 }
 
 // What a loop of at most so many turns leaves and costs, where this is known after it and this was found of a turn.

@@ -1,5 +1,2 @@
-pub mod Found
-pub mod Lams
-pub mod Trees
 pub mod Whole
 pub mod Left

@@ -18,8 +18,8 @@ use Rattle.camac_check_simple.specs.declared.context.Context as code
 use Rattle.camac_check_simple.specs.Gives.{by_code}
 use Rattle.camac_costs.specs.declared.bodies.Owner.{Owner}
 use Rattle.camac_costs.specs.declared.bodies.Owner.TheVariants as owner
-use Rattle.camac_costs.specs.declared.row.Row.{Row}
-use Rattle.camac_costs.specs.Rows.{block_rows, block_verdict}
+use Rattle.camac_check_rows.specs.declared.row.Row.{Row}
+use Rattle.camac_check_rows.specs.Rows.{block_rows, block_verdict}
 use Rattle.camac_costs.specs.Body.{BodyRows}
 
 -- of what is refused there is none

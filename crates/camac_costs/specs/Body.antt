@@ -2,7 +2,7 @@
 use Rattle.std.specs.Prelude.{List}
 use Rattle.camac_model.specs.Fine.{Bounds}
 use Rattle.camac_costs.specs.declared.bodies.Owner.{Owner}
-use Rattle.camac_costs.specs.declared.row.Row.{Row}
+use Rattle.camac_check_rows.specs.declared.row.Row.{Row}
 
 pub record BodyRows : Type 0 where
   pub owner : Owner

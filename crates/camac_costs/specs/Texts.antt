@@ -10,11 +10,11 @@ use Rattle.camac_check_rules.specs.Known.{Region}
 use Rattle.camac_check_rules.specs.Windows.{Window, window_of}
 use Rattle.camac_costs.specs.declared.bodies.Owner.{Owner}
 use Rattle.camac_costs.specs.declared.bodies.Owner.TheVariants as owner
-use Rattle.camac_costs.specs.declared.row.Kind.{Kind}
-use Rattle.camac_costs.specs.declared.row.Kind.TheVariants as kind
-use Rattle.camac_costs.specs.declared.row.Detail.{Detail}
-use Rattle.camac_costs.specs.declared.row.Detail.TheVariants as detail
-use Rattle.camac_costs.specs.declared.row.Row.{Row}
+use Rattle.camac_check_rows.specs.declared.row.Kind.{Kind}
+use Rattle.camac_check_rows.specs.declared.row.Kind.TheVariants as kind
+use Rattle.camac_check_rows.specs.declared.row.Detail.{Detail}
+use Rattle.camac_check_rows.specs.declared.row.Detail.TheVariants as detail
+use Rattle.camac_check_rows.specs.declared.row.Row.{Row}
 use Rattle.camac_costs.specs.Body.{BodyRows}
 
 -- the word of the statement

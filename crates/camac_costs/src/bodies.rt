@@ -7,10 +7,9 @@ ghost use Rattle.camac_check_rules.specs.Capped.{capped};
 ghost use Rattle.camac_check_simple.specs.Gives.{by_code};
 ghost use Rattle.camac_costs.specs.Bodies.{body_costs, code_before, context_of, costs_over, costs_with, procedure_costs, service_costs};
 
-use crate::row::Row;
-use crate::walk::walk_block;
-use camac_check::{CheckFault, Checked, Context, at_entry};
+use camac_check::{CheckFault, Checked, Context, accept_block, at_entry};
 use camac_check_known::{Around, Costs, Facts};
+use camac_check_rows::{Row, Rows};
 use camac_check_rules::Body;
 use camac_lang::{Item, Procedure, Service, Stmt};
 use std::alloc::{AllocError, Global};
@@ -198,11 +197,12 @@ fn body_costs(
 ) -> Result<BodyCosts, AllocError>
     ensures { IfOk result (λ b. b ≡ body_costs (by_code context.now) owner around.now (statements_of block.now) known) }
 {
-    match walk_block(alloc, context, around, block, known) {
-        Ok(walked) => Ok(BodyCosts {
+    let mut rows = Rows::new(alloc);
+    match accept_block(alloc, context, around, block, known, &mut rows) {
+        Ok(found) => Ok(BodyCosts {
             owner,
-            costs: walked.costs,
-            rows: walked.rows,
+            costs: found.costs,
+            rows: rows.into_vec(alloc),
         }),
         Err(CheckFault::OutOfMemory) => Err(AllocError),
         Err(CheckFault::Broken { .. }) => Ok(BodyCosts {

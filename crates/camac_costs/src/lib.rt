@@ -3,13 +3,8 @@
 #![tactic(auto)]
 
 mod bodies;
-mod inside;
-mod row;
-mod statement;
 mod texts;
-mod unreached;
-mod walk;
 
 pub use bodies::{BodyCosts, Owner, costs_of, procedure_costs, service_costs};
-pub use row::{Detail, Kind, Row};
+pub use camac_check_rows::{Detail, Kind, Row};
 pub use texts::write_costs;

@@ -9,9 +9,9 @@ ghost use Rattle.camac_word.specs.Watched.{inner_of, has_failed};
 ghost use Rattle.camac_word.specs.Writing.{Writes};
 
 use crate::bodies::{BodyCosts, Owner};
-use crate::row::{Detail, Kind, Row};
 use camac_check::Checked;
 use camac_check_known::{Costs, Region};
+use camac_check_rows::{Detail, Kind, Row};
 use camac_lang::{Lam, Procedure, Service};
 use camac_range::Range;
 use camac_report_text::Line;

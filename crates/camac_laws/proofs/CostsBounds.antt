@@ -22,7 +22,7 @@ use Rattle.camac_check_rules.specs.Accept.{Section, sections, at_start, own_body
 use Rattle.camac_check_rules.specs.Procedures.{at_entry}
 use Rattle.camac_costs.specs.declared.bodies.Owner.{Owner}
 use Rattle.camac_costs.specs.declared.bodies.Owner.TheVariants as owner
-use Rattle.camac_costs.specs.Rows.{found}
+use Rattle.camac_check_rows.specs.Rows.{found}
 use Rattle.camac_costs.specs.Body.{BodyRows}
 use Rattle.camac_costs.specs.Bodies.{body_costs, costs_over}
 use Rattle.camac_laws.specs.Shares.{total, IsBelow}

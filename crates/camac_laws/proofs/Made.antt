@@ -39,11 +39,11 @@ use Rattle.camac_check_rules.proofs.Lockless.{has_lock, block_has_lock}
 use Rattle.camac_check_rules.proofs.Routines.{Serves}
 use Rattle.camac_check_rules.proofs.Statements.{may_first, may_second, reached_sound, statement_sound, block_sound}
 use Rattle.camac_check.proofs.Capped.{in_code, cut, cut_all, if_reached_cut, statement_cut, block_cut}
-use Rattle.camac_costs.specs.declared.row.Detail.{Detail}
-use Rattle.camac_costs.specs.declared.row.Row.{Row}
-use Rattle.camac_costs.specs.declared.inside.Weight.{Weight}
-use Rattle.camac_costs.specs.Weights.{once, turning, first_arm, second_arm, in_64_bits}
-use Rattle.camac_costs.specs.Rows.{found, block_verdict, Turning, turning_from, ways, for_turning, while_turning, taken, lock_inside, lock_head, own_row, else_row, inside, statement_rows, block_rows}
+use Rattle.camac_check_rows.specs.declared.row.Detail.{Detail}
+use Rattle.camac_check_rows.specs.declared.row.Row.{Row}
+use Rattle.camac_check_rows.specs.declared.inside.Weight.{Weight}
+use Rattle.camac_check_rows.specs.Weights.{once, turning, first_arm, second_arm, in_64_bits}
+use Rattle.camac_check_rows.specs.Rows.{found, block_verdict, Turning, turning_from, ways, for_turning, while_turning, taken, lock_inside, lock_head, own_row, else_row, inside, statement_rows, block_rows}
 use Rattle.camac_laws.specs.Lower.{AtMost}
 use Rattle.camac_laws.specs.Made.{Made, spent, both, from_end, where_some, by_test, for_made, while_made, lock_made, unmade_in, unmade, made_in, made}
 use Rattle.camac_laws.specs.Shares.{IsBelow}

@@ -6,9 +6,9 @@ use Rattle.std.specs.Prelude.{nat_eq, if◌then◌else◌}
 use Rattle.camac_model.specs.Fine.{Bounds}
 use Rattle.camac_check_rules.specs.Capped.{capped}
 use Rattle.camac_check_rules.specs.Costs.{no_costs}
-use Rattle.camac_costs.specs.declared.row.Row.{Row}
-use Rattle.camac_costs.specs.declared.inside.Weight.{Weight}
-use Rattle.camac_costs.specs.Weights.{in_64_bits, inside_row}
+use Rattle.camac_check_rows.specs.declared.row.Row.{Row}
+use Rattle.camac_check_rows.specs.declared.inside.Weight.{Weight}
+use Rattle.camac_check_rows.specs.Weights.{in_64_bits, inside_row}
 use Rattle.camac_laws.specs.Made.{Made, both, NoneAbove, AllKeep}
 use Rattle.camac_laws.specs.Times.{NoMore}
 

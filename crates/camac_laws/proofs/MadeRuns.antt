@@ -24,7 +24,7 @@ use Rattle.camac_check_rules.proofs.Services.{outermost, start_inside}
 use Rattle.camac_check_rules.proofs.Settings.{setting, Matched, found_at, AreLockless}
 use Rattle.camac_check.proofs.Capped.{in_code}
 use Rattle.camac_costs.specs.Bodies.{rows_if, procedure_costs, service_costs, costs_over}
-use Rattle.camac_costs.specs.Rows.{block_rows}
+use Rattle.camac_check_rows.specs.Rows.{block_rows}
 use Rattle.camac_laws.specs.Made.{made, SectionKeeps, SectionsKeep, RowsAreOfRuns}
 use Rattle.camac_laws.proofs.CostsBounds.{Low, low, procedure_in_code, service_in_code}
 use Rattle.camac_laws.proofs.Made.{block_keeps}

@@ -19,10 +19,10 @@ use Rattle.camac_costs.specs.declared.bodies.Owner.TheVariants as owner
 use Rattle.camac_check_rules.specs.declared.case.Body.TheVariants as body
 use Rattle.camac_check_rules.specs.Accept.{Section, of_procedure, of_service, at_start, bare, own_body, with_procedure}
 use Rattle.camac_check_rules.specs.Procedures.{at_entry}
-use Rattle.camac_costs.specs.declared.row.Row.{Row}
-use Rattle.camac_costs.specs.declared.inside.Weight.{Weight}
-use Rattle.camac_costs.specs.Weights.{once, turning, first_arm, second_arm, weighed, inside_row}
-use Rattle.camac_costs.specs.Rows.{found, block_verdict, Turning, turning_from, loop_share, lock_share, lock_inside, lock_head, simple_row, else_row, inside, statement_rows, block_rows}
+use Rattle.camac_check_rows.specs.declared.row.Row.{Row}
+use Rattle.camac_check_rows.specs.declared.inside.Weight.{Weight}
+use Rattle.camac_check_rows.specs.Weights.{once, turning, first_arm, second_arm, weighed, inside_row}
+use Rattle.camac_check_rows.specs.Rows.{found, block_verdict, Turning, turning_from, loop_share, lock_share, lock_inside, lock_head, simple_row, else_row, inside, statement_rows, block_rows}
 use Rattle.camac_costs.specs.Bodies.{rows_if, body_costs, costs_over, sections_of}
 use Rattle.camac_laws.specs.Shares.{total, IsBelow, AddUp, SharesAddUp}
 use Rattle.camac_laws.proofs.Sums.{same_costs, plus_none, none_plus, total_append, total_arms, total_inside, total_of_none, if_sum, if_below, choice_sum, choice_below, lock_sum, lock_below, loop_sum, no_turns, loop_weighed, turn_below, then_sum, then_below}

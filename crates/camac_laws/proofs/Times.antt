@@ -23,10 +23,10 @@ use Rattle.camac_check_rules.specs.Accept.{Section, of_procedure, of_service, at
 use Rattle.camac_check_rules.specs.Procedures.{at_entry}
 use Rattle.camac_costs.specs.declared.bodies.Owner.{Owner}
 use Rattle.camac_costs.specs.declared.bodies.Owner.TheVariants as owner
-use Rattle.camac_costs.specs.declared.row.Row.{Row}
-use Rattle.camac_costs.specs.declared.inside.Weight.{Weight}
-use Rattle.camac_costs.specs.Weights.{once, turning, first_arm, second_arm, in_64_bits, inside_row}
-use Rattle.camac_costs.specs.Rows.{found, block_verdict, Turning, turning_from, lock_inside, lock_head, simple_row, else_row, inside, times_at, statement_rows, block_rows}
+use Rattle.camac_check_rows.specs.declared.row.Row.{Row}
+use Rattle.camac_check_rows.specs.declared.inside.Weight.{Weight}
+use Rattle.camac_check_rows.specs.Weights.{once, turning, first_arm, second_arm, in_64_bits, inside_row}
+use Rattle.camac_check_rows.specs.Rows.{found, block_verdict, Turning, turning_from, lock_inside, lock_head, simple_row, else_row, inside, times_at, statement_rows, block_rows}
 use Rattle.camac_costs.specs.Bodies.{rows_if, body_costs, costs_over, sections_of}
 use Rattle.camac_laws.specs.Times.{NoMore, InSteps, TimesInSteps}
 use Rattle.camac_laws.proofs.Shares.{in_code, go_ok, ok_same}

@@ -14,7 +14,7 @@ use Rattle.camac_check_rules.specs.Accept.{Section, of_procedure, of_service, ac
 use Rattle.camac_check_rules.specs.Capped.{capped}
 use Rattle.camac_costs.specs.Body.{BodyRows}
 use Rattle.camac_costs.specs.Bodies.{costs_with, sections_of}
-use Rattle.camac_costs.specs.declared.row.Row.{Row}
+use Rattle.camac_check_rows.specs.declared.row.Row.{Row}
 use Rattle.camac_laws.specs.Lower.{AtMost}
 
 -- what is counted from one state of a service to a later one

@@ -7,7 +7,7 @@ use Rattle.camac_check_rules.specs.Capped.{capped}
 use Rattle.camac_check_rules.specs.Costs.{no_costs, plus}
 use Rattle.camac_costs.specs.Body.{BodyRows}
 use Rattle.camac_costs.specs.Bodies.{costs_with}
-use Rattle.camac_costs.specs.declared.row.Row.{Row}
+use Rattle.camac_check_rows.specs.declared.row.Row.{Row}
 
 abbrev pub total : List Row → Bounds
 total [] = no_costs

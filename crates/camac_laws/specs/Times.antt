@@ -5,7 +5,7 @@ use Rattle.camac_branch.specs.Plan.{Layout}
 use Rattle.camac_check_rules.specs.Capped.{capped}
 use Rattle.camac_costs.specs.Body.{BodyRows}
 use Rattle.camac_costs.specs.Bodies.{costs_with}
-use Rattle.camac_costs.specs.declared.row.Row.{Row}
+use Rattle.camac_check_rows.specs.declared.row.Row.{Row}
 
 -- none of these is made more often
 abbrev pub NoMore : ℕ → List Row → Type 0

@@ -1,11 +1,28 @@
-use Rattle.std.proofs.Common.{◌≡◌, ◌<◌, ◌≤◌, ◌+◌, length, drop, refl, sym, ap, ◌∙◌, subst, arith}
+use Rattle.std.proofs.Common.{◌≡◌, ◌<◌, ◌≤◌, ◌+◌, ◌++◌, List, ◌∷◌, Some, length, drop, map, refl, sym, ap, ap₂, ◌∙◌, subst, arith}
+use Rattle.std.specs.Prelude.{OnOk}
 use Rattle.std.proofs.lemmas.List.{drop_all}
-use Rattle.camac_lang.specs.View.{statement_of, statements_of}
+use Rattle.camac_lang.specs.Tree.{for_, while_}
+use Rattle.camac_lang.specs.View.{condition_of, expression_of, keep_of, part_of, statement_of, statements_of}
 use Rattle.camac_model.specs.Fine.{Bounds}
 use Rattle.camac_check_rules.specs.Capped.{capped}
-use Rattle.camac_check_rules.specs.Costs.{plus, verdict}
-use Rattle.camac_check_simple.specs.Gives.{Fails, verdict_of}
-use Rattle.camac_check.proofs.Blocks.{rest_rule, capped_twice, block_starts, block_goes_on, block_stops, block_ends, next_of}
+use Rattle.camac_check_rules.specs.Conditions.{branches, split}
+use Rattle.camac_check_rules.specs.Costs.{choice_costs, costs, lock_costs, no_costs, plus, unreached, verdict}
+use Rattle.camac_check_rules.specs.Cycles.{Around, with_locked}
+use Rattle.camac_check_rules.specs.Known.{Known}
+use Rattle.camac_check_rules.specs.Loops.{for_head, turn_bound, while_head, with_fixed}
+use Rattle.camac_check_rules.specs.Refusal.{if_reached}
+use Rattle.camac_check_rules.specs.Statements.{accept_block}
+use Rattle.camac_check_simple.specs.Gives.{Fails, by_code, verdict_of}
+use Rattle.camac_check_rows.specs.declared.row.Detail.TheVariants as detail
+use Rattle.camac_check_rows.specs.declared.row.Kind.TheVariants as kind
+use Rattle.camac_check_rows.specs.declared.row.Row.{Row}
+use Rattle.camac_check_rows.specs.Rows.{block_rows, statement_rows, times_at, with_rows}
+use Rattle.camac_check_rows.specs.Statements.{first_row}
+use Rattle.camac_check_rows.specs.Weights.{first_arm, inside_row, once, second_arm}
+use Rattle.camac_check_rows.proofs.Kept.{arms_put, block_put, no_more, then_rows}
+use Rattle.camac_check_rows.proofs.Trees.{choose_else_is, for_tree, next_of, while_tree}
+use Rattle.camac_check.proofs.Blocks.{rest_rule, capped_twice, block_starts, block_goes_on, block_stops, block_ends}
+use Rattle.camac_check.proofs.Rows.{choice_rows, end_is, for_is, for_rows, if_rows, lock_rows, loop_row_is, own_row_is, rows_next, while_is, while_rows}
 use Rattle.camac_check.proofs.statement.+statements.Goals as goal
 
 pub accept_block-statements-init : goal.accept_block-statements-init
@@ -19,10 +36,11 @@ accept_block-statements-init t c =
           ap (λ a. rest_rule context around (verdict c.args.known a) block) c.new-costs.ensures
           ∙ block_starts context around block c.args.known;
       cut = subst Cut (sym c.new-costs.ensures) refl;
+      rows = refl;
     }
 
-pub accept_block-returns-in-Err : goal.accept_block-returns-in-Err
-accept_block-returns-in-Err t c =
+pub accept_block-returns-in-Err-clause-found : goal.accept_block-returns-in-Err-clause-found
+accept_block-returns-in-Err-clause-found t c =
     let context = c.args.context.now in
     let around = c.args.around.now in
     let xs = c.args.block.now in
@@ -32,7 +50,7 @@ accept_block-returns-in-Err t c =
     let costs = c.statements.costs in
     subst (λ r. Fails c.in-Err.fault r)
     (ap (λ b. rest_rule context around (verdict known costs) b) (sym (next_of xs i c.statement-item.result lt c.statement-item.is)) ∙ c.statements.invariant.rest)
-    (block_stops context around known costs (statement_of c.statement-item.result) (statements_of (drop (i + 1) xs)) c.in-Err.fault c.in-Err.ensures)
+    (block_stops context around known costs (statement_of c.statement-item.result) (statements_of (drop (i + 1) xs)) c.in-Err.fault c.in-Err.ensures.found)
 
 pub accept_block-statements-preserved : goal.accept_block-statements-preserved
 accept_block-statements-preserved t c =
@@ -43,19 +61,29 @@ accept_block-statements-preserved t c =
     let lt : i < length xs = omega arith in
     let known = c.statements.here in
     let costs = c.statements.costs in
+    let s = statement_of c.statement-item.result in
     let rest = statements_of (drop (i + 1) xs) in
+    let after = block_rows (by_code context) around rest c.in-Ok.next.known in
+    let rows = c.statements.rows in
+    let there = next_of xs i c.statement-item.result lt c.statement-item.is in
     let Cut : Bounds → Type 0 = λ a. capped a ≡ a in
     record {
       rest =
           ap (λ a. rest_rule context around (verdict c.in-Ok.next.known a) rest) c.then-costs.ensures
-          ∙ block_goes_on context around known costs (statement_of c.statement-item.result) rest (verdict_of c.in-Ok.next) c.in-Ok.ensures
-          ∙ ap (λ b. rest_rule context around (verdict known costs) b) (sym (next_of xs i c.statement-item.result lt c.statement-item.is))
+          ∙ block_goes_on context around known costs (statement_of c.statement-item.result) rest (verdict_of c.in-Ok.next) c.in-Ok.ensures.found
+          ∙ ap (λ b. rest_rule context around (verdict known costs) b) (sym there)
           ∙ c.statements.invariant.rest;
       cut = subst Cut (sym c.then-costs.ensures) (capped_twice (plus costs c.in-Ok.next.costs));
+      rows =
+          ap (λ k. with_rows k after) c.in-Ok.ensures.rows
+          ∙ then_rows rows (statement_rows (by_code context) around s known) after
+          ∙ ap (with_rows rows) (sym (rows_next (by_code context) around s rest known (verdict_of c.in-Ok.next) c.in-Ok.ensures.found))
+          ∙ ap (λ b. with_rows rows (block_rows (by_code context) around b known)) (sym there)
+          ∙ c.statements.invariant.rows;
     }
 
-pub accept_block-returns : goal.accept_block-returns
-accept_block-returns t c =
+pub accept_block-returns-clause-found : goal.accept_block-returns-clause-found
+accept_block-returns-clause-found t c =
     let context = c.args.context.now in
     let around = c.args.around.now in
     let xs = c.args.block.now in
@@ -65,3 +93,143 @@ accept_block-returns t c =
     sym c.statements.invariant.rest
     ∙ ap (λ l. rest_rule context around (verdict known costs) (statements_of l)) (drop_all c.statements.statement-index xs le)
     ∙ block_ends context around (verdict known costs) c.statements.invariant.cut
+
+pub accept_block-returns-clause-rows : goal.accept_block-returns-clause-rows
+accept_block-returns-clause-rows t c =
+    let context = c.args.context.now in
+    let around = c.args.around.now in
+    let xs = c.args.block.now in
+    let rows = c.statements.rows in
+    let le : length xs ≤ c.statements.statement-index = omega arith in
+    sym (no_more rows)
+    ∙ ap (λ l. with_rows rows (block_rows (by_code context) around (statements_of l) c.statements.here)) (sym (drop_all c.statements.statement-index xs le))
+    ∙ c.statements.invariant.rows
+
+pub accept_if-returns-clause-rows : goal.accept_if-returns-clause-rows
+accept_if-returns-clause-rows t c =
+    let context = by_code c.args.place.now.context.now in
+    let around = c.args.place.now.around.now in
+    let holds = c.in_ok-ways.ways.holds in
+    let first = verdict_of c.in_ok-first.first in
+    let inner = block_rows context around (statements_of c.args.then.now) holds in
+    block_put c.args.rows.now c.inside-inner.result c.accept_block.new.rows c.put_block.new.self inner c.if_row.result c.once.result
+    c.inside-inner.ensures c.in_ok-first.ensures.rows c.in_ok-put_block.ensures
+    ∙ ap (with_rows c.args.rows.now) (sym (if_rows context around c.args.line (map part_of c.args.test.now) (statements_of c.args.then.now) c.args.known (branches holds c.in_ok-ways.ways.fails) first c.in_ok-ways.ensures c.in_ok-first.ensures.found
+    ∙ own_row_is c.args.line kind.If _ _ _ _ detail.Nothing c.if_row.result inner c.once.result once c.if_row.ensures
+    (c.or-costs.ensures ∙ ap (λ z. capped (choice_costs first.costs z)) c.new.ensures) refl c.once.ensures))
+
+pub accept_lock-returns-clause-rows : goal.accept_lock-returns-clause-rows
+unfolding if_reached
+accept_lock-returns-clause-rows t c =
+    let context = by_code c.args.place.now.context.now in
+    let around = c.args.place.now.around.now in
+    let n = c.in_ok-c.c in
+    let inner = block_rows context (with_locked n around) (statements_of c.args.body.now) (Some c.args.known) in
+    block_put c.args.rows.now c.inside-inner.result c.accept_block.new.rows c.put_block.new.self inner c.lock_row.result c.once.result
+    c.inside-inner.ensures (c.in_ok-found.ensures.rows ∙ ap (λ r. with_rows c.inside-inner.result (block_rows context r (statements_of c.args.body.now) (Some c.args.known))) c.in_ok-inside.ensures) c.in_ok-put_block.ensures
+    ∙ ap (with_rows c.args.rows.now) (sym (lock_rows context around c.args.line (expression_of c.args.crate_no.now) (statements_of c.args.body.now) c.args.known n (verdict_of c.in_ok-found.found) c.in_ok-c.ensures
+    (ap (λ r. accept_block context r (statements_of c.args.body.now) c.args.known) (sym c.in_ok-inside.ensures) ∙ c.in_ok-found.ensures.found)
+    ∙ own_row_is c.args.line kind.Lock _ _ _ _ _ c.lock_row.result inner c.once.result once c.lock_row.ensures
+    (c.in_lock-costs.ensures ∙ ap (λ w. capped (lock_costs w (verdict_of c.in_ok-found.found).costs)) c.waits_of-waits.ensures)
+    (ap (λ w. costs w 0 2) c.waits_of-waits.ensures) c.once.ensures))
+
+pub accept_while-returns-clause-rows : goal.accept_while-returns-clause-rows
+accept_while-returns-clause-rows t c =
+    let context = c.args.place.now.context.now in
+    let around = c.args.place.now.around.now in
+    let it = c.args.limited.now in
+    let test = map part_of it.test.now in
+    let keeps = map keep_of it.keeps.now in
+    let body = statements_of c.args.body.now in
+    let top = c.in_ok-top.top in
+    let arms = branches c.in_ok-ways.ways.holds c.in_ok-ways.ways.fails in
+    let inner = block_rows (by_code context) around body arms.holds in
+    let v = verdict_of c.in_ok-found.found in
+    let turns : c.from-most.result ≡ turn_bound arms.holds it.turns = c.from-most.ensures ∙ c.turn_bound-most.ensures in
+    block_put c.args.rows.now c.inside-inner.result c.accept_block.new.rows c.put_block.new.self inner c.loop_row-own.result c.turning.result
+    c.inside-inner.ensures c.in_ok-turn.ensures.rows c.in_ok-put_block.ensures
+    ∙ ap (with_rows c.args.rows.now) (sym (while_rows (by_code context) around it.line test it.turns it.measure keeps body c.args.known top arms v (ap (λ b. while_head b it.line it.turns it.measure keeps body c.args.known) (sym c.body.ensures) ∙ c.in_ok-top.ensures) c.in_ok-ways.ensures
+    (while_is context around it.line test it.turns it.measure keeps body c.args.known top arms (verdict_of c.in_ok-turn.turn) v
+    (ap (λ b. while_head b it.line it.turns it.measure keeps body c.args.known) (sym c.body.ensures) ∙ c.in_ok-top.ensures) c.in_ok-ways.ensures c.in_ok-turn.ensures.found
+    (end_is c.body-2.result around.body it.line keeps arms.fails arms.fails c.from-most.result _ _ _ c.body-2.ensures refl turns c.in_ok-found.ensures))
+    ∙ loop_row_is it.line kind.While v.costs c.from-most.result _ c.loop_row-own.result inner c.turning.result c.loop_row-own.ensures turns c.turning.ensures))
+
+pub accept_for-returns-clause-rows : goal.accept_for-returns-clause-rows
+accept_for-returns-clause-rows t c =
+    let context = c.args.place.now.context.now in
+    let around = c.args.place.now.around.now in
+    let it = c.args.counted.now in
+    let first = expression_of it.from.now in
+    let last = expression_of it.to.now in
+    let keeps = map keep_of it.keeps.now in
+    let body = statements_of c.args.body.now in
+    let l = c.in_ok-limits.limits in
+    let k = c.args.known in
+    let v = verdict_of c.in_ok-found.found in
+    let rows_at : Around → Known → List Row = λ r h. block_rows (by_code context) r body h in
+    let inner = rows_at (with_fixed it.variable around) (for_head it.variable l keeps body k) in
+    let there = c.in_ok-turn.ensures.rows ∙ ap₂ (λ r h. with_rows c.inside-inner.result (rows_at r h)) c.in_ok-inside.ensures c.in_ok-facts.ensures.head in
+    let turn = ap₂ (λ r h. if_reached unreached h (accept_block (by_code context) r body)) (sym c.in_ok-inside.ensures) (sym c.in_ok-facts.ensures.head) ∙ c.in_ok-turn.ensures.found in
+    block_put c.args.rows.now c.inside-inner.result c.accept_block.new.rows c.put_block.new.self inner c.loop_row-own.result c.turning.result
+    c.inside-inner.ensures there c.in_ok-put_block.ensures
+    ∙ ap (with_rows c.args.rows.now) (sym (for_rows (by_code context) around it.line it.variable first last keeps body k l v c.in_ok-limits.ensures.rule
+    (for_is context around it.line it.variable first last keeps body k l (verdict_of c.in_ok-turn.turn) v c.in_ok-limits.ensures.rule turn
+    (end_is c.body.result around.body it.line keeps (Some c.in_ok-facts.facts.after) _ c.turns-turns.result _ _ _ c.body.ensures c.in_ok-facts.ensures.after c.turns-turns.ensures c.in_ok-found.ensures))
+    ∙ loop_row_is it.line kind.For v.costs c.turns-turns.result _ c.loop_row-own.result inner c.turning.result c.loop_row-own.ensures c.turns-turns.ensures c.turning.ensures))
+
+pub accept_reached-returns-in_ok-join-in-IfElse-clause-rows : goal.accept_reached-returns-in_ok-join-in-IfElse-clause-rows
+accept_reached-returns-in_ok-join-in-IfElse-clause-rows t c =
+    let context = by_code c.args.context.now in
+    let around = c.args.around.now in
+    let line = c.in-IfElse.line in
+    let test = condition_of c.in-IfElse.test in
+    let a = statements_of c.in-IfElse.then.items in
+    let b = statements_of c.in-IfElse.otherwise.items in
+    let holds = c.in_ok-ways-in-IfElse.ways.holds in
+    let fails = c.in_ok-ways-in-IfElse.ways.fails in
+    let one = verdict_of c.in_ok-first-in-IfElse.first in
+    let two = verdict_of c.in_ok-second-in-IfElse.second in
+    let old = c.args.rows.now in
+    let xs = block_rows context around a holds in
+    let ys = block_rows context around b fails in
+    let own : c.if_row-own.result ≡ first_row line kind.If 1 (capped (choice_costs one.costs two.costs)) (costs 0 0 1) detail.Nothing =
+    c.if_row-own.ensures ∙ ap (λ x. first_row line kind.If 1 x (costs 0 0 1) detail.Nothing) c.or-costs.ensures in
+    let other : c.else_row-other.result ≡ first_row line kind.Else (times_at fails) two.costs no_costs detail.Nothing =
+    c.else_row-other.ensures ∙ ap (λ n. first_row line kind.Else n two.costs no_costs detail.Nothing) c.times_at-times.ensures in
+    arms_put old c.inside-one.result c.inside-two.result c.accept_block.new.rows c.accept_block-in-IfElse.new.rows c.put_block.new.self c.put_block-in-IfElse.new.self xs ys
+    c.if_row-own.result c.else_row-other.result c.first_arm.result c.second_arm.result c.inside-one.ensures c.inside-two.ensures
+    (c.in_ok-first-in-IfElse.ensures.rows ∙ ap (λ p. with_rows c.inside-one.result (block_rows context around (statements_of p) holds)) c.deref-in-IfElse-2.ensures.value)
+    (c.in_ok-second-in-IfElse.ensures.rows ∙ ap (λ p. with_rows c.inside-two.result (block_rows context around (statements_of p) fails)) c.deref-in-IfElse-3.ensures.value)
+    c.in_ok-put_block-in-IfElse.ensures c.in_ok-put_block-in-IfElse-2.ensures
+    ∙ ap₂ (λ x y. with_rows old (x ∷ map (inside_row capped c.first_arm.result) xs ++ y ∷ map (inside_row capped c.second_arm.result) ys)) own other
+    ∙ ap₂ (λ v w. with_rows old (first_row line kind.If 1 (capped (choice_costs one.costs two.costs)) (costs 0 0 1) detail.Nothing ∷ map (inside_row capped v) xs
+    ++ first_row line kind.Else (times_at fails) two.costs no_costs detail.Nothing ∷ map (inside_row capped w) ys)) c.first_arm.ensures c.second_arm.ensures
+    ∙ ap (with_rows old)
+    (sym (choice_rows context around line test a b c.args.known (branches holds fails) one two
+    (ap (λ p. split line (map part_of p) c.args.known) (sym c.deref-in-IfElse.ensures.value) ∙ c.in_ok-ways-in-IfElse.ensures)
+    (ap (λ p. if_reached unreached holds (accept_block context around (statements_of p))) (sym c.deref-in-IfElse-2.ensures.value) ∙ c.in_ok-first-in-IfElse.ensures.found)
+    (ap (λ p. if_reached unreached fails (accept_block context around (statements_of p))) (sym c.deref-in-IfElse-3.ensures.value) ∙ c.in_ok-second-in-IfElse.ensures.found))
+    ∙ sym (ap (λ q. statement_rows context around q (Some c.args.known)) (ap statement_of c.in-IfElse.is ∙ choose_else_is line c.in-IfElse.test c.in-IfElse.then c.in-IfElse.otherwise)))
+
+pub accept_next-returns-in_ok-pass_over-in-None-clause-rows : goal.accept_next-returns-in_ok-pass_over-in-None-clause-rows
+accept_next-returns-in_ok-pass_over-in-None-clause-rows t c =
+    c.in_ok-pass_over-in-None.ensures c.args.around.now
+    ∙ ap (λ k. with_rows c.args.rows.now (statement_rows (by_code c.args.context.now) c.args.around.now (statement_of c.args.statement.now) k)) (sym c.in-None.is)
+
+pub accept_reached-returns-in-For-clause-rows : goal.accept_reached-returns-in-For-clause-rows
+accept_reached-returns-in-For-clause-rows t c =
+    let it = c.in-For in
+    subst (λ s. OnOk c.accept_for.result (c.accept_for.new.rows ≡ with_rows c.args.rows.now (statement_rows (by_code c.args.context.now) c.args.around.now s (Some c.args.known))))
+    (ap₂ (λ ks b. for_ it.line it.variable (expression_of it.from) (expression_of it.to) (map keep_of ks) (statements_of b)) c.deref-in-For.ensures.value c.deref-in-For-2.ensures.value
+    ∙ sym (ap statement_of it.is ∙ for_tree it.line it.variable it.from it.to it.keeps it.body))
+    c.accept_for.ensures.rows
+
+pub accept_reached-returns-in-While-clause-rows : goal.accept_reached-returns-in-While-clause-rows
+accept_reached-returns-in-While-clause-rows t c =
+    let it = c.in-While in
+    let test = ap (map part_of) c.deref-in-While.ensures.value in
+    subst (λ s. OnOk c.accept_while.result (c.accept_while.new.rows ≡ with_rows c.args.rows.now (statement_rows (by_code c.args.context.now) c.args.around.now s (Some c.args.known))))
+    (ap (λ q. while_ it.line q it.turns it.measure (map keep_of c.deref-in-While-2.result.now) (statements_of c.deref-in-While-3.result.now)) test
+    ∙ ap₂ (λ ks b. while_ it.line (condition_of it.test) it.turns it.measure (map keep_of ks) (statements_of b)) c.deref-in-While-2.ensures.value c.deref-in-While-3.ensures.value
+    ∙ sym (ap statement_of it.is ∙ while_tree it.line it.test it.turns it.measure it.keeps it.body))
+    c.accept_while.ensures.rows

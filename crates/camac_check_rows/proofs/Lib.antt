@@ -1,0 +1,4 @@
+pub mod Lams
+pub mod Trees
+pub mod Kept
+pub mod Passed

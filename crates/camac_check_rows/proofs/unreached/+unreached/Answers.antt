@@ -1,0 +1,38 @@
+use Rattle.std.proofs.Common.{◌<◌, ◌+◌, ◌++◌, None, length, drop, sym, ap, ◌∙◌, append_assoc, arith}
+use Rattle.camac_lang.specs.View.{statement_of, statements_of}
+use Rattle.camac_check_simple.specs.Gives.{by_code}
+use Rattle.camac_check_rows.proofs.Trees.{next_of}
+use Rattle.camac_check_rows.specs.Rows.{block_rows, inside}
+use Rattle.camac_check_rows.proofs.Passed.{none_choice, none_next}
+use Rattle.camac_check_rows.proofs.Trees.{choose_else_is}
+use Rattle.camac_check_rows.proofs.unreached.+unreached.Goals as goal
+
+pub push_unreached-statements-preserved : goal.push_unreached-statements-preserved
+push_unreached-statements-preserved t c = λ around.
+    let context = by_code c.args.context.now in
+    let w = c.args.weight in
+    let xs = c.args.block.now in
+    let i = c.statements.statement-index in
+    let lt : i < length xs = omega arith in
+    let rows = c.statements.rows.items in
+    let s = statement_of c.statement-item.result in
+    let rest = statements_of (drop (i + 1) xs) in
+    let after = inside context w (block_rows context around rest None) in
+    let there = next_of xs i c.statement-item.result lt c.statement-item.is in
+    ap (λ ys. ys ++ after) c.in_ok-push_inside.ensures
+    ∙ append_assoc rows (inside context w c.deref.result.now) after
+    ∙ ap (λ ys. rows ++ (inside context w ys ++ after)) (c.deref.ensures.value ∙ c.in_ok-inner.ensures around)
+    ∙ ap (λ ys. rows ++ ys) (sym (none_next context around w s rest))
+    ∙ ap (λ b. rows ++ inside context w (block_rows context around b None)) (sym there)
+    ∙ c.statements.invariant around
+
+pub unreached_rows-returns-in_ok-push_unreached-in-IfElse-2 : goal.unreached_rows-returns-in_ok-push_unreached-in-IfElse-2
+unreached_rows-returns-in_ok-push_unreached-in-IfElse-2 t c = λ around.
+    none_choice (by_code c.args.context.now) around (statement_of c.args.statement.now) c.in-IfElse.line _ _ _
+    (statements_of c.deref-in-IfElse.result.now) (statements_of c.deref-in-IfElse-2.result.now)
+    c.new-nothing.result c.in_ok-detail.detail c.simple_row.result c.else_row.result c.first_arm-first.result c.second_arm-second.result
+    c.new-rows.result.items c.push.new.self.items c.push_unreached-in-IfElse.new.rows.items c.push-in-IfElse.new.self.items c.push_unreached-in-IfElse-2.new.rows.items
+    (ap statement_of c.in-IfElse.is ∙ choose_else_is c.in-IfElse.line c.in-IfElse.test c.in-IfElse.then c.in-IfElse.otherwise) (ap statements_of c.deref-in-IfElse.ensures.value) (ap statements_of c.deref-in-IfElse-2.ensures.value)
+    c.new-nothing.ensures c.in_ok-detail.ensures c.simple_row.ensures c.else_row.ensures c.first_arm-first.ensures c.second_arm-second.ensures
+    c.new-rows.ensures.items c.in_ok-push.ensures.items (c.in_ok-push_unreached-in-IfElse.ensures around)
+    c.in_ok-push-in-IfElse.ensures.items (c.in_ok-push_unreached-in-IfElse-2.ensures around)

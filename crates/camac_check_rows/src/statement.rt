@@ -1,0 +1,217 @@
+// What the text of a statement tells of its row.
+
+ghost use Rattle.std.specs.Prelude.{◌≡◌, ◌<◌, ◌+◌, ◌-◌, ◌^◌, IfOk, option_map};
+ghost use Rattle.camac_lang.specs.Tree.{line_of};
+ghost use Rattle.camac_lang.specs.View.{expression_of, statement_of};
+ghost use Rattle.camac_range.specs.Interval.{only};
+ghost use Rattle.camac_check_rules.specs.Calls.{lam_region};
+ghost use Rattle.camac_check_simple.specs.Gives.{by_code};
+ghost use Rattle.camac_check_rules.specs.Costs.{costs, no_costs};
+ghost use Rattle.camac_check_rows.specs.Rows.{times_at};
+ghost use Rattle.camac_check_rows.specs.Statements.{at_region, between, crate_detail, crate_kind, detail_of, first_row, kind_of, known_region, lam_kind, single_kind};
+
+use crate::row::{Detail, Kind, Row};
+use camac_check_known::{CheckFault, Costs, Facts, Region, range_of};
+use camac_check_simple::Context;
+use camac_lang::{CrateCall, Expr, LamCall, Stmt, WordSize};
+use camac_range::Range;
+use std::alloc::AllocError;
+
+// The row of a statement on this line, before it is counted how often its block is.
+fn own_row(line: u32, kind: Kind, times: u64, each: Costs, share: Costs, detail: Detail) -> Row
+    ensures { result ≡ first_row line kind times each share detail }
+{
+    Row {
+        line,
+        depth: 1,
+        kind,
+        times,
+        each,
+        share,
+        detail,
+    }
+}
+
+/// The row of a statement that holds no others: its share is all that it can cost.
+pub fn simple_row(statement: &Stmt, times: u64, each: Costs, detail: Detail) -> Row
+    ensures { result ≡ first_row (line_of (statement_of statement.now)) (kind_of (statement_of statement.now)) times each each detail }
+{
+    let line = statement.line();
+    own_row(line, kind_of(statement), times, each, each, detail)
+}
+
+/// The row of an `if` on this line: its share is a step.
+pub fn if_row(line: u32, each: Costs) -> Row
+    ensures { result ≡ first_row line Kind.If 1 each (costs 0 0 1) Detail.Nothing }
+{
+    let step = Costs::new(0, 0, 1);
+    own_row(line, Kind::If, 1, each, step, Detail::Nothing)
+}
+
+/// The row of the `else` of a choice on this line: it has no share.
+pub fn else_row(line: u32, times: u64, each: Costs) -> Row
+    ensures { result ≡ first_row line Kind.Else times each no_costs Detail.Nothing }
+{
+    let nothing = Costs::new(0, 0, 0);
+    own_row(line, Kind::Else, times, each, nothing, Detail::Nothing)
+}
+
+/// 1, or 0 where it can't be reached.
+pub fn times_at(known: &Option<Facts>) -> u64
+    ensures { result ≡ times_at known.now }
+{
+    match known {
+        Some(_) => 1,
+        None => 0,
+    }
+}
+
+/// The row of a loop of at most so many turns: its share is a step, and one for each turn.
+pub fn loop_row(line: u32, kind: Kind, each: Costs, turns: u64) -> Row
+    requires { turns < 2 ^ 64 - 1 }
+    ensures { result ≡ first_row line kind 1 each (costs 0 0 (turns + 1)) (Detail.Turns turns) }
+{
+    let share = Costs::new(0, 0, turns + 1);
+    own_row(line, kind, 1, each, share, Detail::Turns(turns))
+}
+
+/// The row of a `lock` of this crate: its share is the waits, a step for taking the crate, and one for its release.
+pub fn lock_row(line: u32, each: Costs, waits: u8, crate_no: u32) -> Row
+    ensures { result ≡ first_row line Kind.Lock 1 each (costs waits 0 2) (Detail.Crates (only crate_no)) }
+{
+    let share = Costs::new(u64::from(waits), 0, 2);
+    let taken = Detail::Crates(Range::only(crate_no));
+    own_row(line, Kind::Lock, 1, each, share, taken)
+}
+
+fn kind_of(statement: &Stmt) -> Kind
+    ensures { result ≡ kind_of (statement_of statement.now) }
+{
+    match statement {
+        Stmt::Assign { .. } => Kind::Assign,
+        Stmt::SetRegister { .. } => Kind::Cdreg,
+        Stmt::Single { size, .. } => single_kind(*size),
+        Stmt::Scan { .. } => Kind::Cfmad,
+        Stmt::QStop { .. } => Kind::Cfubc,
+        Stmt::QRepeat { .. } => Kind::Cfubr,
+        Stmt::Put { .. } => Kind::Put,
+        Stmt::CrateCall { call, .. } => crate_kind(*call),
+        Stmt::LamCall { call, .. } => lam_kind(*call),
+        Stmt::If { .. } | Stmt::IfElse { .. } => Kind::If,
+        Stmt::For { .. } => Kind::For,
+        Stmt::While { .. } => Kind::While,
+        Stmt::Lock { .. } => Kind::Lock,
+        Stmt::Call { .. } => Kind::Call,
+    }
+}
+
+fn single_kind(size: WordSize) -> Kind
+    ensures { result ≡ single_kind size }
+{
+    match size {
+        WordSize::Full => Kind::Cfsa,
+        WordSize::Short => Kind::Cssa,
+    }
+}
+
+fn crate_kind(call: CrateCall) -> Kind
+    ensures { result ≡ crate_kind call }
+{
+    match call {
+        CrateCall::Initialise => Kind::Cccz,
+        CrateCall::Clear => Kind::Cccc,
+        CrateCall::InhibitOn | CrateCall::InhibitOff => Kind::Ccci,
+        CrateCall::TestInhibit => Kind::Ctci,
+        CrateCall::DemandOn | CrateCall::DemandOff => Kind::Cccd,
+        CrateCall::TestDemandOutput => Kind::Ctcd,
+        CrateCall::TestDemand => Kind::Ctgl,
+    }
+}
+
+fn lam_kind(call: LamCall) -> Kind
+    ensures { result ≡ lam_kind call }
+{
+    match call {
+        LamCall::Enable | LamCall::Disable => Kind::Cclm,
+        LamCall::Clear => Kind::Cclc,
+        LamCall::Test => Kind::Ctlm,
+    }
+}
+
+/// What else there is to tell of a statement that holds no others: where it can't be reached, only what its text says. The error is want of
+/// memory.
+pub fn detail_of(
+    context: &Context,
+    statement: &Stmt,
+    known: Option<&Facts>,
+) -> Result<Detail, AllocError>
+    ensures { IfOk result (λ d. d ≡ detail_of (by_code context.now) (statement_of statement.now) (option_map (λ k. k.now) known.entry)) }
+{
+    match statement {
+        Stmt::Single { register, .. }
+        | Stmt::QStop { register, .. }
+        | Stmt::QRepeat { register, .. } => Ok(at_region(region_of(known, *register))),
+        Stmt::Scan { first, last, .. } => {
+            let from = region_of(known, *first);
+            Ok(between(from, region_of(known, *last)))
+        }
+        Stmt::CrateCall { line, crate_no, .. } => crate_detail(*line, crate_no, known),
+        Stmt::LamCall { lam, .. } => Ok(at_region(lam_region(context, *lam))),
+        Stmt::Call { procedure, .. } => Ok(Detail::Procedure(*procedure)),
+        _ => Ok(Detail::Nothing),
+    }
+}
+
+fn region_of(known: Option<&Facts>, register: usize) -> Option<Region>
+    ensures { result ≡ known_region (option_map (λ k. k.now) known.entry) register }
+{
+    match known {
+        Some(known) => known.register(register),
+        None => None,
+    }
+}
+
+fn at_region(region: Option<Region>) -> Detail
+    ensures { result ≡ at_region region }
+{
+    match region {
+        Some(region) => Detail::At(region),
+        None => Detail::Nothing,
+    }
+}
+
+fn between(first: Option<Region>, last: Option<Region>) -> Detail
+    ensures { result ≡ between first last }
+{
+    match (first, last) {
+        (Some(first), Some(last)) => Detail::Between(first, last),
+        _ => Detail::Nothing,
+    }
+}
+
+// The crates that an expression may name.
+fn crate_detail(line: u32, crate_no: &Expr, known: Option<&Facts>) -> Result<Detail, AllocError>
+    ensures { IfOk result (λ d. d ≡ crate_detail line (expression_of crate_no.now) (option_map (λ k. k.now) known.entry)) }
+{
+    let Some(known) = known else {
+        return Ok(Detail::Nothing);
+    };
+    match range_of(line, crate_no, known.ranges()) {
+        Ok(range) => Ok(Detail::Crates(range)),
+        Err(CheckFault::Broken { .. }) => Ok(Detail::Nothing),
+        Err(CheckFault::OutOfMemory) => Err(AllocError),
+    }
+}
+
+fn lam_region(context: &Context, lam: usize) -> Option<Region>
+    ensures { result ≡ lam_region (by_code context.now) lam }
+{
+    match context.lams.get(lam) {
+        Some(lam) => Some(Region::new(
+            Range::only(lam.crate_no),
+            Range::only(lam.station),
+            Range::only(lam.sub_address.get()),
+        )),
+        None => None,
+    }
+}
