@@ -3,3 +3,5 @@ pub mod Lams
 pub mod Trees
 pub mod Whole
 pub mod Left
+pub mod Placed
+pub mod PlaceLaws

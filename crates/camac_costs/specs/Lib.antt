@@ -5,3 +5,6 @@ pub mod Walked
 pub mod Body
 pub mod Bodies
 pub mod Texts
+pub mod Places
+pub mod Stands
+pub mod Known

@@ -1,9 +1,12 @@
 //! What the bounds of a script consist of: for each statement of a service or procedure how often it can be made, what one time can cost,
-//! and its share of the bound. All is own.
+//! and its share of the bound; and what is known where it begins. All is own.
 #![tactic(auto)]
 
 mod bodies;
 mod inside;
+mod known;
+pub mod laws;
+mod place;
 mod row;
 mod statement;
 mod texts;
@@ -11,5 +14,7 @@ mod unreached;
 mod walk;
 
 pub use bodies::{BodyCosts, Owner, costs_of, procedure_costs, service_costs};
+pub use known::known_lines;
+pub use place::{Standing, find_place};
 pub use row::{Detail, Kind, Row};
 pub use texts::write_costs;
