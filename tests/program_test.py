@@ -119,7 +119,7 @@ class Usage(Case):
         self.assertEqual(self.call("explain", "E12", "@in", given=b""), (3, b"", lacks("E12")))
         for words in ("--at 3 none none", "--at 3:0 none none", "--at 0:1 none none", "--at +3:1 none none", "--at 3:1: none none", "--at 3:4294967296 none none", "--at 3:1 none", "--at 3:1 E12"):
             status, out, err = self.call("explain", *words.split())
-            self.assertEqual((status, out, err.partition(b"\n")[0]), (2, b"", b"error: '--at <LINE:COLUMN>' wants two numbers from 1 on, a plan and a script"), words)
+            self.assertEqual((status, out, err.partition(b"\n")[0]), (2, b"", b"error: '--at <LINE:COLUMN>' needs two numbers from 1, a plan and a script"), words)
         self.assertEqual(self.call("explain", "--at", "3:1", "@in", "@in"), (2, b"", TWICE))
 
     def test_standard_input_once(self):

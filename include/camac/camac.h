@@ -174,7 +174,7 @@ CAMAC_CALL camac_costs(const void *plan, size_t plan_size, const void *script, s
 
 /* What `camac explain --at LINE:COLUMN` prints: what the checker knows before the statement there. Line and column are from 1, the column in bytes.
  * CAMAC_OK: "reached", and a line for each variable with its range, for each register that is set and for each locked crate; or "not reached".
- * CAMAC_REFUSED: no statement stands there, or the text has the refusal before it. CAMAC_MISUSE: a line or column of 0. */
+ * CAMAC_REFUSED: no statement is there, or `text` has the refusal before it. CAMAC_MISUSE: a line or column of 0. */
 CAMAC_CALL camac_explain_at(const void *plan, size_t plan_size, const void *script, size_t script_size, uint32_t line, uint32_t column, char *text,
                             size_t room, size_t *size);
 

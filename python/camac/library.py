@@ -175,8 +175,8 @@ def explain(plan: Text, script: Text) -> Verdict:
 
 
 def explain_at(plan: Text, script: Text, line: int, column: int) -> Verdict:
-    """What `camac explain --at LINE:COLUMN` prints: what the checker knows before the statement there. Both are from 1, the column in bytes. It is
-    not accepted, too, where no statement stands there. Raises UsageFault where one of them is no number from 1 to 4,294,967,295."""
+    """What `camac explain --at LINE:COLUMN` prints: what the checker knows before the statement there. Both are from 1, the column in bytes. If no
+    statement is there, it is not accepted. Raises UsageFault if one of them is not from 1 to 4,294,967,295."""
     if not (1 <= line < 1 << 32 and 1 <= column < 1 << 32):
         raise UsageFault("a line or a column is out of range", 2)
     code, (text,) = _filled(native.load().texts.camac_explain_at, *_given(plan, script), line, column)

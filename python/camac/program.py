@@ -131,7 +131,7 @@ def verdict(command: str, plan: File, script: bytes, program: Optional[File] = N
 
 
 def known_at(plan: File, script: bytes, line: int, column: int, program: Optional[File] = None) -> library.Verdict:
-    """What `camac explain --at` tells of a script that is given as its text. Raises ProgramFault and OSError as `output_of`."""
+    """What `camac explain --at` prints of a script that is given as its text. Raises ProgramFault and OSError as `output_of`."""
     if _find("explain", program) == IN_PROCESS:
         return library.explain_at(plan_text(plan), script, line, column)
     import tempfile

@@ -152,7 +152,7 @@ static void texts(void) {
     if (size != 27 || memcmp(out, "refused S1 line 1: bad byte", 27)) fail("a refusal says otherwise");
     EXPECT(CAMAC_REFUSED, camac_explain(plan.bytes, plan.size, "!", 1, out, sizeof out, &size));
     EXPECT(CAMAC_REFUSED, camac_explain_at(plan.bytes, plan.size, script.bytes, script.size, 1, 1, out, sizeof out, &size));
-    if (size != 27 || memcmp(out, "no statement stands at 1:1\n", 27)) fail("a place without a statement says otherwise");
+    if (size != 20 || memcmp(out, "no statement at 1:1\n", 20)) fail("a place without a statement says otherwise");
     EXPECT(CAMAC_REFUSED, camac_explain_at(plan.bytes, plan.size, "!", 1, 1, 1, out, sizeof out, &size));
     EXPECT(CAMAC_REFUSED, camac_bounds(plan.bytes, plan.size, "!", 1, out, sizeof out, &size));
     EXPECT(CAMAC_REFUSED, camac_costs(plan.bytes, plan.size, "!", 1, out, sizeof out, &size));

@@ -57,7 +57,7 @@ why_of (Link rule) = (link_told rule).why
 why_of (Check rule) = (check_told rule Malformed).why
 
 -- the mend of a rule in a case, and what it is for
-abbrev pub mend_line : CheckRule → (purpose : List ℕ) → Case → List ℕ
+unfoldable pub mend_line : CheckRule → (purpose : List ℕ) → Case → List ℕ
 mend_line rule purpose case = codes "Fix" ++ line_of (purpose ++ codes ": ") (check_told rule case).mend
 
 -- cases of the mends

@@ -235,6 +235,7 @@ fn push_mends(lines: &mut Vec<u8>, rule: Rule) -> Result<(), AllocError>
 }
 
 // The mend of a rule in a case, and what it is for.
+#[tactic(auto, unfolding(crate::specs::Rule::mend_line))]
 fn push_mend(
     lines: &mut Vec<u8>,
     rule: CheckRule,

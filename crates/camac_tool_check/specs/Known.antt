@@ -31,7 +31,7 @@ known_found script (Ok None) = Some (Good, codes "not reached\n")
 known_found script (Err (broken rule line case)) = refused (refusal.Check rule line)
 
 abbrev pub no_statement : (line column : ℕ) → Report
-no_statement line column = Some (Refused, codes "no statement stands at " ++ decimal line ++ codes ":" ++ decimal column ++ codes "\n")
+no_statement line column = Some (Refused, codes "no statement at " ++ decimal line ++ codes ":" ++ decimal column ++ codes "\n")
 
 -- of the statement that stands at the place
 abbrev pub known_there : Layout → Script → (line column : ℕ) → Option Spot → Report

@@ -107,10 +107,10 @@ fn show_known<W: Write>(
 }
 
 fn no_statement(line: u32, column: u32) -> Line
-    ensures { result ≡ codes "no statement stands at " ++ decimal line ++ codes ":" ++ decimal column ++ codes "\n" }
+    ensures { result ≡ codes "no statement at " ++ decimal line ++ codes ":" ++ decimal column ++ codes "\n" }
 {
     let mut text = Line::new();
-    text.push_str("no statement stands at ");
+    text.push_str("no statement at ");
     text.push_number(line);
     text.push_str(":");
     text.push_number(column);

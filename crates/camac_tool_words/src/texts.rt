@@ -37,7 +37,7 @@ pub const PLAN_OR_CODE: &str =
 
 pub const COMMANDS: &str = "Lists the commands of each type, too";
 
-pub const AT: &str = "Tells what is known before the statement there";
+pub const AT: &str = "Prints what is known before the statement there";
 
 pub const SCRIPT: &str = "A script: a file, or @in, standard input";
 
@@ -102,14 +102,14 @@ goes on with the line of the script or the place in the plan, what is wrong
 there, why the rule is there, and how to fix it. Status as check. At most one of
 the two can be @in.
 
-Of a code, as in a refusal, it tells why the rule is there, each way to mend it,
-and an example; no file is read. One word of a capital letter and digits is a
-code: a plan of such a name is written ./E12.
+Given the code of a refusal, it prints why the rule is there, each way to fix it,
+and an example. It reads no file. A lone word of a capital letter and digits is a
+code, so give a plan with such a name as ./E12.
 
-With --at it tells what the checker knows before the statement at that place:
+With --at it prints what the checker knows before the statement at that place:
 'reached', then a line for each variable with its range, for each register that is
-set with its crates, stations and sub-addresses, and for each crate that is locked;
-or 'not reached' (status 0). Where no statement stands it says so (status 1).
+set with its crates, stations and sub-addresses, and for each locked crate; or
+'not reached' (status 0). If no statement is there, it says so (status 1).
 
 Examples:
   camac explain E12

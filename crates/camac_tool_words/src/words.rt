@@ -71,7 +71,7 @@ pub fn read_words<'a>(alloc: Global, words: &'a [String]) -> Result<Job<'a>, Job
         // Of `explain` alone: the other words are required.
         let error = command.error(
             ErrorKind::ValueValidation,
-            "'--at <LINE:COLUMN>' wants two numbers from 1 on, a plan and a script",
+            "'--at <LINE:COLUMN>' needs two numbers from 1, a plan and a script",
         )?;
         return Err(JobFault::Usage(error));
     };
@@ -152,7 +152,7 @@ fn explain_job<'a>(found: &ArgMatches<'a>) -> Option<Job<'a>>
     })
 }
 
-// The line and the column that stand on the two sides of the first `:`.
+// The line and the column on the two sides of the first `:`.
 fn place_in(word: &str) -> Option<(u32, u32)>
     ensures some { IfSome result (λ p. IsPlace word.now p.0 p.1) }
     ensures none { IfNone result ((line column : ℕ) → IsPlace word.now line column → ⊥) }
@@ -170,7 +170,7 @@ fn counts_in(line: &str, column: &str) -> Option<(u32, u32)>
     Some((line, column))
 }
 
-// The number from 1 on of decimal digits that stand alone, without a sign.
+// The number, from 1, of decimal digits without a sign.
 fn count_in(digits: &str) -> Option<u32>
     ensures some { IfSome result (λ n. IsCount digits.now n) }
     ensures none { IfNone result ((n : ℕ) → IsCount digits.now n → ⊥) }
