@@ -88,7 +88,7 @@ pub extern "C" fn camac_raw_explain(
     code_of(&answer)
 }
 
-/// Tells what the checker knows before the statement at a line and a column, both from 1.
+/// Prints what the checker knows before the statement at a line and a column, both from 1.
 #[unsafe(no_mangle)]
 pub extern "C" fn camac_raw_explain_at(
     alloc: Global,

@@ -14,8 +14,8 @@ use camac_range::Range;
 use camac_report_text::Line;
 use std::alloc::{AllocError, Global};
 
-/// What is known where a statement begins: a line for each variable with its range, for each register that is set with its addresses, and for
-/// each crate that is locked.
+/// Prints what is known where a statement begins: a line for each variable with its range, for each register that is set with its addresses, and
+/// for each locked crate.
 pub fn known_lines(
     alloc: Global,
     script: &Script,

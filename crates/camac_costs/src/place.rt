@@ -20,7 +20,7 @@ use camac_check_simple::{Place, lock_crate};
 use camac_lang::{Item, Procedure, Script, Service, Stmt};
 use std::alloc::Global;
 
-/// A statement to which the checker comes, what stands around it, and what is known where it begins.
+/// A statement to which the checker comes, what is around it, and what is known where it begins.
 #[derive(Drop)]
 pub struct Standing<'a> {
     pub statement: &'a Stmt,
@@ -28,9 +28,9 @@ pub struct Standing<'a> {
     pub known: Facts,
 }
 
-/// The place of a statement of a linked script: in the body of this number, from 0 in the order of the text, the statement of this number, from
-/// 0, those inside others counted. None where the checker does not come to it, or where it is not there; where a statement before it in its
-/// body is refused, that refusal.
+/// Finds what the checker knows before a statement of a linked script. The statement is given by the number of its body, in the order of the
+/// text, and its own number there. Both count from 0, and statements inside others count too. None if the checker does not come to it, or if it
+/// is not there. If an earlier statement of its body is refused, it gives that refusal.
 pub fn find_place<'a>(
     alloc: Global,
     plan: &'a Plan,
@@ -115,7 +115,7 @@ fn place_in_service<'a>(
     place_in_block(alloc, context, around, &service.body, known, number)
 }
 
-// The number of a statement, counted from behind this one, those in its blocks passed; none where it is one of it.
+// The number of a statement, counted from after this one and those in its blocks; none if it is one of these.
 #[cycle(past)]
 fn past(statement: &Stmt, number: usize) -> Option<usize>
     ensures { result ≡ past (statement_of statement.now) number }

@@ -1,4 +1,4 @@
--- What is told of a rule without a case: its code and meaning, why it is there, each way to mend it, and an example.
+-- What is said of a rule without a case: its code and meaning, why it is there, each way to fix it, and an example.
 use Rattle.std.specs.Prelude.{◌≡◌, ℕ, ◌+◌, Bool, true, false, List, [], ◌++◌, Option, Some, None, codes}
 use Rattle.camac_plan.specs.declared.fault.PlanRule.{PlanRule}
 use Rattle.camac_text_tokens.specs.declared.fault.TextRule.{TextRule}
@@ -56,11 +56,11 @@ why_of (Text rule) = (text_told rule).why
 why_of (Link rule) = (link_told rule).why
 why_of (Check rule) = (check_told rule Malformed).why
 
--- the mend of a rule in a case, and what it is for
+-- the fix of a rule in a case, and what it is for
 unfoldable pub mend_line : CheckRule → (purpose : List ℕ) → Case → List ℕ
 mend_line rule purpose case = codes "Fix" ++ line_of (purpose ++ codes ": ") (check_told rule case).mend
 
--- cases of the mends
+-- cases of the fixes
 abbrev pub moving : FunctionClass → Case
 moving c = Direction 0 c c
 
@@ -82,7 +82,7 @@ needing whose needed = Budget whose needed 0
 abbrev pub of_service : ℕ → Case
 of_service needed = needing (body.Service 0) needed
 
--- each way to mend a rule of the checker
+-- each way to fix what a rule of the checker refuses
 abbrev pub check_mends : CheckRule → List ℕ
 check_mends check.WrongDirection =
     mend_line check.WrongDirection (codes ", a function that reads") (moving class.Read)
@@ -123,7 +123,7 @@ mends_of (Check rule) = check_mends rule
 abbrev pub Grows : (old new : List ℕ) → Type 0
 Grows old new = (more : List ℕ) × (new ≡ old ++ more)
 
--- the example is between the mends and the page
+-- the example is between the fixes and the page
 abbrev pub IsRuleText : Rule → List ℕ → Type 0
 IsRuleText rule bytes =
     (example : List ℕ)

@@ -1,4 +1,4 @@
-// The rules by their codes, and what is told of each without a case.
+// The rules by their codes, and what is said of each without a case.
 
 ghost use Rattle.std.specs.Prelude.{◌≡◌, ◌++◌, ◌↔◌, IfNone, IfOk, IfSome, IsTrue, OnOk, codes};
 ghost use Rattle.camac_explain.specs.Explanation.{line_of};
@@ -188,7 +188,7 @@ fn later_rule(code: &str) -> Option<CheckRule>
     }
 }
 
-/// What is told of a rule without a case: its code and meaning, why it is there, each way to mend it, and an example.
+/// Explains a rule without a case: its code and meaning, why it is there, each way to fix it, and an example.
 pub fn explain_rule(alloc: Global, rule: Rule) -> Result<Vec<u8>, AllocError>
     ensures { IfOk result (λ v. IsRuleText rule v.items) }
 {
@@ -234,7 +234,7 @@ fn push_mends(lines: &mut Vec<u8>, rule: Rule) -> Result<(), AllocError>
     }
 }
 
-// The mend of a rule in a case, and what it is for.
+// The fix of a rule in a case, and what it is for.
 #[tactic(auto, unfolding(crate::specs::Rule::mend_line))]
 fn push_mend(
     lines: &mut Vec<u8>,
@@ -248,7 +248,7 @@ fn push_mend(
     push_line(lines, purpose, ": ", check_advice(rule, case).mend)
 }
 
-// Where the case decides what helps, a rule has several mends.
+// If the case decides what helps, a rule has several fixes.
 fn push_check_mends(lines: &mut Vec<u8>, rule: CheckRule) -> Result<(), AllocError>
     ensures { OnOk result (lines.new.items ≡ lines.old.items ++ check_mends rule) }
 {
@@ -389,7 +389,7 @@ fn push_step_mends(lines: &mut Vec<u8>) -> Result<(), AllocError>
     )
 }
 
-// A case of each mend.
+// A case of each fix.
 
 fn moving(class: FunctionClass) -> Case
     ensures { result ≡ moving class }

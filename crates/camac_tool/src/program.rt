@@ -121,7 +121,7 @@ fn show_plan<'a, R: Runtime + AllocGlobal>(
     handed_on(&mut out.into_inner(), outcome)
 }
 
-// Of a rule. A word that has the form of a code, and is none, is told before anything is written.
+// Explains a rule. A word that has the form of a code, and is none, is a mistake.
 fn tell_rule<R: Runtime + AllocGlobal>(rt: &R, failure: &Failure<'_>, code: &str) -> u8
     ensures { EndsRule code.now result }
 {

@@ -24,7 +24,7 @@ use Rattle.camac_tool_check.specs.declared.fault.ToolFault.{ToolFault}
 use Rattle.camac_tool_check.specs.declared.fault.ToolFault.TheVariants as fault
 use Rattle.camac_tool_check.specs.declared.outcome.Outcome.TheVariants.{Good, Refused}
 
--- where the checker comes to the statement, what it knows there; else that it does not come there, or the refusal before it
+-- if the checker comes to the statement, what it knows there; else that it does not come there, or the refusal before it
 abbrev pub known_found : Script → Result (Option Place) CheckFault → Report
 known_found script (Ok (Some p)) = Some (Good, known_text script p)
 known_found script (Ok None) = Some (Good, codes "not reached\n")
@@ -33,7 +33,7 @@ known_found script (Err (broken rule line case)) = refused (refusal.Check rule l
 abbrev pub no_statement : (line column : ℕ) → Report
 no_statement line column = Some (Refused, codes "no statement at " ++ decimal line ++ codes ":" ++ decimal column ++ codes "\n")
 
--- of the statement that stands at the place
+-- of the statement at the place
 abbrev pub known_there : Layout → Script → (line column : ℕ) → Option Spot → Report
 known_there plan script line column None = no_statement line column
 known_there plan script line column (Some s) = known_found script (place_with capped plan script s.body s.statement)

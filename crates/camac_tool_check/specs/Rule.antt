@@ -9,7 +9,7 @@ use Rattle.camac_tool_check.specs.declared.fault.ToolFault.TheVariants as fault
 use Rattle.camac_tool_check.specs.declared.outcome.Outcome.{Outcome}
 use Rattle.camac_tool_check.specs.declared.outcome.Outcome.TheVariants.{Good}
 
--- What is told of the rule was written; after a write fault a prefix of it; nothing where memory was refused.
+-- The text of the rule was written; after a write fault a prefix of it; nothing if memory ran out.
 abbrev pub ShowsRule : Rule → (o p : Option (List ℕ)) → Result Outcome ToolFault → Type 0
 ShowsRule rule o p (Ok outcome) = (outcome ≡ Good) × ((text : List ℕ) × IsRuleText rule text × Appends o p text)
 ShowsRule rule o p (Err fault.Write) = (text : List ℕ) × IsRuleText rule text × AppendsPrefix o p text

@@ -1,4 +1,4 @@
--- The statement that stands at a place of a text, by its tokens.
+-- The statement at a place of a text, by its tokens.
 use Rattle.std.specs.Prelude.{ℕ, ◌+◌, ◌-◌, ◌^◌, Bool, true, false, not, ◌&&◌, ◌||◌, List, [], ◌∷◌, length, min, nat_eq, nat_le, slice_get, Option, Some, None, if◌then◌else◌}
 use Rattle.camac_text_tokens.specs.declared.token.Keyword.{Keyword}
 use Rattle.camac_text_tokens.specs.declared.token.Keyword.TheVariants as word
@@ -119,12 +119,12 @@ spots line from w before [] = spot_in before
 spots line from w before (t ∷ ts) =
     spots line from (walked w t (slice_get ts 0)) (chosen line from t (spot_of (walked w t (slice_get ts 0))) before) ts
 
--- what stands behind so many line feeds
+-- what is after this many line feeds
 abbrev pub from_line : List ℕ → ℕ → List ℕ
 from_line [] feeds = []
 from_line (b ∷ bs) feeds = if nat_eq feeds 0 then b ∷ bs else from_line bs (if nat_eq b 10 then feeds - 1 else feeds)
 
--- how many bytes stand from a place on
+-- how many bytes there are from a place on
 abbrev pub bytes_from : List ℕ → (line column : ℕ) → ℕ
 bytes_from text line column = length (from_line text (line - 1)) - (column - 1)
 

@@ -29,11 +29,10 @@ use camac_word::Watched;
 use std::alloc::Global;
 use std::io::{Read, Write};
 
-/// Tells what the checker knows before the statement that stands at a line and a column of a script, both from 1, the column in bytes: a line
-/// for each variable, for each register that is set and for each crate that is locked, or that the checker does not come there. Where no
-/// statement stands there, that is told; where the text or its links are refused, or a statement before it in its body, the line of the
-/// refusal. The plan is read and judged first, then the script. Nothing is written before a fault but one of the writer, which leaves a
-/// prefix of the text.
+/// Prints what the checker knows before the statement at a line and a column of a script. Both are from 1, the column in bytes. It prints a line
+/// for each variable, for each register that is set and for each locked crate, or that the checker does not come there. If no statement is
+/// there, it says so. If the text or its links are refused, or an earlier statement of the same body, it prints the line of the refusal. The plan
+/// is read and judged first, then the script. A fault of the writer leaves a prefix of the text; before any other fault nothing is written.
 pub fn engine_explain_at<P: Read, S: Read, W: Write>(
     alloc: Global,
     plan: &mut PlanSource<P>,
@@ -160,7 +159,7 @@ fn known_in(
     }
 }
 
-// The statement that stands at a place of a text; none where the text has a fault.
+// The statement at a place of a text; none if the text has a fault.
 fn find_spot(alloc: Global, text: &[u8], line: u32, column: u32) -> Result<Option<Spot>, ToolFault>
     ensures { FindsSpot result (spot_among text.now line column (tokens_of text.now)) }
 {

@@ -1,4 +1,4 @@
-// Tells of a rule.
+// The engine that explains a rule.
 
 ghost use Rattle.std.specs.Prelude.{◌≡◌, ◌||◌};
 ghost use Rattle.camac_tool_check.specs.Engine.{is_write_fault};
@@ -12,8 +12,8 @@ use camac_word::Watched;
 use std::alloc::Global;
 use std::io::Write;
 
-/// Tells of a rule, whatever plan or script breaks it: its code and meaning, why it is there, each way to mend it, and an example are written
-/// to `out`. Nothing is written before a fault but one of the writer, which leaves a prefix of the text.
+/// Explains a rule, whatever plan or script breaks it. It writes to `out` the code and meaning, why the rule is there, each way to fix it, and an
+/// example. A fault of the writer leaves a prefix of the text; before any other fault nothing is written.
 pub fn engine_explain_rule<W: Write>(
     alloc: Global,
     rule: Rule,

@@ -1,11 +1,11 @@
-// The statement that stands at a place of a text.
+// The statement at a place of a text.
 
 ghost use Rattle.std.specs.Prelude.{◌≡◌, option_map};
 ghost use Rattle.camac_tool_check.specs.Spot.{begins, bytes_from, chosen, from_line, is_else, is_equals, is_for, is_left_brace, is_right_brace, is_statement, opened, spot_at, spot_of, walked};
 
 use camac_text_tokens::{Keyword, Sign, Token, TokenKind};
 
-/// A statement by the number of its body, and its number there, both from 0 in the order of the text, those inside others counted.
+/// A statement by the number of its body and its number there, both from 0 in the order of the text. Statements inside others count too.
 #[derive(Clone, Copy, Debug, PartialEq, Eq)]
 pub struct Spot {
     pub body: usize,
@@ -23,8 +23,8 @@ struct Counted {
     is_for: bool,
 }
 
-/// The statement at a place: at the last token of the line that begins in or before the column, else at the first one; none where the line
-/// has no token, or where that is one of no statement. Line and column are from 1, the column in bytes.
+/// The statement at a place: at the last token of the line that begins at or before the column, or else at the first one. None if the line has no
+/// token, or if that token is in no statement. Line and column are from 1, the column in bytes.
 pub fn spot_at(text: &[u8], tokens: &[Token], line: u32, column: u32) -> Option<Spot>
     ensures { result ≡ spot_at text.now tokens.now line column }
 {
@@ -49,7 +49,7 @@ pub fn spot_at(text: &[u8], tokens: &[Token], line: u32, column: u32) -> Option<
     }
 }
 
-// How many bytes of a text stand from a place on.
+// How many bytes a text has from a place on.
 fn bytes_from(text: &[u8], line: u32, column: u32) -> usize
     ensures { result ≡ bytes_from text.now line column }
 {
@@ -59,7 +59,7 @@ fn bytes_from(text: &[u8], line: u32, column: u32) -> usize
         .saturating_sub(column.saturating_sub(1) as usize)
 }
 
-// What stands behind so many line feeds.
+// What is after this many line feeds.
 fn from_line(text: &[u8], feeds: u32) -> &[u8]
     ensures { result.now ≡ from_line text.now feeds }
 {
@@ -77,7 +77,7 @@ fn from_line(text: &[u8], feeds: u32) -> &[u8]
     rest
 }
 
-// The statement of a token of the line, where it begins in or before the column, or is the first one; else that of the tokens before.
+// The statement of a token of the line if it begins at or before the column, or is the first one; else that of the tokens before.
 fn chosen(
     line: u32,
     from: usize,
