@@ -73,28 +73,28 @@ begins is_counted (Sign s) next = false
 abbrev pub more : ℕ → ℕ
 more n = min (n + 1) (2 ^ 64 - 1)
 
-abbrev pub counts : (bodies open statements : ℕ) → (is_inside is_for : Bool) → Counted
-counts bodies open' statements is_inside is_for =
-    record { bodies = bodies; open = open'; statements = statements; is_inside = is_inside; is_for = is_for }
+abbrev pub counts : (bodies depth statements : ℕ) → (is_inside is_for : Bool) → Counted
+counts bodies depth statements is_inside is_for =
+    record { bodies = bodies; depth = depth; statements = statements; is_inside = is_inside; is_for = is_for }
 
 abbrev pub outside : Counted → Counted
-outside w = counts w.bodies w.open w.statements false false
+outside w = counts w.bodies w.depth w.statements false false
 
 abbrev pub opened : Counted → Counted
 opened w =
-    if nat_eq w.open 0 then counts (more w.bodies) 1 0 w.is_inside w.is_for else counts w.bodies (more w.open) w.statements w.is_inside w.is_for
+    if nat_eq w.depth 0 then counts (more w.bodies) 1 0 w.is_inside w.is_for else counts w.bodies (more w.depth) w.statements w.is_inside w.is_for
 
 abbrev pub inside : Counted → Token → (next : Option Token) → Counted
 inside w t next =
-    if begins w.is_for t.kind next then counts w.bodies w.open (more w.statements) true (is_for t.kind)
-    else counts w.bodies w.open w.statements w.is_inside (is_for t.kind)
+    if begins w.is_for t.kind next then counts w.bodies w.depth (more w.statements) true (is_for t.kind)
+    else counts w.bodies w.depth w.statements w.is_inside (is_for t.kind)
 
 -- a statement goes on up to the next one, or to a brace or `else`
 abbrev pub walked : Counted → Token → (next : Option Token) → Counted
 walked w t next =
     if is_left_brace t.kind then opened (outside w)
-    else if is_right_brace t.kind then counts w.bodies (w.open - 1) w.statements false false
-    else if nat_eq w.open 0 || is_else t.kind then outside w
+    else if is_right_brace t.kind then counts w.bodies (w.depth - 1) w.statements false false
+    else if nat_eq w.depth 0 || is_else t.kind then outside w
     else inside w t next
 
 -- ---- the one at a place

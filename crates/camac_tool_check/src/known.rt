@@ -53,6 +53,7 @@ pub fn engine_explain_at<P: Read, S: Read, W: Write>(
     }
 }
 
+#[tactic(auto, using(crate::proofs::Told::known_told))]
 fn known_on<S: Read, W: Write>(
     alloc: Global,
     plan: &Plan,

@@ -17,7 +17,7 @@ pub struct Spot {
 #[derive(Clone, Copy)]
 struct Counted {
     bodies: usize,
-    open: usize,
+    depth: usize,
     statements: usize,
     is_inside: bool,
     is_for: bool,
@@ -32,7 +32,7 @@ pub fn spot_at(text: &[u8], tokens: &[Token], line: u32, column: u32) -> Option<
     let mut rest = tokens;
     let mut counted = Counted {
         bodies: 0,
-        open: 0,
+        depth: 0,
         statements: 0,
         is_inside: false,
         is_for: false,
@@ -116,7 +116,7 @@ fn spot_of(counted: Counted) -> Option<Spot>
 
 // What is counted at a token, with the one after it.
 fn walked(counted: Counted, token: &Token, next: Option<&Token>) -> Counted
-    ensures { result ≡ walked counted token.now (option_map (λ t. t.now) next) }
+    ensures { result ≡ walked counted token.now (option_map (λ t. t.now) next.entry) }
 {
     let outside = Counted {
         is_inside: false,
@@ -128,11 +128,11 @@ fn walked(counted: Counted, token: &Token, next: Option<&Token>) -> Counted
     }
     if is_right_brace(token) {
         return Counted {
-            open: outside.open.saturating_sub(1),
+            depth: outside.depth.saturating_sub(1),
             ..outside
         };
     }
-    if counted.open == 0 || is_else(token) {
+    if counted.depth == 0 || is_else(token) {
         return outside;
     }
     let is_counting = is_for(token);
@@ -154,15 +154,15 @@ fn walked(counted: Counted, token: &Token, next: Option<&Token>) -> Counted
 fn opened(counted: Counted) -> Counted
     ensures { result ≡ opened counted }
 {
-    if counted.open != 0 {
+    if counted.depth != 0 {
         return Counted {
-            open: counted.open.saturating_add(1),
+            depth: counted.depth.saturating_add(1),
             ..counted
         };
     }
     Counted {
         bodies: counted.bodies.saturating_add(1),
-        open: 1,
+        depth: 1,
         statements: 0,
         ..counted
     }
@@ -170,7 +170,7 @@ fn opened(counted: Counted) -> Counted
 
 // Whether a statement begins at a token: at its word, or at a variable before the `=` of an assignment.
 fn begins(is_counted: bool, token: &Token, next: Option<&Token>) -> bool
-    ensures { result ≡ begins is_counted token.now.kind (option_map (λ t. t.now) next) }
+    ensures { result ≡ begins is_counted token.now.kind (option_map (λ t. t.now) next.entry) }
 {
     match &token.kind {
         TokenKind::Keyword(keyword) => is_statement(*keyword),
