@@ -1,5 +1,5 @@
 -- The exit status of what was done.
-use Rattle.std.proofs.Common.{◌≡◌, ℕ, List, Bor, subst, sym}
+use Rattle.std.proofs.Common.{◌≡◌, ℕ, List, Bor, inl, inr, subst, sym}
 use Rattle.std.specs.Prelude.{Result, Ok, Err}
 use Rattle.std.specs.Global.{Vec}
 use Rattle.clap.specs.declared.error.kind.ErrorKind.TheVariants as kind
