@@ -1,8 +1,5 @@
 -- What is said of a rule without a case: its code and meaning, why it is there, each way to fix it, and an example.
 use Rattle.std.specs.Prelude.{◌≡◌, ℕ, ◌+◌, Bool, true, false, List, [], ◌++◌, Option, Some, None, codes}
-use Rattle.camac_plan.specs.declared.fault.PlanRule.{PlanRule}
-use Rattle.camac_text_tokens.specs.declared.fault.TextRule.{TextRule}
-use Rattle.camac_names.specs.declared.fault.LinkRule.{LinkRule}
 use Rattle.camac_func.specs.declared.code.FunctionClass.{FunctionClass}
 use Rattle.camac_func.specs.declared.code.FunctionClass.TheVariants as class
 use Rattle.camac_range.specs.Number.{greatest}
