@@ -38,7 +38,14 @@ _camac() {
     *) _camac_file "${words[1]}:$place" "$word" && return ;;
     esac
     ;;
-  [1-4]:check | [1-4]:explain | [1-4]:bounds | [1-4]:costs | [1-4]:run | [1-4]:drive | [1-4]:events)
+  [1-6]:explain)
+    case $word:${words[-2]} in
+    -*) offered='--at --help -h' ;;
+    *:--at) ;;
+    *) _camac_file "${words[1]}:$place" "$word" && return ;;
+    esac
+    ;;
+  [1-4]:check | [1-4]:bounds | [1-4]:costs | [1-4]:run | [1-4]:drive | [1-4]:events)
     case $word in
     -*) offered='--help -h' ;;
     *) _camac_file "${words[1]}:$place" "$word" && return ;;

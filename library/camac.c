@@ -11,6 +11,8 @@ typedef uint32_t of_script(const uint8_t *plan, size_t plan_size, const uint8_t 
 of_text camac_raw_plan, camac_raw_explain_plan, camac_raw_events;
 of_script camac_raw_check, camac_raw_explain, camac_raw_bounds, camac_raw_costs;
 uint32_t camac_raw_version(void);
+uint32_t camac_raw_explain_at(const uint8_t *plan, size_t plan_size, const uint8_t *script, size_t script_size, uint32_t line, uint32_t column,
+                              uint8_t *out, size_t room, size_t *size);
 uint32_t camac_raw_response(const uint8_t *plan, size_t plan_size, const uint8_t *script, size_t script_size, const uint8_t *every,
                             size_t every_size, const uint8_t *within, size_t within_size, uint8_t *out, size_t room, size_t *size);
 uint32_t camac_raw_run(const uint8_t *plan, size_t plan_size, const uint8_t *script, size_t script_size, const uint8_t *answers,
@@ -126,6 +128,15 @@ int camac_check(const void *plan, size_t plan_size, const void *script, size_t s
 
 int camac_explain(const void *plan, size_t plan_size, const void *script, size_t script_size, char *text, size_t room, size_t *size) {
     return call_of_script(camac_raw_explain, plan, plan_size, script, script_size, text, room, size);
+}
+
+int camac_explain_at(const void *plan, size_t plan_size, const void *script, size_t script_size, uint32_t line, uint32_t column, char *text,
+                     size_t room, size_t *size) {
+    uint8_t nowhere[1];
+    size_t unasked;
+    size = told(size, &unasked);
+    if (IS_NULL(plan, plan_size) || IS_NULL(script, script_size) || IS_NULL(text, room) || !line || !column) return CAMAC_MISUSE;
+    return (int)camac_raw_explain_at(IN(plan, plan_size), IN(script, script_size), line, column, OUT(text, room), size);
 }
 
 int camac_bounds(const void *plan, size_t plan_size, const void *script, size_t script_size, char *text, size_t room, size_t *size) {

@@ -342,6 +342,19 @@ class Explain(unittest.TestCase):
                 self.assertEqual(first.split()[1].rstrip(":"), name.partition("_")[0])
                 self.assertEqual(self.call("check", plan, "script"), (1, f"{first}\n"))
 
+    def test_rules_by_their_codes(self):
+        """What is told of a code without a file: the headline, the texts and the example of the page."""
+        for rule in RULES:
+            with self.subTest(rule=rule):
+                part = re.search(rf"(?ms)^### {rule}: (.*?)\n(.*?)(?=^##|\Z)", PAGE)
+                kind, head, example = re.search(r"(?s)```(\w+) ([^\n]*)\n(.*?)```", part[2]).groups()
+                texts = [f"{it[1]}: {it[2]}\n" for it in re.finditer(r"(?m)^- \*\*((?:Why|Fix)[^:]*):\*\* (.*)$", part[2])]
+                place = head.removeprefix(f"{rule} ")
+                above = "Example, a plan:" if kind == "toml" else f"Example on the plan @sample, refused on {place}:"
+                lines = "".join(f"  {it}\n" for it in example.splitlines())
+                wanted = f"{rule}: {part[1]}\n{''.join(texts)}{above}\n{lines}More: docs/REFUSALS.md, {rule}\n"
+                self.assertEqual(self.call("explain", rule), (0, wanted))
+
     def test_mistakes(self):
         self.assertGreaterEqual(len(MISTAKES), 45)
         for what, script, rule, line, said in MISTAKES:

@@ -339,6 +339,12 @@ class Python(Case):
             for name in ("check", "explain", "bounds", "costs", "response"):
                 verdict = getattr(library, name)(self.sample(), its.read_text())
                 self.assertEqual((0 if verdict.accepted else 1, verdict.text), call(PROGRAM, name, SAMPLE, its))
+            for line, column in ((1, 1), (4, 3), (5, 3), (5, 99), (99, 1)):
+                verdict = library.explain_at(self.sample(), its.read_text(), line, column)
+                self.assertEqual((0 if verdict.accepted else 1, verdict.text), call(PROGRAM, "explain", "--at", f"{line}:{column}", SAMPLE, its))
+        for line, column in ((0, 1), (1, 0), (1 << 32, 1)):
+            with self.assertRaises(UsageFault):
+                library.explain_at(self.sample(), b"", line, column)
         for name, of_program in (("plan", "plan"), ("explain_plan", "explain")):
             for plan in sorted(EXAMPLES.glob("*.toml")):
                 verdict = getattr(library, name)(plan.read_bytes())

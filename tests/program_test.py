@@ -15,9 +15,9 @@ import unittest
 
 from support.program import ANSWERS, CLOSED, DEMAND, EVENT_FILE, EVENT_FILE_ONE, FULL, LISTING, PROGRAM, STRAIGHT_LINE, TOO_LONG, TOP, TWICE, VERDICT, Case, fault, keywords, lacks, unwritten
 
-WORDS = {"plan": ["PLAN"], "check": ["PLAN", "SCRIPT"], "explain": ["PLAN", "[SCRIPT]"], "bounds": ["PLAN", "SCRIPT"], "costs": ["PLAN", "SCRIPT"], "response": ["PLAN", "SCRIPT"], "run": ["PLAN", "SCRIPT", "ANSWERS", "EVENTS"], "drive": ["PLAN", "SCRIPT", "EVENTS"], "events": ["FILE"]}
+WORDS = {"plan": ["PLAN"], "check": ["PLAN", "SCRIPT"], "explain": ["PLAN|CODE", "[SCRIPT]"], "bounds": ["PLAN", "SCRIPT"], "costs": ["PLAN", "SCRIPT"], "response": ["PLAN", "SCRIPT"], "run": ["PLAN", "SCRIPT", "ANSWERS", "EVENTS"], "drive": ["PLAN", "SCRIPT", "EVENTS"], "events": ["FILE"]}
 # The options of a command but those of help, with the values that they take.
-OPTIONS = {"plan": {"commands": ""}, "response": {"every": "SERVICE=CYCLES", "within": "SERVICE=CYCLES"}}
+OPTIONS = {"plan": {"commands": ""}, "explain": {"at": "LINE:COLUMN"}, "response": {"every": "SERVICE=CYCLES", "within": "SERVICE=CYCLES"}}
 
 
 class WorkedRow(Case):
@@ -108,6 +108,18 @@ class Usage(Case):
             self.assertEqual((status, out, err.startswith(told)), (2, b"", True), (words, err))
             self.assertTrue(err == told or err.endswith(b"Usage: camac response [OPTIONS] <PLAN> <SCRIPT>\n\nFor more information, try '--help'.\n"), err)
 
+    def test_words_of_explain(self):
+        """A word of a capital letter and digits that is no code, and a place that is none, are told before a file is read."""
+        for word in ("E19", "E20", "E22", "P10", "S0", "L5", "A1", "V1", "W1", "E012", "E1234567890"):
+            self.assertEqual(self.call("explain", word), (2, b"", f"fault {word}: no such code\n".encode()))
+        for word in ("e12", "E", "E12x", "12", "./E12"):
+            self.assertEqual(self.call("explain", word), (3, b"", lacks(word)))
+        self.assertEqual(self.call("explain", "E12", "@in", given=b""), (3, b"", lacks("E12")))
+        for words in ("--at 3 none none", "--at 3:0 none none", "--at 0:1 none none", "--at +3:1 none none", "--at 3:1: none none", "--at 3:4294967296 none none", "--at 3:1 none", "--at 3:1 E12"):
+            status, out, err = self.call("explain", *words.split())
+            self.assertEqual((status, out, err.partition(b"\n")[0]), (2, b"", b"error: '--at <LINE:COLUMN>' needs two numbers from 1, a plan and a script"), words)
+        self.assertEqual(self.call("explain", "--at", "3:1", "@in", "@in"), (2, b"", TWICE))
+
     def test_standard_input_once(self):
         """These words are a job, which ends as its files do. The last word of run and drive is the name of an output."""
         for words in ("plan @in", "plan @in --commands", "explain @in", "check @in none", "check none @in", "run @in none none e", "run none @in none e", "run none none @in e", "run none none none @in", "run none none @in @in", "drive none none @in", "events @in"):
@@ -140,10 +152,10 @@ class Help(Case):
             self.assertEqual(text, self.help("help", name))
             self.assertEqual(text, self.help(name, "-h"))
             for word in words:
-                self.assertRegex(text, rf"(?m)^  [<[]{word.strip('[]')}[]>] +[A-Z][^\n]{{10}}", "a word without a text")
+                self.assertRegex(text, rf"(?m)^  [<[]{re.escape(word.strip('[]'))}[]>] +[A-Z][^\n]{{10}}", "a word without a text")
             for option, value in OPTIONS.get(name, {}).items():
                 self.assertRegex(text, rf"(?m)^ +--{option}{value and f' <{value}>'} +[A-Z][^\n]{{10}}", "an option without a text")
-            self.assertEqual("@sample" in text, "PLAN" in words)
+            self.assertEqual("@sample" in text, words[0].startswith("PLAN"))
             self.assertEqual("@in" in text, name != "drive", "the answers of drive are standard input")
             self.assertIn("Examples:\n", text)
             self.assertIn(f"  camac {name} ", text.partition("Examples:")[2])
@@ -493,7 +505,7 @@ class Pages(Case):
         self.assertEqual(said, {name: it for (short, long), it in options(self.help).items() for name in (f"-{short}", f"--{long}")})
         for name, words in WORDS.items():
             line = re.search(rf"(?m)^    {name}\) _arguments (.*);;$", text)[1]
-            self.assertEqual([f"[{it}]" if colon else it for colon, it in re.findall(r"':(:?)([A-Z]+):", line)], words)
+            self.assertEqual([f"[{it}]" if colon else it for colon, it in re.findall(r"':(:?)([A-Z|]+):", line)], words)
             self.assertEqual(re.findall(r"'\*?--(\w+)\[", line), [*OPTIONS.get(name, [])])
 
     def test_fish(self):

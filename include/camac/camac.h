@@ -173,6 +173,12 @@ CAMAC_CALL camac_explain(const void *plan, size_t plan_size, const void *script,
 CAMAC_CALL camac_bounds(const void *plan, size_t plan_size, const void *script, size_t script_size, char *text, size_t room, size_t *size);
 CAMAC_CALL camac_costs(const void *plan, size_t plan_size, const void *script, size_t script_size, char *text, size_t room, size_t *size);
 
+/* What `camac explain --at LINE:COLUMN` prints: what the checker knows before the statement there. Line and column are from 1, the column in bytes.
+ * CAMAC_OK: "reached", and a line for each variable with its range, for each register that is set and for each locked crate; or "not reached".
+ * CAMAC_REFUSED: no statement is there, or `text` has the refusal before it. CAMAC_MISUSE: a line or column of 0. */
+CAMAC_CALL camac_explain_at(const void *plan, size_t plan_size, const void *script, size_t script_size, uint32_t line, uint32_t column, char *text,
+                            size_t room, size_t *size);
+
 /* What `camac response` prints: how long look-at-mes wait for their services. `every` and `within` tell what follows these options, as
  * adc=200 tick=5000: a service, and a number of dataway cycles up to 4294967295, from 1 on in `every`. White space is between two.
  * CAMAC_REFUSED: the text says why, or has a service that may end above its number in `within`. CAMAC_MISUSE: `every` or `within` has

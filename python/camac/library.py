@@ -174,6 +174,15 @@ def explain(plan: Text, script: Text) -> Verdict:
     return _judged("explain", plan, script)
 
 
+def explain_at(plan: Text, script: Text, line: int, column: int) -> Verdict:
+    """What `camac explain --at LINE:COLUMN` prints: what the checker knows before the statement there. Both are from 1, the column in bytes. If no
+    statement is there, it is not accepted. Raises UsageFault if one of them is not from 1 to 4,294,967,295."""
+    if not (1 <= line < 1 << 32 and 1 <= column < 1 << 32):
+        raise UsageFault("a line or a column is out of range", 2)
+    code, (text,) = _filled(native.load().texts.camac_explain_at, *_given(plan, script), line, column)
+    return Verdict(code == OK, text.decode("utf-8", "replace"))
+
+
 def bounds(plan: Text, script: Text) -> Verdict:
     """What `camac bounds` prints."""
     return _judged("bounds", plan, script)

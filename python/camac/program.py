@@ -130,6 +130,20 @@ def verdict(command: str, plan: File, script: bytes, program: Optional[File] = N
         return library.Verdict(not text.startswith("refused "), text)
 
 
+def known_at(plan: File, script: bytes, line: int, column: int, program: Optional[File] = None) -> library.Verdict:
+    """What `camac explain --at` prints of a script that is given as its text. Raises ProgramFault and OSError as `output_of`."""
+    if _find("explain", program) == IN_PROCESS:
+        return library.explain_at(plan_text(plan), script, line, column)
+    import tempfile
+
+    with tempfile.TemporaryDirectory(prefix="camac-") as room:
+        file = os.path.join(room, "script")
+        with open(file, "wb") as out:
+            out.write(script)
+        text = "".join(f"{it}\n" for it in lines_of("explain", "--at", f"{line}:{column}", "--", plan, file, program=program))
+        return library.Verdict(text.endswith("reached\n") or text.startswith("reached\n"), text)
+
+
 def explain_plan(plan: File, program: Optional[File] = None) -> library.Verdict:
     """The output of `camac explain` on a plan alone. Raises ProgramFault and OSError as `output_of`."""
     text = "".join(f"{it}\n" for it in lines_of("explain", "--", plan, program=program))

@@ -4,13 +4,14 @@ ghost use Rattle.std.specs.Prelude.{◌≡◌};
 ghost use Rattle.camac_tool_check.specs.Report.{report};
 ghost use Rattle.camac_tool_check.specs.Costs.{costs_report};
 ghost use Rattle.camac_tool_check.specs.Headings.{headings_report};
+ghost use Rattle.camac_tool_check.specs.Known.{known_report};
 ghost use Rattle.camac_c.specs.Run.{AnswersRun};
 ghost use Rattle.camac_c.specs.Texts.{AnswersBy, AnswersEvents, AnswersExplain, AnswersExplainPlan, AnswersPlan};
 
 use crate::filling::{code_of, give_answer};
 use camac_tool::{
     PlanSource, engine_bounds, engine_check, engine_costs, engine_events, engine_explain,
-    engine_explain_plan, engine_plan, engine_run,
+    engine_explain_at, engine_explain_plan, engine_plan, engine_run,
 };
 use camac_word::Watched;
 use std::alloc::Global;
@@ -83,6 +84,27 @@ pub extern "C" fn camac_raw_explain(
     let mut script = Watched::new(script);
     let mut out = Watched::new(Vec::new(alloc));
     let answer = engine_explain(alloc, &mut plan, &mut script, &mut out);
+    give_answer(&answer, &out.into_inner(), text, size);
+    code_of(&answer)
+}
+
+/// Prints what the checker knows before the statement at a line and a column, both from 1.
+#[unsafe(no_mangle)]
+pub extern "C" fn camac_raw_explain_at(
+    alloc: Global,
+    plan: &[u8],
+    script: &[u8],
+    line: u32,
+    column: u32,
+    text: &mut [u8],
+    size: &mut usize,
+) -> u32
+    ensures { AnswersBy (known_report line column) plan.now script.now result text.old text.new size.new }
+{
+    let mut plan = PlanSource::Text(Watched::new(plan));
+    let mut script = Watched::new(script);
+    let mut out = Watched::new(Vec::new(alloc));
+    let answer = engine_explain_at(alloc, &mut plan, &mut script, line, column, &mut out);
     give_answer(&answer, &out.into_inner(), text, size);
     code_of(&answer)
 }

@@ -16,4 +16,4 @@ pub use fault::LeastFault;
 pub use headings::least;
 pub use judge::check;
 pub use procedure::at_entry;
-pub use statement::accept_block;
+pub use statement::{accept_block, accept_next};

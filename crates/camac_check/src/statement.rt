@@ -53,10 +53,10 @@ pub fn accept_block(
     Ok(Findings { known: here, costs })
 }
 
-// Checks a statement, if it can be reached. What was known before it is changed in place.
+/// Checks a statement, if it can be reached, and puts its rows. What was known before it is changed in place.
 #[cycle(statements)]
 #[tactic(auto, unfolding(camac_check_rules::specs::Refusal::if_reached))]
-fn accept_next(
+pub fn accept_next(
     alloc: Global,
     context: &Context,
     around: &Around,

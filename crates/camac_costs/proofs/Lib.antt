@@ -1,2 +1,4 @@
 pub mod Whole
 pub mod Left
+pub mod Placed
+pub mod PlaceLaws

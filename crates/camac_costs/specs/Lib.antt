@@ -1,3 +1,6 @@
 pub mod Body
 pub mod Bodies
 pub mod Texts
+pub mod Places
+pub mod Stands
+pub mod Known

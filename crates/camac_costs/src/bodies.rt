@@ -7,11 +7,12 @@ ghost use Rattle.camac_check_rules.specs.Capped.{capped};
 ghost use Rattle.camac_check_simple.specs.Gives.{by_code};
 ghost use Rattle.camac_costs.specs.Bodies.{body_costs, code_before, context_of, costs_over, costs_with, procedure_costs, service_costs};
 
+use camac_branch::Plan;
 use camac_check::{CheckFault, Checked, Context, accept_block, at_entry};
 use camac_check_known::{Around, Costs, Facts};
 use camac_check_rows::{Row, Rows};
 use camac_check_rules::Body;
-use camac_lang::{Item, Procedure, Service, Stmt};
+use camac_lang::{Item, Procedure, Script, Service, Stmt};
 use std::alloc::{AllocError, Global};
 use std::marker::Model;
 
@@ -65,8 +66,8 @@ impl BodyCosts {
 pub fn costs_of(alloc: Global, checked: &Checked) -> Result<Vec<BodyCosts>, AllocError>
     ensures { IfOk result (λ v. v.items ≡ costs_with capped checked.now.plan checked.now.script) }
 {
-    let whole = context_of(checked);
     let script = checked.script();
+    let whole = context_of(checked.plan(), script);
     let mut all = Vec::new(alloc);
     push_bodies(
         alloc,
@@ -80,13 +81,12 @@ pub fn costs_of(alloc: Global, checked: &Checked) -> Result<Vec<BodyCosts>, Allo
     Ok(all)
 }
 
-// All that a script may refer to: the plan, and its tables, LAMs and procedures.
-fn context_of(checked: &Checked) -> Context<'_>
-    ensures { by_code result ≡ context_of checked.now.plan checked.now.script }
+/// All that a script may refer to: the plan, and its tables, LAMs and procedures.
+pub fn context_of<'a>(plan: &'a Plan, script: &'a Script) -> Context<'a>
+    ensures { by_code result ≡ context_of plan.now script.now }
 {
-    let script = checked.script();
     Context {
-        plan: checked.plan(),
+        plan,
         tables: script.tables(),
         lams: script.lams(),
         procedures: script.procedures(),
@@ -130,8 +130,8 @@ fn push_bodies(
     }
 }
 
-// What may be referred to after so many procedures.
-fn before<'a>(whole: &Context<'a>, done: usize) -> Context<'a>
+/// What may be referred to after so many procedures.
+pub fn before<'a>(whole: &Context<'a>, done: usize) -> Context<'a>
     requires { done ≤ length whole.now.procedures.now }
     ensures { by_code result ≡ code_before whole.now done }
 {

@@ -171,7 +171,8 @@ fn push_address(line: &mut Line, word: &str, c: u32, n: u32, a: u32)
     line.push_number(a);
 }
 
-fn push_range(line: &mut Line, range: Range)
+/// Puts one number, or the first and the last of several, at the end.
+pub fn push_range(line: &mut Line, range: Range)
     requires { length line.old ≤ 200 }
     ensures text { line.new ≡ line.old ++ range_text range }
     ensures len { length line.new ≤ length line.old + 22 }

@@ -2,4 +2,5 @@ pub mod Advice
 pub mod Finding
 pub mod Source
 pub mod Explanation
+pub mod Rule
 pub mod Sentence

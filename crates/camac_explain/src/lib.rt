@@ -2,11 +2,14 @@
 #![tactic(auto)]
 
 mod advice;
+mod example;
 mod explanation;
 mod finding;
 mod plan;
+mod rule;
 mod sentence;
 mod source;
 
 pub use explanation::{explain_plan, explain_script};
 pub use finding::Finding;
+pub use rule::{Rule, explain_rule};

@@ -1,8 +1,10 @@
 -- The exit status, and the reason for it.
-use Rattle.std.specs.Prelude.{◌≡◌, ◌≤◌, ◌⊎◌, ℕ, List, Bool, true, Result, Ok, Err}
+use Rattle.std.specs.Prelude.{◌≡◌, ◌≤◌, ◌⊎◌, ℕ, List, Bool, true, Option, Some, None, Result, Ok, Err}
 use Rattle.clap.specs.Words.{Text, kind_of, subcommand_of}
 use Rattle.clap.specs.declared.error.kind.ErrorKind.{ErrorKind}
 use Rattle.clap.specs.declared.error.kind.ErrorKind.TheVariants as kind
+use Rattle.camac_explain.specs.Rule.{IsRuleOf}
+use Rattle.camac_explain.specs.declared.rule.Rule.{Rule}
 use Rattle.camac_response_times.specs.declared.setting.Misuse.{Misuse}
 use Rattle.camac_response_times.specs.declared.setting.Misuse.TheVariants.{Form}
 use Rattle.camac_tool_check.specs.Engine.{status_of}
@@ -13,7 +15,7 @@ use Rattle.camac_tool_check.specs.declared.response.Responded.{Responded}
 use Rattle.camac_tool_check.specs.declared.response.Responded.TheVariants.{Told, Misused}
 use Rattle.camac_tool_words.specs.Words.{IsFaultOf, IsJob, camac_app, input_count_of}
 use Rattle.camac_tool_words.specs.declared.words.Job.{Job}
-use Rattle.camac_tool_words.specs.declared.words.Job.TheVariants.{Response}
+use Rattle.camac_tool_words.specs.declared.words.Job.TheVariants.{ExplainRule, Response}
 use Rattle.camac_tool_words.specs.declared.words.JobFault.{JobFault}
 use Rattle.camac_tool_words.specs.declared.words.JobFault.TheVariants.{Usage, InTwice}
 
@@ -38,7 +40,16 @@ EndsResponse (Ok (Told outcome)) s = EndsAs (Ok outcome) s
 EndsResponse (Ok (Misused misuse)) s = EndsMisuse misuse s
 EndsResponse (Err fault) s = EndsAs (Err fault) s
 
+-- of a rule by its code: a word that is none ends with 2
+abbrev pub EndsFound : Option Rule → ℕ → Type 0
+EndsFound None s = s ≡ 2
+EndsFound (Some rule) s = (answer : Result Outcome ToolFault) × EndsAs answer s
+
+abbrev pub EndsRule : Text → ℕ → Type 0
+EndsRule code s = (found : Option Rule) × IsRuleOf code found × EndsFound found s
+
 abbrev pub EndsJob : Job → ℕ → Type 0
+EndsJob (ExplainRule code) s = EndsRule code.now s ⊎ ((answer : Result Outcome ToolFault) × EndsAs answer s)
 EndsJob (Response plan script every within) s = (answer : Result Responded ToolFault) × EndsResponse answer s
 EndsJob job s = (answer : Result Outcome ToolFault) × EndsAs answer s
 

@@ -4,7 +4,7 @@ ghost use Rattle.std.specs.Prelude.{◌≡◌, ◌||◌, [], Err, IfOk, IfErr, O
 ghost use Rattle.std.specs.Str.{bytes_eq};
 ghost use Rattle.camac_tool_check.specs.declared.fault.ToolFault.TheVariants.{Read as read-fault, Write};
 ghost use Rattle.clap.specs.Words.{kind_of};
-ghost use Rattle.camac_tool.specs.Status.{Ends, EndsAs, EndsJob, EndsMisuse, EndsResponse, EndsUsage};
+ghost use Rattle.camac_tool.specs.Status.{Ends, EndsAs, EndsJob, EndsMisuse, EndsResponse, EndsRule, EndsUsage};
 ghost use Rattle.camac_tool.specs.declared.launch.ArgumentsFault.TheVariants.{Memory, NotText};
 ghost use Rattle.camac_tool.specs.Gathered.{has_stopped, held_in};
 ghost use Rattle.camac_tool.specs.Input.{IsSourceOf};
@@ -17,11 +17,12 @@ use crate::launch::ArgumentsFault;
 use crate::places::hold_places;
 use crate::running::engine_drive;
 use crate::target::{Earlier, NewFile, keep_apart, settle};
+use camac_explain::Rule;
 use camac_response::{Misuse, read_settings};
 use camac_tool_check::{
     Outcome, PlanSource, Responded, ToolFault, engine_bounds, engine_check, engine_commands,
-    engine_costs, engine_events, engine_explain, engine_explain_plan, engine_plan, engine_response,
-    status,
+    engine_costs, engine_events, engine_explain, engine_explain_at, engine_explain_plan,
+    engine_explain_rule, engine_plan, engine_response, status,
 };
 use camac_tool_words::{Job, JobFault, read_words, setting_error};
 use camac_word::Watched;
@@ -67,7 +68,7 @@ pub fn unread_status<R: Runtime>(rt: &R, fault: ArgumentsFault) -> u8
     }
 }
 
-#[tactic(auto, using(crate::proofs::Ended::engine_ends, crate::proofs::Ended::response_job))]
+#[tactic(auto, using(crate::proofs::Ended::engine_ends, crate::proofs::Ended::response_job, crate::proofs::Ended::rule_job))]
 fn serve<'a, R: Runtime + AllocGlobal>(rt: &R, failure: &Failure<'a>, job: Job<'a>) -> u8
     ensures { EndsJob job.entry result }
 {
@@ -75,9 +76,13 @@ fn serve<'a, R: Runtime + AllocGlobal>(rt: &R, failure: &Failure<'a>, job: Job<'
         Job::Plan(plan) => show_plan(rt, failure, AskPlan::Show, plan),
         Job::Commands(plan) => show_plan(rt, failure, AskPlan::Commands, plan),
         Job::ExplainPlan(plan) => show_plan(rt, failure, AskPlan::Explain, plan),
+        Job::ExplainRule(code) => return tell_rule(rt, failure, code),
         Job::Check(plan, script) => judge(rt, failure, Ask::Check, plan, script),
         Job::Explain(plan, script) => judge(rt, failure, Ask::Explain, plan, script),
         Job::Bounds(plan, script) => judge(rt, failure, Ask::Bounds, plan, script),
+        Job::ExplainAt(line, column, plan, script) => {
+            show_known(rt, failure, line, column, plan, script)
+        }
         Job::Costs(plan, script) => show_costs(rt, failure, plan, script),
         Job::Response(plan, script, every, within) => {
             let answer = show_responses(rt, failure, plan, script, &every, &within);
@@ -116,6 +121,27 @@ fn show_plan<'a, R: Runtime + AllocGlobal>(
     handed_on(&mut out.into_inner(), outcome)
 }
 
+// Explains a rule. A word that has the form of a code, and is none, is a mistake.
+fn tell_rule<R: Runtime + AllocGlobal>(rt: &R, failure: &Failure<'_>, code: &str) -> u8
+    ensures { EndsRule code.now result }
+{
+    match Rule::of_code(code) {
+        Some(rule) => finished(rt, failure, show_rule(rt, failure, rule)),
+        None => {
+            let _ = eprintln!(rt; "fault {code}: no such code");
+            USAGE
+        }
+    }
+}
+
+fn show_rule<R: Runtime + AllocGlobal>(
+    rt: &R,
+    failure: &Failure<'_>,
+    rule: Rule,
+) -> Result<Outcome, ToolFault> {
+    engine_explain_rule(rt.alloc(), rule, &mut Watched::new(output(rt, failure)))
+}
+
 // What is asked of a plan and a script, and answered in a few lines.
 #[derive(Clone, Copy)]
 enum Ask {
@@ -139,6 +165,20 @@ fn judge<'a, R: Runtime + AllocGlobal>(
         Ask::Explain => engine_explain(rt.alloc(), &mut plan, &mut script, &mut out),
         Ask::Bounds => engine_bounds(rt.alloc(), &mut plan, &mut script, &mut out),
     }
+}
+
+fn show_known<'a, R: Runtime + AllocGlobal>(
+    rt: &R,
+    failure: &Failure<'a>,
+    line: u32,
+    column: u32,
+    plan: &'a str,
+    script: &'a str,
+) -> Result<Outcome, ToolFault> {
+    let mut plan = source_of(plan_input(rt, failure, plan)?);
+    let mut script = Watched::new(open(rt, failure, script)?);
+    let mut out = Watched::new(output(rt, failure));
+    engine_explain_at(rt.alloc(), &mut plan, &mut script, line, column, &mut out)
 }
 
 fn show_costs<'a, R: Runtime + AllocGlobal>(

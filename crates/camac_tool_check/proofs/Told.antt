@@ -5,6 +5,7 @@ use Rattle.camac_branch.specs.Plan.{Layout}
 use Rattle.camac_tool_check.specs.Accepted.{Accepts, accepted}
 use Rattle.camac_tool_check.specs.Costs.{ShowsCosts, costs_found, costs_report, costs_report_of, costs_shown}
 use Rattle.camac_tool_check.specs.Engine.{ChecksOn, Shows}
+use Rattle.camac_tool_check.specs.Known.{FindsKnown, known_report, known_report_of}
 use Rattle.camac_tool_check.specs.Reading.{WasRead}
 use Rattle.camac_tool_check.specs.Report.{Report}
 use Rattle.camac_tool_check.specs.declared.reading.TheConstants.{TEXT_LIMIT}
@@ -12,6 +13,7 @@ use Rattle.camac_tool_check.specs.declared.fault.ToolFault.{ToolFault}
 use Rattle.camac_tool_check.specs.declared.fault.ToolFault.TheVariants as fault
 use Rattle.camac_tool_check.specs.declared.judging.Judged.{Judged}
 use Rattle.camac_tool_check.specs.declared.judging.Judged.TheVariants as judged
+use Rattle.camac_tool_check.specs.declared.known.Known.{Known}
 use Rattle.camac_tool_check.specs.declared.outcome.Outcome.{Outcome}
 
 same_report : (plan : Layout) (text : List ℕ) (j : Judged) → Accepts (Ok j) plan (accepted plan text) → costs_report_of j ≡ costs_report plan text
@@ -29,3 +31,12 @@ costs_told plan a b o p text j (Err fault.Write) read is h = (text, read, told p
 costs_told plan a b o p text j (Err fault.Memory) read is h = h
 costs_told plan a b o p text j (Err fault.Read) read is h = absurd h
 costs_told plan a b o p text j (Err fault.TooLong) read is h = absurd h
+
+pub known_told : (line column : ℕ) (plan : Layout) (a b o p : Option (List ℕ)) (text : List ℕ) (found : Known) (r : Result Outcome ToolFault)
+    → WasRead TEXT_LIMIT a b text → FindsKnown line column (Ok found) (known_report line column plan text)
+    → Shows (known_report_of line column found) o p r → ChecksOn (known_report line column) plan a b o p r
+known_told line column plan a b o p text found (Ok outcome) read is h = (text, read, subst (λ (q : Report). Shows q o p (Ok outcome)) (sym is) h)
+known_told line column plan a b o p text found (Err fault.Write) read is h = (text, read, subst (λ (q : Report). Shows q o p (Err fault.Write)) (sym is) h)
+known_told line column plan a b o p text found (Err fault.Memory) read is h = absurd h
+known_told line column plan a b o p text found (Err fault.Read) read is h = absurd h
+known_told line column plan a b o p text found (Err fault.TooLong) read is h = absurd h

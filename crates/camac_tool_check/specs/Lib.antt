@@ -7,5 +7,8 @@ pub mod Headings
 pub mod Accepted
 pub mod Found
 pub mod Explain
+pub mod Rule
+pub mod Spot
+pub mod Known
 pub mod Costs
 pub mod Response

@@ -1,17 +1,23 @@
 -- The command line as `clap` is told of it, and the job that its matches name.
-use Rattle.std.specs.Prelude.{◌≡◌, ◌⊎◌, ◌<◌, ℕ, Bool, true, false, List, [], ◌∷◌, map, codes, count_by, Option, Some, None, unwrap_or}
+use Rattle.std.specs.Prelude.{◌≡◌, ◌⊎◌, ◌==◌, ◌<◌, ◌≤◌, ◌^◌, ℕ, Bool, true, false, ◌&&◌, nat_le, List, [], ◌∷◌, map, codes, count_by, Option, Some, None, unwrap_or}
+use Rattle.std.specs.List.{before_first, after_first}
 use Rattle.std.specs.Str.{bytes_eq}
+use Rattle.std.specs.Str.Parse.{IsNumeral, digits_value}
 use Rattle.clap.specs.Words.{App, HasKind, Row, Rule, Text, all_of, fault_of, first_of, kind_of, new_app, new_rule, subcommand_of, takes, with_rule, with_subcommand}
-use Rattle.clap.specs.declared.builder.action.ArgAction.TheVariants.{Append, SetTrue}
+use Rattle.clap.specs.declared.builder.action.ArgAction.TheVariants.{Append, Set, SetTrue}
 use Rattle.clap.specs.declared.error.Error.{Error}
 use Rattle.clap.specs.declared.error.kind.ErrorKind.TheVariants as kind
 use Rattle.camac_tool_words.specs.declared.words.Job.{Job}
-use Rattle.camac_tool_words.specs.declared.words.Job.TheVariants.{Plan, Commands, Check, Explain, ExplainPlan, Bounds, Costs, Response, Run, Drive, Events}
+use Rattle.camac_tool_words.specs.declared.words.Job.TheVariants.{Plan, Commands, Check, Explain, ExplainAt, ExplainPlan, ExplainRule, Bounds, Costs, Response, Run, Drive, Events}
 use Rattle.camac_tool_words.specs.declared.words.JobFault.{JobFault}
 use Rattle.camac_tool_words.specs.declared.words.JobFault.TheVariants.{Usage, InTwice}
 
 abbrev pub word_rule : Text → Rule
 word_rule name = record (new_rule name) { required = true }
+
+-- that is shown by another name than its own
+abbrev pub named_rule : Text → Rule
+named_rule name = record (word_rule name) { value_names = 1 }
 
 -- a word that may be missing
 abbrev pub optional_rule : Text → Rule
@@ -25,6 +31,10 @@ option_rule name = record (new_rule name) { long = Some name; action = Some SetT
 abbrev pub setting_rule : Text → Rule
 setting_rule name = record (new_rule name) { long = Some name; action = Some Append; value_names = 1 }
 
+-- an option with a value, which may stand once
+abbrev pub place_rule : Text → Rule
+place_rule name = record (new_rule name) { long = Some name; action = Some Set; value_names = 1 }
+
 abbrev pub plan_app : App
 plan_app = with_rule (with_rule (new_app (codes "plan")) (word_rule (codes "PLAN"))) (option_rule (codes "commands"))
 
@@ -36,7 +46,7 @@ abbrev pub check_app : App
 check_app = script_app (codes "check")
 
 abbrev pub explain_app : App
-explain_app = with_rule (with_rule (new_app (codes "explain")) (word_rule (codes "PLAN"))) (optional_rule (codes "SCRIPT"))
+explain_app = with_rule (with_rule (with_rule (new_app (codes "explain")) (named_rule (codes "PLAN"))) (optional_rule (codes "SCRIPT"))) (place_rule (codes "at"))
 
 abbrev pub bounds_app : App
 bounds_app = script_app (codes "bounds")
@@ -71,7 +81,9 @@ name_of (Plan plan) = codes "plan"
 name_of (Commands plan) = codes "plan"
 name_of (Check plan script) = codes "check"
 name_of (Explain plan script) = codes "explain"
+name_of (ExplainAt line column plan script) = codes "explain"
 name_of (ExplainPlan plan) = codes "explain"
+name_of (ExplainRule code) = codes "explain"
 name_of (Bounds plan script) = codes "bounds"
 name_of (Costs plan script) = codes "costs"
 name_of (Response plan script every within) = codes "response"
@@ -85,7 +97,9 @@ ids_of (Plan plan) = codes "PLAN" ∷ []
 ids_of (Commands plan) = codes "PLAN" ∷ []
 ids_of (Check plan script) = codes "PLAN" ∷ codes "SCRIPT" ∷ []
 ids_of (Explain plan script) = codes "PLAN" ∷ codes "SCRIPT" ∷ []
+ids_of (ExplainAt line column plan script) = codes "PLAN" ∷ codes "SCRIPT" ∷ []
 ids_of (ExplainPlan plan) = codes "PLAN" ∷ []
+ids_of (ExplainRule code) = codes "PLAN" ∷ []
 ids_of (Bounds plan script) = codes "PLAN" ∷ codes "SCRIPT" ∷ []
 ids_of (Costs plan script) = codes "PLAN" ∷ codes "SCRIPT" ∷ []
 ids_of (Response plan script every within) = codes "PLAN" ∷ codes "SCRIPT" ∷ []
@@ -98,7 +112,9 @@ words_of (Plan plan) = plan.now ∷ []
 words_of (Commands plan) = plan.now ∷ []
 words_of (Check plan script) = plan.now ∷ script.now ∷ []
 words_of (Explain plan script) = plan.now ∷ script.now ∷ []
+words_of (ExplainAt line column plan script) = plan.now ∷ script.now ∷ []
 words_of (ExplainPlan plan) = plan.now ∷ []
+words_of (ExplainRule code) = code.now ∷ []
 words_of (Bounds plan script) = plan.now ∷ script.now ∷ []
 words_of (Costs plan script) = plan.now ∷ script.now ∷ []
 words_of (Response plan script every within) = plan.now ∷ script.now ∷ []
@@ -112,13 +128,43 @@ inputs_of (Plan plan) = plan.now ∷ []
 inputs_of (Commands plan) = plan.now ∷ []
 inputs_of (Check plan script) = plan.now ∷ script.now ∷ []
 inputs_of (Explain plan script) = plan.now ∷ script.now ∷ []
+inputs_of (ExplainAt line column plan script) = plan.now ∷ script.now ∷ []
 inputs_of (ExplainPlan plan) = plan.now ∷ []
+inputs_of (ExplainRule code) = []
 inputs_of (Bounds plan script) = plan.now ∷ script.now ∷ []
 inputs_of (Costs plan script) = plan.now ∷ script.now ∷ []
 inputs_of (Response plan script every within) = plan.now ∷ script.now ∷ []
 inputs_of (Run plan script answers events) = plan.now ∷ script.now ∷ answers.now ∷ []
 inputs_of (Drive plan script events) = codes "@in" ∷ plan.now ∷ script.now ∷ []
 inputs_of (Events file) = file.now ∷ []
+
+-- a capital letter, and digits after it
+abbrev pub is_digit : ℕ → Bool
+is_digit c = nat_le 48 c && nat_le c 57
+
+abbrev pub are_digits : Text → Bool
+are_digits [] = true
+are_digits (c ∷ cs) = is_digit c && are_digits cs
+
+abbrev pub has_code_form : Text → Bool
+has_code_form [] = false
+has_code_form (c ∷ []) = false
+has_code_form (c ∷ d ∷ cs) = ((nat_le 65 c && nat_le c 90) && is_digit d) && are_digits cs
+
+-- decimal digits alone, and the number from 1 on that they write
+pub record IsCount (digits : Text) (n : ℕ) : Type 0 where
+  pub numeral : IsNumeral 10 digits
+  pub value : n ≡ digits_value 10 digits
+  pub least : 1 ≤ n
+  pub most : n < 2 ^ 32
+
+-- on the two sides of the first colon
+abbrev pub is_colon : ℕ → Bool
+is_colon byte = byte == 58
+
+pub record IsPlace (word : Text) (line column : ℕ) : Type 0 where
+  pub line_is : IsCount (before_first is_colon word) line
+  pub column_is : IsCount (after_first is_colon word) column
 
 -- an option is among the words
 abbrev pub is_true : Option Text → Bool
@@ -132,12 +178,16 @@ is_on id rows = is_true (first_of id rows)
 abbrev pub values_of : Text → List Row → List Text
 values_of id rows = unwrap_or (all_of id rows) []
 
--- what tells jobs of one subcommand apart: the option of `plan`, whether `explain` is given a script, and what stands after the options of
--- `response`
+-- what tells jobs of one subcommand apart: the option of `plan`; whether `explain` is given a place, else whether it is given a script, else
+-- whether its word may be a code; and what stands after the options of `response`
 abbrev pub HasForm : Job → List Row → Type 0
 HasForm (Plan plan) rows = is_on (codes "commands") rows ≡ false
 HasForm (Commands plan) rows = is_on (codes "commands") rows ≡ true
-HasForm (ExplainPlan plan) rows = first_of (codes "SCRIPT") rows ≡ None
+HasForm (Explain plan script) rows = first_of (codes "at") rows ≡ None
+HasForm (ExplainAt line column plan script) rows =
+    (word : Text) × (first_of (codes "at") rows ≡ Some word) × IsPlace word line column
+HasForm (ExplainPlan plan) rows = (first_of (codes "at") rows ≡ None) × (first_of (codes "SCRIPT") rows ≡ None) × (has_code_form plan.now ≡ false)
+HasForm (ExplainRule code) rows = (first_of (codes "at") rows ≡ None) × (first_of (codes "SCRIPT") rows ≡ None) × (has_code_form code.now ≡ true)
 HasForm (Response plan script every within) rows =
     (map (λ w. w.now) every.items ≡ values_of (codes "every") rows) × (map (λ w. w.now) within.items ≡ values_of (codes "within") rows)
 HasForm _ rows = Unit {0}

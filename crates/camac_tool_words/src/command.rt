@@ -4,7 +4,7 @@ ghost use Rattle.std.specs.Prelude.{◌≡◌, IfOk, false};
 ghost use Rattle.clap.specs.Words.{app_of, kind_of, new_app, rule_of};
 ghost use Rattle.clap.specs.declared.builder.command.Command.TheViews.{out-Command};
 ghost use Rattle.clap.specs.declared.error.kind.ErrorKind.TheVariants.{ValueValidation};
-ghost use Rattle.camac_tool_words.specs.Words.{word_rule, optional_rule, option_rule, script_app, plan_app, check_app, explain_app, bounds_app, costs_app, response_app, setting_rule, run_app, drive_app, events_app, camac_top, camac_app};
+ghost use Rattle.camac_tool_words.specs.Words.{word_rule, named_rule, optional_rule, option_rule, place_rule, script_app, plan_app, check_app, explain_app, bounds_app, costs_app, response_app, setting_rule, run_app, drive_app, events_app, camac_top, camac_app};
 
 use crate::texts;
 use clap::error::ErrorKind;
@@ -47,6 +47,14 @@ fn word<'a>(alloc: Global, name: &'a str, help: &'a str) -> Arg<'a>
     Arg::new(alloc, name).required(true).help(help)
 }
 
+// A word that has to be given, what it is shown as, and what help says of it.
+fn named_word<'a>(alloc: Global, name: &'a str, shown: &'a str, help: &'a str) -> Arg<'a>
+    ensures rule { rule_of result ≡ named_rule name.entry.now }
+    ensures local { result.global ≡ false }
+{
+    word(alloc, name, help).value_name(shown)
+}
+
 // A word that may be missing, and what help says of it.
 fn optional_word<'a>(alloc: Global, name: &'a str, help: &'a str) -> Arg<'a>
     ensures rule { rule_of result ≡ optional_rule name.entry.now }
@@ -75,6 +83,18 @@ fn setting<'a>(alloc: Global, name: &'a str, help: &'a str) -> Arg<'a>
         .long(name)
         .action(ArgAction::Append)
         .value_name("SERVICE=CYCLES")
+        .help(help)
+}
+
+// An option with the place of a script as its value, and what help says of it.
+fn place_option<'a>(alloc: Global, name: &'a str, help: &'a str) -> Arg<'a>
+    ensures rule { rule_of result ≡ place_rule name.entry.now }
+    ensures local { result.global ≡ false }
+{
+    Arg::new(alloc, name)
+        .long(name)
+        .action(ArgAction::Set)
+        .value_name("LINE:COLUMN")
         .help(help)
 }
 
@@ -127,8 +147,9 @@ fn explain_command<'a>(alloc: Global) -> Result<Command<'a>, AllocError>
         texts::EXPLAIN_COMMAND,
         texts::AFTER_EXPLAIN,
     )
-    .arg(word(alloc, "PLAN", texts::PLAN))?
-    .arg(optional_word(alloc, "SCRIPT", texts::SCRIPT))
+    .arg(named_word(alloc, "PLAN", "PLAN|CODE", texts::PLAN_OR_CODE))?
+    .arg(optional_word(alloc, "SCRIPT", texts::SCRIPT))?
+    .arg(place_option(alloc, "at", texts::AT))
 }
 
 fn bounds_command<'a>(alloc: Global) -> Result<Command<'a>, AllocError>

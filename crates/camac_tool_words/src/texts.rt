@@ -32,7 +32,12 @@ pub const EVENTS_COMMAND: &str = "Lists an event file";
 
 pub const PLAN: &str = "A plan: a TOML file, or @sample, the built-in plan, or @in, standard input";
 
+pub const PLAN_OR_CODE: &str =
+    "A plan: a TOML file, or @sample, or @in, standard input; or the code of a rule";
+
 pub const COMMANDS: &str = "Lists the commands of each type, too";
+
+pub const AT: &str = "Prints what is known before the statement there";
 
 pub const SCRIPT: &str = "A script: a file, or @in, standard input";
 
@@ -97,7 +102,18 @@ goes on with the line of the script or the place in the plan, what is wrong
 there, why the rule is there, and how to fix it. Status as check. At most one of
 the two can be @in.
 
+Given the code of a refusal, it prints why the rule is there, each way to fix it,
+and an example. It reads no file. A lone word of a capital letter and digits is a
+code, so give a plan with such a name as ./E12.
+
+With --at it prints what the checker knows before the statement at that place:
+'reached', then a line for each variable with its range, for each register that is
+set with its crates, stations and sub-addresses, and for each locked crate; or
+'not reached' (status 0). If no statement is there, it says so (status 1).
+
 Examples:
+  camac explain E12
+  camac explain --at 6:3 plan.toml readout.script
   camac explain plan.toml
   camac explain plan.toml readout.script
   camac explain @sample @in < readout.script";

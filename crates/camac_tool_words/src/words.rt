@@ -1,10 +1,10 @@
 // What the words after the program's name ask for.
 
-ghost use Rattle.std.specs.Prelude.{◌≡◌, ◌≤◌, ◌↔◌, IsTrue, option_map, map, string_bytes, codes, Some, IfOk, IfErr};
+ghost use Rattle.std.specs.Prelude.{◌≡◌, ◌≤◌, ◌↔◌, ℕ, IfNone, IfSome, IsTrue, option_map, map, string_bytes, codes, Some, IfOk, IfErr};
 ghost use Rattle.std.specs.Str.{bytes_eq};
 ghost use Rattle.clap.specs.Words.{first_of, found_of, rows_of, subcommand_of, subcommand_rows_of};
 ghost use Rattle.camac_tool_words.specs.declared.words.JobFault.TheVariants.{Usage};
-ghost use Rattle.camac_tool_words.specs.Words.{camac_app, is_on, IsJob, IsFaultOf, IsOfMemory, NamesJob, input_count_of, values_of};
+ghost use Rattle.camac_tool_words.specs.Words.{camac_app, IsCount, IsPlace, are_digits, has_code_form, is_digit, is_on, IsJob, IsFaultOf, IsOfMemory, NamesJob, input_count_of, values_of};
 
 use crate::command::camac_command;
 use clap::error::ErrorKind;
@@ -19,7 +19,11 @@ pub enum Job<'a> {
     Commands(&'a str),
     Check(&'a str, &'a str),
     Explain(&'a str, &'a str),
+    /// A line and a column, from 1, a plan and a script.
+    ExplainAt(u32, u32, &'a str, &'a str),
     ExplainPlan(&'a str),
+    /// A word that has the form of a code.
+    ExplainRule(&'a str),
     Bounds(&'a str, &'a str),
     Costs(&'a str, &'a str),
     /// A plan, a script, and the words after `--every` and `--within`.
@@ -64,8 +68,11 @@ pub fn read_words<'a>(alloc: Global, words: &'a [String]) -> Result<Job<'a>, Job
     let mut command = camac_command(alloc)?;
     let matches = command.try_get_matches_from_mut(words)?;
     let Some(job) = job_of(alloc, &matches)? else {
-        // Never, since each word is required.
-        let error = command.error(ErrorKind::MissingRequiredArgument, "a word is missing")?;
+        // Of `explain` alone: the other words are required.
+        let error = command.error(
+            ErrorKind::ValueValidation,
+            "'--at <LINE:COLUMN>' needs two numbers from 1, a plan and a script",
+        )?;
         return Err(JobFault::Usage(error));
     };
     if input_count(&job) > 1 {
@@ -134,10 +141,75 @@ fn explain_job<'a>(found: &ArgMatches<'a>) -> Option<Job<'a>>
     ensures { NamesJob (Some (codes "explain", rows_of (found_of found.now))) result }
 {
     let plan = value_of(found, "PLAN")?;
+    if let Some(place) = value_of(found, "at") {
+        let (line, column) = place_in(place)?;
+        return Some(Job::ExplainAt(line, column, plan, value_of(found, "SCRIPT")?));
+    }
     Some(match value_of(found, "SCRIPT") {
         Some(script) => Job::Explain(plan, script),
+        None if has_code_form(plan) => Job::ExplainRule(plan),
         None => Job::ExplainPlan(plan),
     })
+}
+
+// The line and the column on the two sides of the first `:`.
+fn place_in(word: &str) -> Option<(u32, u32)>
+    ensures some { IfSome result (λ p. IsPlace word.now p.0 p.1) }
+    ensures none { IfNone result ((line column : ℕ) → IsPlace word.now line column → ⊥) }
+{
+    let (line, column) = word.split_once(':')?;
+    counts_in(line, column)
+}
+
+fn counts_in(line: &str, column: &str) -> Option<(u32, u32)>
+    ensures some { IfSome result (λ p. IsCount line.now p.0 × IsCount column.now p.1) }
+    ensures none { IfNone result ((l c : ℕ) → IsCount line.now l → IsCount column.now c → ⊥) }
+{
+    let line = count_in(line)?;
+    let column = count_in(column)?;
+    Some((line, column))
+}
+
+// The number, from 1, of decimal digits without a sign.
+fn count_in(digits: &str) -> Option<u32>
+    ensures some { IfSome result (λ n. IsCount digits.now n) }
+    ensures none { IfNone result ((n : ℕ) → IsCount digits.now n → ⊥) }
+{
+    if digits.starts_with('+') {
+        return None;
+    }
+    let count = digits.parse::<u32>().ok()?;
+    if count == 0 {
+        return None;
+    }
+    Some(count)
+}
+
+// Whether a word is a capital letter and digits after it.
+fn has_code_form(word: &str) -> bool
+    ensures { result ≡ has_code_form word.now }
+{
+    match word.as_bytes() {
+        [letter, digit, rest @ ..] => {
+            b'A' <= *letter && *letter <= b'Z' && is_digit(*digit) && are_digits(rest)
+        }
+        _ => false,
+    }
+}
+
+fn are_digits(bytes: &[u8]) -> bool
+    ensures { result ≡ are_digits bytes.now }
+{
+    match bytes {
+        [] => true,
+        [first, rest @ ..] => is_digit(*first) && are_digits(rest),
+    }
+}
+
+fn is_digit(byte: u8) -> bool
+    ensures { result ≡ is_digit byte }
+{
+    b'0' <= byte && byte <= b'9'
 }
 
 fn bounds_job<'a>(found: &ArgMatches<'a>) -> Option<Job<'a>>
@@ -258,11 +330,13 @@ fn input_count(job: &Job<'_>) -> usize
         Job::Plan(plan) | Job::Commands(plan) | Job::ExplainPlan(plan) => is_in(plan),
         Job::Check(plan, script)
         | Job::Explain(plan, script)
+        | Job::ExplainAt(_, _, plan, script)
         | Job::Bounds(plan, script)
         | Job::Costs(plan, script)
         | Job::Response(plan, script, _, _) => is_in(plan) + is_in(script),
         Job::Run(plan, script, answers, _) => is_in(plan) + is_in(script) + is_in(answers),
         Job::Drive(plan, script, _) => 1 + is_in(plan) + is_in(script),
         Job::Events(file) => is_in(file),
+        Job::ExplainRule(_) => 0,
     }
 }

@@ -6,13 +6,10 @@ from typing import Dict, List, NamedTuple, Optional, Tuple
 
 from camac.bodies import Row, rows_of_line
 from camac.layout import begins
-from camac.loops.heads import Known
-from camac.loops.widths import Widths
 from camac.lsp.workspace import Judged
 from camac.names import Block, Mention
-from camac.reader import read_script
 from camac.tokens import Token, tokens_of
-from camac.tree import Loop, Range, all_in
+from camac.tree import Range
 
 ABOUT = re.compile(r"at (\S+) (\S+) (\S+)(?: to (\S+) (\S+) (\S+))?")
 # The lines around a place in which the statement is looked for, and the cycles of a register that are shown.
@@ -84,27 +81,21 @@ def _has_row(word: str, is_first: bool) -> bool:
 
 
 def range_at(judged: Judged, mention: Mention) -> Optional[Range]:
-    """The range of a variable before the statement that names it, as `camac-check --keeps` reckons it; None if the statement is not reached, or the
-    text has a fault. This alone says what is known of a variable."""
-    block, told = judged.names.block_at(mention.start), judged.ask("check")
-    if block is None or not (told.accepted or told.text.startswith("refused E")):
-        return None
-    key = "ranges", block.start
-    if key not in judged.kept:
-        judged.kept[key] = _states(judged, block)
-    states: Dict[int, Dict[str, Range]] = judged.kept[key]
+    """The range of a variable before the statement that names it, as the checker knows it; None where it does not come to the statement."""
     its = statement_tokens(judged, mention.start)
-    return states.get(its[0].start, {}).get(mention.symbol.name) if its else None
+    words = _known(judged, its[0]).get(mention.symbol.name, []) if its else []
+    return _range(words[0]) if len(words) == 1 else None
 
 
-def _states(judged: Judged, block: Block) -> Dict[int, Dict[str, Range]]:
-    """The ranges of variables before each statement of a body, by where it begins; at a loop those at the begin of its turns."""
-    body = next((it for it in read_script(judged.text.data).bodies if it.start == block.start), None)
-    if body is None:
-        return {}
-    kept = {(it, keep.name): keep.range for it in all_in(body.statements) if isinstance(it, Loop) for keep in it.keeps}
-    known = Known(body, Widths(judged.judge.file, judged.judge.program), {}, kept)
-    return {it.start: {name: its[:2] for name, its in state.variables.items()} for it, state in known.before.items()}
+def _known(judged: Judged, first: Token) -> Dict[str, List[str]]:
+    """The words of `camac explain --at` behind each name, at a statement that is given by its first token; nothing where it is not reached."""
+    key = "known", first.start
+    if key not in judged.kept:
+        line = judged.text.line_at(first.start)
+        told = judged.judge.known_at(judged.text.data, line, first.start - judged.text.line_starts[line - 1] + 1)
+        judged.kept[key] = {it[0]: it[1:] for it in map(str.split, told.text.splitlines()[1:])} if told.accepted else {}
+    its: Dict[str, List[str]] = judged.kept[key]
+    return its
 
 
 def addresses(judged: Judged, mention: Mention) -> List[Tuple[int, Address]]:

@@ -13,7 +13,7 @@ from camac.library import Verdict
 from camac.lsp.documents import Text
 from camac.names import Names
 from camac.plans import Plan, parse_plan
-from camac.program import explain_plan, output_of, quickest, verdict
+from camac.program import explain_plan, known_at, output_of, quickest, verdict
 from camac.texts import GREATEST_TEXT, SAMPLE, plan_text
 from camac.toml_places import with_commands
 
@@ -87,6 +87,12 @@ class Judge:
         if max(len(script), len(self.data)) > GREATEST_TEXT:
             return Verdict(False, "fault input too long\n")
         return verdict(command, self.file, script, self.program)
+
+    def known_at(self, script: bytes, line: int, column: int) -> Verdict:
+        """What the checker knows before the statement at a place, from 1, the column in bytes."""
+        if max(len(script), len(self.data)) > GREATEST_TEXT:
+            return Verdict(False, "fault input too long\n")
+        return known_at(self.file, script, line, column, self.program)
 
     @cached_property
     def explained(self) -> Verdict:

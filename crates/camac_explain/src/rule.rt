@@ -1,0 +1,468 @@
+// The rules by their codes, and what is said of each without a case.
+
+ghost use Rattle.std.specs.Prelude.{◌≡◌, ◌++◌, ◌↔◌, IfNone, IfOk, IfSome, IsTrue, OnOk, codes};
+ghost use Rattle.camac_explain.specs.Explanation.{line_of};
+ghost use Rattle.camac_explain.specs.Rule.{Grows, IsEarly, IsRuleOf, IsRuleText, Names, any_value, check_mends, mend_line, mends_of, minus, moving, needing, of_service, rule_code, turns, why_of};
+ghost use Rattle.camac_report_text.specs.Codes.{check_code, link_code, plan_code, text_code};
+
+use crate::advice::{check_advice, link_advice, plan_advice, text_advice};
+use crate::example::{Example, check_example, link_example, plan_example, text_example};
+use camac_check_rules::{Body, Case, CheckRule, Numbers, Operator};
+use camac_func::FunctionClass;
+use camac_names::LinkRule;
+use camac_plan::PlanRule;
+use camac_report_text::{Code, Refusal};
+use camac_text::TextRule;
+use std::alloc::{AllocError, Global};
+
+/// A rule of plans, of a script's text, of linking or of the checker.
+#[derive(Clone, Copy, Debug, PartialEq, Eq)]
+pub enum Rule {
+    Plan(PlanRule),
+    Text(TextRule),
+    Link(LinkRule),
+    Check(CheckRule),
+}
+
+impl Rule {
+    /// The rule of a code: P1 to P9, P11, S1 to S7, L1 to L4, E1 to E18 or E21.
+    pub fn of_code(code: &str) -> Option<Rule>
+        ensures { IsRuleOf code.now result }
+    {
+        if let Some(rule) = plan_rule(code) {
+            return Some(Rule::Plan(rule));
+        }
+        if let Some(rule) = text_rule(code) {
+            return Some(Rule::Text(rule));
+        }
+        if let Some(rule) = link_rule(code) {
+            return Some(Rule::Link(rule));
+        }
+        match check_rule(code) {
+            Some(rule) => Some(Rule::Check(rule)),
+            None => None,
+        }
+    }
+
+    /// Its code.
+    pub fn code(self) -> Code
+        ensures name { result.name.now ≡ (rule_code self).0 }
+        ensures meaning { result.meaning.now ≡ (rule_code self).1 }
+    {
+        let line = 1;
+        let refusal = match self {
+            Rule::Plan(rule) => Refusal::Plan(rule),
+            Rule::Text(rule) => Refusal::Text { rule, line },
+            Rule::Link(rule) => Refusal::Link { rule, line },
+            Rule::Check(rule) => Refusal::Check { rule, line },
+        };
+        refusal.code()
+    }
+}
+
+fn is_code(word: &str, code: &str) -> bool
+    ensures { IsTrue result ↔ (word.now ≡ code.now) }
+{
+    word == code
+}
+
+fn plan_rule(code: &str) -> Option<PlanRule>
+    ensures { Names plan_code code.now result }
+{
+    if is_code(code, "P1") {
+        Some(PlanRule::NotToml)
+    } else if is_code(code, "P2") {
+        Some(PlanRule::UnknownKey)
+    } else if is_code(code, "P3") {
+        Some(PlanRule::MissingOrWrongKind)
+    } else if is_code(code, "P4") {
+        Some(PlanRule::OutOfRange)
+    } else if is_code(code, "P5") {
+        Some(PlanRule::CrateTwice)
+    } else if is_code(code, "P6") {
+        Some(PlanRule::StationTwice)
+    } else if is_code(code, "P7") {
+        Some(PlanRule::UnknownType)
+    } else if is_code(code, "P8") {
+        Some(PlanRule::DeclaredTwice)
+    } else if is_code(code, "P9") {
+        Some(PlanRule::BitTwice)
+    } else if is_code(code, "P11") {
+        Some(PlanRule::TooDeep)
+    } else {
+        None
+    }
+}
+
+fn text_rule(code: &str) -> Option<TextRule>
+    ensures { Names text_code code.now result }
+{
+    if is_code(code, "S1") {
+        Some(TextRule::BadByte)
+    } else if is_code(code, "S2") {
+        Some(TextRule::UnexpectedToken)
+    } else if is_code(code, "S3") {
+        Some(TextRule::NumberTooLarge)
+    } else if is_code(code, "S4") {
+        Some(TextRule::DeclaredTwice)
+    } else if is_code(code, "S5") {
+        Some(TextRule::NotDeclared)
+    } else if is_code(code, "S6") {
+        Some(TextRule::LimitPassed)
+    } else if is_code(code, "S7") {
+        Some(TextRule::BranchNotOne)
+    } else {
+        None
+    }
+}
+
+fn link_rule(code: &str) -> Option<LinkRule>
+    ensures { Names link_code code.now result }
+{
+    if is_code(code, "L1") {
+        Some(LinkRule::LamNotInstalled)
+    } else if is_code(code, "L2") {
+        Some(LinkRule::StationWithoutBit)
+    } else if is_code(code, "L3") {
+        Some(LinkRule::StationServedTwice)
+    } else if is_code(code, "L4") {
+        Some(LinkRule::EventAboveBuffer)
+    } else {
+        None
+    }
+}
+
+fn check_rule(code: &str) -> Option<CheckRule>
+    ensures { Names check_code code.now result }
+{
+    if is_code(code, "E1") {
+        Some(CheckRule::StationNotInstalled)
+    } else if is_code(code, "E2") {
+        Some(CheckRule::CommandNotDeclared)
+    } else if is_code(code, "E3") {
+        Some(CheckRule::WrongDirection)
+    } else if is_code(code, "E4") {
+        Some(CheckRule::ValueOutOfRange)
+    } else if is_code(code, "E5") {
+        Some(CheckRule::ValueTooWide)
+    } else if is_code(code, "E6") {
+        Some(CheckRule::RegisterUnset)
+    } else if is_code(code, "E7") {
+        Some(CheckRule::MeasureBroken)
+    } else if is_code(code, "E8") {
+        Some(CheckRule::KeepFailsAtEntry)
+    } else if is_code(code, "E9") {
+        Some(CheckRule::KeepFailsAfterTurn)
+    } else if is_code(code, "E10") {
+        Some(CheckRule::TooManyTurns)
+    } else {
+        later_rule(code)
+    }
+}
+
+// E11 to E18, and E21.
+fn later_rule(code: &str) -> Option<CheckRule>
+    ensures some { IfSome result (λ r. (check_code r).0 ≡ code.now) }
+    ensures none { IfNone result (IsEarly code.now) }
+{
+    if is_code(code, "E11") {
+        Some(CheckRule::TooManyWords)
+    } else if is_code(code, "E12") {
+        Some(CheckRule::TooManyCycles)
+    } else if is_code(code, "E13") {
+        Some(CheckRule::ScanCratesDiffer)
+    } else if is_code(code, "E14") {
+        Some(CheckRule::CountAboveTable)
+    } else if is_code(code, "E15") {
+        Some(CheckRule::CrateUnfit)
+    } else if is_code(code, "E16") {
+        Some(CheckRule::WordTooWide)
+    } else if is_code(code, "E17") {
+        Some(CheckRule::LoopVariableAssigned)
+    } else if is_code(code, "E18") {
+        Some(CheckRule::TooManySteps)
+    } else if is_code(code, "E21") {
+        Some(CheckRule::ArgumentOutOfRange)
+    } else {
+        None
+    }
+}
+
+/// Explains a rule without a case: its code and meaning, why it is there, each way to fix it, and an example.
+pub fn explain_rule(alloc: Global, rule: Rule) -> Result<Vec<u8>, AllocError>
+    ensures { IfOk result (λ v. IsRuleText rule v.items) }
+{
+    let code = rule.code();
+    let mut lines = Vec::new(alloc);
+    push_line(&mut lines, code.name, ": ", code.meaning)?;
+    push_line(&mut lines, "Why", ": ", why_of(rule))?;
+    push_mends(&mut lines, rule)?;
+    push_example(&mut lines, example_of(rule))?;
+    push_line(&mut lines, "More", ": docs/REFUSALS.md, ", code.name)?;
+    Ok(lines)
+}
+
+fn push_line(lines: &mut Vec<u8>, label: &str, after: &str, text: &str) -> Result<(), AllocError>
+    ensures { OnOk result (lines.new.items ≡ lines.old.items ++ line_of (label.now ++ after.now) text.now) }
+{
+    lines.extend_from_slice(label.as_bytes())?;
+    lines.extend_from_slice(after.as_bytes())?;
+    lines.extend_from_slice(text.as_bytes())?;
+    lines.push(b'\n')?;
+    Ok(())
+}
+
+fn why_of(rule: Rule) -> &'static str
+    ensures { result.now ≡ why_of rule }
+{
+    match rule {
+        Rule::Plan(rule) => plan_advice(rule).why,
+        Rule::Text(rule) => text_advice(rule).why,
+        Rule::Link(rule) => link_advice(rule).why,
+        Rule::Check(rule) => check_advice(rule, Case::Malformed).why,
+    }
+}
+
+fn push_mends(lines: &mut Vec<u8>, rule: Rule) -> Result<(), AllocError>
+    ensures { OnOk result (lines.new.items ≡ lines.old.items ++ mends_of rule) }
+{
+    match rule {
+        Rule::Plan(rule) => push_line(lines, "Fix", ": ", plan_advice(rule).mend),
+        Rule::Text(rule) => push_line(lines, "Fix", ": ", text_advice(rule).mend),
+        Rule::Link(rule) => push_line(lines, "Fix", ": ", link_advice(rule).mend),
+        Rule::Check(rule) => push_check_mends(lines, rule),
+    }
+}
+
+// The fix of a rule in a case, and what it is for.
+#[tactic(auto, unfolding(crate::specs::Rule::mend_line))]
+fn push_mend(
+    lines: &mut Vec<u8>,
+    rule: CheckRule,
+    purpose: &str,
+    case: Case,
+) -> Result<(), AllocError>
+    ensures { OnOk result (lines.new.items ≡ lines.old.items ++ mend_line rule purpose.now case) }
+{
+    lines.extend_from_slice(b"Fix")?;
+    push_line(lines, purpose, ": ", check_advice(rule, case).mend)
+}
+
+// If the case decides what helps, a rule has several fixes.
+fn push_check_mends(lines: &mut Vec<u8>, rule: CheckRule) -> Result<(), AllocError>
+    ensures { OnOk result (lines.new.items ≡ lines.old.items ++ check_mends rule) }
+{
+    match rule {
+        CheckRule::WrongDirection => push_direction_mends(lines),
+        CheckRule::ValueOutOfRange => push_operation_mends(lines),
+        CheckRule::ValueTooWide => push_width_mends(lines),
+        CheckRule::WordTooWide => push_word_mends(lines),
+        CheckRule::TooManyTurns => push_turn_mends(lines),
+        CheckRule::TooManyWords => push_event_mends(lines),
+        CheckRule::TooManyCycles => push_cycle_mends(lines),
+        CheckRule::TooManySteps => push_step_mends(lines),
+        _ => push_mend(lines, rule, "", Case::Malformed),
+    }
+}
+
+fn push_direction_mends(lines: &mut Vec<u8>) -> Result<(), AllocError>
+    ensures { OnOk result (lines.new.items ≡ lines.old.items ++ check_mends CheckRule.WrongDirection) }
+{
+    let rule = CheckRule::WrongDirection;
+    push_mend(
+        lines,
+        rule,
+        ", a function that reads",
+        moving(FunctionClass::Read),
+    )?;
+    push_mend(
+        lines,
+        rule,
+        ", a function that writes",
+        moving(FunctionClass::Write),
+    )?;
+    push_mend(
+        lines,
+        rule,
+        ", a function that moves no data",
+        moving(FunctionClass::Control),
+    )
+}
+
+fn push_operation_mends(lines: &mut Vec<u8>) -> Result<(), AllocError>
+    ensures { OnOk result (lines.new.items ≡ lines.old.items ++ check_mends CheckRule.ValueOutOfRange) }
+{
+    let rule = CheckRule::ValueOutOfRange;
+    push_mend(lines, rule, ", of other results", minus((1, 1), (1, 1)))?;
+    push_mend(
+        lines,
+        rule,
+        ", of a difference of two variables",
+        minus((0, 1), (0, 1)),
+    )?;
+    push_mend(
+        lines,
+        rule,
+        ", of a difference whose right side may be any number",
+        minus((0, 1), (0, u32::MAX)),
+    )?;
+    push_mend(
+        lines,
+        rule,
+        ", of other results of a number that may be any",
+        minus((0, u32::MAX), (1, 1)),
+    )
+}
+
+fn push_width_mends(lines: &mut Vec<u8>) -> Result<(), AllocError>
+    ensures { OnOk result (lines.new.items ≡ lines.old.items ++ check_mends CheckRule.ValueTooWide) }
+{
+    let rule = CheckRule::ValueTooWide;
+    push_mend(lines, rule, "", Case::Malformed)?;
+    push_mend(lines, rule, ", of a value that may be any", any_value())
+}
+
+fn push_word_mends(lines: &mut Vec<u8>) -> Result<(), AllocError>
+    ensures { OnOk result (lines.new.items ≡ lines.old.items ++ check_mends CheckRule.WordTooWide) }
+{
+    let rule = CheckRule::WordTooWide;
+    push_mend(lines, rule, "", Case::Malformed)?;
+    push_mend(lines, rule, ", of a value that may be any", any_value())
+}
+
+fn push_turn_mends(lines: &mut Vec<u8>) -> Result<(), AllocError>
+    ensures { OnOk result (lines.new.items ≡ lines.old.items ++ check_mends CheckRule.TooManyTurns) }
+{
+    let rule = CheckRule::TooManyTurns;
+    push_mend(
+        lines,
+        rule,
+        ", where at most 65535 turns are needed",
+        turns(65_535),
+    )?;
+    push_mend(lines, rule, ", where more are needed", turns(65_536))?;
+    push_mend(
+        lines,
+        rule,
+        ", where the number after `turns` is above 65535",
+        Case::Malformed,
+    )
+}
+
+fn push_event_mends(lines: &mut Vec<u8>) -> Result<(), AllocError>
+    ensures { OnOk result (lines.new.items ≡ lines.old.items ++ check_mends CheckRule.TooManyWords) }
+{
+    let rule = CheckRule::TooManyWords;
+    push_mend(lines, rule, ", up to 4,096 words", of_service(4096))?;
+    push_mend(lines, rule, ", above that", of_service(4097))
+}
+
+fn push_cycle_mends(lines: &mut Vec<u8>) -> Result<(), AllocError>
+    ensures { OnOk result (lines.new.items ≡ lines.old.items ++ check_mends CheckRule.TooManyCycles) }
+{
+    let rule = CheckRule::TooManyCycles;
+    push_mend(lines, rule, "", of_service(u64::from(u32::MAX)))?;
+    push_mend(
+        lines,
+        rule,
+        ", of a procedure",
+        of_procedure(u64::from(u32::MAX)),
+    )?;
+    push_mend(
+        lines,
+        rule,
+        ", where more than 4294967295 are needed",
+        of_service(u64::from(u32::MAX) + 1),
+    )
+}
+
+fn push_step_mends(lines: &mut Vec<u8>) -> Result<(), AllocError>
+    ensures { OnOk result (lines.new.items ≡ lines.old.items ++ check_mends CheckRule.TooManySteps) }
+{
+    let rule = CheckRule::TooManySteps;
+    push_mend(lines, rule, "", of_service(u64::from(u32::MAX)))?;
+    push_mend(
+        lines,
+        rule,
+        ", where more than 4294967295 are needed",
+        of_service(u64::from(u32::MAX) + 1),
+    )
+}
+
+// A case of each fix.
+
+fn moving(class: FunctionClass) -> Case
+    ensures { result ≡ moving class }
+{
+    Case::Direction {
+        function: 0,
+        class,
+        moves: class,
+    }
+}
+
+fn minus(left: (u32, u32), right: (u32, u32)) -> Case
+    ensures { result ≡ minus left right }
+{
+    Case::Operation {
+        operator: Operator::Sub,
+        left: Numbers {
+            low: left.0,
+            high: left.1,
+        },
+        right: Numbers {
+            low: right.0,
+            high: right.1,
+        },
+    }
+}
+
+fn any_value() -> Case
+    ensures { result ≡ any_value }
+{
+    Case::Word { greatest: u32::MAX }
+}
+
+fn turns(needed: u64) -> Case
+    ensures { result ≡ turns needed }
+{
+    Case::Turns { needed, allowed: 0 }
+}
+
+fn of_service(needed: u64) -> Case
+    ensures { result ≡ of_service needed }
+{
+    Case::Budget {
+        body: Body::Service(0),
+        needed,
+        allowed: 0,
+    }
+}
+
+fn of_procedure(needed: u64) -> Case
+    ensures { result ≡ needing (Body.Procedure 0) needed }
+{
+    Case::Budget {
+        body: Body::Procedure(0),
+        needed,
+        allowed: 0,
+    }
+}
+
+fn example_of(rule: Rule) -> Example {
+    match rule {
+        Rule::Plan(rule) => plan_example(rule),
+        Rule::Text(rule) => text_example(rule),
+        Rule::Link(rule) => link_example(rule),
+        Rule::Check(rule) => check_example(rule),
+    }
+}
+
+fn push_example(lines: &mut Vec<u8>, example: Example) -> Result<(), AllocError>
+    ensures { OnOk result (Grows lines.old.items lines.new.items) }
+{
+    lines.extend_from_slice(example.head.as_bytes())?;
+    lines.push(b'\n')?;
+    lines.extend_from_slice(example.text.as_bytes())?;
+    Ok(())
+}
