@@ -15,6 +15,7 @@ use camac_branch::Plan;
 use camac_check::{CheckFault, Context, accept_next, at_entry};
 use camac_check_known::{Around, Facts, split};
 use camac_check_loops::{for_limits, while_head};
+use camac_check_rows::Rows;
 use camac_check_rules::Body;
 use camac_check_simple::{Place, lock_crate};
 use camac_lang::{Item, Procedure, Script, Service, Stmt};
