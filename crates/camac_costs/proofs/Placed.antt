@@ -15,7 +15,7 @@ use Rattle.camac_check_rules.specs.Statements.{accept_statement}
 use Rattle.camac_check_simple.specs.Gives.{Fails}
 use Rattle.camac_check_known.specs.declared.fault.CheckFault.TheVariants.{OutOfMemory, Broken}
 use Rattle.camac_check_rules.specs.Fault.{broken}
-use Rattle.camac_check.proofs.Blocks.{next_of}
+use Rattle.camac_check_rows.proofs.Trees.{next_of}
 use Rattle.camac_costs.specs.Places.{Place, first_or, past, past_block, place_in, place_in_block}
 
 -- ---- numbers
