@@ -22,7 +22,7 @@ place_in_block-returns-in-None-after t c =
     let lt : i < length xs = omega arith in
     sym c.statements.invariant
     ∙ place_ends (by_code c.args.context.now) c.statements.around xs i c.statement-item.result c.statements.here c.statements.left lt c.statement-item.is
-    c.in-Some.number (verdict_of c.in_ok-after.field-0) (sym c.past.ensures ∙ c.in-Some.is) c.in_ok-after.ensures c.in-None-after.is
+    c.in-Some.number (verdict_of c.in_ok-after.field-0) (sym c.past.ensures ∙ c.in-Some.is) c.in_ok-after.ensures.found c.in-None-after.is
 
 pub place_in_block-returns : goal.place_in_block-returns
 place_in_block-returns t c =
