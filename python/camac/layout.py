@@ -57,10 +57,11 @@ def formatted(text: bytes) -> bytes:
     """A script in the one layout. Raises LayoutFault if it has a byte that begins no token or braces that are not closed, or if it would be too
     long."""
     rows = rows_of(text)
-    made = _written(_Layout(list(_pieces(rows))).lines()).encode("latin-1")
+    kept = _kept(rows)
+    made = _written(_Layout(list(_pieces(rows, kept[0]))).lines()).encode("latin-1")
     if len(made) > GREATEST_TEXT >= len(text):
         raise LayoutFault(1, "laid out, this script would be longer than a script may be")
-    if _kept(rows_of(made)) != _kept(rows):
+    if _kept(rows_of(made)) != kept:
         raise LayoutFault(1, "the layout would change this script, so it stays as it is")
     return made
 
@@ -74,9 +75,8 @@ def _kept(rows: List[Row]) -> Tuple[List[str], List[str]]:
     return list(chain.from_iterable(words for words, _ in rows)), [comment for _, comment in rows if comment]
 
 
-def _pieces(rows: List[Row]) -> Iterator[Piece]:
-    """The parts of a text that are laid out. Raises LayoutFault at a byte that begins no token."""
-    tokens, _ = _kept(rows)
+def _pieces(rows: List[Row], tokens: List[str]) -> Iterator[Piece]:
+    """The parts of a text, of these tokens, that are laid out. Raises LayoutFault at a byte that begins no token."""
     bad = {it for it in set(tokens) if not is_token(it)}
     at, ended, is_next = 0, 1, True
     for line, (words, comment) in enumerate(rows, 1):

@@ -1,6 +1,7 @@
 """The words, numbers and signs of a script, and where they are."""
+import functools
 import re
-from typing import List, NamedTuple, Optional, Set, Tuple
+from typing import List, NamedTuple, Optional, Tuple
 
 NAME = r"[A-Za-z][A-Za-z0-9_]*"
 WORD = rf"{NAME}|[0-9]+|->|<-|\.\.|<=|>=|==|!=|[-{{}}()+*/%=,<>]"
@@ -43,23 +44,21 @@ Row = Tuple[List[str], str]
 
 def rows_of(text: bytes) -> List[Row]:
     """The lines of any text. Bytes are signs of the same number, so that what is no UTF-8 is kept."""
-    letters = text.decode("latin-1")
-    is_odd = _ODD.search(letters) is not None
-    found: List[Row] = []
-    # Most tokens are between blanks, and known from earlier cuts: this takes a third of the time.
-    known: Set[str] = set()
-    for line in letters.split("\n"):
-        code, sign, comment = line.partition("#")
-        words = code.split()
-        if not known.issuperset(words):
-            words = code.replace("(", " ( ").replace(")", " ) ").replace(",", " , ").replace("..", " .. ").split()
-            known.update(filter(is_token, words))
-        if is_odd or not known.issuperset(words):
-            words = PIECE.findall(code)
-        found.append((words, f"#{comment}".rstrip(BLANKS) if sign else ""))
-    return found
+    return list(map(_row, text.decode("latin-1").split("\n")))
 
 
+# An edit changes few lines, so an editor asks for nearly the same ones again.
+@functools.lru_cache(maxsize=8192)
+def _row(line: str) -> Row:
+    code, sign, comment = line.partition("#")
+    words = code.split()
+    # Most tokens are between blanks: to cut the others apart takes three times as long.
+    if _ODD.search(code) or not all(map(is_token, words)):
+        words = PIECE.findall(code)
+    return words, f"#{comment}".rstrip(BLANKS) if sign else ""
+
+
+@functools.lru_cache(maxsize=8192)
 def is_token(piece: str) -> bool:
     """Whether a piece is a token, and no byte that begins none."""
     return _WHOLE.fullmatch(piece) is not None

@@ -28,13 +28,14 @@ service adc within 6 cycles event 2 words {
 
 
 class Client:
-    """A server and what it says. `diagnostics` has the last ones of each URI, with their version, and `versions` the last one sent."""
+    """A server and what it says. `diagnostics` has the last ones of each URI, with their version, `versions` the last one sent, and `arrived` when
+    the last message came."""
 
     def __init__(self, environment, begin=True):
         words = [sys.executable, "-m", "camac", "lsp"]
         env = {**os.environ, "PYTHONPATH": str(TOP / "python"), **environment}
         self.server = subprocess.Popen(words, env=env, stdin=subprocess.PIPE, stdout=subprocess.PIPE, stderr=subprocess.PIPE)
-        self.said, self.number = queue.Queue(), 0
+        self.said, self.number, self.arrived = queue.Queue(), 0, 0.0
         self.diagnostics, self.versions, self.logged, self.applied = {}, {}, [], []
         threading.Thread(target=self.read, daemon=True).start()
         if begin:
@@ -53,7 +54,8 @@ class Client:
             if not line:
                 self.said.put(None)
                 return
-            self.said.put(json.loads(out.read(size)))
+            data, self.arrived = out.read(size), time.perf_counter()
+            self.said.put(json.loads(data))
 
     def write(self, data):
         self.server.stdin.write(data)
