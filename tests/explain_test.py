@@ -496,7 +496,7 @@ class Explain(unittest.TestCase):
         """The words of the language, on its page and in the order in which those that may be meant are sought."""
         language = (TOP / "docs/LANGUAGE.md").read_text()
         words = re.search(r"as its name:\n\n((?:    .*\n)+)", language)[1].split()
-        table = (TOP / "crates/camac_text_tokens/src/words.rt").read_text()
+        table = (TOP / "crates/camac_tokens/src/words.rt").read_text()
         order = re.findall(r"Keyword::(\w+)", re.search(r"KEYWORDS: [^=]*= \[(.*?)\];", table, re.S)[1])
         spelling = dict(re.findall(r'Keyword::(\w+) => "(\w+)"', table))
         self.assertEqual([spelling[it] for it in order], words)

@@ -4,17 +4,17 @@ use Rattle.std.specs.Prelude.{Option, Some, None, Result, Ok, Err}
 use Rattle.camac_branch.specs.Plan.{Layout}
 use Rattle.camac_event.specs.Reading.{file_at}
 use Rattle.camac_plan.specs.declared.fault.PlanRule.{PlanRule}
-use Rattle.camac_tool_check.specs.Accepted.{accepted}
-use Rattle.camac_tool_check.specs.Engine.{Tale, Shows, ShowsPlan, ShowsEvents, Checks, ChecksIf}
-use Rattle.camac_tool_check.specs.Explain.{ExplainedIf, PlanExplained, ShowsMore, ExplainsIf}
-use Rattle.camac_tool_check.specs.Explain.{Explains as EngineExplains}
-use Rattle.camac_tool_check.specs.Report.{Report, report, report_plan, report_events}
-use Rattle.camac_tool_check.specs.declared.fault.ToolFault.{ToolFault}
-use Rattle.camac_tool_check.specs.declared.fault.ToolFault.TheVariants as fault
-use Rattle.camac_tool_check.specs.declared.outcome.Outcome.{Outcome}
-use Rattle.camac_tool_check.specs.declared.outcome.Outcome.TheVariants.{Good, Refused}
-use Rattle.camac_tool_check.specs.declared.plan.PlanSource.{PlanSource}
-use Rattle.camac_tool_check.specs.declared.reading.TheConstants.{TEXT_LIMIT, EVENTS_LIMIT}
+use Rattle.camac_engines.specs.Accepted.{accepted}
+use Rattle.camac_engines.specs.Engine.{Tale, Shows, ShowsPlan, ShowsEvents, Checks, ChecksIf}
+use Rattle.camac_engines.specs.Explain.{ExplainedIf, PlanExplained, ShowsMore, ExplainsIf}
+use Rattle.camac_engines.specs.Explain.{Explains as EngineExplains}
+use Rattle.camac_engines.specs.Report.{Report, report, report_plan, report_events}
+use Rattle.camac_engines.specs.declared.fault.ToolFault.{ToolFault}
+use Rattle.camac_engines.specs.declared.fault.ToolFault.TheVariants as fault
+use Rattle.camac_engines.specs.declared.outcome.Outcome.{Outcome}
+use Rattle.camac_engines.specs.declared.outcome.Outcome.TheVariants.{Good, Refused}
+use Rattle.camac_engines.specs.declared.plan.PlanSource.{PlanSource}
+use Rattle.camac_engines.specs.declared.reading.TheConstants.{TEXT_LIMIT, EVENTS_LIMIT}
 use Rattle.camac_c.specs.Texts.{Answers, AnswersBy, AnswersEvents, AnswersExplain, AnswersExplainPlan, AnswersPlan, AreLongTexts, Explains, GoesOut, IsLongText, Reports, ReportsMore, engine_code, report_by}
 use Rattle.camac_c.proofs.Read.{IsText, plan_long, read_all, read_long, says_reading}
 

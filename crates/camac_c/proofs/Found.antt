@@ -4,11 +4,11 @@ use Rattle.std.specs.Prelude.{Option, Some, Result, Ok, Err}
 use Rattle.camac_branch.specs.Plan.{Layout}
 use Rattle.camac_plan.specs.Reading.{reading}
 use Rattle.camac_plan.specs.declared.fault.PlanRule.{PlanRule}
-use Rattle.camac_tool_check.specs.Accepted.{Accepts, accepted}
-use Rattle.camac_tool_check.specs.Found.{HasJudged, IsJudgedIf, IsTooLong}
-use Rattle.camac_tool_check.specs.declared.judging.Judged.{Judged}
-use Rattle.camac_tool_check.specs.declared.plan.PlanSource.{PlanSource}
-use Rattle.camac_tool_check.specs.declared.reading.TheConstants.{TEXT_LIMIT}
+use Rattle.camac_engines.specs.Accepted.{Accepts, accepted}
+use Rattle.camac_engines.specs.Found.{HasJudged, IsJudgedIf, IsTooLong}
+use Rattle.camac_engines.specs.declared.judging.Judged.{Judged}
+use Rattle.camac_engines.specs.declared.plan.PlanSource.{PlanSource}
+use Rattle.camac_engines.specs.declared.reading.TheConstants.{TEXT_LIMIT}
 use Rattle.camac_c.specs.Texts.{AreLongTexts, IsFound}
 use Rattle.camac_c.proofs.Read.{IsText, plan_long, read_all, read_long, says_reading}
 

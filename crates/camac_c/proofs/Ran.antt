@@ -6,13 +6,13 @@ use Rattle.camac_tool.specs.Headline.{JudgedKeeps}
 use Rattle.camac_tool.specs.Run.{Runs, RunsFound, RunsJudged}
 use Rattle.camac_tool.specs.Headline.{FoundKeeps}
 use Rattle.camac_tool.specs.World.{World}
-use Rattle.camac_tool_check.specs.Found.{HasJudged, IsTooLong}
-use Rattle.camac_tool_check.specs.declared.fault.ToolFault.{ToolFault}
-use Rattle.camac_tool_check.specs.declared.fault.ToolFault.TheVariants as fault
-use Rattle.camac_tool_check.specs.declared.judging.Judged.{Judged}
-use Rattle.camac_tool_check.specs.declared.outcome.Outcome.{Outcome}
-use Rattle.camac_tool_play.specs.Sent.{Outputs}
-use Rattle.camac_tool_play.specs.declared.telling.Telling.TheVariants.{Listing}
+use Rattle.camac_engines.specs.Found.{HasJudged, IsTooLong}
+use Rattle.camac_engines.specs.declared.fault.ToolFault.{ToolFault}
+use Rattle.camac_engines.specs.declared.fault.ToolFault.TheVariants as fault
+use Rattle.camac_engines.specs.declared.judging.Judged.{Judged}
+use Rattle.camac_engines.specs.declared.outcome.Outcome.{Outcome}
+use Rattle.camac_play.specs.Sent.{Outputs}
+use Rattle.camac_play.specs.declared.telling.Telling.TheVariants.{Listing}
 use Rattle.camac_c.specs.Run.{AnswersRun, RunSays, holding}
 use Rattle.camac_c.specs.Texts.{GoesOut, IsFound, engine_code}
 use Rattle.camac_c.proofs.Found.{found, too_long}

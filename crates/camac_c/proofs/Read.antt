@@ -5,11 +5,11 @@ use Rattle.std.proofs.lemmas.List.{length-append}
 use Rattle.camac_branch.specs.Plan.{Layout}
 use Rattle.camac_plan.specs.Reading.{reading}
 use Rattle.camac_plan.specs.declared.fault.PlanRule.{PlanRule}
-use Rattle.camac_tool_check.specs.Plan.{Says, IsPlanTooLong}
-use Rattle.camac_tool_check.specs.Reading.{ConsumesSome, WasRead}
-use Rattle.camac_tool_check.specs.declared.plan.PlanSource.{PlanSource}
-use Rattle.camac_tool_check.specs.declared.plan.PlanSource.TheVariants.{Sample, Text}
-use Rattle.camac_tool_check.specs.declared.reading.TheConstants.{TEXT_LIMIT}
+use Rattle.camac_engines.specs.Plan.{Says, IsPlanTooLong}
+use Rattle.camac_engines.specs.Reading.{ConsumesSome, WasRead}
+use Rattle.camac_engines.specs.declared.plan.PlanSource.{PlanSource}
+use Rattle.camac_engines.specs.declared.plan.PlanSource.TheVariants.{Sample, Text}
+use Rattle.camac_engines.specs.declared.reading.TheConstants.{TEXT_LIMIT}
 use Rattle.camac_word.specs.Watched.{inner_of}
 use Rattle.camac_c.specs.Texts.{IsLongText}
 

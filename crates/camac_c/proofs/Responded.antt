@@ -5,16 +5,16 @@ use Rattle.std.specs.Global.{Vec}
 use Rattle.camac_response_times.specs.Setting.{ReadsSettings}
 use Rattle.camac_response_times.specs.declared.setting.Misuse.{Misuse}
 use Rattle.camac_response_times.specs.declared.setting.Settings.{Settings}
-use Rattle.camac_tool_check.specs.Found.{HasJudged}
-use Rattle.camac_tool_check.specs.Response.{IsResponse, Responds, RespondsOn}
-use Rattle.camac_tool_check.specs.declared.fault.ToolFault.{ToolFault}
-use Rattle.camac_tool_check.specs.declared.fault.ToolFault.TheVariants as fault
-use Rattle.camac_tool_check.specs.declared.judging.Judged.{Judged}
-use Rattle.camac_tool_check.specs.declared.judging.Judged.TheVariants as judged
-use Rattle.camac_tool_check.specs.declared.outcome.Outcome.{Outcome}
-use Rattle.camac_tool_check.specs.declared.plan.PlanSource.{PlanSource}
-use Rattle.camac_tool_check.specs.declared.response.Responded.{Responded}
-use Rattle.camac_tool_check.specs.declared.response.Responded.TheVariants.{Told, Misused}
+use Rattle.camac_engines.specs.Found.{HasJudged}
+use Rattle.camac_engines.specs.Response.{IsResponse, Responds, RespondsOn}
+use Rattle.camac_engines.specs.declared.fault.ToolFault.{ToolFault}
+use Rattle.camac_engines.specs.declared.fault.ToolFault.TheVariants as fault
+use Rattle.camac_engines.specs.declared.judging.Judged.{Judged}
+use Rattle.camac_engines.specs.declared.judging.Judged.TheVariants as judged
+use Rattle.camac_engines.specs.declared.outcome.Outcome.{Outcome}
+use Rattle.camac_engines.specs.declared.plan.PlanSource.{PlanSource}
+use Rattle.camac_engines.specs.declared.response.Responded.{Responded}
+use Rattle.camac_engines.specs.declared.response.Responded.TheVariants.{Told, Misused}
 use Rattle.camac_c.specs.Response.{AreMisused, AreWordsOf, IsTold, RespondsTo, RespondsToTexts, Says}
 use Rattle.camac_c.proofs.Found.{found}
 use Rattle.camac_c.proofs.Read.{IsText}

@@ -38,7 +38,7 @@ use Rattle.std.specs.contracts.alloc.Global as heap
 use Rattle.std.proofs.alloc.Global.TheLaws as heap_laws
 use Rattle.camac_c.specs.Owned.{run_in, session_owns, run_boxed, script_boxed, open_at}
 use Rattle.camac_c.specs.declared.session.Session.{Session as Run}
-use Rattle.camac_check_result.specs.contracts.checked.Checked as script
+use Rattle.camac_checked.specs.contracts.checked.Checked as script
 use Rattle.camac_c.specs.contracts.handle.Handle as handle
 use Rattle.camac_c.specs.contracts.loose.Loose as loose
 use Rattle.camac_c.proofs.Values.{both}

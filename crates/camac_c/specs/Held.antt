@@ -2,8 +2,8 @@
 use Rattle.std.specs.Prelude.{ℕ, ◌-◌, List, [], ◌∷◌, ◌++◌, length, take, nat_lt, if◌then◌else◌}
 use Rattle.camac_run.specs.declared.progress.Progress.{Progress}
 use Rattle.camac_run.specs.declared.progress.Progress.TheVariants.{Went, Overrun}
-use Rattle.camac_run_machine.specs.declared.item.Item.{Item}
-use Rattle.camac_run_machine.specs.declared.item.Item.TheVariants as item
+use Rattle.camac_machine.specs.declared.item.Item.{Item}
+use Rattle.camac_machine.specs.declared.item.Item.TheVariants as item
 
 abbrev pub with_taken : Item → List ℕ → List ℕ
 with_taken (item.Cycle done) held = held

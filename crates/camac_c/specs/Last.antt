@@ -4,8 +4,8 @@ use Rattle.camac_lang.specs.Tree.{Script}
 use Rattle.camac_report.specs.Items.{item_text, unlock_texts}
 use Rattle.camac_run.specs.declared.progress.Progress.{Progress}
 use Rattle.camac_run.specs.declared.progress.Progress.TheVariants.{Went, Overrun}
-use Rattle.camac_run_machine.specs.MachineState.{piece_of}
-use Rattle.camac_tool_play.specs.Told.{event_record}
+use Rattle.camac_machine.specs.MachineState.{piece_of}
+use Rattle.camac_play.specs.Told.{event_record}
 
 -- the lines of the listing, as a run writes them
 abbrev pub last_lines : Script → Option Progress → List ℕ

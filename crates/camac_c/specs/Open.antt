@@ -1,13 +1,13 @@
 -- What opening a session answers.
 use Rattle.std.specs.Prelude.{◌≡◌, ◌⊎◌, ℕ, List, ◌++◌, Option, Some, None, Result, Ok, Err}
 use Rattle.std.specs.Global.{Vec}
-use Rattle.camac_check_result.specs.Checked.{CheckedScript, IsChecked}
+use Rattle.camac_checked.specs.Checked.{CheckedScript, IsChecked}
 use Rattle.camac_plan.specs.Reading.{reading}
-use Rattle.camac_tool_check.specs.Accepted.{accepted}
-use Rattle.camac_tool_check.specs.Report.{report}
-use Rattle.camac_tool_check.specs.declared.fault.ToolFault.{ToolFault}
-use Rattle.camac_tool_check.specs.declared.fault.ToolFault.TheVariants as fault
-use Rattle.camac_tool_check.specs.declared.outcome.Outcome.TheVariants.{Good, Refused}
+use Rattle.camac_engines.specs.Accepted.{accepted}
+use Rattle.camac_engines.specs.Report.{report}
+use Rattle.camac_engines.specs.declared.fault.ToolFault.{ToolFault}
+use Rattle.camac_engines.specs.declared.fault.ToolFault.TheVariants as fault
+use Rattle.camac_engines.specs.declared.outcome.Outcome.TheVariants.{Good, Refused}
 use Rattle.camac_c.specs.Filled.{Gives, GivesNothing}
 use Rattle.camac_c.specs.Talk.{Holds, StartsOn}
 use Rattle.camac_c.specs.Texts.{AreLongTexts, Reports, report_by}

@@ -5,20 +5,20 @@ use Rattle.std.specs.Global.{Vec}
 use Rattle.std.specs.Iterator.{Drains}
 use Rattle.std.specs.Str.Iter.{split_whitespace_rest, split_whitespace_steps}
 use Rattle.std.specs.declared.str.SplitWhitespace.{SplitWhitespace}
-use Rattle.camac_check_result.specs.Checked.{CheckedScript}
+use Rattle.camac_checked.specs.Checked.{CheckedScript}
 use Rattle.camac_explain.specs.Finding.{refusal_of}
 use Rattle.camac_plan.specs.Reading.{reading}
 use Rattle.camac_response_times.specs.Setting.{ReadsSettings}
 use Rattle.camac_response_times.specs.declared.setting.Misuse.{Misuse}
 use Rattle.camac_response_times.specs.declared.setting.Settings.{Settings}
 use Rattle.camac_response.specs.Checked.{IsNoService}
-use Rattle.camac_tool_check.specs.Report.{refused}
-use Rattle.camac_tool_check.specs.Response.{IsResponse}
-use Rattle.camac_tool_check.specs.declared.fault.ToolFault.{ToolFault}
-use Rattle.camac_tool_check.specs.declared.fault.ToolFault.TheVariants as fault
-use Rattle.camac_tool_check.specs.declared.judging.Judged.{Judged}
-use Rattle.camac_tool_check.specs.declared.judging.Judged.TheVariants as judged
-use Rattle.camac_tool_check.specs.declared.outcome.Outcome.{Outcome}
+use Rattle.camac_engines.specs.Report.{refused}
+use Rattle.camac_engines.specs.Response.{IsResponse}
+use Rattle.camac_engines.specs.declared.fault.ToolFault.{ToolFault}
+use Rattle.camac_engines.specs.declared.fault.ToolFault.TheVariants as fault
+use Rattle.camac_engines.specs.declared.judging.Judged.{Judged}
+use Rattle.camac_engines.specs.declared.judging.Judged.TheVariants as judged
+use Rattle.camac_engines.specs.declared.outcome.Outcome.{Outcome}
 use Rattle.camac_c.specs.Filled.{GivesNothing}
 use Rattle.camac_c.specs.Texts.{Answers, AreLongTexts, IsFound, Reports}
 

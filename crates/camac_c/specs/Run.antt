@@ -3,10 +3,10 @@ use Rattle.std.specs.Prelude.{◌≡◌, ◌⊎◌, ℕ, false, List, [], Option
 use Rattle.camac_plan.specs.Reading.{reading}
 use Rattle.camac_tool.specs.Headline.{JudgedKeeps}
 use Rattle.camac_tool.specs.Run.{RunsJudged}
-use Rattle.camac_tool_check.specs.declared.judging.Judged.{Judged}
-use Rattle.camac_tool_check.specs.declared.outcome.Outcome.{Outcome}
-use Rattle.camac_tool_play.specs.Sent.{Outputs}
-use Rattle.camac_tool_play.specs.declared.telling.Telling.TheVariants.{Listing}
+use Rattle.camac_engines.specs.declared.judging.Judged.{Judged}
+use Rattle.camac_engines.specs.declared.outcome.Outcome.{Outcome}
+use Rattle.camac_play.specs.Sent.{Outputs}
+use Rattle.camac_play.specs.declared.telling.Telling.TheVariants.{Listing}
 use Rattle.camac_c.specs.Filled.{Gives, GivesNothing}
 use Rattle.camac_c.specs.Texts.{AreLongTexts, IsFound, code_of}
 

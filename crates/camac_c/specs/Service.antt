@@ -1,10 +1,10 @@
 -- What C is told of the services of a script, by their numbers from 1 in the order of the script.
 use Rattle.std.specs.Prelude.{ℕ, zero, suc, ◌-◌, nat_eq, if◌then◌else◌, List, [], ◌∷◌, Option, None, Some, option_map, slice_get}
-use Rattle.camac_check_result.specs.Checked.{CheckedScript}
+use Rattle.camac_checked.specs.Checked.{CheckedScript}
 use Rattle.camac_lang.specs.Tree.{Text, Lam, Service, Script}
 use Rattle.camac_model.specs.Fine.{Bounds}
-use Rattle.camac_report_text.specs.Verdict.{lam_name}
-use Rattle.camac_run_machine.specs.MachineState.{bit_at, bounds_at}
+use Rattle.camac_lines.specs.Verdict.{lam_name}
+use Rattle.camac_machine.specs.MachineState.{bit_at, bounds_at}
 
 -- a service has the name of its LAM
 unfoldable pub name_in : Script → Service → Text

@@ -2,7 +2,7 @@
 use Rattle.std.specs.Prelude.{◌≡◌, ◌<◌, ◌≤◌, ◌-◌, ℕ, List, [], length, reverse, Option, None, Some, IfSome, nat_eq, if◌then◌else◌}
 use Rattle.camac_branch.specs.Branch.{Answer}
 use Rattle.camac_branch.specs.declared.answer.Overrun.{Overrun}
-use Rattle.camac_check_result.specs.Checked.{CheckedScript}
+use Rattle.camac_checked.specs.Checked.{CheckedScript}
 use Rattle.camac_model.specs.Run.{the_run}
 use Rattle.camac_run.specs.Holds.{HoldsAfter}
 use Rattle.camac_run.specs.Operation.{Wants}

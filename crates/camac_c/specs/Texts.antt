@@ -4,17 +4,17 @@ use Rattle.camac_branch.specs.Plan.{Layout}
 use Rattle.camac_event.specs.Reading.{file_at}
 use Rattle.camac_plan.specs.Reading.{reading}
 use Rattle.camac_plan.specs.declared.fault.PlanRule.{PlanRule}
-use Rattle.camac_tool_check.specs.Accepted.{Accepts, accepted}
-use Rattle.camac_tool_check.specs.Engine.{Tale}
-use Rattle.camac_tool_check.specs.Explain.{ExplainedIf, PlanExplained}
-use Rattle.camac_tool_check.specs.Report.{Report, report, report_plan, report_events}
-use Rattle.camac_tool_check.specs.declared.fault.ToolFault.{ToolFault}
-use Rattle.camac_tool_check.specs.declared.fault.ToolFault.TheVariants as fault
-use Rattle.camac_tool_check.specs.declared.judging.Judged.{Judged}
-use Rattle.camac_tool_check.specs.declared.judging.Judged.TheVariants as judged
-use Rattle.camac_tool_check.specs.declared.outcome.Outcome.{Outcome}
-use Rattle.camac_tool_check.specs.declared.outcome.Outcome.TheVariants.{Good, Refused}
-use Rattle.camac_tool_check.specs.declared.reading.TheConstants.{TEXT_LIMIT, EVENTS_LIMIT}
+use Rattle.camac_engines.specs.Accepted.{Accepts, accepted}
+use Rattle.camac_engines.specs.Engine.{Tale}
+use Rattle.camac_engines.specs.Explain.{ExplainedIf, PlanExplained}
+use Rattle.camac_engines.specs.Report.{Report, report, report_plan, report_events}
+use Rattle.camac_engines.specs.declared.fault.ToolFault.{ToolFault}
+use Rattle.camac_engines.specs.declared.fault.ToolFault.TheVariants as fault
+use Rattle.camac_engines.specs.declared.judging.Judged.{Judged}
+use Rattle.camac_engines.specs.declared.judging.Judged.TheVariants as judged
+use Rattle.camac_engines.specs.declared.outcome.Outcome.{Outcome}
+use Rattle.camac_engines.specs.declared.outcome.Outcome.TheVariants.{Good, Refused}
+use Rattle.camac_engines.specs.declared.reading.TheConstants.{TEXT_LIMIT, EVENTS_LIMIT}
 use Rattle.camac_explain.specs.declared.finding.Finding.TheVariants as finding
 use Rattle.camac_c.specs.Filled.{Gives, GivesNothing}
 

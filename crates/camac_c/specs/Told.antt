@@ -4,9 +4,9 @@ use Rattle.camac_branch.specs.Branch.{Answer}
 use Rattle.camac_branch.specs.declared.answer.CycleDone.{CycleDone}
 use Rattle.camac_func.specs.declared.data.DataMove.{DataMove}
 use Rattle.camac_func.specs.declared.data.DataMove.TheVariants as moves
-use Rattle.camac_run_machine.specs.MachineState.{Left}
-use Rattle.camac_run_machine.specs.declared.item.Item.{Item}
-use Rattle.camac_run_machine.specs.declared.item.Item.TheVariants as item
+use Rattle.camac_machine.specs.MachineState.{Left}
+use Rattle.camac_machine.specs.declared.item.Item.{Item}
+use Rattle.camac_machine.specs.declared.item.Item.TheVariants as item
 use Rattle.camac_run.specs.declared.progress.Progress.{Progress}
 use Rattle.camac_run.specs.declared.progress.Progress.TheVariants.{Went, Overrun}
 use Rattle.camac_run.specs.declared.progress.Wanted.{Wanted}

@@ -1,12 +1,12 @@
 // What goes out into a buffer of C.
 
 ghost use Rattle.std.specs.Prelude.{◌≡◌, length};
-ghost use Rattle.camac_tool_check.specs.declared.fault.ToolFault.{ToolFault};
+ghost use Rattle.camac_engines.specs.declared.fault.ToolFault.{ToolFault};
 ghost use Rattle.camac_c.specs.Filled.{Gives, GivesNothing};
 ghost use Rattle.camac_c.specs.Texts.{GoesOut, engine_code, fault_code};
 
 use crate::plain::{LONG, NO_MEMORY, OK, REFUSED};
-use camac_tool_check::{Outcome, ToolFault};
+use camac_engines::{Outcome, ToolFault};
 
 /// Puts a whole text into a buffer, as far as there is room, and tells its size.
 pub fn give(bytes: &[u8], text: &mut [u8], size: &mut usize)

@@ -8,7 +8,7 @@ ghost use Rattle.camac_c.specs.Talk.{Asks, StartsOn, Talks, Holds};
 use crate::loose::Loose;
 use crate::plain::{Ask, MISUSE, Told, only_code};
 use crate::session::{Session, finish, start, step};
-use camac_check_result::Checked;
+use camac_checked::Checked;
 use std::alloc::Global;
 use std::marker::Model;
 

@@ -6,7 +6,7 @@ ghost use Rattle.camac_c.specs.Held.{held_after};
 
 use arrayvec::ArrayVec;
 use byteorder::{ByteOrder, LittleEndian};
-use camac_run_machine::Item;
+use camac_machine::Item;
 use camac_word::CrateNo;
 
 /// The crates whose lockout is held, in the order in which it was taken.

@@ -9,10 +9,10 @@ ghost use Rattle.camac_c.specs.Last.{last_lines, last_record};
 
 use crate::filling::give;
 use byteorder::{BigEndian, ByteOrder};
-use camac_check_result::Checked;
+use camac_checked::Checked;
 use camac_event::Usage;
+use camac_lines::{LONGEST_LINE, bytes_in};
 use camac_report::items_in;
-use camac_report_text::{LONGEST_LINE, bytes_in};
 use camac_run::Progress;
 use camac_word::{GlBit, Word24};
 

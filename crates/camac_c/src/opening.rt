@@ -1,7 +1,7 @@
 // Opening a session: the two texts are judged, and a run is begun.
 
 ghost use Rattle.std.specs.Prelude.{◌≡◌, IfErr, IfOk, is_some};
-ghost use Rattle.camac_tool_check.specs.declared.fault.ToolFault.TheVariants.{Memory};
+ghost use Rattle.camac_engines.specs.declared.fault.ToolFault.TheVariants.{Memory};
 ghost use Rattle.camac_word.specs.Watched.{inner_of};
 ghost use Rattle.camac_c.specs.Open.{OpensInto};
 ghost use Rattle.camac_c.specs.Talk.{Holds, StartsOn};
@@ -9,9 +9,9 @@ ghost use Rattle.camac_c.specs.Talk.{Holds, StartsOn};
 use crate::handle::Handle;
 use crate::loose::Loose;
 use crate::plain::{Ask, MISUSE};
-use camac_check_result::Checked;
-use camac_report_text::write_verdict;
-use camac_tool_check::{Judged, PlanSource, ToolFault, read_judged, refuse};
+use camac_checked::Checked;
+use camac_engines::{Judged, PlanSource, ToolFault, read_judged, refuse};
+use camac_lines::write_verdict;
 use camac_word::Watched;
 use std::alloc::Global;
 

@@ -5,7 +5,7 @@ ghost use Rattle.camac_c.specs.Response.{AnswersResponse, RespondsTo, RespondsTo
 
 use crate::filling::{code_of, fault_code, give, give_nothing};
 use crate::plain::MISUSE;
-use camac_tool_check::{Outcome, PlanSource, Responded, ToolFault, engine_response};
+use camac_engines::{Outcome, PlanSource, Responded, ToolFault, engine_response};
 use camac_word::Watched;
 use std::alloc::{AllocError, Global};
 

@@ -6,9 +6,9 @@ ghost use Rattle.camac_c.specs.Filled.{filled_words};
 ghost use Rattle.camac_c.specs.Service.{name_at, name_in, numbers_at, numbers_in};
 
 use byteorder::{ByteOrder, LittleEndian};
-use camac_check_result::Checked;
+use camac_checked::Checked;
 use camac_lang::Service;
-use camac_report_text::lam_name;
+use camac_lines::lam_name;
 
 /// The name of a service. None where there is none.
 pub fn name_of(checked: &Checked, number: u32) -> Option<&[u8]>

@@ -23,11 +23,11 @@ use crate::plain::{
 use crate::service::{name_of, numbers_of, write_numbers};
 use byteorder::{ByteOrder, LittleEndian};
 use camac_branch::{Answer, Command, CycleDone};
-use camac_check_result::Checked;
+use camac_checked::Checked;
 use camac_event::Usage;
 use camac_func::DataMove;
+use camac_machine::Item;
 use camac_run::{FullRunner, Progress, Wanted};
-use camac_run_machine::Item;
 use camac_word::{CrateNo, GlBit, Word24};
 use std::alloc::Global;
 

@@ -1,10 +1,10 @@
 // The calls on texts: what the program's subcommands print, for bytes in memory.
 
 ghost use Rattle.std.specs.Prelude.{◌≡◌};
-ghost use Rattle.camac_tool_check.specs.Report.{report};
-ghost use Rattle.camac_tool_check.specs.Costs.{costs_report};
-ghost use Rattle.camac_tool_check.specs.Headings.{headings_report};
-ghost use Rattle.camac_tool_check.specs.Known.{known_report};
+ghost use Rattle.camac_engines.specs.Report.{report};
+ghost use Rattle.camac_engines.specs.Costs.{costs_report};
+ghost use Rattle.camac_engines.specs.Headings.{headings_report};
+ghost use Rattle.camac_engines.specs.Known.{known_report};
 ghost use Rattle.camac_c.specs.Run.{AnswersRun};
 ghost use Rattle.camac_c.specs.Texts.{AnswersBy, AnswersEvents, AnswersExplain, AnswersExplainPlan, AnswersPlan};
 

@@ -2,13 +2,13 @@
 use Rattle.std.proofs.Common.{◌≡◌, ℕ, Option, Some, None, Result, Ok, Err, refl, sym, ap, ◌∙◌, arith}
 use Rattle.camac_lang.specs.Tree.{Statement, Block, done, next}
 use Rattle.camac_model.specs.Fine.{Bounds}
-use Rattle.camac_check_rules.specs.Fault.{Fault, broken}
-use Rattle.camac_check_rules.specs.Refusal.{go_on, if_reached}
-use Rattle.camac_check_rules.specs.Known.{Facts}
-use Rattle.camac_check_rules.specs.Costs.{costs, no_costs, plus, Verdict, verdict, unreached}
-use Rattle.camac_check_rules.specs.Capped.{capped}
-use Rattle.camac_check_rules.specs.Cycles.{Around}
-use Rattle.camac_check_rules.specs.Statements.{accept_statement, accept_block}
+use Rattle.camac_rules.specs.Fault.{Fault, broken}
+use Rattle.camac_rules.specs.Refusal.{go_on, if_reached}
+use Rattle.camac_rules.specs.Known.{Facts}
+use Rattle.camac_rules.specs.Costs.{costs, no_costs, plus, Verdict, verdict, unreached}
+use Rattle.camac_rules.specs.Capped.{capped}
+use Rattle.camac_rules.specs.Cycles.{Around}
+use Rattle.camac_rules.specs.Statements.{accept_statement, accept_block}
 use Rattle.camac_check_simple.specs.declared.context.Context as code
 use Rattle.camac_check_known.specs.declared.fault.CheckFault.{CheckFault}
 use Rattle.camac_check_known.specs.declared.fault.CheckFault.TheVariants.{OutOfMemory, Broken}

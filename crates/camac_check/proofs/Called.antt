@@ -4,10 +4,10 @@ use Rattle.std.specs.Prelude.{option_map, slice_get}
 use Rattle.std.proofs.lemmas.Option.{slice_get-map, slice_get-get_or, slice_get_past}
 use Rattle.camac_lang.specs.declared.script.Procedure.{Procedure}
 use Rattle.camac_lang.specs.View.{procedure_of}
-use Rattle.camac_check_rules.specs.declared.case.Case.{Case}
-use Rattle.camac_check_rules.specs.declared.rule.CheckRule.{CheckRule}
-use Rattle.camac_check_rules.specs.Fault.{broken}
-use Rattle.camac_check_rules.specs.Refusal.{given}
+use Rattle.camac_rules.specs.declared.case.Case.{Case}
+use Rattle.camac_rules.specs.declared.rule.CheckRule.{CheckRule}
+use Rattle.camac_rules.specs.Fault.{broken}
+use Rattle.camac_rules.specs.Refusal.{given}
 
 pub procedure_there : (ps : List Procedure) (i : ℕ) (p : Procedure) (rule : CheckRule) (line : ℕ) (case : Case) → i < length ps → p ≡ get_or ps i p → given (slice_get (map procedure_of ps) i) rule line case ≡ Ok (procedure_of p)
 unfolding given

@@ -12,30 +12,30 @@ use Rattle.camac_branch.specs.Plan.{crate_waits}
 use Rattle.camac_model.specs.Fine.{Bounds, annotated}
 use Rattle.camac_model.specs.Meaning.{fits_size}
 use Rattle.camac_range.specs.Number.{greatest}
-use Rattle.camac_check_rules.specs.declared.case.Case.{Case}
-use Rattle.camac_check_rules.specs.declared.case.Case.TheVariants.{Budget}
-use Rattle.camac_check_rules.specs.Cases.{budget}
-use Rattle.camac_check_rules.specs.declared.case.Body.{Body}
-use Rattle.camac_check_rules.specs.declared.case.Body.TheVariants as body
-use Rattle.camac_check_rules.specs.declared.rule.CheckRule.{CheckRule}
-use Rattle.camac_check_rules.specs.declared.rule.CheckRule.TheVariants.{StationNotInstalled, CommandNotDeclared, ScanCratesDiffer, WrongDirection, ValueTooWide, RegisterUnset, LoopVariableAssigned, CrateUnfit, WordTooWide, KeepFailsAfterTurn, TooManyWords, TooManyCycles, TooManySteps, ArgumentOutOfRange}
-use Rattle.camac_check_rules.specs.Fault.{Fault, broken}
-use Rattle.camac_check_rules.specs.Refusal.{go_on, required, given, if_reached}
-use Rattle.camac_check_rules.specs.Known.{region_at, Facts}
-use Rattle.camac_check_rules.specs.Joined.{join}
-use Rattle.camac_check_rules.specs.Expressions.{range_of}
-use Rattle.camac_check_rules.specs.Conditions.{split}
-use Rattle.camac_check_rules.specs.Costs.{costs, no_costs, plus, choice_costs, lock_costs, loop_costs, Verdict, verdict, unreached}
-use Rattle.camac_check_rules.specs.Capped.{capped}
-use Rattle.camac_check_rules.specs.Addresses.{command_widths}
-use Rattle.camac_check_rules.specs.Cycles.{Context, Around, alone_in, with_locked, may_write, same_class, single_rule}
-use Rattle.camac_check_rules.specs.Loops.{with_fixed, for_limits, for_head, for_after, keeps_hold_after, turns_between, while_head, turn_bound}
-use Rattle.camac_check_rules.specs.Procedures.{ranges_of, arguments_fit, at_entry}
-use Rattle.camac_check_rules.specs.Transfers.{is_one_crate, has_sub_addresses, scan_rule, block_region}
-use Rattle.camac_check_rules.specs.Windows.{window_of, is_installed, is_declared}
-use Rattle.camac_check_rules.specs.Calls.{is_crate, lam_region, lock_rule}
-use Rattle.camac_check_rules.specs.Statements.{greatest_word, accept_statement, accept_block}
-use Rattle.camac_check_rules.specs.Accept.{at_start, own_body, within, accept_procedure, accept_service}
+use Rattle.camac_rules.specs.declared.case.Case.{Case}
+use Rattle.camac_rules.specs.declared.case.Case.TheVariants.{Budget}
+use Rattle.camac_rules.specs.Cases.{budget}
+use Rattle.camac_rules.specs.declared.case.Body.{Body}
+use Rattle.camac_rules.specs.declared.case.Body.TheVariants as body
+use Rattle.camac_rules.specs.declared.rule.CheckRule.{CheckRule}
+use Rattle.camac_rules.specs.declared.rule.CheckRule.TheVariants.{StationNotInstalled, CommandNotDeclared, ScanCratesDiffer, WrongDirection, ValueTooWide, RegisterUnset, LoopVariableAssigned, CrateUnfit, WordTooWide, KeepFailsAfterTurn, TooManyWords, TooManyCycles, TooManySteps, ArgumentOutOfRange}
+use Rattle.camac_rules.specs.Fault.{Fault, broken}
+use Rattle.camac_rules.specs.Refusal.{go_on, required, given, if_reached}
+use Rattle.camac_rules.specs.Known.{region_at, Facts}
+use Rattle.camac_rules.specs.Joined.{join}
+use Rattle.camac_rules.specs.Expressions.{range_of}
+use Rattle.camac_rules.specs.Conditions.{split}
+use Rattle.camac_rules.specs.Costs.{costs, no_costs, plus, choice_costs, lock_costs, loop_costs, Verdict, verdict, unreached}
+use Rattle.camac_rules.specs.Capped.{capped}
+use Rattle.camac_rules.specs.Addresses.{command_widths}
+use Rattle.camac_rules.specs.Cycles.{Context, Around, alone_in, with_locked, may_write, same_class, single_rule}
+use Rattle.camac_rules.specs.Loops.{with_fixed, for_limits, for_head, for_after, keeps_hold_after, turns_between, while_head, turn_bound}
+use Rattle.camac_rules.specs.Procedures.{ranges_of, arguments_fit, at_entry}
+use Rattle.camac_rules.specs.Transfers.{is_one_crate, has_sub_addresses, scan_rule, block_region}
+use Rattle.camac_rules.specs.Windows.{window_of, is_installed, is_declared}
+use Rattle.camac_rules.specs.Calls.{is_crate, lam_region, lock_rule}
+use Rattle.camac_rules.specs.Statements.{greatest_word, accept_statement, accept_block}
+use Rattle.camac_rules.specs.Accept.{at_start, own_body, within, accept_procedure, accept_service}
 use Rattle.camac_check_simple.specs.declared.context.Context as code
 use Rattle.camac_check_simple.specs.Gives.{by_code, by_rules}
 

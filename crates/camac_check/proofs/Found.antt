@@ -11,8 +11,8 @@ use Rattle.camac_names.specs.Linked.{LinkedScript}
 use Rattle.camac_model.specs.Fine.{Bounds}
 use Rattle.camac_check_known.specs.declared.fault.CheckFault.{CheckFault}
 use Rattle.camac_check_known.specs.declared.fault.CheckFault.TheVariants as check
-use Rattle.camac_check_rules.specs.Cycles.{Context}
-use Rattle.camac_check_rules.specs.Accept.{accept, bare, with_procedure}
+use Rattle.camac_rules.specs.Cycles.{Context}
+use Rattle.camac_rules.specs.Accept.{accept, bare, with_procedure}
 use Rattle.camac_check.specs.Judges.{Judges}
 use Rattle.camac_check.specs.Faults.{of_link, of_check}
 use Rattle.camac_check.specs.declared.fault.LeastFault.{LeastFault}

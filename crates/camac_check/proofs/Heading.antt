@@ -11,8 +11,8 @@ use Rattle.camac_branch.specs.Address.{Address}
 use Rattle.camac_branch.specs.Plan.{Layout}
 use Rattle.camac_model.specs.Meaning.{lam_address}
 use Rattle.camac_model.specs.Fine.{Bounds}
-use Rattle.camac_check_rules.specs.Cycles.{Context}
-use Rattle.camac_check_rules.specs.Accept.{with_procedure}
+use Rattle.camac_rules.specs.Cycles.{Context}
+use Rattle.camac_rules.specs.Accept.{with_procedure}
 use Rattle.camac_check.specs.declared.fault.LeastFault.{LeastFault}
 use Rattle.camac_check.specs.declared.fault.LeastFault.TheVariants as fault
 use Rattle.camac_check.specs.Least.{Finds, Heads, Headed, after_procedures, and_then, least_from, least_items, needing, procedure_first, procedure_needs, service_first, service_needing, service_needs}

@@ -12,10 +12,10 @@ use Rattle.camac_names.specs.declared.fault.LinkRule.{LinkRule}
 use Rattle.camac_names.specs.declared.fault.LinkRule.TheVariants.{StationWithoutBit, StationServedTwice, EventAboveBuffer}
 use Rattle.camac_names.specs.Link.{unless, place_of, served_by, lams_fault, lam_bit, is_served, service_fault, served_fault, or_else, services_fault, link_fault}
 use Rattle.camac_model.proofs.Headline.{fine_services_run}
-use Rattle.camac_check_rules.specs.Accept.{accept}
-use Rattle.camac_check_rules.specs.Laws.{EventsFit}
-use Rattle.camac_check_rules.proofs.Accepted.{accepted_fine, accepted_procedures_fine, accepted_within}
-use Rattle.camac_check_result.specs.Checked.{CheckedScript, IsChecked}
+use Rattle.camac_rules.specs.Accept.{accept}
+use Rattle.camac_rules.specs.Laws.{EventsFit}
+use Rattle.camac_rules.proofs.Accepted.{accepted_fine, accepted_procedures_fine, accepted_within}
+use Rattle.camac_checked.specs.Checked.{CheckedScript, IsChecked}
 
 pub or_else_parts : (o p : Option LinkFault) → or_else o p ≡ None → (o ≡ None) × (p ≡ None)
 or_else_parts None p e = (refl, e)

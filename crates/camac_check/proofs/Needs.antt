@@ -7,15 +7,15 @@ use Rattle.camac_range.specs.Number.{greatest}
 use Rattle.camac_branch.specs.Plan.{Layout}
 use Rattle.camac_names.specs.declared.fault.LinkRule.TheVariants.{EventAboveBuffer}
 use Rattle.camac_model.specs.Fine.{Bounds}
-use Rattle.camac_check_rules.specs.declared.rule.CheckRule.TheVariants.{TooManyWords}
-use Rattle.camac_check_rules.specs.Fault.{Fault}
-use Rattle.camac_check_rules.specs.Capped.{capped}
-use Rattle.camac_check_rules.specs.Costs.{Verdict}
-use Rattle.camac_check_rules.specs.declared.case.Body.{Body}
-use Rattle.camac_check_rules.specs.declared.case.Body.TheVariants as body
-use Rattle.camac_check_rules.specs.Cycles.{Around, alone_in}
-use Rattle.camac_check_rules.specs.Statements.{accept_block}
-use Rattle.camac_check_rules.specs.Accept.{at_start, within}
+use Rattle.camac_rules.specs.declared.rule.CheckRule.TheVariants.{TooManyWords}
+use Rattle.camac_rules.specs.Fault.{Fault}
+use Rattle.camac_rules.specs.Capped.{capped}
+use Rattle.camac_rules.specs.Costs.{Verdict}
+use Rattle.camac_rules.specs.declared.case.Body.{Body}
+use Rattle.camac_rules.specs.declared.case.Body.TheVariants as body
+use Rattle.camac_rules.specs.Cycles.{Around, alone_in}
+use Rattle.camac_rules.specs.Statements.{accept_block}
+use Rattle.camac_rules.specs.Accept.{at_start, within}
 use Rattle.camac_check_simple.specs.declared.context.Context as code
 use Rattle.camac_check.specs.declared.fault.LeastFault.{LeastFault}
 use Rattle.camac_check.specs.declared.fault.LeastFault.TheVariants as least

@@ -13,18 +13,18 @@ use Rattle.camac_names.specs.declared.fault.LinkRule.{LinkRule}
 use Rattle.camac_names.specs.declared.fault.LinkRule.TheVariants.{StationWithoutBit, StationServedTwice, EventAboveBuffer}
 use Rattle.camac_names.specs.Link.{unless, place_of, served_by, lams_fault, lam_bit, is_on, is_served, service_fault, served_fault, or_else, services_fault, link_fault}
 use Rattle.camac_model.specs.Fine.{Bounds}
-use Rattle.camac_check_rules.specs.declared.case.Case.{Case}
-use Rattle.camac_check_rules.specs.declared.case.Body.{Body}
-use Rattle.camac_check_rules.specs.declared.case.Body.TheVariants as body
-use Rattle.camac_check_rules.specs.declared.rule.CheckRule.{CheckRule}
-use Rattle.camac_check_rules.specs.declared.rule.CheckRule.TheVariants.{TooManyWords, TooManyCycles, TooManySteps}
-use Rattle.camac_check_rules.specs.Fault.{Fault, broken}
-use Rattle.camac_check_rules.specs.Refusal.{go_on, required, if_reached}
-use Rattle.camac_check_rules.specs.Costs.{costs, Verdict, unreached}
-use Rattle.camac_check_rules.specs.Cycles.{Context, alone_in}
-use Rattle.camac_check_rules.specs.Procedures.{at_entry}
-use Rattle.camac_check_rules.specs.Statements.{accept_block}
-use Rattle.camac_check_rules.specs.Accept.{at_start, own_body, within, accept_procedure, accept_service, accept_items, with_procedure, bare}
+use Rattle.camac_rules.specs.declared.case.Case.{Case}
+use Rattle.camac_rules.specs.declared.case.Body.{Body}
+use Rattle.camac_rules.specs.declared.case.Body.TheVariants as body
+use Rattle.camac_rules.specs.declared.rule.CheckRule.{CheckRule}
+use Rattle.camac_rules.specs.declared.rule.CheckRule.TheVariants.{TooManyWords, TooManyCycles, TooManySteps}
+use Rattle.camac_rules.specs.Fault.{Fault, broken}
+use Rattle.camac_rules.specs.Refusal.{go_on, required, if_reached}
+use Rattle.camac_rules.specs.Costs.{costs, Verdict, unreached}
+use Rattle.camac_rules.specs.Cycles.{Context, alone_in}
+use Rattle.camac_rules.specs.Procedures.{at_entry}
+use Rattle.camac_rules.specs.Statements.{accept_block}
+use Rattle.camac_rules.specs.Accept.{at_start, own_body, within, accept_procedure, accept_service, accept_items, with_procedure, bare}
 use Rattle.camac_check.specs.declared.fault.LeastFault.{LeastFault}
 use Rattle.camac_check.specs.declared.fault.LeastFault.TheVariants as fault
 use Rattle.camac_check.specs.Least.{AreHeadings, Headed, and_then, checked, event_fits, least_items, most, needing, procedure_first, procedure_needs, service_first, service_needing, service_needs}

@@ -5,21 +5,21 @@ use Rattle.camac_lang.specs.Tree.{Expression, Condition, Keep, Statement, assign
 use Rattle.camac_range.specs.Interval.{only}
 use Rattle.camac_branch.specs.Plan.{crate_waits}
 use Rattle.camac_model.specs.Fine.{Bounds}
-use Rattle.camac_check_rules.specs.Refusal.{go_on, if_reached}
-use Rattle.camac_check_rules.specs.Fault.{Fault}
-use Rattle.camac_check_rules.specs.declared.case.Body.{Body}
+use Rattle.camac_rules.specs.Refusal.{go_on, if_reached}
+use Rattle.camac_rules.specs.Fault.{Fault}
+use Rattle.camac_rules.specs.declared.case.Body.{Body}
 use Rattle.camac_check_simple.specs.declared.context.Context as code
 use Rattle.camac_check_simple.specs.Gives.{by_code}
-use Rattle.camac_check_rules.specs.Known.{Facts, Known}
-use Rattle.camac_check_rules.specs.Joined.{join}
-use Rattle.camac_check_rules.specs.Conditions.{Branches, branches, split}
-use Rattle.camac_check_rules.specs.Costs.{costs, no_costs, choice_costs, lock_costs, Verdict, verdict, unreached}
-use Rattle.camac_check_rules.specs.Cycles.{Context, Around, with_locked}
-use Rattle.camac_check_rules.specs.Calls.{lock_rule}
-use Rattle.camac_check_rules.specs.Loops.{Limits, with_fixed, for_limits, for_head, for_after, turns_between, while_head, turn_bound}
+use Rattle.camac_rules.specs.Known.{Facts, Known}
+use Rattle.camac_rules.specs.Joined.{join}
+use Rattle.camac_rules.specs.Conditions.{Branches, branches, split}
+use Rattle.camac_rules.specs.Costs.{costs, no_costs, choice_costs, lock_costs, Verdict, verdict, unreached}
+use Rattle.camac_rules.specs.Cycles.{Context, Around, with_locked}
+use Rattle.camac_rules.specs.Calls.{lock_rule}
+use Rattle.camac_rules.specs.Loops.{Limits, with_fixed, for_limits, for_head, for_after, turns_between, while_head, turn_bound}
 use Rattle.camac_check.specs.Ends.{loop_end}
-use Rattle.camac_check_rules.specs.Statements.{accept_statement, accept_block}
-use Rattle.camac_check_rules.specs.Capped.{capped}
+use Rattle.camac_rules.specs.Statements.{accept_statement, accept_block}
+use Rattle.camac_rules.specs.Capped.{capped}
 use Rattle.camac_check_rows.specs.declared.row.Kind.{Kind}
 use Rattle.camac_check_rows.specs.declared.row.Kind.TheVariants as kind
 use Rattle.camac_check_rows.specs.declared.row.Detail.{Detail}

@@ -2,9 +2,9 @@
 
 ghost use Rattle.std.specs.Prelude.{◌≡◌, ◌≤◌, drop, length, map};
 ghost use Rattle.camac_lang.specs.View.{item_of, procedure_of, service_of};
-ghost use Rattle.camac_check_rules.specs.Accept.{within, accept_procedure, accept_service, accept_items, accept};
+ghost use Rattle.camac_rules.specs.Accept.{within, accept_procedure, accept_service, accept_items, accept};
 ghost use Rattle.camac_lang.specs.Headings.{annotate};
-ghost use Rattle.camac_check_rules.specs.Cases.{budget};
+ghost use Rattle.camac_rules.specs.Cases.{budget};
 ghost use Rattle.camac_check_simple.specs.Gives.{Gives, by_code, by_rules, rules_before};
 ghost use Rattle.camac_check.specs.Least.{Finds, event_fits, most, service_needs};
 
@@ -13,12 +13,12 @@ use crate::procedure::at_entry;
 use crate::statement::accept_block;
 use camac_branch::Plan;
 use camac_check_known::{Around, CheckFault, Costs, Facts};
-use camac_check_result::Bounds;
 use camac_check_rows::Rows;
-use camac_check_rules::{Body, Case, CheckRule};
 use camac_check_simple::Context;
+use camac_checked::Bounds;
 use camac_lang::{Item, Procedure, Script, Service};
 use camac_names::LinkRule;
+use camac_rules::{Body, Case, CheckRule};
 use std::alloc::Global;
 
 /// What each service can cost.
@@ -35,7 +35,7 @@ pub fn accept_script(alloc: Global, plan: &Plan, script: &Script) -> Result<Vec<
 }
 
 // What these services can cost, in the order of these items, after so many procedures.
-#[tactic(auto, unfolding(camac_check_rules::specs::Refusal::go_on))]
+#[tactic(auto, unfolding(camac_rules::specs::Refusal::go_on))]
 fn accept_items(
     alloc: Global,
     whole: &Context,
@@ -117,7 +117,7 @@ pub fn procedure_within(
 
 // The same by the costs of the code, which are 64 bits wide and stay at their greatest number. The rules count without bounds. That
 // both give one result is proved in the function above, from this clause.
-#[tactic(auto, unfolding(camac_check_rules::specs::Refusal::go_on, camac_check_rules::specs::Refusal::if_reached))]
+#[tactic(auto, unfolding(camac_rules::specs::Refusal::go_on, camac_rules::specs::Refusal::if_reached))]
 fn procedure_in_64_bits(
     alloc: Global,
     context: &Context,
@@ -149,7 +149,7 @@ fn accept_service(alloc: Global, context: &Context, service: &Service) -> Result
 }
 
 // The same with costs in 64 bits, as above.
-#[tactic(auto, unfolding(camac_check_rules::specs::Refusal::go_on, camac_check_rules::specs::Refusal::if_reached))]
+#[tactic(auto, unfolding(camac_rules::specs::Refusal::go_on, camac_rules::specs::Refusal::if_reached))]
 fn accept_in_64_bits(
     alloc: Global,
     context: &Context,
@@ -186,7 +186,7 @@ pub fn service_needs(
 }
 
 // The same with costs in 64 bits, as above.
-#[tactic(auto, unfolding(camac_check_rules::specs::Refusal::go_on, camac_check_rules::specs::Refusal::if_reached, crate::specs::Least::and_then))]
+#[tactic(auto, unfolding(camac_rules::specs::Refusal::go_on, camac_rules::specs::Refusal::if_reached, crate::specs::Least::and_then))]
 fn needs_in_64_bits(
     alloc: Global,
     context: &Context,
@@ -234,7 +234,7 @@ fn most() -> Bounds
 }
 
 // The costs of a body within the numbers of its heading, on this line.
-#[tactic(auto, using(camac_check_known::proofs::Steps::steps), unfolding(camac_check_rules::specs::Refusal::go_on, camac_check_rules::specs::Refusal::required))]
+#[tactic(auto, using(camac_check_known::proofs::Steps::steps), unfolding(camac_rules::specs::Refusal::go_on, camac_rules::specs::Refusal::required))]
 fn within(body: Body, most: Bounds, found: Costs, line: u32) -> Result<Bounds, CheckFault>
     ensures { Gives (λ b. b) result (within body most found line) }
 {

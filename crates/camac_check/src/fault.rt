@@ -5,8 +5,8 @@ ghost use Rattle.camac_check.specs.Faults.{of_link, of_check};
 ghost use Rattle.camac_check.specs.declared.fault.LeastFault.TheVariants.{OutOfMemory};
 
 use camac_check_known::CheckFault;
-use camac_check_rules::CheckRule;
 use camac_names::{LinkFault, LinkRule};
+use camac_rules::CheckRule;
 use std::alloc::AllocError;
 use thiserror::Error;
 

@@ -1,12 +1,12 @@
 // The check of a linked script.
 
 ghost use Rattle.std.specs.Prelude.{IfOk};
-ghost use Rattle.camac_check_result.specs.Checked.{IsChecked};
+ghost use Rattle.camac_checked.specs.Checked.{IsChecked};
 ghost use Rattle.camac_check.specs.Judges.{Judges};
 
 use crate::accept::accept_script;
 use camac_check_known::CheckFault;
-use camac_check_result::Checked;
+use camac_checked::Checked;
 use camac_names::Linked;
 use std::alloc::Global;
 

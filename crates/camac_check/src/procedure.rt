@@ -2,20 +2,20 @@
 
 ghost use Rattle.std.specs.Prelude.{◌≡◌, ◌+◌, ◌<◌, ◌^◌, IfOk, length, map, option_map, slice_get, if◌then◌else◌};
 ghost use Rattle.camac_lang.specs.View.{expression_of, parameter_of, procedure_of};
-ghost use Rattle.camac_check_rules.specs.Procedures.{ranges_of, parameter_range, arguments_fit, unfit, call_rule, can_be_called, at_entry};
-ghost use Rattle.camac_check_rules.specs.Refusal.{given, required};
+ghost use Rattle.camac_rules.specs.Procedures.{ranges_of, parameter_range, arguments_fit, unfit, call_rule, can_be_called, at_entry};
+ghost use Rattle.camac_rules.specs.Refusal.{given, required};
 ghost use Rattle.camac_range.specs.Interval.{is_inside};
 ghost use Rattle.camac_check_simple.specs.Gives.{Gives, by_code, verdict_of};
 
 use camac_check_known::{CheckFault, Costs, Facts, numbers_of, range_of};
-use camac_check_rules::{Case, CheckRule, Numbers};
 use camac_check_simple::{Context, Findings};
 use camac_lang::{Expr, Parameter, Procedure};
 use camac_range::Range;
+use camac_rules::{Case, CheckRule, Numbers};
 use std::alloc::{AllocError, Global};
 
 /// Checks a call, by the heading of the procedure.
-#[tactic(auto, unfolding(camac_check_rules::specs::Refusal::go_on))]
+#[tactic(auto, unfolding(camac_rules::specs::Refusal::go_on))]
 pub fn call(
     alloc: Global,
     context: &Context,
@@ -36,7 +36,7 @@ pub fn call(
 }
 
 // The ranges of these arguments.
-#[tactic(auto, unfolding(camac_check_rules::specs::Refusal::go_on))]
+#[tactic(auto, unfolding(camac_rules::specs::Refusal::go_on))]
 fn ranges_of(
     alloc: Global,
     line: u32,
@@ -57,7 +57,7 @@ fn ranges_of(
 }
 
 // A procedure by its number. E21 where there is none.
-#[tactic(auto, using(crate::proofs::Called::procedures_by_number), unfolding(camac_check_rules::specs::Refusal::given))]
+#[tactic(auto, using(crate::proofs::Called::procedures_by_number), unfolding(camac_rules::specs::Refusal::given))]
 fn procedure_at(
     procedures: &[Procedure],
     number: usize,
@@ -76,7 +76,7 @@ fn procedure_at(
 }
 
 // E21 where an argument is not in the range of its parameter.
-#[tactic(auto, unfolding(camac_check_rules::specs::Refusal::required))]
+#[tactic(auto, unfolding(camac_rules::specs::Refusal::required))]
 fn arguments_in_range(
     procedure: usize,
     ranges: &[Range],

@@ -3,10 +3,10 @@
 ghost use Rattle.std.specs.Prelude.{◌≡◌, IsTrue, OnOk, Some, map};
 ghost use Rattle.camac_lang.specs.Tree.{choose, for_, locked, while_};
 ghost use Rattle.camac_lang.specs.View.{expression_of, keep_of, part_of, statement_of, statements_of};
-ghost use Rattle.camac_check_rules.specs.Loops.{for_rule, with_fixed};
-ghost use Rattle.camac_check_rules.specs.Costs.{unreached};
-ghost use Rattle.camac_check_rules.specs.Refusal.{if_reached};
-ghost use Rattle.camac_check_rules.specs.Statements.{accept_statement, accept_block};
+ghost use Rattle.camac_rules.specs.Loops.{for_rule, with_fixed};
+ghost use Rattle.camac_rules.specs.Costs.{unreached};
+ghost use Rattle.camac_rules.specs.Refusal.{if_reached};
+ghost use Rattle.camac_rules.specs.Statements.{accept_statement, accept_block};
 ghost use Rattle.camac_check_rows.specs.Rows.{block_rows, statement_rows, with_rows};
 ghost use Rattle.camac_check_rows.specs.Statements.{is_simple};
 ghost use Rattle.camac_check.specs.Ends.{loop_end};
@@ -19,12 +19,12 @@ use camac_check_rows::{
     Kind, Rows, detail_of, else_row, first_arm, if_row, lock_row, loop_row, once, second_arm,
     times_at, turning,
 };
-use camac_check_rules::Body;
 use camac_check_simple::{
     BlockTransfer, Context, Findings, Place, assign, crate_call, lam_call, lock_crate, put,
     q_repeat, q_stop, scan, set_register, single,
 };
 use camac_lang::{Expr, Keep, Part, Stmt};
+use camac_rules::Body;
 use std::alloc::Global;
 
 /// Checks a block from what is known at its beginning, if it can be reached, and puts the rows of its statements.
@@ -55,7 +55,7 @@ pub fn accept_block(
 
 /// Checks a statement, if it can be reached, and puts its rows. What was known before it is changed in place.
 #[cycle(statements)]
-#[tactic(auto, unfolding(camac_check_rules::specs::Refusal::if_reached))]
+#[tactic(auto, unfolding(camac_rules::specs::Refusal::if_reached))]
 pub fn accept_next(
     alloc: Global,
     context: &Context,
@@ -81,7 +81,7 @@ pub fn accept_next(
 
 // Checks a statement that can be reached.
 #[cycle(statements)]
-#[tactic(auto, unfolding(camac_check_rules::specs::Refusal::go_on, camac_check_rules::specs::Refusal::if_reached))]
+#[tactic(auto, unfolding(camac_rules::specs::Refusal::go_on, camac_rules::specs::Refusal::if_reached))]
 fn accept_reached(
     alloc: Global,
     context: &Context,
@@ -173,7 +173,7 @@ fn accept_reached(
 }
 
 // Checks a statement that holds no others.
-#[tactic(auto, using(crate::proofs::Rows::off), unfolding(camac_check_rules::specs::Refusal::if_reached))]
+#[tactic(auto, using(crate::proofs::Rows::off), unfolding(camac_rules::specs::Refusal::if_reached))]
 fn accept_simple(
     alloc: Global,
     place: &Place,
@@ -194,7 +194,7 @@ fn accept_simple(
 
 // The same where rows are kept. It stands apart, so that a check makes no room for its row.
 #[inline(never)]
-#[tactic(auto, unfolding(camac_check_rules::specs::Refusal::if_reached))]
+#[tactic(auto, unfolding(camac_rules::specs::Refusal::if_reached))]
 fn with_its_row(
     alloc: Global,
     place: &Place,
@@ -302,7 +302,7 @@ fn by_its_rule(
 // Checks an `if`. It stands apart, as those below do, so that no other statement makes room for its variables.
 #[inline(never)]
 #[cycle(statements)]
-#[tactic(auto, unfolding(camac_check_rules::specs::Refusal::go_on, camac_check_rules::specs::Refusal::if_reached))]
+#[tactic(auto, unfolding(camac_rules::specs::Refusal::go_on, camac_rules::specs::Refusal::if_reached))]
 fn accept_if(
     alloc: Global,
     place: &Place,
@@ -330,7 +330,7 @@ fn accept_if(
 // Checks a `lock`.
 #[inline(never)]
 #[cycle(statements)]
-#[tactic(auto, unfolding(camac_check_rules::specs::Refusal::go_on, camac_check_rules::specs::Refusal::if_reached))]
+#[tactic(auto, unfolding(camac_rules::specs::Refusal::go_on, camac_rules::specs::Refusal::if_reached))]
 fn accept_lock(
     alloc: Global,
     place: &Place,
@@ -369,7 +369,7 @@ struct Limited<'a> {
 // Checks a `while`.
 #[inline(never)]
 #[cycle(statements)]
-#[tactic(auto, unfolding(camac_check_rules::specs::Refusal::go_on, camac_check_rules::specs::Refusal::if_reached))]
+#[tactic(auto, unfolding(camac_rules::specs::Refusal::go_on, camac_rules::specs::Refusal::if_reached))]
 fn accept_while(
     alloc: Global,
     place: &Place,
@@ -414,7 +414,7 @@ struct Counted<'a> {
 // Checks a `for`.
 #[inline(never)]
 #[cycle(statements)]
-#[tactic(auto, unfolding(camac_check_rules::specs::Refusal::go_on, camac_check_rules::specs::Refusal::if_reached))]
+#[tactic(auto, unfolding(camac_rules::specs::Refusal::go_on, camac_rules::specs::Refusal::if_reached))]
 fn accept_for(
     alloc: Global,
     place: &Place,
@@ -448,7 +448,7 @@ fn accept_for(
 }
 
 // What a loop of at most so many turns leaves and costs, where this is known after it and this was found of a turn.
-#[tactic(auto, unfolding(camac_check_rules::specs::Refusal::go_on))]
+#[tactic(auto, unfolding(camac_rules::specs::Refusal::go_on))]
 fn end_loop(
     place: Body,
     line: u32,

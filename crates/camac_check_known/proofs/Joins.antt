@@ -3,9 +3,9 @@ use Rattle.std.proofs.Common.{◌≡◌, ℕ, ◌+◌, ◌<◌, ◌≤◌, List,
 use Rattle.std.specs.Prelude.{min, max}
 use Rattle.std.proofs.lemmas.List.{take_more, length-map}
 use Rattle.camac_range.specs.Interval.{Interval, only, hull}
-use Rattle.camac_check_rules.specs.Known.{Region, range_at, region_at}
-use Rattle.camac_check_rules.specs.Joined.{hulls, join_set, join_registers}
-use Rattle.camac_check_rules.proofs.Joined.{range_at-hulls, region_at-join}
+use Rattle.camac_rules.specs.Known.{Region, range_at, region_at}
+use Rattle.camac_rules.specs.Joined.{hulls, join_set, join_registers}
+use Rattle.camac_rules.proofs.Joined.{range_at-hulls, region_at-join}
 
 grown : {X : Type 0} (d : X) (xs all : List X) (i : ℕ) (x : X) → all ≡ take i xs → i < length xs → x ≡ get_or xs i d → all ++ x ∷ [] ≡ take (i + 1) xs
 grown d xs all i x is lt e = ap (λ l. l ++ x ∷ []) is ∙ ap (λ y. take i xs ++ y ∷ []) e ∙ sym (take_more xs i d lt)

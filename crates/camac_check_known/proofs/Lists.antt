@@ -1,7 +1,7 @@
 -- Lists that grow, in code.
 use Rattle.std.proofs.Common.{◌≡◌, ℕ, zero, suc, ◌+◌, ◌<◌, ◌≤◌, List, [], ◌∷◌, ◌++◌, length, take, refl, ap, ◌∙◌, arith}
 use Rattle.std.specs.Prelude.{slice_set, replicate}
-use Rattle.camac_check_rules.specs.Known.{write}
+use Rattle.camac_rules.specs.Known.{write}
 
 -- a place past the end, once the list was filled up to it
 last_filled : {X : Type 0} (d : X) (i : ℕ) (v : X) → slice_set (replicate (suc i) d) i v ≡ write d [] i v

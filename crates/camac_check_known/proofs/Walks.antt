@@ -9,15 +9,15 @@ use Rattle.camac_module.specs.Commands.{extremes, least_and_greatest}
 use Rattle.camac_branch.specs.Address.{address}
 use Rattle.camac_branch.specs.Allowed.{allowed, widths, AllowsCommands}
 use Rattle.camac_branch.specs.Plan.{Layout, IsPlan, crate_waits}
-use Rattle.camac_check_rules.specs.Known.{Region}
-use Rattle.camac_check_rules.specs.Walks.{count_below, all_from, first_failing, greatest_from, hull_with, hull_from}
-use Rattle.camac_check_rules.specs.Addresses.{crate_end, station_end, sub_address_end, in_plan, are_stations_in, station_widths, crate_widths, region_widths}
-use Rattle.camac_check_rules.specs.declared.case.Case.{Case}
-use Rattle.camac_check_rules.specs.declared.rule.CheckRule.{CheckRule}
-use Rattle.camac_check_rules.specs.Refusal.{given}
+use Rattle.camac_rules.specs.Known.{Region}
+use Rattle.camac_rules.specs.Walks.{count_below, all_from, first_failing, greatest_from, hull_with, hull_from}
+use Rattle.camac_rules.specs.Addresses.{crate_end, station_end, sub_address_end, in_plan, are_stations_in, station_widths, crate_widths, region_widths}
+use Rattle.camac_rules.specs.declared.case.Case.{Case}
+use Rattle.camac_rules.specs.declared.rule.CheckRule.{CheckRule}
+use Rattle.camac_rules.specs.Refusal.{given}
 use Rattle.camac_check_known.specs.declared.fault.CheckFault.{CheckFault}
 use Rattle.camac_check_known.specs.Gives.{Gives}
-use Rattle.camac_check_rules.proofs.Walks.{least_and_greatest_at}
+use Rattle.camac_rules.proofs.Walks.{least_and_greatest_at}
 
 longer : (k end : ℕ) → k < end → end - k ≡ suc (end - (k + 1))
 longer k end h = omega arith

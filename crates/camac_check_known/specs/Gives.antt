@@ -1,7 +1,7 @@
 -- What the checker's code answers, seen as what the rules say.
 use Rattle.std.specs.Prelude.{◌≡◌, Result, Ok, Err}
-use Rattle.camac_check_rules.specs.Fault.{Fault, broken}
-use Rattle.camac_check_rules.specs.Conditions.{Branches, branches}
+use Rattle.camac_rules.specs.Fault.{Fault, broken}
+use Rattle.camac_rules.specs.Conditions.{Branches, branches}
 use Rattle.camac_check_known.specs.declared.condition.Branches as code
 use Rattle.camac_check_known.specs.declared.fault.CheckFault.{CheckFault}
 use Rattle.camac_check_known.specs.declared.fault.CheckFault.TheVariants.{OutOfMemory, Broken}

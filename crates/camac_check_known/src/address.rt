@@ -2,11 +2,11 @@
 
 ghost use Rattle.std.specs.Prelude.{◌≡◌, ◌<◌, ◌≤◌, ◌-◌, ◌+◌, min, is_some, unwrap_or, IfOk, IfSome};
 ghost use Rattle.camac_branch.specs.Plan.{IsPlan, crate_waits};
-ghost use Rattle.camac_check_rules.specs.Walks.{first_failing, greatest_from, hull_from};
-ghost use Rattle.camac_check_rules.specs.Addresses.{crate_end, station_end, in_plan, is_station, all_in, are_stations_in, are_stations, station_widths, crate_widths, region_widths, missing, undeclared, command_widths, waits_in, cycle_cost};
-ghost use Rattle.camac_check_rules.specs.Refusal.{required, given};
-ghost use Rattle.camac_check_rules.specs.declared.rule.CheckRule.TheVariants.{StationNotInstalled, CommandNotDeclared};
-ghost use Rattle.camac_check_rules.specs.Calls.{is_crate};
+ghost use Rattle.camac_rules.specs.Walks.{first_failing, greatest_from, hull_from};
+ghost use Rattle.camac_rules.specs.Addresses.{crate_end, station_end, in_plan, is_station, all_in, are_stations_in, are_stations, station_widths, crate_widths, region_widths, missing, undeclared, command_widths, waits_in, cycle_cost};
+ghost use Rattle.camac_rules.specs.Refusal.{required, given};
+ghost use Rattle.camac_rules.specs.declared.rule.CheckRule.TheVariants.{StationNotInstalled, CommandNotDeclared};
+ghost use Rattle.camac_rules.specs.Calls.{is_crate};
 ghost use Rattle.camac_check_known.specs.Gives.{Gives};
 
 use crate::around::Around;
@@ -14,8 +14,8 @@ use crate::fault::CheckFault;
 use crate::known::Region;
 use crate::missing::{missing, undeclared};
 use camac_branch::Plan;
-use camac_check_rules::CheckRule;
 use camac_range::Range;
+use camac_rules::CheckRule;
 use camac_word::{CrateNo, Function, Station, SubAddress};
 
 /// One above the greatest number of a crate, of a station with those of the crate controller, and of a sub-address.
@@ -27,7 +27,7 @@ pub(crate) const SUB_ADDRESS_END: u32 = 16;
 
 /// The least and the greatest width of a command at the addresses of a region. E1 where one of them is not installed, and else E2 where one
 /// does not declare the command.
-#[tactic(auto, unfolding(camac_check_rules::specs::Refusal::go_on))]
+#[tactic(auto, unfolding(camac_rules::specs::Refusal::go_on))]
 pub fn command_widths(plan: &Plan, line: u32, f: Function, g: Region) -> Result<Range, CheckFault>
     ensures rule { Gives (λ r. r) result (command_widths plan.now line f g) }
     ensures in_range { IfOk result (λ r. r.hi ≤ 24) }
@@ -38,7 +38,7 @@ pub fn command_widths(plan: &Plan, line: u32, f: Function, g: Region) -> Result<
 }
 
 // Refuses where a station of the region is not installed.
-#[tactic(auto, unfolding(camac_check_rules::specs::Refusal::required))]
+#[tactic(auto, unfolding(camac_rules::specs::Refusal::required))]
 fn installed(plan: &Plan, line: u32, g: Region) -> Result<(), CheckFault>
     ensures { Gives (λ u. tt) result (required (are_stations plan.now g) StationNotInstalled line (missing plan.now g)) }
 {
@@ -49,7 +49,7 @@ fn installed(plan: &Plan, line: u32, g: Region) -> Result<(), CheckFault>
 }
 
 // Refuses where an address of the region has not the command.
-#[tactic(auto, unfolding(camac_check_rules::specs::Refusal::given))]
+#[tactic(auto, unfolding(camac_rules::specs::Refusal::given))]
 fn declared_widths(plan: &Plan, line: u32, f: Function, g: Region) -> Result<Range, CheckFault>
     ensures { Gives (λ r. r) result (given (region_widths plan.now f g) CommandNotDeclared line (undeclared plan.now f g)) }
 {

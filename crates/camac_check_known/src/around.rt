@@ -1,11 +1,11 @@
 // What stands around a statement.
 
 ghost use Rattle.std.specs.Prelude.{◌≡◌, IfOk};
-ghost use Rattle.camac_check_rules.specs.Addresses.{is_among};
-ghost use Rattle.camac_check_rules.specs.Cycles.{alone_in, with_locked, may_write};
-ghost use Rattle.camac_check_rules.specs.Loops.{with_fixed};
+ghost use Rattle.camac_rules.specs.Addresses.{is_among};
+ghost use Rattle.camac_rules.specs.Cycles.{alone_in, with_locked, may_write};
+ghost use Rattle.camac_rules.specs.Loops.{with_fixed};
 
-use camac_check_rules::Body;
+use camac_rules::Body;
 use std::alloc::{AllocError, Global};
 use std::marker::Model;
 
@@ -18,7 +18,7 @@ pub struct Around {
 }
 
 impl Model for Around {
-    ghost use Rattle.camac_check_rules.specs.Cycles.{Around as Surroundings};
+    ghost use Rattle.camac_rules.specs.Cycles.{Around as Surroundings};
 
     ghost Value = { Surroundings };
 

@@ -2,8 +2,8 @@
 
 ghost use Rattle.std.specs.Prelude.{◌≡◌, IfOk, map};
 ghost use Rattle.camac_lang.specs.View.{expression_of, term_of, test_of, part_of};
-ghost use Rattle.camac_check_rules.specs.Conditions.{branches, sole_variable, refine, assume, split_test, split_part, split};
-ghost use Rattle.camac_check_rules.specs.Refusal.{if_reached};
+ghost use Rattle.camac_rules.specs.Conditions.{branches, sole_variable, refine, assume, split_test, split_part, split};
+ghost use Rattle.camac_rules.specs.Refusal.{if_reached};
 ghost use Rattle.camac_check_known.specs.Gives.{Gives, branches_of};
 
 use crate::expression::range_of;
@@ -24,7 +24,7 @@ pub struct Branches {
 /// Both ways out of a condition, from what is known before it. E4 on this line where a number in it may be outside 0 to `u32::MAX`; a part
 /// is looked at where all earlier ones hold.
 #[cycle(split)]
-#[tactic(auto, unfolding(camac_check_rules::specs::Refusal::go_on))]
+#[tactic(auto, unfolding(camac_rules::specs::Refusal::go_on))]
 pub fn split(alloc: Global, line: u32, parts: &[Part], known: Facts) -> Result<Branches, CheckFault>
     ensures { Gives branches_of result (split line (map part_of parts.now) known) }
 {
@@ -46,7 +46,7 @@ pub fn split(alloc: Global, line: u32, parts: &[Part], known: Facts) -> Result<B
 
 // The same for further parts, if they can be reached.
 #[cycle(split)]
-#[tactic(auto, unfolding(camac_check_rules::specs::Refusal::if_reached))]
+#[tactic(auto, unfolding(camac_rules::specs::Refusal::if_reached))]
 fn split_reached(
     alloc: Global,
     line: u32,
@@ -64,7 +64,7 @@ fn split_reached(
     }
 }
 
-#[tactic(auto, unfolding(camac_check_rules::specs::Refusal::go_on))]
+#[tactic(auto, unfolding(camac_rules::specs::Refusal::go_on))]
 fn split_part(alloc: Global, line: u32, part: &Part, known: Facts) -> Result<Branches, CheckFault>
     ensures { Gives branches_of result (split_part line (part_of part.now) known) }
 {
@@ -80,7 +80,7 @@ fn split_part(alloc: Global, line: u32, part: &Part, known: Facts) -> Result<Bra
     }
 }
 
-#[tactic(auto, unfolding(camac_check_rules::specs::Refusal::go_on))]
+#[tactic(auto, unfolding(camac_rules::specs::Refusal::go_on))]
 fn split_test(alloc: Global, line: u32, test: &Test, known: Facts) -> Result<Branches, CheckFault>
     ensures { Gives branches_of result (split_test line (test_of test.now) known) }
 {

@@ -1,8 +1,8 @@
 // What statements can cost.
 
 ghost use Rattle.std.specs.Prelude.{◌≡◌};
-ghost use Rattle.camac_check_rules.specs.Costs.{costs, no_costs, plus, choice_costs, lock_costs, loop_costs, transfer_costs, call_costs};
-ghost use Rattle.camac_check_rules.specs.Capped.{capped};
+ghost use Rattle.camac_rules.specs.Costs.{costs, no_costs, plus, choice_costs, lock_costs, loop_costs, transfer_costs, call_costs};
+ghost use Rattle.camac_rules.specs.Capped.{capped};
 
 use std::marker::Model;
 

@@ -3,19 +3,19 @@
 ghost use Rattle.std.specs.Prelude.{◌≡◌, ℕ, Some};
 ghost use Rattle.camac_lang.specs.View.{expression_of, term_of};
 ghost use Rattle.camac_range.specs.Operators.{div, rem};
-ghost use Rattle.camac_check_rules.specs.Cases.{operation};
-ghost use Rattle.camac_check_rules.specs.Expressions.{range_of};
-ghost use Rattle.camac_check_rules.specs.Refusal.{given};
-ghost use Rattle.camac_check_rules.specs.declared.rule.CheckRule.TheVariants.{ValueOutOfRange};
+ghost use Rattle.camac_rules.specs.Cases.{operation};
+ghost use Rattle.camac_rules.specs.Expressions.{range_of};
+ghost use Rattle.camac_rules.specs.Refusal.{given};
+ghost use Rattle.camac_rules.specs.declared.rule.CheckRule.TheVariants.{ValueOutOfRange};
 ghost use Rattle.camac_check_known.specs.declared.fault.CheckFault.TheVariants.{Broken};
 ghost use Rattle.camac_check_known.specs.Gives.{Gives};
 ghost use Rattle.camac_check_known.specs.Told.{Tells};
 
 use crate::fault::{CheckFault, numbers_of};
 use crate::known::range_in;
-use camac_check_rules::{Case, CheckRule, Operator};
 use camac_lang::{Divisor, Expr, Form, Term};
 use camac_range::Range;
+use camac_rules::{Case, CheckRule, Operator};
 
 /// An operator that may have no number as its result, and the ranges on both sides of it. It is small, so that it is handed on quickly.
 #[derive(Clone, Copy)]
@@ -58,7 +58,7 @@ pub fn range_of(line: u32, e: &Expr, ranges: &[Range]) -> Result<Range, CheckFau
 
 // The same for every line. Where there is no range, the operator is written down: ranges are handed back quickly, since they are small.
 #[cycle(reach)]
-#[tactic(auto, unfolding(camac_check_rules::specs::Refusal::go_on, camac_check_rules::specs::Refusal::required))]
+#[tactic(auto, unfolding(camac_rules::specs::Refusal::go_on, camac_rules::specs::Refusal::required))]
 #[inline(always)]
 fn reach(e: Term<'_>, ranges: &[Range], beyond: &mut Option<Beyond>) -> Option<Range>
     ensures { (line : ℕ) → Tells line result beyond.new (range_of line (term_of e.entry) ranges.now) }
@@ -71,7 +71,7 @@ fn reach(e: Term<'_>, ranges: &[Range], beyond: &mut Option<Beyond>) -> Option<R
 }
 
 #[cycle(reach)]
-#[tactic(auto, using(crate::proofs::Steps::steps), unfolding(camac_check_rules::specs::Refusal::go_on, camac_check_rules::specs::Refusal::given, camac_check_rules::specs::Refusal::required))]
+#[tactic(auto, using(crate::proofs::Steps::steps), unfolding(camac_rules::specs::Refusal::go_on, camac_rules::specs::Refusal::given, camac_rules::specs::Refusal::required))]
 fn reach_operator(e: Term<'_>, ranges: &[Range], beyond: &mut Option<Beyond>) -> Option<Range>
     ensures { (line : ℕ) → Tells line result beyond.new (range_of line (term_of e.entry) ranges.now) }
 {
@@ -105,7 +105,7 @@ fn reach_operator(e: Term<'_>, ranges: &[Range], beyond: &mut Option<Beyond>) ->
     }
 }
 
-#[tactic(auto, unfolding(camac_check_rules::specs::Refusal::given))]
+#[tactic(auto, unfolding(camac_rules::specs::Refusal::given))]
 fn number_or(
     found: Option<Range>,
     operator: Operator,

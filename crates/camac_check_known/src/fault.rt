@@ -1,13 +1,13 @@
 // Why a script is refused.
 
 ghost use Rattle.std.specs.Prelude.{◌≡◌};
-ghost use Rattle.camac_check_rules.specs.Refusal.{required};
+ghost use Rattle.camac_rules.specs.Refusal.{required};
 ghost use Rattle.camac_check_known.specs.declared.fault.CheckFault.TheVariants.{OutOfMemory, Broken};
 ghost use Rattle.camac_check_known.specs.Gives.{Gives};
-ghost use Rattle.camac_check_rules.specs.Cases.{numbers_of};
+ghost use Rattle.camac_rules.specs.Cases.{numbers_of};
 
-use camac_check_rules::{Case, CheckRule, Numbers};
 use camac_range::Range;
+use camac_rules::{Case, CheckRule, Numbers};
 use std::alloc::{AllocError, AllocFailed};
 use thiserror::Error;
 
@@ -61,7 +61,7 @@ impl CheckFault {
 }
 
 /// Refuses by a rule on this line, in this case, unless its test holds.
-#[tactic(auto, unfolding(camac_check_rules::specs::Refusal::required))]
+#[tactic(auto, unfolding(camac_rules::specs::Refusal::required))]
 pub fn required(test: bool, rule: CheckRule, line: u32, case: Case) -> Result<(), CheckFault>
     ensures { Gives (λ u. tt) result (required test rule line case) }
 {

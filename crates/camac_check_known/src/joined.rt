@@ -1,7 +1,7 @@
 // What is known where two ways meet.
 
 ghost use Rattle.std.specs.Prelude.{◌≡◌, IfOk};
-ghost use Rattle.camac_check_rules.specs.Joined.{hulls, join_set, join_registers, join_facts, join};
+ghost use Rattle.camac_rules.specs.Joined.{hulls, join_set, join_registers, join_facts, join};
 
 use crate::known::{Facts, Region, range_in, region_in};
 use camac_range::Range;

@@ -2,9 +2,9 @@
 
 ghost use Rattle.std.specs.Prelude.{◌≡◌, ◌≤◌, IfOk, OnOk, OnErr};
 ghost use Rattle.camac_range.specs.Interval.{interval};
-ghost use Rattle.camac_check_rules.specs.Joined.{join_region, join_facts};
-ghost use Rattle.camac_check_rules.specs.Known.{write, region, facts, range_at, region_at, with_range, with_region};
-ghost use Rattle.camac_check_rules.specs.Writes.{forget_variable, forget_register};
+ghost use Rattle.camac_rules.specs.Joined.{join_region, join_facts};
+ghost use Rattle.camac_rules.specs.Known.{write, region, facts, range_at, region_at, with_range, with_region};
+ghost use Rattle.camac_rules.specs.Writes.{forget_variable, forget_register};
 
 use crate::joined::{hulls, join_registers};
 use camac_range::Range;
@@ -20,7 +20,7 @@ pub struct Region {
 }
 
 impl Model for Region {
-    ghost use Rattle.camac_check_rules.specs.Known.{Region as Addresses};
+    ghost use Rattle.camac_rules.specs.Known.{Region as Addresses};
 
     ghost Value = { Addresses };
 
@@ -78,7 +78,7 @@ pub struct Facts {
 }
 
 impl Model for Facts {
-    ghost use Rattle.camac_check_rules.specs.Known.{Facts as Known};
+    ghost use Rattle.camac_rules.specs.Known.{Facts as Known};
 
     ghost Value = { Known };
 

@@ -2,8 +2,8 @@
 
 ghost use Rattle.std.specs.Prelude.{◌≡◌, ◌<◌, ◌≤◌, ◌-◌, is_some};
 ghost use Rattle.camac_range.specs.Interval.{interval};
-ghost use Rattle.camac_check_rules.specs.Walks.{first_failing};
-ghost use Rattle.camac_check_rules.specs.Addresses.{station_widths, crate_widths, has_command, not_installed, missing_in, missing, undeclared_at, undeclared_in, undeclared};
+ghost use Rattle.camac_rules.specs.Walks.{first_failing};
+ghost use Rattle.camac_rules.specs.Addresses.{station_widths, crate_widths, has_command, not_installed, missing_in, missing, undeclared_at, undeclared_in, undeclared};
 
 use crate::address::{
     CRATE_END, STATION_END, SUB_ADDRESS_END, crate_widths, crate_without, end_of, is_in_plan,
@@ -11,8 +11,8 @@ use crate::address::{
 };
 use crate::known::Region;
 use camac_branch::Plan;
-use camac_check_rules::Case;
 use camac_range::Range;
+use camac_rules::Case;
 use camac_word::{CrateNo, Function};
 
 /// A station that is not installed, for any numbers: its crate is not in the plan, or it has no module.

@@ -4,13 +4,13 @@ ghost use Rattle.std.specs.Prelude.{◌≡◌, ◌≤◌, IfOk, IsTrue, map};
 ghost use Rattle.camac_check_known.specs.Gives.{Gives};
 ghost use Rattle.camac_lang.specs.View.{expression_of, keep_of, statements_of};
 ghost use Rattle.camac_check_loops.specs.Ordered.{are_ordered};
-ghost use Rattle.camac_check_rules.specs.Loops.{turns_between, values_between, for_limits, for_head, for_after};
+ghost use Rattle.camac_rules.specs.Loops.{turns_between, values_between, for_limits, for_head, for_after};
 
 use crate::keeps::{head, keeps_at_entry};
 use camac_check_known::{Around, CheckFault, Facts, between, range_in, range_of, required};
-use camac_check_rules::{Case, CheckRule};
 use camac_lang::{Expr, Keep, Stmt, limits};
 use camac_range::Range;
+use camac_rules::{Case, CheckRule};
 use std::alloc::{AllocError, Global};
 use std::marker::Model;
 
@@ -22,7 +22,7 @@ pub struct Limits {
 }
 
 impl Model for Limits {
-    ghost use Rattle.camac_check_rules.specs.Loops.{Limits as Between};
+    ghost use Rattle.camac_rules.specs.Loops.{Limits as Between};
 
     ghost Value = { Between };
 
@@ -77,7 +77,7 @@ pub struct LoopFacts {
 }
 
 /// The values of a `for` that may begin. E4, E17, E10 and E8, in this order.
-#[tactic(auto, unfolding(camac_check_rules::specs::Refusal::go_on))]
+#[tactic(auto, unfolding(camac_rules::specs::Refusal::go_on))]
 pub fn for_limits(
     around: &Around,
     line: u32,

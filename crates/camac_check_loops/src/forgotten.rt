@@ -2,7 +2,7 @@
 
 ghost use Rattle.std.specs.Prelude.{◌≡◌, IfOk};
 ghost use Rattle.camac_lang.specs.View.{statements_of};
-ghost use Rattle.camac_check_rules.specs.Writes.{forget_block};
+ghost use Rattle.camac_rules.specs.Writes.{forget_block};
 
 use camac_check_known::Facts;
 use camac_lang::{Move, Stmt};

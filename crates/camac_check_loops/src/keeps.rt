@@ -5,19 +5,19 @@ ghost use Rattle.camac_lang.specs.View.{keep_of, statements_of};
 ghost use Rattle.camac_check_known.specs.Gives.{Gives};
 ghost use Rattle.camac_check_loops.specs.Ordered.{are_ordered};
 ghost use Rattle.camac_range.specs.Interval.{is_inside};
-ghost use Rattle.camac_check_rules.specs.Loops.{kept_range, keeps_hold, keeps_hold_after, unkept, unkept_after, with_keeps, head};
-ghost use Rattle.camac_check_rules.specs.Refusal.{required};
-ghost use Rattle.camac_check_rules.specs.declared.rule.CheckRule.TheVariants.{KeepFailsAtEntry, KeepFailsAfterTurn};
+ghost use Rattle.camac_rules.specs.Loops.{kept_range, keeps_hold, keeps_hold_after, unkept, unkept_after, with_keeps, head};
+ghost use Rattle.camac_rules.specs.Refusal.{required};
+ghost use Rattle.camac_rules.specs.declared.rule.CheckRule.TheVariants.{KeepFailsAtEntry, KeepFailsAfterTurn};
 
 use crate::forgotten::forget_block;
 use camac_check_known::{CheckFault, Facts, between, numbers_of, range_in};
-use camac_check_rules::{Body, Case, CheckRule, Numbers};
 use camac_lang::{Keep, Stmt};
 use camac_range::Range;
+use camac_rules::{Body, Case, CheckRule, Numbers};
 use std::alloc::AllocError;
 
 /// E8 on this line, unless each kept variable is in its range, which then has a number.
-#[tactic(auto, unfolding(camac_check_rules::specs::Refusal::required))]
+#[tactic(auto, unfolding(camac_rules::specs::Refusal::required))]
 pub fn keeps_at_entry(
     body: Body,
     keeps: &[Keep],
@@ -83,7 +83,7 @@ fn is_kept(keep: &Keep, range: Range) -> bool
 }
 
 /// E9 on this line, unless each kept variable is in its range after a turn, if the body comes to its end.
-#[tactic(auto, unfolding(camac_check_rules::specs::Refusal::required))]
+#[tactic(auto, unfolding(camac_rules::specs::Refusal::required))]
 pub fn keeps_after(
     body: Body,
     keeps: &[Keep],

@@ -3,19 +3,19 @@
 ghost use Rattle.std.specs.Prelude.{◌≡◌, ◌≤◌, IfOk, IsTrue, map};
 ghost use Rattle.camac_check_known.specs.Gives.{Gives};
 ghost use Rattle.camac_lang.specs.View.{keep_of, statements_of};
-ghost use Rattle.camac_check_rules.specs.Loops.{turns_case, while_head, turn_bound};
-ghost use Rattle.camac_check_rules.specs.Refusal.{given};
-ghost use Rattle.camac_check_rules.specs.Writes.{fall_of};
-ghost use Rattle.camac_check_rules.specs.declared.rule.CheckRule.TheVariants as rule;
+ghost use Rattle.camac_rules.specs.Loops.{turns_case, while_head, turn_bound};
+ghost use Rattle.camac_rules.specs.Refusal.{given};
+ghost use Rattle.camac_rules.specs.Writes.{fall_of};
+ghost use Rattle.camac_rules.specs.declared.rule.CheckRule.TheVariants as rule;
 
 use crate::keeps::{head, keeps_at_entry};
 use crate::written::fall_of;
 use camac_check_known::{CheckFault, Facts, between, range_in, required};
-use camac_check_rules::{Body, Case, CheckRule};
 use camac_lang::{Keep, Stmt, limits};
+use camac_rules::{Body, Case, CheckRule};
 
 /// What is known at the head of a `while` of at most so many turns that may begin. E7, E10 and E8, in this order.
-#[tactic(auto, unfolding(camac_check_rules::specs::Refusal::go_on))]
+#[tactic(auto, unfolding(camac_rules::specs::Refusal::go_on))]
 pub fn while_head(
     place: Body,
     line: u32,
@@ -42,7 +42,7 @@ pub fn while_head(
 }
 
 // What a turn takes from the measure. E7 where it is not taken once and nothing else writes the measure.
-#[tactic(auto, unfolding(camac_check_rules::specs::Refusal::given))]
+#[tactic(auto, unfolding(camac_rules::specs::Refusal::given))]
 fn fall_at(place: Body, measure: usize, body: &[Stmt], line: u32) -> Result<u32, CheckFault>
     ensures rule { Gives (λ k. k) result (given (fall_of measure (statements_of body.now)) rule.MeasureBroken line (Case.Measure place measure)) }
     ensures positive { IfOk result (λ k. 1 ≤ k) }

@@ -2,8 +2,8 @@
 
 ghost use Rattle.std.specs.Prelude.{◌≡◌, ◌≤◌, IfSome};
 ghost use Rattle.camac_lang.specs.View.{term_of, move_of, statement_of, statements_of};
-ghost use Rattle.camac_check_rules.specs.Conditions.{sole_variable};
-ghost use Rattle.camac_check_rules.specs.Writes.{reads_into, writes, block_writes, positive, is_variable, fall_by, fall_in, fall_of};
+ghost use Rattle.camac_rules.specs.Conditions.{sole_variable};
+ghost use Rattle.camac_rules.specs.Writes.{reads_into, writes, block_writes, positive, is_variable, fall_by, fall_in, fall_of};
 
 use camac_check_known::sole_variable;
 use camac_lang::{Form, Move, Stmt, Term};

@@ -6,8 +6,8 @@ use Rattle.camac_lang.specs.declared.script.Lam.{Lam}
 use Rattle.camac_lang.specs.View.{lam_of}
 use Rattle.camac_range.specs.Interval.{Interval, only}
 use Rattle.camac_model.specs.Meaning.{lam_address}
-use Rattle.camac_check_rules.specs.Known.{Region, region}
-use Rattle.camac_check_rules.specs.Calls.{single_region}
+use Rattle.camac_rules.specs.Known.{Region, region}
+use Rattle.camac_rules.specs.Calls.{single_region}
 
 abbrev pub at : List Lam → ℕ → Option Region
 at ls i = option_map single_region (slice_get (map lam_address (map lam_of ls)) i)

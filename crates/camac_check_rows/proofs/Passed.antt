@@ -2,9 +2,9 @@
 use Rattle.std.proofs.Common.{◌≡◌, ℕ, List, [], ◌∷◌, ◌++◌, map, None, refl, sym, ap, ◌∙◌, append_assoc}
 use Rattle.camac_lang.specs.Tree.{Condition, Statement, choose_else, Block, next, line_of}
 use Rattle.camac_model.specs.Fine.{Bounds}
-use Rattle.camac_check_rules.specs.Refusal.{if_reached}
-use Rattle.camac_check_rules.specs.Costs.{no_costs}
-use Rattle.camac_check_rules.specs.Cycles.{Context, Around}
+use Rattle.camac_rules.specs.Refusal.{if_reached}
+use Rattle.camac_rules.specs.Costs.{no_costs}
+use Rattle.camac_rules.specs.Cycles.{Context, Around}
 use Rattle.camac_check_rows.specs.declared.row.Kind.TheVariants as kind
 use Rattle.camac_check_rows.specs.declared.row.Detail.{Detail}
 use Rattle.camac_check_rows.specs.declared.row.Detail.TheVariants as detail

@@ -4,15 +4,15 @@ use Rattle.camac_range.specs.Interval.{only}
 use Rattle.camac_lang.specs.Tree.{Expression, Condition, Keep, Statement, choose, choose_else, for_, while_, locked, Block, done, next, line_of}
 use Rattle.camac_branch.specs.Plan.{crate_waits}
 use Rattle.camac_model.specs.Fine.{Bounds}
-use Rattle.camac_check_rules.specs.Fault.{Fault}
-use Rattle.camac_check_rules.specs.Refusal.{◌>>=◌, if_reached}
-use Rattle.camac_check_rules.specs.Known.{Facts, Known}
-use Rattle.camac_check_rules.specs.Conditions.{Branches, branches, split}
-use Rattle.camac_check_rules.specs.Costs.{costs, no_costs, Verdict, unreached}
-use Rattle.camac_check_rules.specs.Cycles.{Context, Around, with_locked}
-use Rattle.camac_check_rules.specs.Calls.{lock_rule}
-use Rattle.camac_check_rules.specs.Loops.{with_fixed, for_limits, for_head, turns_between, while_head, turn_bound}
-use Rattle.camac_check_rules.specs.Statements.{accept_statement, accept_block}
+use Rattle.camac_rules.specs.Fault.{Fault}
+use Rattle.camac_rules.specs.Refusal.{◌>>=◌, if_reached}
+use Rattle.camac_rules.specs.Known.{Facts, Known}
+use Rattle.camac_rules.specs.Conditions.{Branches, branches, split}
+use Rattle.camac_rules.specs.Costs.{costs, no_costs, Verdict, unreached}
+use Rattle.camac_rules.specs.Cycles.{Context, Around, with_locked}
+use Rattle.camac_rules.specs.Calls.{lock_rule}
+use Rattle.camac_rules.specs.Loops.{with_fixed, for_limits, for_head, turns_between, while_head, turn_bound}
+use Rattle.camac_rules.specs.Statements.{accept_statement, accept_block}
 use Rattle.camac_check_rows.specs.declared.row.Kind.TheVariants as kind
 use Rattle.camac_check_rows.specs.declared.row.Detail.{Detail}
 use Rattle.camac_check_rows.specs.declared.row.Detail.TheVariants as detail

@@ -1,7 +1,7 @@
 -- How often what stands in a block counts for one time of its statement.
 use Rattle.std.specs.Prelude.{ℕ, ◌+◌, ◌*◌, ◌-◌, ◌^◌, min, nat_eq, nat_lt, nat_le, if◌then◌else◌}
 use Rattle.camac_model.specs.Fine.{Bounds}
-use Rattle.camac_check_rules.specs.Costs.{costs, no_costs}
+use Rattle.camac_rules.specs.Costs.{costs, no_costs}
 use Rattle.camac_check_rows.specs.declared.inside.Weight.{Weight}
 use Rattle.camac_check_rows.specs.declared.row.Row.{Row}
 

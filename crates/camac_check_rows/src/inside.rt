@@ -3,7 +3,7 @@
 ghost use Rattle.std.specs.Prelude.{◌≡◌, ◌++◌, OnOk, map};
 ghost use Rattle.camac_model.specs.Fine.{Bounds};
 ghost use Rattle.camac_check_rows.specs.Weights.{first_arm, in_64_bits, inside_row, once, second_arm, turning, weighed};
-ghost use Rattle.camac_check_rules.specs.Capped.{capped};
+ghost use Rattle.camac_rules.specs.Capped.{capped};
 
 use crate::row::Row;
 use camac_check_known::Costs;

@@ -3,8 +3,8 @@
 ghost use Rattle.std.specs.Prelude.{◌≡◌, ◌∷◌, [], OnOk, None, Some, is_some, map, unwrap_or};
 ghost use Rattle.camac_lang.specs.Tree.{line_of};
 ghost use Rattle.camac_lang.specs.View.{statement_of};
-ghost use Rattle.camac_check_rules.specs.Capped.{capped};
-ghost use Rattle.camac_check_rules.specs.Cycles.{Around as Surroundings};
+ghost use Rattle.camac_rules.specs.Capped.{capped};
+ghost use Rattle.camac_rules.specs.Cycles.{Around as Surroundings};
 ghost use Rattle.camac_check_simple.specs.Gives.{by_code};
 ghost use Rattle.camac_check_rows.specs.Rows.{none_yet, statement_rows, with_rows};
 ghost use Rattle.camac_check_rows.specs.Statements.{first_row, kind_of};

@@ -4,9 +4,9 @@ ghost use Rattle.std.specs.Prelude.{◌≡◌, ◌<◌, ◌+◌, ◌-◌, ◌^�
 ghost use Rattle.camac_lang.specs.Tree.{line_of};
 ghost use Rattle.camac_lang.specs.View.{expression_of, statement_of};
 ghost use Rattle.camac_range.specs.Interval.{only};
-ghost use Rattle.camac_check_rules.specs.Calls.{lam_region};
+ghost use Rattle.camac_rules.specs.Calls.{lam_region};
 ghost use Rattle.camac_check_simple.specs.Gives.{by_code};
-ghost use Rattle.camac_check_rules.specs.Costs.{costs, no_costs};
+ghost use Rattle.camac_rules.specs.Costs.{costs, no_costs};
 ghost use Rattle.camac_check_rows.specs.Rows.{times_at};
 ghost use Rattle.camac_check_rows.specs.Statements.{at_region, between, crate_detail, crate_kind, detail_of, first_row, kind_of, known_region, lam_kind, single_kind};
 

@@ -2,7 +2,7 @@
 
 ghost use Rattle.std.specs.Prelude.{◌≡◌, ◌++◌, IfOk, OnOk, None};
 ghost use Rattle.camac_lang.specs.View.{statement_of, statements_of};
-ghost use Rattle.camac_check_rules.specs.Cycles.{Around as Surroundings};
+ghost use Rattle.camac_rules.specs.Cycles.{Around as Surroundings};
 ghost use Rattle.camac_check_simple.specs.Gives.{by_code};
 ghost use Rattle.camac_check_rows.specs.Rows.{block_rows, inside, statement_rows};
 
@@ -16,7 +16,7 @@ use std::alloc::{AllocError, Global};
 
 /// The rows of a statement that can't be reached.
 #[cycle(unreached)]
-#[tactic(auto, unfolding(camac_check_rules::specs::Refusal::if_reached))]
+#[tactic(auto, unfolding(camac_rules::specs::Refusal::if_reached))]
 pub fn unreached_rows(
     alloc: Global,
     context: &Context,

@@ -6,12 +6,12 @@ use Rattle.camac_lang.specs.declared.script.Lam.{Lam}
 use Rattle.camac_lang.specs.View.{lam_of}
 use Rattle.camac_range.specs.Interval.{Interval, only}
 use Rattle.camac_model.specs.Meaning.{lam_address}
-use Rattle.camac_check_rules.specs.declared.case.Case.{Case}
-use Rattle.camac_check_rules.specs.declared.rule.CheckRule.{CheckRule}
-use Rattle.camac_check_rules.specs.Fault.{Fault, broken}
-use Rattle.camac_check_rules.specs.Refusal.{given}
-use Rattle.camac_check_rules.specs.Known.{Region, region}
-use Rattle.camac_check_rules.specs.Calls.{single_region}
+use Rattle.camac_rules.specs.declared.case.Case.{Case}
+use Rattle.camac_rules.specs.declared.rule.CheckRule.{CheckRule}
+use Rattle.camac_rules.specs.Fault.{Fault, broken}
+use Rattle.camac_rules.specs.Refusal.{given}
+use Rattle.camac_rules.specs.Known.{Region, region}
+use Rattle.camac_rules.specs.Calls.{single_region}
 
 abbrev pub at : List Lam → ℕ → Option Region
 at ls i = option_map single_region (slice_get (map lam_address (map lam_of ls)) i)

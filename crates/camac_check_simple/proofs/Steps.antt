@@ -1,11 +1,11 @@
 -- The checker's steps, taken or refused.
 use Rattle.std.proofs.Common.{◌≡◌, ℕ, ◌^◌, ◌<◌, ◌≤◌, Some, Result, Ok, ap, ◌∙◌, arith}
 use Rattle.std.proofs.lemmas.Nat.{pow_below}
-use Rattle.camac_check_rules.specs.Fault.{Fault}
+use Rattle.camac_rules.specs.Fault.{Fault}
 use Rattle.camac_model.specs.Fine.{Bounds}
-use Rattle.camac_check_rules.specs.Costs.{Verdict, verdict}
-use Rattle.camac_check_rules.specs.Known.{Facts}
-use Rattle.camac_check_rules.specs.Refusal.{go_on}
+use Rattle.camac_rules.specs.Costs.{Verdict, verdict}
+use Rattle.camac_rules.specs.Known.{Facts}
+use Rattle.camac_rules.specs.Refusal.{go_on}
 
 pub power_below : (w : ℕ) → w ≤ 24 → 2 ^ w < 2 ^ 32
 power_below w h = pow_below w 32 (omega arith)

@@ -2,9 +2,9 @@
 use Rattle.std.specs.Prelude.{ℕ, map, take}
 use Rattle.camac_lang.specs.View.{lam_of, table_of, procedure_of}
 use Rattle.camac_model.specs.Meaning.{lam_address}
-use Rattle.camac_check_rules.specs.Capped.{capped}
-use Rattle.camac_check_rules.specs.Costs.{Verdict, verdict}
-use Rattle.camac_check_rules.specs.Cycles.{Context}
+use Rattle.camac_rules.specs.Capped.{capped}
+use Rattle.camac_rules.specs.Costs.{Verdict, verdict}
+use Rattle.camac_rules.specs.Cycles.{Context}
 pub use Rattle.camac_check_known.specs.Gives.{Fails, Gives}
 use Rattle.camac_check_simple.specs.declared.context.Context as code
 use Rattle.camac_check_simple.specs.declared.statement.Findings.{Findings}

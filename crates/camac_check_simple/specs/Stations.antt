@@ -1,8 +1,8 @@
 -- What is tested at each station of a window at which it has a sub-address.
 use Rattle.std.specs.Prelude.{ℕ, Bool, ◌&&◌, nat_lt}
 use Rattle.camac_branch.specs.Plan.{Layout}
-use Rattle.camac_check_rules.specs.Addresses.{crate_end, in_plan, is_station}
-use Rattle.camac_check_rules.specs.Windows.{Window, holds_at, is_installed_at, is_declared_at}
+use Rattle.camac_rules.specs.Addresses.{crate_end, in_plan, is_station}
+use Rattle.camac_rules.specs.Windows.{Window, holds_at, is_installed_at, is_declared_at}
 
 abbrev pub has_station : Layout → ℕ → ℕ → Bool
 has_station plan c n = nat_lt c crate_end && (in_plan plan c && is_station plan c n)

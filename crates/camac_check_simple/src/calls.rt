@@ -2,9 +2,9 @@
 
 ghost use Rattle.std.specs.Prelude.{◌≡◌, ◌&&◌, not};
 ghost use Rattle.camac_lang.specs.View.{expression_of};
-ghost use Rattle.camac_check_rules.specs.Addresses.{is_among};
-ghost use Rattle.camac_check_rules.specs.Calls.{is_crate, crate_rule, lam_region, lam_rule, lock_unfit, lock_rule};
-ghost use Rattle.camac_check_rules.specs.Refusal.{given};
+ghost use Rattle.camac_rules.specs.Addresses.{is_among};
+ghost use Rattle.camac_rules.specs.Calls.{is_crate, crate_rule, lam_region, lam_rule, lock_unfit, lock_rule};
+ghost use Rattle.camac_rules.specs.Refusal.{given};
 ghost use Rattle.camac_check_simple.specs.Gives.{Gives, by_code, verdict_of};
 
 use crate::context::{Context, Place};
@@ -13,13 +13,13 @@ use crate::statement::Findings;
 use camac_check_known::{
     Around, CheckFault, Facts, Region, command_widths, is_crate, numbers_of, range_of, required,
 };
-use camac_check_rules::{Case, CheckRule};
 use camac_esone::lam_function;
 use camac_lang::{Expr, LamCall};
 use camac_range::Range;
+use camac_rules::{Case, CheckRule};
 
 /// Checks a crate call.
-#[tactic(auto, unfolding(camac_check_rules::specs::Refusal::go_on))]
+#[tactic(auto, unfolding(camac_rules::specs::Refusal::go_on))]
 pub fn crate_call(
     place: &Place,
     line: u32,
@@ -44,7 +44,7 @@ pub fn crate_call(
 }
 
 /// The crate that a `lock` takes. E15 where it is not one crate of the plan, or locked around it.
-#[tactic(auto, unfolding(camac_check_rules::specs::Refusal::go_on))]
+#[tactic(auto, unfolding(camac_rules::specs::Refusal::go_on))]
 pub fn lock_crate(
     place: &Place,
     line: u32,
@@ -86,7 +86,7 @@ fn is_free(context: &Context, around: &Around, crates: Range) -> bool
 }
 
 /// Checks a LAM call.
-#[tactic(auto, unfolding(camac_check_rules::specs::Refusal::go_on))]
+#[tactic(auto, unfolding(camac_rules::specs::Refusal::go_on))]
 pub fn lam_call(
     place: &Place,
     line: u32,
@@ -105,7 +105,7 @@ pub fn lam_call(
 }
 
 // The address of a LAM. E1 where there is no such LAM.
-#[tactic(auto, unfolding(camac_check_rules::specs::Refusal::given))]
+#[tactic(auto, unfolding(camac_rules::specs::Refusal::given))]
 fn address_of(context: &Context, lam: usize, line: u32) -> Result<Region, CheckFault>
     ensures { Gives (λ g. g) result (given (lam_region (by_code context.now) lam) CheckRule.StationNotInstalled line Case.Malformed) }
 {

@@ -2,14 +2,14 @@
 
 ghost use Rattle.std.specs.Prelude.{◌≡◌, ◌≤◌, ◌^◌, ◌-◌, ◌&&◌, nat_lt};
 ghost use Rattle.camac_func.specs.Class.{class_of};
-ghost use Rattle.camac_check_rules.specs.Cases.{direction};
+ghost use Rattle.camac_rules.specs.Cases.{direction};
 ghost use Rattle.camac_lang.specs.View.{expression_of, move_of};
 ghost use Rattle.camac_model.specs.Cycle.{sized};
 ghost use Rattle.camac_model.specs.Meaning.{fits_size};
 ghost use Rattle.camac_range.specs.Interval.{interval};
-ghost use Rattle.camac_check_rules.specs.Cycles.{may_write, same_class, one_cycle, control_rule, read_rule, write_rule, single_rule};
-ghost use Rattle.camac_check_rules.specs.Known.{region_at};
-ghost use Rattle.camac_check_rules.specs.Refusal.{given, required};
+ghost use Rattle.camac_rules.specs.Cycles.{may_write, same_class, one_cycle, control_rule, read_rule, write_rule, single_rule};
+ghost use Rattle.camac_rules.specs.Known.{region_at};
+ghost use Rattle.camac_rules.specs.Refusal.{given, required};
 ghost use Rattle.camac_check_simple.specs.Gives.{Gives, by_code, verdict_of};
 
 use crate::context::{Context, Place};
@@ -17,10 +17,10 @@ use crate::statement::Findings;
 use camac_check_known::{
     Around, CheckFault, Costs, Facts, Region, command_widths, cycle_cost, range_of, required,
 };
-use camac_check_rules::{Case, CheckRule};
 use camac_func::{FunctionClass, class};
 use camac_lang::{Expr, Move, WordSize};
 use camac_range::Range;
+use camac_rules::{Case, CheckRule};
 use camac_word::Function;
 
 /// Checks a single action.
@@ -43,7 +43,7 @@ pub fn single(
 }
 
 // A cycle without data.
-#[tactic(auto, unfolding(camac_check_rules::specs::Refusal::go_on))]
+#[tactic(auto, unfolding(camac_rules::specs::Refusal::go_on))]
 fn control(
     place: &Place,
     line: u32,
@@ -63,7 +63,7 @@ fn control(
 }
 
 // A read.
-#[tactic(auto, unfolding(camac_check_rules::specs::Refusal::go_on))]
+#[tactic(auto, unfolding(camac_rules::specs::Refusal::go_on))]
 fn read(
     place: &Place,
     line: u32,
@@ -87,7 +87,7 @@ fn read(
 }
 
 // A write.
-#[tactic(auto, unfolding(camac_check_rules::specs::Refusal::go_on))]
+#[tactic(auto, unfolding(camac_rules::specs::Refusal::go_on))]
 fn write(
     place: &Place,
     line: u32,
@@ -111,7 +111,7 @@ fn write(
 }
 
 /// The addresses of a register. E6 where it may be unset.
-#[tactic(auto, unfolding(camac_check_rules::specs::Refusal::given))]
+#[tactic(auto, unfolding(camac_rules::specs::Refusal::given))]
 pub fn addresses_of(
     around: &Around,
     known: &Facts,

@@ -1,17 +1,17 @@
 // The rules of statements without a dataway cycle.
 
 ghost use Rattle.camac_lang.specs.View.{expression_of};
-ghost use Rattle.camac_check_rules.specs.Statements.{assign_rule, register_rule, put_rule};
+ghost use Rattle.camac_rules.specs.Statements.{assign_rule, register_rule, put_rule};
 ghost use Rattle.camac_check_simple.specs.Gives.{Gives, verdict_of};
 
 use crate::cycle::may_write;
 use crate::statement::Findings;
 use camac_check_known::{Around, CheckFault, Costs, Facts, Region, range_of, required};
-use camac_check_rules::{Case, CheckRule};
 use camac_lang::Expr;
+use camac_rules::{Case, CheckRule};
 
 /// Checks an assignment.
-#[tactic(auto, unfolding(camac_check_rules::specs::Refusal::go_on))]
+#[tactic(auto, unfolding(camac_rules::specs::Refusal::go_on))]
 pub fn assign(
     around: &Around,
     line: u32,
@@ -30,7 +30,7 @@ pub fn assign(
 }
 
 /// Checks `cdreg`.
-#[tactic(auto, unfolding(camac_check_rules::specs::Refusal::go_on))]
+#[tactic(auto, unfolding(camac_rules::specs::Refusal::go_on))]
 pub fn set_register(
     line: u32,
     register: usize,
@@ -51,7 +51,7 @@ pub fn set_register(
 }
 
 /// Checks `put`.
-#[tactic(auto, unfolding(camac_check_rules::specs::Refusal::go_on))]
+#[tactic(auto, unfolding(camac_rules::specs::Refusal::go_on))]
 pub fn put(line: u32, value: &Expr, known: Facts) -> Result<Findings, CheckFault>
     ensures { Gives verdict_of result (put_rule line (expression_of value.now) known) }
 {

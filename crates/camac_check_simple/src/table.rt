@@ -3,7 +3,7 @@
 ghost use Rattle.std.specs.Prelude.{◌≡◌, ◌≤◌, ◌^◌, length, map, nat_lt};
 ghost use Rattle.camac_lang.specs.Tests.{each};
 ghost use Rattle.camac_lang.specs.View.{table_of};
-ghost use Rattle.camac_check_rules.specs.Transfers.{greatest_of, has_words, words_fit, words_sent};
+ghost use Rattle.camac_rules.specs.Transfers.{greatest_of, has_words, words_fit, words_sent};
 
 use camac_lang::Table;
 use camac_word::Word24;

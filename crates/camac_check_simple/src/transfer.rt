@@ -2,12 +2,12 @@
 
 ghost use Rattle.std.specs.Prelude.{◌≡◌, ◌≤◌, ◌&&◌, IfOk, map};
 ghost use Rattle.camac_lang.specs.View.{expression_of, table_of};
-ghost use Rattle.camac_check_rules.specs.Cases.{crates_of};
-ghost use Rattle.camac_check_rules.specs.Refusal.{required};
-ghost use Rattle.camac_check_rules.specs.declared.case.Case.TheVariants.{Width};
-ghost use Rattle.camac_check_rules.specs.declared.rule.CheckRule.TheVariants.{StationNotInstalled, CommandNotDeclared, ValueTooWide};
-ghost use Rattle.camac_check_rules.specs.Transfers.{has_sub_addresses, past_sub_addresses, undeclared_by, words_fit, words_sent, greatest_of, scan_verdict, scan_rule, block_class, event_words, block_region, block_verdict, q_stop_rule, q_repeat_cycles, q_repeat_rule};
-ghost use Rattle.camac_check_rules.specs.Windows.{window_of, is_installed, missing_over, is_declared};
+ghost use Rattle.camac_rules.specs.Cases.{crates_of};
+ghost use Rattle.camac_rules.specs.Refusal.{required};
+ghost use Rattle.camac_rules.specs.declared.case.Case.TheVariants.{Width};
+ghost use Rattle.camac_rules.specs.declared.rule.CheckRule.TheVariants.{StationNotInstalled, CommandNotDeclared, ValueTooWide};
+ghost use Rattle.camac_rules.specs.Transfers.{has_sub_addresses, past_sub_addresses, undeclared_by, words_fit, words_sent, greatest_of, scan_verdict, scan_rule, block_class, event_words, block_region, block_verdict, q_stop_rule, q_repeat_cycles, q_repeat_rule};
+ghost use Rattle.camac_rules.specs.Windows.{window_of, is_installed, missing_over, is_declared};
 ghost use Rattle.camac_check_simple.specs.Gives.{Gives, by_code, verdict_of};
 
 use crate::context::Place;
@@ -20,10 +20,10 @@ use camac_check_known::{
     CheckFault, Costs, Facts, Region, between, command_widths, cycle_cost, numbers_of, range_of,
     required,
 };
-use camac_check_rules::{Case, CheckRule};
 use camac_func::FunctionClass;
 use camac_lang::{Expr, Table};
 use camac_range::Range;
+use camac_rules::{Case, CheckRule};
 use camac_word::Function;
 use std::alloc::AllocError;
 
@@ -37,7 +37,7 @@ pub struct BlockTransfer {
 }
 
 /// Checks an address scan between two registers.
-#[tactic(auto, unfolding(camac_check_rules::specs::Refusal::go_on))]
+#[tactic(auto, unfolding(camac_rules::specs::Refusal::go_on))]
 pub fn scan(
     place: &Place,
     line: u32,
@@ -76,7 +76,7 @@ fn crates_of(g: Region, h: Region) -> Case
 }
 
 // E1 where a station between two registers is not installed.
-#[tactic(auto, unfolding(camac_check_rules::specs::Refusal::required))]
+#[tactic(auto, unfolding(camac_rules::specs::Refusal::required))]
 fn installed(plan: &Plan, g: Region, h: Region, line: u32) -> Result<(), CheckFault>
     ensures { Gives (λ u. tt) result (required (is_installed plan.now (window_of g h)) StationNotInstalled line (missing_over plan.now (window_of g h))) }
 {
@@ -89,7 +89,7 @@ fn installed(plan: &Plan, g: Region, h: Region, line: u32) -> Result<(), CheckFa
 }
 
 // E2 where an address between two registers has not the command.
-#[tactic(auto, unfolding(camac_check_rules::specs::Refusal::required))]
+#[tactic(auto, unfolding(camac_rules::specs::Refusal::required))]
 fn declared(plan: &Plan, f: Function, g: Region, h: Region, line: u32) -> Result<(), CheckFault>
     ensures { Gives (λ u. tt) result (required (has_sub_addresses g && (has_sub_addresses h && is_declared plan.now f (window_of g h))) CommandNotDeclared line (undeclared_by plan.now f g h)) }
 {
@@ -157,7 +157,7 @@ fn scan_findings(
 }
 
 /// Checks a block transfer up to the first Q=0.
-#[tactic(auto, unfolding(camac_check_rules::specs::Refusal::go_on))]
+#[tactic(auto, unfolding(camac_rules::specs::Refusal::go_on))]
 pub fn q_stop(
     place: &Place,
     line: u32,
@@ -173,7 +173,7 @@ pub fn q_stop(
 }
 
 /// Checks a block transfer that repeats cycles with Q=0.
-#[tactic(auto, unfolding(camac_check_rules::specs::Refusal::go_on))]
+#[tactic(auto, unfolding(camac_rules::specs::Refusal::go_on))]
 pub fn q_repeat(
     place: &Place,
     line: u32,
@@ -205,7 +205,7 @@ fn q_repeat_cycles(most: u32, limit: u32) -> u32
 }
 
 // The addresses of a block transfer of at most so many words.
-#[tactic(auto, unfolding(camac_check_rules::specs::Refusal::go_on))]
+#[tactic(auto, unfolding(camac_rules::specs::Refusal::go_on))]
 fn block_region(
     place: &Place,
     line: u32,
@@ -234,7 +234,7 @@ fn block_region(
 }
 
 // E5 where a word of the table is too wide.
-#[tactic(auto, unfolding(camac_check_rules::specs::Refusal::required))]
+#[tactic(auto, unfolding(camac_rules::specs::Refusal::required))]
 fn words_fit_at(
     tables: &[Table],
     table: Option<usize>,

@@ -1,18 +1,18 @@
 // The window of a scan: all stations and sub-addresses from a first to a final one.
 
 ghost use Rattle.std.specs.Prelude.{◌≡◌, ◌≤◌, ◌<◌, ◌-◌, ◌+◌, min};
-ghost use Rattle.camac_check_rules.specs.Addresses.{station_end};
-ghost use Rattle.camac_check_rules.specs.Transfers.{is_one_crate, has_sub_addresses};
-ghost use Rattle.camac_check_rules.specs.Walks.{count_below, first_failing};
-ghost use Rattle.camac_check_rules.specs.Windows.{window_of, stations_of, sub_addresses_at, is_empty, is_installed, missing_over, is_declared, undeclared_over, window_size, scan_cycles, scan_kept};
+ghost use Rattle.camac_rules.specs.Addresses.{station_end};
+ghost use Rattle.camac_rules.specs.Transfers.{is_one_crate, has_sub_addresses};
+ghost use Rattle.camac_rules.specs.Walks.{count_below, first_failing};
+ghost use Rattle.camac_rules.specs.Windows.{window_of, stations_of, sub_addresses_at, is_empty, is_installed, missing_over, is_declared, undeclared_over, window_size, scan_cycles, scan_kept};
 ghost use Rattle.camac_check_simple.specs.Stations.{has_station, installed_at, declared_at};
 
 use camac_branch::Plan;
 use camac_check_known::{
     Region, STATION_END, is_declared, is_station, not_installed, undeclared_at,
 };
-use camac_check_rules::Case;
 use camac_range::Range;
+use camac_rules::Case;
 use camac_word::{CrateNo, Function};
 use std::marker::Model;
 
@@ -27,7 +27,7 @@ pub struct Window {
 }
 
 impl Model for Window {
-    ghost use Rattle.camac_check_rules.specs.Windows.{Window as Reached};
+    ghost use Rattle.camac_rules.specs.Windows.{Window as Reached};
 
     ghost Value = { Reached };
 

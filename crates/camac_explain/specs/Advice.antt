@@ -2,22 +2,22 @@
 use Rattle.std.specs.Prelude.{ℕ, ◌-◌, ◌&&◌, ◌||◌, Bool, true, false, List, codes, nat_eq, nat_lt, nat_le, if◌then◌else◌}
 use Rattle.camac_plan.specs.declared.fault.PlanRule.{PlanRule}
 use Rattle.camac_plan.specs.declared.fault.PlanRule.TheVariants as plan
-use Rattle.camac_text_tokens.specs.declared.fault.TextRule.{TextRule}
-use Rattle.camac_text_tokens.specs.declared.fault.TextRule.TheVariants as text
+use Rattle.camac_tokens.specs.declared.fault.TextRule.{TextRule}
+use Rattle.camac_tokens.specs.declared.fault.TextRule.TheVariants as text
 use Rattle.camac_names.specs.declared.fault.LinkRule.{LinkRule}
 use Rattle.camac_names.specs.declared.fault.LinkRule.TheVariants as link
-use Rattle.camac_check_rules.specs.declared.rule.CheckRule.{CheckRule}
-use Rattle.camac_check_rules.specs.declared.rule.CheckRule.TheVariants as check
+use Rattle.camac_rules.specs.declared.rule.CheckRule.{CheckRule}
+use Rattle.camac_rules.specs.declared.rule.CheckRule.TheVariants as check
 use Rattle.camac_func.specs.declared.code.FunctionClass.{FunctionClass}
 use Rattle.camac_func.specs.declared.code.FunctionClass.TheVariants.{Read, Write, Control}
 use Rattle.camac_range.specs.Number.{greatest}
-use Rattle.camac_check_rules.specs.Loops.{turn_limit}
-use Rattle.camac_check_rules.specs.declared.case.Case.{Case}
-use Rattle.camac_check_rules.specs.declared.case.Body.TheVariants.{Procedure}
-use Rattle.camac_check_rules.specs.declared.case.Case.TheVariants.{Direction, Operation, Turns, Budget, Width, Word}
-use Rattle.camac_check_rules.specs.declared.case.Numbers.{Numbers}
-use Rattle.camac_check_rules.specs.declared.case.Operator.TheVariants.{Sub}
-use Rattle.camac_report_text.specs.Codes.{plan_code, text_code, link_code, check_code}
+use Rattle.camac_rules.specs.Loops.{turn_limit}
+use Rattle.camac_rules.specs.declared.case.Case.{Case}
+use Rattle.camac_rules.specs.declared.case.Body.TheVariants.{Procedure}
+use Rattle.camac_rules.specs.declared.case.Case.TheVariants.{Direction, Operation, Turns, Budget, Width, Word}
+use Rattle.camac_rules.specs.declared.case.Numbers.{Numbers}
+use Rattle.camac_rules.specs.declared.case.Operator.TheVariants.{Sub}
+use Rattle.camac_lines.specs.Codes.{plan_code, text_code, link_code, check_code}
 
 pub record Told : Type 0 where
   pub why : List ℕ

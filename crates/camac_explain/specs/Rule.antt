@@ -3,15 +3,15 @@ use Rattle.std.specs.Prelude.{◌≡◌, ℕ, ◌+◌, Bool, true, false, List, 
 use Rattle.camac_func.specs.declared.code.FunctionClass.{FunctionClass}
 use Rattle.camac_func.specs.declared.code.FunctionClass.TheVariants as class
 use Rattle.camac_range.specs.Number.{greatest}
-use Rattle.camac_check_rules.specs.declared.rule.CheckRule.{CheckRule}
-use Rattle.camac_check_rules.specs.declared.rule.CheckRule.TheVariants as check
-use Rattle.camac_check_rules.specs.declared.case.Body.{Body}
-use Rattle.camac_check_rules.specs.declared.case.Body.TheVariants as body
-use Rattle.camac_check_rules.specs.declared.case.Case.{Case}
-use Rattle.camac_check_rules.specs.declared.case.Case.TheVariants.{Budget, Direction, Malformed, Operation, Turns, Word}
-use Rattle.camac_check_rules.specs.declared.case.Numbers.{Numbers}
-use Rattle.camac_check_rules.specs.declared.case.Operator.TheVariants.{Sub}
-use Rattle.camac_report_text.specs.Codes.{plan_code, text_code, link_code, check_code}
+use Rattle.camac_rules.specs.declared.rule.CheckRule.{CheckRule}
+use Rattle.camac_rules.specs.declared.rule.CheckRule.TheVariants as check
+use Rattle.camac_rules.specs.declared.case.Body.{Body}
+use Rattle.camac_rules.specs.declared.case.Body.TheVariants as body
+use Rattle.camac_rules.specs.declared.case.Case.{Case}
+use Rattle.camac_rules.specs.declared.case.Case.TheVariants.{Budget, Direction, Malformed, Operation, Turns, Word}
+use Rattle.camac_rules.specs.declared.case.Numbers.{Numbers}
+use Rattle.camac_rules.specs.declared.case.Operator.TheVariants.{Sub}
+use Rattle.camac_lines.specs.Codes.{plan_code, text_code, link_code, check_code}
 use Rattle.camac_explain.specs.Advice.{plan_told, text_told, link_told, check_told}
 use Rattle.camac_explain.specs.Explanation.{line_of}
 use Rattle.camac_explain.specs.declared.rule.Rule.{Rule}

@@ -3,8 +3,8 @@ use Rattle.std.specs.Prelude.{◌≡◌, ℕ, List, Bool, true, false, Option, S
 use Rattle.camac_text.specs.Parser.{script_of}
 use Rattle.camac_names.specs.declared.fault.LinkCase.{LinkCase}
 use Rattle.camac_names.specs.declared.fault.LinkCase.TheVariants as link
-use Rattle.camac_check_rules.specs.declared.case.Case.{Case}
-use Rattle.camac_check_rules.specs.declared.case.Case.TheVariants.{Malformed}
+use Rattle.camac_rules.specs.declared.case.Case.{Case}
+use Rattle.camac_rules.specs.declared.case.Case.TheVariants.{Malformed}
 use Rattle.camac_explain.specs.declared.sentence.Names.{Names}
 
 -- the names are those of the script that the text spells, and there are none exactly where it spells none

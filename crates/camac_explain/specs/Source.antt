@@ -1,7 +1,7 @@
 -- The line of a script as it is shown.
 use Rattle.std.specs.Prelude.{ℕ, zero, suc, ◌+◌, ◌-◌, Bool, ◌&&◌, ◌||◌, not, List, [], ◌∷◌, ◌++◌, codes, decimal, drop, take, take_while, length, map, min, nat_eq, nat_le, nat_lt, if◌then◌else◌}
 use Rattle.std.specs.List.{flat_map}
-use Rattle.camac_text_tokens.specs.Scanning.{is_no_line_feed}
+use Rattle.camac_tokens.specs.Scanning.{is_no_line_feed}
 use Rattle.camac_explain.specs.declared.finding.Finding.{Finding}
 use Rattle.camac_explain.specs.declared.finding.Finding.TheVariants.{Plan, Text, Link, Check}
 

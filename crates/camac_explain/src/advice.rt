@@ -5,11 +5,11 @@ ghost use Rattle.std.specs.Prelude.{◌≡◌};
 ghost use Rattle.camac_explain.specs.Advice.{plan_told, text_told, link_told, check_told};
 ghost use Rattle.camac_explain.specs.Advice.{direction_mend, operation_mend, is_right_forgotten, is_side_forgotten, is_forgotten, is_difference, has_room, turns_mend, width_mend, word_mend, is_any, words_mend, cycles_mend, steps_mend, is_within, is_of_procedure};
 
-use camac_check_rules::{Body, Case, CheckRule, Numbers, Operator};
 use camac_func::FunctionClass;
 use camac_lang::limits;
 use camac_names::LinkRule;
 use camac_plan::PlanRule;
+use camac_rules::{Body, Case, CheckRule, Numbers, Operator};
 use camac_text::TextRule;
 
 // The greatest number of words that a plan's buffer holds.

@@ -1,9 +1,9 @@
 // An example of each rule: a plan, or a script that the sample plan refuses at a line. The page docs/REFUSALS.md has the same: tests/explain_test.py
 // compares them, and sees that each is refused so.
 
-use camac_check_rules::CheckRule;
 use camac_names::LinkRule;
 use camac_plan::PlanRule;
+use camac_rules::CheckRule;
 use camac_text::TextRule;
 
 /// A text that breaks a rule, and before it what it is.

@@ -5,16 +5,16 @@ ghost use Rattle.camac_explain.specs.Advice.{plan_told, told};
 ghost use Rattle.camac_explain.specs.Explanation.{IsExplanation, IsTold, advice_text, line_of, sentence_line, told_of};
 ghost use Rattle.camac_explain.specs.Finding.{refusal_of};
 ghost use Rattle.camac_explain.specs.Source.{source_of};
-ghost use Rattle.camac_report_text.specs.Codes.{plan_code};
-ghost use Rattle.camac_report_text.specs.Refusal.{code_of};
+ghost use Rattle.camac_lines.specs.Codes.{plan_code};
+ghost use Rattle.camac_lines.specs.Refusal.{code_of};
 
 use crate::advice::{Advice, check_advice, link_advice, plan_advice, text_advice};
 use crate::finding::Finding;
 use crate::plan::plan_sentence;
 use crate::sentence::{Names, check_sentence, link_sentence};
 use crate::source::{push_shown, push_source};
+use camac_lines::Refusal;
 use camac_plan::{PlanCase, PlanRule};
-use camac_report_text::Refusal;
 use std::alloc::{AllocError, Global};
 
 /// Why a plan's text is refused by a rule in this case: the lines that follow the refusal.

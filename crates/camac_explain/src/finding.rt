@@ -3,10 +3,10 @@
 ghost use Rattle.std.specs.Prelude.{◌≡◌};
 ghost use Rattle.camac_explain.specs.Finding.{refusal_of};
 
-use camac_check_rules::{Case, CheckRule};
+use camac_lines::Refusal;
 use camac_names::{LinkCase, LinkRule};
 use camac_plan::PlanRule;
-use camac_report_text::Refusal;
+use camac_rules::{Case, CheckRule};
 use camac_text::TextRule;
 
 /// The first rule that a plan or a script breaks, its line in the script, and what the rule knew there.

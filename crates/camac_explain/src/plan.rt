@@ -1,7 +1,7 @@
 // The sentences on the rules of plans, the tables of a plan, and what they are called.
 
+use camac_lines::{Quote, before_item, is_near};
 use camac_plan::{PlanCase, PlanKey, PlanTable, ValueKind, keys_of};
-use camac_report_text::{Quote, before_item, is_near};
 use std::alloc::{AllocError, Global};
 use std::fmt;
 use toml::{Table, Value};

@@ -3,15 +3,15 @@
 ghost use Rattle.std.specs.Prelude.{◌≡◌, ◌++◌, ◌↔◌, IfNone, IfOk, IfSome, IsTrue, OnOk, codes};
 ghost use Rattle.camac_explain.specs.Explanation.{line_of};
 ghost use Rattle.camac_explain.specs.Rule.{Grows, IsEarly, IsRuleOf, IsRuleText, Names, any_value, check_mends, mend_line, mends_of, minus, moving, needing, of_service, rule_code, turns, why_of};
-ghost use Rattle.camac_report_text.specs.Codes.{check_code, link_code, plan_code, text_code};
+ghost use Rattle.camac_lines.specs.Codes.{check_code, link_code, plan_code, text_code};
 
 use crate::advice::{check_advice, link_advice, plan_advice, text_advice};
 use crate::example::{Example, check_example, link_example, plan_example, text_example};
-use camac_check_rules::{Body, Case, CheckRule, Numbers, Operator};
 use camac_func::FunctionClass;
+use camac_lines::{Code, Refusal};
 use camac_names::LinkRule;
 use camac_plan::PlanRule;
-use camac_report_text::{Code, Refusal};
+use camac_rules::{Body, Case, CheckRule, Numbers, Operator};
 use camac_text::TextRule;
 use std::alloc::{AllocError, Global};
 

@@ -3,11 +3,11 @@
 ghost use Rattle.std.specs.Prelude.{◌≡◌, not, is_some, IfOk};
 ghost use Rattle.camac_explain.specs.Sentence.{AreNamesOf, is_malformed, is_link_malformed};
 
-use camac_check_rules::{Body, Case, CheckRule, Numbers, Operator};
 use camac_func::FunctionClass;
 use camac_lang::{Lam, Name, Script};
+use camac_lines::Quote;
 use camac_names::{LinkCase, LinkRule};
-use camac_report_text::Quote;
+use camac_rules::{Body, Case, CheckRule, Numbers, Operator};
 use camac_text::{TextFault, parse};
 use std::alloc::{AllocError, Global};
 use std::fmt;

@@ -95,7 +95,7 @@ fn after_line(text: &[u8]) -> &[u8]
     }
 }
 
-#[tactic(auto, using(camac_text_tokens::proofs::Scans::run_le))]
+#[tactic(auto, using(camac_tokens::proofs::Scans::run_le))]
 fn line_length(text: &[u8]) -> usize
     ensures length { result ≡ line_length text.now }
     ensures fits { result ≤ length text.now }

@@ -2,9 +2,9 @@
 
 use crate::expected::{begins_declaration, begins_statement};
 use camac_lang::Name;
-use camac_report_text::is_near;
+use camac_lines::is_near;
 use camac_text::NameKind;
-use camac_text_tokens::{Keyword, Sign, TokenKind, TokensLeft};
+use camac_tokens::{Keyword, Sign, TokenKind, TokensLeft};
 use std::alloc::{AllocError, Global};
 
 /// A name, what it is declared as, and the line on which it stands first.

@@ -1,7 +1,7 @@
 // What might stand at a place, in words.
 
 use camac_text::{Choice, Choices};
-use camac_text_tokens::{KEYWORDS, Keyword, SIGNS, Sign};
+use camac_tokens::{KEYWORDS, Keyword, SIGNS, Sign};
 use std::alloc::{AllocError, Global};
 use std::fmt;
 

@@ -3,7 +3,7 @@
 use crate::absent::{Absent, absent_sign, absent_word};
 use crate::before::{Before, word_of};
 use camac_text::{Choice, Choices, NameKind, TextCase, TextFault, TokenKind, TokensLeft};
-use camac_text_tokens::Keyword;
+use camac_tokens::Keyword;
 use std::alloc::{AllocError, Global};
 
 /// The token at which a fault shows, and what stands around it.

@@ -4,9 +4,9 @@ use crate::absent::Absent;
 use crate::expected::{begins_declaration, begins_statement};
 use crate::found::Found;
 use crate::mistake::{told_of_kind, usual_mistake};
-use camac_report_text::{Quote, is_near};
+use camac_lines::{Quote, is_near};
 use camac_text::{Choice, NameKind, TokenKind};
-use camac_text_tokens::{KEYWORDS, Keyword, Sign};
+use camac_tokens::{KEYWORDS, Keyword, Sign};
 use std::fmt;
 
 /// What may be meant, or what is to be known.

@@ -1,7 +1,7 @@
 // The limits of the language, in words.
 
 use camac_lang::limits;
-use camac_report_text::Quote;
+use camac_lines::Quote;
 use camac_text::Limit;
 use std::alloc::{AllocError, Global};
 

@@ -5,7 +5,7 @@ use crate::expected::{begins_declaration, begins_statement, is_comparison, is_na
 use crate::found::Found;
 use crate::hint::{Hint, word_before};
 use camac_text::{Choice, NameKind, TokenKind};
-use camac_text_tokens::{Keyword, Sign};
+use camac_tokens::{Keyword, Sign};
 
 /// What is to be known of a byte that begins no token.
 pub fn told_of_byte(byte: u8) -> Option<&'static str> {

@@ -5,7 +5,7 @@ use crate::found::Found;
 use crate::hint::{Hint, kind_hint, name_hint, unexpected_hint, word_before};
 use crate::limit::limit_told;
 use crate::mistake::{outside_of_bodies, own_sentence, told_of_byte};
-use camac_report_text::{Quote, before_item};
+use camac_lines::{Quote, before_item};
 use camac_text::{Choices, NameKind, TextCase, TextFault, parse_expecting};
 use std::alloc::{AllocError, Global};
 

@@ -4,14 +4,14 @@ use Rattle.camac_lang.specs.declared.word.WordSize.TheVariants.{Short}
 use Rattle.camac_model.specs.Meaning.{fits_size}
 use Rattle.camac_model.specs.Sample.{sample_plan}
 use Rattle.camac_range.specs.Interval.{interval, only}
-use Rattle.camac_check_rules.specs.declared.case.Case.TheVariants.{NoCommand, NoModule}
-use Rattle.camac_check_rules.specs.declared.rule.CheckRule.TheVariants.{StationNotInstalled, CommandNotDeclared}
-use Rattle.camac_check_rules.specs.Addresses.{are_stations, region_widths, command_widths, cycle_cost}
-use Rattle.camac_check_rules.specs.Fault.{broken}
-use Rattle.camac_check_rules.specs.Known.{Region, region}
-use Rattle.camac_check_rules.specs.Refusal.{go_on, required, given}
-use Rattle.camac_check_rules.specs.Transfers.{words_fit}
-use Rattle.camac_check_rules.specs.Windows.{Window, window_of, is_installed, is_declared, window_size}
+use Rattle.camac_rules.specs.declared.case.Case.TheVariants.{NoCommand, NoModule}
+use Rattle.camac_rules.specs.declared.rule.CheckRule.TheVariants.{StationNotInstalled, CommandNotDeclared}
+use Rattle.camac_rules.specs.Addresses.{are_stations, region_widths, command_widths, cycle_cost}
+use Rattle.camac_rules.specs.Fault.{broken}
+use Rattle.camac_rules.specs.Known.{Region, region}
+use Rattle.camac_rules.specs.Refusal.{go_on, required, given}
+use Rattle.camac_rules.specs.Transfers.{words_fit}
+use Rattle.camac_rules.specs.Windows.{Window, window_of, is_installed, is_declared, window_size}
 
 -- in crate 1 stations n to m and sub-addresses up to a
 abbrev over : ℕ → ℕ → ℕ → Region

@@ -16,13 +16,13 @@ use Rattle.camac_model.specs.Fine.{Bounds, most_turns, AreInRanges, IsOfAnswers,
 use Rattle.camac_model.specs.Headline.{no_count, nothing, RunsSafely}
 use Rattle.camac_model.specs.Moments.{Meets, Any}
 use Rattle.camac_model.proofs.Headline.{fine_services_run}
-use Rattle.camac_check_rules.specs.Accept.{accept}
-use Rattle.camac_check_rules.proofs.Accepted.{accepted_fine}
-use Rattle.camac_check_rules.proofs.Lockless.{block_lockless}
-use Rattle.camac_check_rules.proofs.ProcedureOrders.{AreNumbers, order_procedures, parameters_are_numbers}
-use Rattle.camac_check_rules.proofs.Routines.{called, AreSmall, RoutineSound}
-use Rattle.camac_check_rules.proofs.Services.{procedures_in}
-use Rattle.camac_check_rules.proofs.Settings.{found_at, AreLockless, are_lockless}
+use Rattle.camac_rules.specs.Accept.{accept}
+use Rattle.camac_rules.proofs.Accepted.{accepted_fine}
+use Rattle.camac_rules.proofs.Lockless.{block_lockless}
+use Rattle.camac_rules.proofs.ProcedureOrders.{AreNumbers, order_procedures, parameters_are_numbers}
+use Rattle.camac_rules.proofs.Routines.{called, AreSmall, RoutineSound}
+use Rattle.camac_rules.proofs.Services.{procedures_in}
+use Rattle.camac_rules.proofs.Settings.{found_at, AreLockless, are_lockless}
 use Rattle.camac_laws.specs.Calls.{guarded_context, guarded_run, CallsKeepToRanges, AcceptedCallsKeep}
 use Rattle.camac_laws.proofs.Guarded.{SameRoutine, BothSame, alike_at, block_same, script_same}
 use Rattle.camac_laws.proofs.Kept.{AllKept, items_kept, kept_at, sound_right}

@@ -2,10 +2,10 @@
 use Rattle.std.proofs.Common.{ℕ, ◌+◌, ◌*◌, ◌≤◌, Option, Some, None, Result, Ok, Err, refl, subst, arith}
 use Rattle.std.proofs.Math.Nat.{mul-le-mul_left}
 use Rattle.camac_model.specs.Fine.{Bounds}
-use Rattle.camac_check_rules.specs.Fault.{Fault}
-use Rattle.camac_check_rules.specs.Known.{Known, Facts}
-use Rattle.camac_check_rules.specs.Refusal.{go_on, if_reached}
-use Rattle.camac_check_rules.specs.Costs.{plus, choice_costs, lock_costs, loop_costs, call_costs, Verdict, verdict, unreached}
+use Rattle.camac_rules.specs.Fault.{Fault}
+use Rattle.camac_rules.specs.Known.{Known, Facts}
+use Rattle.camac_rules.specs.Refusal.{go_on, if_reached}
+use Rattle.camac_rules.specs.Costs.{plus, choice_costs, lock_costs, loop_costs, call_costs, Verdict, verdict, unreached}
 use Rattle.camac_laws.specs.Lower.{AtMost}
 use Rattle.camac_laws.specs.Grow.{CostsAtMost}
 

@@ -6,25 +6,25 @@ use Rattle.camac_lang.specs.Tree.{Block, Procedure, Service, Item, next_table, n
 use Rattle.camac_lang.proofs.Standing.{procedures_stand, services_stand}
 use Rattle.camac_range.specs.Number.{greatest}
 use Rattle.camac_model.specs.Fine.{Bounds, annotated}
-use Rattle.camac_check_rules.specs.declared.case.Case.{Case}
-use Rattle.camac_check_rules.specs.declared.case.Body.{Body}
-use Rattle.camac_check_rules.specs.declared.case.Body.TheVariants as body
-use Rattle.camac_check_rules.specs.declared.rule.CheckRule.{CheckRule}
-use Rattle.camac_check_rules.specs.declared.rule.CheckRule.TheVariants.{TooManyWords, TooManyCycles, TooManySteps}
-use Rattle.camac_check_rules.specs.Fault.{Fault}
-use Rattle.camac_check_rules.specs.Refusal.{go_on, required, if_reached}
-use Rattle.camac_check_rules.specs.Known.{Known}
-use Rattle.camac_check_rules.specs.Capped.{capped}
-use Rattle.camac_check_rules.specs.Costs.{costs, Verdict, unreached}
-use Rattle.camac_check_rules.specs.Cycles.{Context, Around, alone_in}
-use Rattle.camac_check_rules.specs.Statements.{accept_block}
-use Rattle.camac_check_rules.specs.Accept.{Section, sections, at_start, own_body, within, accept_procedure, accept_service, accept_items, with_procedure, bare}
-use Rattle.camac_check_rules.specs.Procedures.{at_entry}
-use Rattle.camac_costs.specs.declared.bodies.Owner.{Owner}
-use Rattle.camac_costs.specs.declared.bodies.Owner.TheVariants as owner
+use Rattle.camac_rules.specs.declared.case.Case.{Case}
+use Rattle.camac_rules.specs.declared.case.Body.{Body}
+use Rattle.camac_rules.specs.declared.case.Body.TheVariants as body
+use Rattle.camac_rules.specs.declared.rule.CheckRule.{CheckRule}
+use Rattle.camac_rules.specs.declared.rule.CheckRule.TheVariants.{TooManyWords, TooManyCycles, TooManySteps}
+use Rattle.camac_rules.specs.Fault.{Fault}
+use Rattle.camac_rules.specs.Refusal.{go_on, required, if_reached}
+use Rattle.camac_rules.specs.Known.{Known}
+use Rattle.camac_rules.specs.Capped.{capped}
+use Rattle.camac_rules.specs.Costs.{costs, Verdict, unreached}
+use Rattle.camac_rules.specs.Cycles.{Context, Around, alone_in}
+use Rattle.camac_rules.specs.Statements.{accept_block}
+use Rattle.camac_rules.specs.Accept.{Section, sections, at_start, own_body, within, accept_procedure, accept_service, accept_items, with_procedure, bare}
+use Rattle.camac_rules.specs.Procedures.{at_entry}
+use Rattle.camac_check_costs.specs.declared.bodies.Owner.{Owner}
+use Rattle.camac_check_costs.specs.declared.bodies.Owner.TheVariants as owner
 use Rattle.camac_check_rows.specs.Rows.{found}
-use Rattle.camac_costs.specs.Body.{BodyRows}
-use Rattle.camac_costs.specs.Bodies.{body_costs, costs_over}
+use Rattle.camac_check_costs.specs.Body.{BodyRows}
+use Rattle.camac_check_costs.specs.Bodies.{body_costs, costs_over}
 use Rattle.camac_laws.specs.Shares.{total, IsBelow}
 use Rattle.camac_laws.specs.CostsBounds.{service_bounds, AreBounds, CostsAreBounds}
 use Rattle.camac_check.proofs.Capped.{in_code, in_rules, cut, cut_all, if_reached_cut, block_cut}

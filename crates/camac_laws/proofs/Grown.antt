@@ -7,19 +7,19 @@ use Rattle.camac_lang.specs.Tree.{Move, no_data, into, from, Statement, assign, 
 use Rattle.camac_range.specs.Interval.{Interval}
 use Rattle.camac_branch.specs.Plan.{crate_waits}
 use Rattle.camac_model.specs.Fine.{annotated}
-use Rattle.camac_check_rules.specs.declared.rule.CheckRule.TheVariants.{KeepFailsAfterTurn, ArgumentOutOfRange}
-use Rattle.camac_check_rules.specs.Fault.{Fault}
-use Rattle.camac_check_rules.specs.declared.case.Case.TheVariants.{Malformed}
-use Rattle.camac_check_rules.specs.Refusal.{go_on, required, given, if_reached}
-use Rattle.camac_check_rules.specs.Known.{Facts}
-use Rattle.camac_check_rules.specs.Conditions.{split}
-use Rattle.camac_check_rules.specs.Costs.{no_costs, call_costs, Verdict, verdict, unreached}
-use Rattle.camac_check_rules.specs.Cycles.{Context, Around, with_locked, single_rule}
-use Rattle.camac_check_rules.specs.Loops.{with_fixed, for_limits, for_head, keeps_hold_after, turns_between, while_head, turn_bound}
-use Rattle.camac_check_rules.specs.Procedures.{ranges_of, arguments_fit, unfit}
-use Rattle.camac_check_rules.specs.Calls.{lock_rule}
-use Rattle.camac_check_rules.specs.Statements.{accept_statement, accept_block}
-use Rattle.camac_check_rules.specs.Accept.{bare}
+use Rattle.camac_rules.specs.declared.rule.CheckRule.TheVariants.{KeepFailsAfterTurn, ArgumentOutOfRange}
+use Rattle.camac_rules.specs.Fault.{Fault}
+use Rattle.camac_rules.specs.declared.case.Case.TheVariants.{Malformed}
+use Rattle.camac_rules.specs.Refusal.{go_on, required, given, if_reached}
+use Rattle.camac_rules.specs.Known.{Facts}
+use Rattle.camac_rules.specs.Conditions.{split}
+use Rattle.camac_rules.specs.Costs.{no_costs, call_costs, Verdict, verdict, unreached}
+use Rattle.camac_rules.specs.Cycles.{Context, Around, with_locked, single_rule}
+use Rattle.camac_rules.specs.Loops.{with_fixed, for_limits, for_head, keeps_hold_after, turns_between, while_head, turn_bound}
+use Rattle.camac_rules.specs.Procedures.{ranges_of, arguments_fit, unfit}
+use Rattle.camac_rules.specs.Calls.{lock_rule}
+use Rattle.camac_rules.specs.Statements.{accept_statement, accept_block}
+use Rattle.camac_rules.specs.Accept.{bare}
 use Rattle.camac_laws.specs.Lower.{AtMost, ProcedureAtMost}
 use Rattle.camac_laws.specs.Grow.{CostsAtMost, CostsGrow}
 use Rattle.camac_laws.proofs.Costs.{itself, plus_grown, choice_grown, lock_grown, loop_grown, call_grown, go_same, go_grown, if_reached_grown, same_grown}

@@ -5,14 +5,14 @@ use Rattle.camac_range.specs.Interval.{Interval}
 use Rattle.camac_branch.specs.Address.{address}
 use Rattle.camac_branch.specs.Allowed.{allowed}
 use Rattle.camac_branch.specs.Plan.{Layout, IsPlan}
-use Rattle.camac_check_rules.specs.declared.case.Case.{Case}
-use Rattle.camac_check_rules.specs.declared.rule.CheckRule.{CheckRule}
-use Rattle.camac_check_rules.specs.declared.rule.CheckRule.TheVariants.{StationNotInstalled, CommandNotDeclared}
-use Rattle.camac_check_rules.specs.Fault.{Fault, broken}
-use Rattle.camac_check_rules.specs.Refusal.{go_on, required, given}
-use Rattle.camac_check_rules.specs.Known.{Region}
-use Rattle.camac_check_rules.specs.Walks.{first_outside}
-use Rattle.camac_check_rules.specs.Addresses.{crate_end, station_end, in_plan, is_station, all_in, are_stations_in, are_stations, region_widths, command_widths, missing, undeclared}
+use Rattle.camac_rules.specs.declared.case.Case.{Case}
+use Rattle.camac_rules.specs.declared.rule.CheckRule.{CheckRule}
+use Rattle.camac_rules.specs.declared.rule.CheckRule.TheVariants.{StationNotInstalled, CommandNotDeclared}
+use Rattle.camac_rules.specs.Fault.{Fault, broken}
+use Rattle.camac_rules.specs.Refusal.{go_on, required, given}
+use Rattle.camac_rules.specs.Known.{Region}
+use Rattle.camac_rules.specs.Walks.{first_outside}
+use Rattle.camac_rules.specs.Addresses.{crate_end, station_end, in_plan, is_station, all_in, are_stations_in, are_stations, region_widths, command_widths, missing, undeclared}
 use Rattle.camac_laws.specs.ShownAddresses.{IsFirst, HasAddresses}
 use Rattle.camac_laws.specs.Regions.{IsInstalled, IsIn, AreInstalled, HasMissing, HasUndeclared, HasWidths, IsJudged, CommandsAreJudged}
 use Rattle.camac_laws.proofs.Refused.{go_err, required_err, required_true, given_err, given_ok}

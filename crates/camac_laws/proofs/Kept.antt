@@ -1,4 +1,4 @@
--- What is accepted is not wrong with guards: the walk over a script's items of camac_check_rules (`Services`), with guarded bodies.
+-- What is accepted is not wrong with guards: the walk over a script's items of camac_rules (`Services`), with guarded bodies.
 use Rattle.std.proofs.Common.{◌≡◌, ℕ, zero, suc, ◌≤◌, false, List, [], ◌∷◌, ◌++◌, length, Some, refl, sym, ◌∙◌, subst, append_assoc, arith}
 use Rattle.std.specs.Prelude.{slice_get}
 use Rattle.std.proofs.lemmas.Bool.{false≢true}
@@ -12,21 +12,21 @@ use Rattle.camac_model.specs.Behaviour.{Behaviour, does, ends, stops, wrong, Act
 use Rattle.camac_model.specs.Meaning.{arguments, entered, block_meaning}
 use Rattle.camac_model.specs.Run.{service_meaning}
 use Rattle.camac_model.specs.Fine.{Bounds, most_turns, IsOfAnswers, annotated, AreFine}
-use Rattle.camac_check_rules.specs.Known.{Known}
-use Rattle.camac_check_rules.specs.declared.case.Body.{Body}
-use Rattle.camac_check_rules.specs.declared.case.Body.TheVariants as body
-use Rattle.camac_check_rules.specs.Cycles.{alone_in}
-use Rattle.camac_check_rules.specs.Statements.{accept_block}
-use Rattle.camac_check_rules.specs.Accept.{at_start, own_body, accept_procedure, accept_service, accept_items}
-use Rattle.camac_check_rules.proofs.Allows.{Allows, allowed, then_allowed, required_allowed, for_each, allowed_more}
-use Rattle.camac_check_rules.proofs.Stores.{Place, Inside}
-use Rattle.camac_check_rules.proofs.Sound.{Sound, SoundFor}
-use Rattle.camac_check_rules.proofs.Actions.{HasWidths, Setting, of, seen, with_test}
-use Rattle.camac_check_rules.proofs.Lockless.{block_has_lock}
-use Rattle.camac_check_rules.proofs.Routines.{called, RoutineSound, Serves, routine_sound}
-use Rattle.camac_check_rules.proofs.Statements.{block_sound}
-use Rattle.camac_check_rules.proofs.Services.{procedures_in}
-use Rattle.camac_check_rules.proofs.Settings.{bare_with, setting, Matched, matched_push, found_at, serves_own, AreLockless}
+use Rattle.camac_rules.specs.Known.{Known}
+use Rattle.camac_rules.specs.declared.case.Body.{Body}
+use Rattle.camac_rules.specs.declared.case.Body.TheVariants as body
+use Rattle.camac_rules.specs.Cycles.{alone_in}
+use Rattle.camac_rules.specs.Statements.{accept_block}
+use Rattle.camac_rules.specs.Accept.{at_start, own_body, accept_procedure, accept_service, accept_items}
+use Rattle.camac_rules.proofs.Allows.{Allows, allowed, then_allowed, required_allowed, for_each, allowed_more}
+use Rattle.camac_rules.proofs.Stores.{Place, Inside}
+use Rattle.camac_rules.proofs.Sound.{Sound, SoundFor}
+use Rattle.camac_rules.proofs.Actions.{HasWidths, Setting, of, seen, with_test}
+use Rattle.camac_rules.proofs.Lockless.{block_has_lock}
+use Rattle.camac_rules.proofs.Routines.{called, RoutineSound, Serves, routine_sound}
+use Rattle.camac_rules.proofs.Statements.{block_sound}
+use Rattle.camac_rules.proofs.Services.{procedures_in}
+use Rattle.camac_rules.proofs.Settings.{bare_with, setting, Matched, matched_push, found_at, serves_own, AreLockless}
 use Rattle.camac_laws.specs.Calls.{begins_in_ranges, guarded, guarded_routines, guarded_context}
 use Rattle.camac_laws.proofs.Guards.{guard_holds}
 use Rattle.camac_laws.proofs.Guarded.{IsRight}

@@ -9,17 +9,17 @@ use Rattle.camac_range.specs.Number.{greatest}
 use Rattle.camac_branch.specs.Plan.{Layout}
 use Rattle.camac_names.specs.Link.{link_fault}
 use Rattle.camac_model.specs.Fine.{Bounds, annotated}
-use Rattle.camac_check_rules.specs.Fault.{Fault}
-use Rattle.camac_check_rules.specs.Refusal.{go_on, if_reached}
-use Rattle.camac_check_rules.specs.Costs.{costs, Verdict, unreached}
-use Rattle.camac_check_rules.specs.declared.case.Body.{Body}
-use Rattle.camac_check_rules.specs.declared.case.Body.TheVariants as body
-use Rattle.camac_check_rules.specs.Cycles.{Context, Around, alone_in}
-use Rattle.camac_check_rules.specs.Laws.{EventsFit}
-use Rattle.camac_check_rules.specs.Procedures.{at_entry}
-use Rattle.camac_check_rules.specs.Statements.{accept_block}
-use Rattle.camac_check_rules.specs.Accept.{at_start, own_body, within, accept_procedure, accept_service, with_procedure, accept_items, bare, accept}
-use Rattle.camac_check_result.specs.Checked.{CheckedScript}
+use Rattle.camac_rules.specs.Fault.{Fault}
+use Rattle.camac_rules.specs.Refusal.{go_on, if_reached}
+use Rattle.camac_rules.specs.Costs.{costs, Verdict, unreached}
+use Rattle.camac_rules.specs.declared.case.Body.{Body}
+use Rattle.camac_rules.specs.declared.case.Body.TheVariants as body
+use Rattle.camac_rules.specs.Cycles.{Context, Around, alone_in}
+use Rattle.camac_rules.specs.Laws.{EventsFit}
+use Rattle.camac_rules.specs.Procedures.{at_entry}
+use Rattle.camac_rules.specs.Statements.{accept_block}
+use Rattle.camac_rules.specs.Accept.{at_start, own_body, within, accept_procedure, accept_service, with_procedure, accept_items, bare, accept}
+use Rattle.camac_checked.specs.Checked.{CheckedScript}
 use Rattle.camac_check.specs.Least.{Finds, Headed, and_then, checked, event_fits, least, least_items, least_unannotated, linked, most, needing, procedure_first, procedure_needs, service_first, service_needing, service_needs}
 use Rattle.camac_check.specs.declared.fault.LeastFault.{LeastFault}
 use Rattle.camac_check.specs.declared.fault.LeastFault.TheVariants.{OutOfMemory, Link, Check}

@@ -6,9 +6,9 @@ use Rattle.std.specs.List.{flat_map}
 use Rattle.std.proofs.lemmas.Bool.{and_parts, eqb-true, eqb-false, ltb-true, ltb-false, false≢true}
 use Rattle.camac_module.specs.Entry.{Entry}
 use Rattle.camac_module.specs.Commands.{Commands, entry}
-use Rattle.camac_report_text.specs.Commands.{is_same, last_same, goes_on, command_line, text_at, command_text, function_text}
-use Rattle.camac_report_text.specs.Texts.{texts}
-use Rattle.camac_report_text.proofs.Neighbours.{same_from, same_next, same_stops, same_ends}
+use Rattle.camac_lines.specs.Commands.{is_same, last_same, goes_on, command_line, text_at, command_text, function_text}
+use Rattle.camac_lines.specs.Texts.{texts}
+use Rattle.camac_lines.proofs.Neighbours.{same_from, same_next, same_stops, same_ends}
 use Rattle.camac_laws.specs.Listed.{CommandLine, line_text, IsDeclared, AreDeclared, IsBehind, AreBehind, AreInOrder, OneTells, CommandsAreListed}
 
 -- ---- the same command

@@ -14,30 +14,30 @@ use Rattle.camac_model.specs.Value.{value, truth}
 use Rattle.camac_model.specs.Moments.{Meets}
 use Rattle.camac_model.specs.Fine.{Bounds, most_turns}
 use Rattle.camac_model.specs.Meaning.{for_state, effect, meaning, block_meaning}
-use Rattle.camac_check_rules.specs.Fault.{Fault}
-use Rattle.camac_check_rules.specs.Refusal.{go_on, required, if_reached}
-use Rattle.camac_check_rules.specs.Known.{Facts, Known, with_range}
-use Rattle.camac_check_rules.specs.Conditions.{Branches, branches, split}
-use Rattle.camac_check_rules.specs.Capped.{capped}
-use Rattle.camac_check_rules.specs.Costs.{costs, no_costs, plus, choice_costs, lock_costs, loop_costs, Verdict, unreached}
-use Rattle.camac_check_rules.specs.Cycles.{Context, Around, with_locked}
-use Rattle.camac_check_rules.specs.Calls.{lock_rule}
-use Rattle.camac_check_rules.specs.Loops.{Limits, with_fixed, for_limits, for_head, head, keeps_hold_after, turns_between, values_between, while_head, turn_bound}
-use Rattle.camac_check_rules.specs.Statements.{accept_statement, accept_block}
-use Rattle.camac_check_rules.proofs.Allows.{Allows}
-use Rattle.camac_check_rules.proofs.Stores.{Place, around_of, fixing, holding, Inside, Reaches}
-use Rattle.camac_check_rules.proofs.Conditions.{Decides, split_each}
-use Rattle.camac_check_rules.proofs.Values.{Fits}
-use Rattle.camac_check_rules.proofs.Sound.{Paid, step, SafePiece, StopsWell, EndsWell, Sound, SoundFor}
-use Rattle.camac_check_rules.proofs.Actions.{Setting, of, HasWidths, seen, value_of}
-use Rattle.camac_check_rules.proofs.Held.{MayLock, lock_allowed, lock_taken}
-use Rattle.camac_check_rules.proofs.ForLoops as counting
-use Rattle.camac_check_rules.proofs.ForLoops.{limits_allowed}
-use Rattle.camac_check_rules.proofs.WhileLoops as turning_while
-use Rattle.camac_check_rules.proofs.WhileLoops.{head_allowed}
-use Rattle.camac_check_rules.proofs.Lockless.{has_lock, block_has_lock}
-use Rattle.camac_check_rules.proofs.Routines.{Serves}
-use Rattle.camac_check_rules.proofs.Statements.{may_first, may_second, reached_sound, statement_sound, block_sound}
+use Rattle.camac_rules.specs.Fault.{Fault}
+use Rattle.camac_rules.specs.Refusal.{go_on, required, if_reached}
+use Rattle.camac_rules.specs.Known.{Facts, Known, with_range}
+use Rattle.camac_rules.specs.Conditions.{Branches, branches, split}
+use Rattle.camac_rules.specs.Capped.{capped}
+use Rattle.camac_rules.specs.Costs.{costs, no_costs, plus, choice_costs, lock_costs, loop_costs, Verdict, unreached}
+use Rattle.camac_rules.specs.Cycles.{Context, Around, with_locked}
+use Rattle.camac_rules.specs.Calls.{lock_rule}
+use Rattle.camac_rules.specs.Loops.{Limits, with_fixed, for_limits, for_head, head, keeps_hold_after, turns_between, values_between, while_head, turn_bound}
+use Rattle.camac_rules.specs.Statements.{accept_statement, accept_block}
+use Rattle.camac_rules.proofs.Allows.{Allows}
+use Rattle.camac_rules.proofs.Stores.{Place, around_of, fixing, holding, Inside, Reaches}
+use Rattle.camac_rules.proofs.Conditions.{Decides, split_each}
+use Rattle.camac_rules.proofs.Values.{Fits}
+use Rattle.camac_rules.proofs.Sound.{Paid, step, SafePiece, StopsWell, EndsWell, Sound, SoundFor}
+use Rattle.camac_rules.proofs.Actions.{Setting, of, HasWidths, seen, value_of}
+use Rattle.camac_rules.proofs.Held.{MayLock, lock_allowed, lock_taken}
+use Rattle.camac_rules.proofs.ForLoops as counting
+use Rattle.camac_rules.proofs.ForLoops.{limits_allowed}
+use Rattle.camac_rules.proofs.WhileLoops as turning_while
+use Rattle.camac_rules.proofs.WhileLoops.{head_allowed}
+use Rattle.camac_rules.proofs.Lockless.{has_lock, block_has_lock}
+use Rattle.camac_rules.proofs.Routines.{Serves}
+use Rattle.camac_rules.proofs.Statements.{may_first, may_second, reached_sound, statement_sound, block_sound}
 use Rattle.camac_check.proofs.Capped.{in_code, cut, cut_all, if_reached_cut, statement_cut, block_cut}
 use Rattle.camac_check_rows.specs.declared.row.Detail.{Detail}
 use Rattle.camac_check_rows.specs.declared.row.Row.{Row}

@@ -9,28 +9,28 @@ use Rattle.camac_branch.proofs.Allowed.{allowed-in_range}
 use Rattle.camac_model.specs.State.{fresh}
 use Rattle.camac_model.specs.Fine.{Bounds}
 use Rattle.camac_model.specs.Meaning.{context, entered}
-use Rattle.camac_check_rules.specs.Fault.{Fault}
-use Rattle.camac_check_rules.specs.Refusal.{go_on}
-use Rattle.camac_check_rules.specs.declared.case.Body.TheVariants as body
-use Rattle.camac_check_rules.specs.Cycles.{alone_in}
-use Rattle.camac_check_rules.specs.Procedures.{at_entry}
-use Rattle.camac_check_rules.specs.Accept.{of_procedure, of_service, sections, at_start, own_body, accept_procedure, accept_service, accept_items}
-use Rattle.camac_check_rules.proofs.Actions.{Setting, HasWidths, seen}
-use Rattle.camac_check_rules.proofs.Accepted.{lockless, first_accepted, in_range_small, at_call}
-use Rattle.camac_check_rules.proofs.Lockless.{block_has_lock}
-use Rattle.camac_check_rules.proofs.ProcedureOrders.{AreNumbers, order_procedures, parameters_are_numbers}
-use Rattle.camac_check_rules.proofs.Routines.{called, Serves, entry_reached}
-use Rattle.camac_check_rules.proofs.Services.{outermost, start_inside}
-use Rattle.camac_check_rules.proofs.Settings.{setting, Matched, found_at, AreLockless}
+use Rattle.camac_rules.specs.Fault.{Fault}
+use Rattle.camac_rules.specs.Refusal.{go_on}
+use Rattle.camac_rules.specs.declared.case.Body.TheVariants as body
+use Rattle.camac_rules.specs.Cycles.{alone_in}
+use Rattle.camac_rules.specs.Procedures.{at_entry}
+use Rattle.camac_rules.specs.Accept.{of_procedure, of_service, sections, at_start, own_body, accept_procedure, accept_service, accept_items}
+use Rattle.camac_rules.proofs.Actions.{Setting, HasWidths, seen}
+use Rattle.camac_rules.proofs.Accepted.{lockless, first_accepted, in_range_small, at_call}
+use Rattle.camac_rules.proofs.Lockless.{block_has_lock}
+use Rattle.camac_rules.proofs.ProcedureOrders.{AreNumbers, order_procedures, parameters_are_numbers}
+use Rattle.camac_rules.proofs.Routines.{called, Serves, entry_reached}
+use Rattle.camac_rules.proofs.Services.{outermost, start_inside}
+use Rattle.camac_rules.proofs.Settings.{setting, Matched, found_at, AreLockless}
 use Rattle.camac_check.proofs.Capped.{in_code}
-use Rattle.camac_costs.specs.Bodies.{rows_if, procedure_costs, service_costs, costs_over}
+use Rattle.camac_check_costs.specs.Bodies.{rows_if, procedure_costs, service_costs, costs_over}
 use Rattle.camac_check_rows.specs.Rows.{block_rows}
 use Rattle.camac_laws.specs.Made.{made, SectionKeeps, SectionsKeep, RowsAreOfRuns}
 use Rattle.camac_laws.proofs.CostsBounds.{Low, low, procedure_in_code, service_in_code}
 use Rattle.camac_laws.proofs.Made.{block_keeps}
 use Rattle.camac_laws.proofs.MadeLists.{AllIn, all_keep}
 use Rattle.camac_laws.proofs.Shares.{go_ok}
-use Rattle.camac_check_rules.specs.Fault.{Fault}
+use Rattle.camac_rules.specs.Fault.{Fault}
 
 front : {A : Type 0} (xs ys : List A) (j : ℕ) (x : A) → slice_get xs j ≡ Some x → slice_get (xs ++ ys) j ≡ Some x
 front [] ys j x e = absurd (cc)

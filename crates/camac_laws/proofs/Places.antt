@@ -13,26 +13,26 @@ use Rattle.camac_range.specs.Narrow.{narrow}
 use Rattle.camac_range.specs.Operators as range
 use Rattle.camac_lang.specs.declared.word.WordSize.{WordSize}
 use Rattle.camac_model.specs.Cycle.{sized}
-use Rattle.camac_check_rules.specs.Conditions.{Branches, branches, sole_variable, refine, assume, split_test, split_part, split}
-use Rattle.camac_check_rules.specs.Costs.{Verdict, unreached}
-use Rattle.camac_check_rules.specs.Addresses.{command_widths}
-use Rattle.camac_check_rules.specs.Calls.{lam_region, lock_rule}
-use Rattle.camac_check_rules.specs.Cycles.{Context, Around, with_locked, single_rule}
-use Rattle.camac_check_rules.specs.Expressions.{range_of}
-use Rattle.camac_check_rules.specs.Fault.{Fault}
-use Rattle.camac_check_rules.specs.Joined.{join_set, join}
-use Rattle.camac_check_rules.specs.Known.{write, Region, region, Facts, facts, Known, range_at, region_at, with_range}
-use Rattle.camac_check_rules.specs.Loops.{kept_range, keeps_hold, with_keeps, head, Limits, values_between, with_fixed, for_limits, for_head, for_after, while_head}
-use Rattle.camac_check_rules.specs.Procedures.{ranges_of, parameter_range, can_be_called}
-use Rattle.camac_check_rules.specs.Refusal.{if_reached}
-use Rattle.camac_check_rules.specs.Statements.{accept_statement, accept_block}
-use Rattle.camac_check_rules.specs.Transfers.{block_region}
-use Rattle.camac_check_rules.specs.Windows.{window_of, scan_kept}
-use Rattle.camac_check_rules.specs.Writes.{fall_of, any_range, forget_move, forget, forget_block}
-use Rattle.camac_check_rules.proofs.Allows.{Allows, allowed, then_allowed, required_allowed, given_then, given_allowed}
-use Rattle.camac_check_rules.proofs.Heads.{write_at}
-use Rattle.camac_check_rules.proofs.Joined.{range_at-hulls, region_at-join}
-use Rattle.camac_check_rules.proofs.Values.{some_if}
+use Rattle.camac_rules.specs.Conditions.{Branches, branches, sole_variable, refine, assume, split_test, split_part, split}
+use Rattle.camac_rules.specs.Costs.{Verdict, unreached}
+use Rattle.camac_rules.specs.Addresses.{command_widths}
+use Rattle.camac_rules.specs.Calls.{lam_region, lock_rule}
+use Rattle.camac_rules.specs.Cycles.{Context, Around, with_locked, single_rule}
+use Rattle.camac_rules.specs.Expressions.{range_of}
+use Rattle.camac_rules.specs.Fault.{Fault}
+use Rattle.camac_rules.specs.Joined.{join_set, join}
+use Rattle.camac_rules.specs.Known.{write, Region, region, Facts, facts, Known, range_at, region_at, with_range}
+use Rattle.camac_rules.specs.Loops.{kept_range, keeps_hold, with_keeps, head, Limits, values_between, with_fixed, for_limits, for_head, for_after, while_head}
+use Rattle.camac_rules.specs.Procedures.{ranges_of, parameter_range, can_be_called}
+use Rattle.camac_rules.specs.Refusal.{if_reached}
+use Rattle.camac_rules.specs.Statements.{accept_statement, accept_block}
+use Rattle.camac_rules.specs.Transfers.{block_region}
+use Rattle.camac_rules.specs.Windows.{window_of, scan_kept}
+use Rattle.camac_rules.specs.Writes.{fall_of, any_range, forget_move, forget, forget_block}
+use Rattle.camac_rules.proofs.Allows.{Allows, allowed, then_allowed, required_allowed, given_then, given_allowed}
+use Rattle.camac_rules.proofs.Heads.{write_at}
+use Rattle.camac_rules.proofs.Joined.{range_at-hulls, region_at-join}
+use Rattle.camac_rules.proofs.Values.{some_if}
 use Rattle.camac_laws.specs.Places.{Place, HasPlace, BlockHasPlace, IsStart, RegistersHaveAddresses}
 use Rattle.camac_laws.specs.ShownAddresses.{HasAddresses}
 

@@ -6,25 +6,25 @@ use Rattle.camac_lang.specs.Tree.{Expression, number, variable, group, add, subt
 use Rattle.camac_lang.specs.declared.word.WordSize.{WordSize}
 use Rattle.camac_branch.specs.Plan.{Layout}
 use Rattle.camac_model.specs.Fine.{Bounds}
-use Rattle.camac_check_rules.specs.declared.case.Case.{Case}
-use Rattle.camac_check_rules.specs.declared.rule.CheckRule.{CheckRule}
-use Rattle.camac_check_rules.specs.declared.rule.CheckRule.TheVariants.{TooManyWords, TooManyCycles, TooManySteps, KeepFailsAfterTurn}
-use Rattle.camac_check_rules.specs.Accept.{Section, of_procedure, of_service, at_start, accept_procedure, accept_service, with_procedure, accept_sections}
-use Rattle.camac_check_rules.specs.Addresses.{command_widths}
-use Rattle.camac_check_rules.specs.Calls.{lam_region, lock_rule}
-use Rattle.camac_check_rules.specs.Cases.{budget}
-use Rattle.camac_check_rules.specs.Conditions.{Branches, branches, split_test, split_part, split}
-use Rattle.camac_check_rules.specs.Costs.{Verdict, unreached}
-use Rattle.camac_check_rules.specs.Cycles.{Context, Around, with_locked, alone_in, single_rule}
-use Rattle.camac_check_rules.specs.Expressions.{range_of}
-use Rattle.camac_check_rules.specs.Fault.{Fault, broken}
-use Rattle.camac_check_rules.specs.Known.{Region, Facts, region_at}
-use Rattle.camac_check_rules.specs.Loops.{Limits, with_fixed, keeps_hold_after, unkept_after, for_limits, for_head, while_head}
-use Rattle.camac_check_rules.specs.Procedures.{ranges_of, within}
-use Rattle.camac_check_rules.specs.Refusal.{go_on, ◌>>=◌, ◌>>◌, required, given, if_reached}
-use Rattle.camac_check_rules.specs.Statements.{accept_statement, accept_block}
-use Rattle.camac_check_rules.specs.Transfers.{block_region}
-use Rattle.camac_check_rules.specs.Writes.{fall_of}
+use Rattle.camac_rules.specs.declared.case.Case.{Case}
+use Rattle.camac_rules.specs.declared.rule.CheckRule.{CheckRule}
+use Rattle.camac_rules.specs.declared.rule.CheckRule.TheVariants.{TooManyWords, TooManyCycles, TooManySteps, KeepFailsAfterTurn}
+use Rattle.camac_rules.specs.Accept.{Section, of_procedure, of_service, at_start, accept_procedure, accept_service, with_procedure, accept_sections}
+use Rattle.camac_rules.specs.Addresses.{command_widths}
+use Rattle.camac_rules.specs.Calls.{lam_region, lock_rule}
+use Rattle.camac_rules.specs.Cases.{budget}
+use Rattle.camac_rules.specs.Conditions.{Branches, branches, split_test, split_part, split}
+use Rattle.camac_rules.specs.Costs.{Verdict, unreached}
+use Rattle.camac_rules.specs.Cycles.{Context, Around, with_locked, alone_in, single_rule}
+use Rattle.camac_rules.specs.Expressions.{range_of}
+use Rattle.camac_rules.specs.Fault.{Fault, broken}
+use Rattle.camac_rules.specs.Known.{Region, Facts, region_at}
+use Rattle.camac_rules.specs.Loops.{Limits, with_fixed, keeps_hold_after, unkept_after, for_limits, for_head, while_head}
+use Rattle.camac_rules.specs.Procedures.{ranges_of, within}
+use Rattle.camac_rules.specs.Refusal.{go_on, ◌>>=◌, ◌>>◌, required, given, if_reached}
+use Rattle.camac_rules.specs.Statements.{accept_statement, accept_block}
+use Rattle.camac_rules.specs.Transfers.{block_region}
+use Rattle.camac_rules.specs.Writes.{fall_of}
 use Rattle.camac_laws.specs.Places.{Place, place, HasPlace, BlockHasPlace}
 use Rattle.camac_laws.specs.Refused.{named, body_of, start_of, heading_line, heading_of, found_in, accept_section, number_of, HeadingsAreShown, IsAccepted, IsRefusedInside, IsRefusedByHeading, ComesTo, RefusedAtPlaces}
 use Rattle.camac_laws.proofs.Refused.{go_err, required_err, reached_err, reached_is}

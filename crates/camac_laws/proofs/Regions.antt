@@ -14,11 +14,11 @@ use Rattle.camac_branch.specs.Allowed.{allowed, widths, AllowsCommands}
 use Rattle.camac_branch.specs.Plan.{Layout, IsPlan, crate_at, crate_waits, installed, station}
 use Rattle.camac_branch.proofs.Allowed.{allows_commands, installed-in_range}
 use Rattle.camac_branch.proofs.Numbered.{numbered-in_range}
-use Rattle.camac_check_rules.specs.Known.{Region}
-use Rattle.camac_check_rules.specs.Walks.{count_below, all_from, greatest_from, hull_with, hull_from}
-use Rattle.camac_check_rules.specs.Addresses.{crate_end, station_end, sub_address_end, in_plan, is_station, all_in, are_stations_in, are_stations, station_widths, crate_widths, region_widths, has_command, is_among, waits_in}
-use Rattle.camac_check_rules.proofs.Walks.{all_in_at, IsPart, hull_from_at, greatest_from_at}
-use Rattle.camac_check_rules.proofs.Regions.{widths_at}
+use Rattle.camac_rules.specs.Known.{Region}
+use Rattle.camac_rules.specs.Walks.{count_below, all_from, greatest_from, hull_with, hull_from}
+use Rattle.camac_rules.specs.Addresses.{crate_end, station_end, sub_address_end, in_plan, is_station, all_in, are_stations_in, are_stations, station_widths, crate_widths, region_widths, has_command, is_among, waits_in}
+use Rattle.camac_rules.proofs.Walks.{all_in_at, IsPart, hull_from_at, greatest_from_at}
+use Rattle.camac_rules.proofs.Regions.{widths_at}
 use Rattle.camac_laws.specs.ShownAddresses.{HasAddresses}
 use Rattle.camac_laws.specs.Regions.{IsInstalled, IsIn, AreInstalled, HasUndeclared, StationsAreAll, HasWidths, WidthsAreAll, WaitsMayCome, CostIsGreatest}
 use Rattle.camac_laws.proofs.ShownAddresses.{all_from_each, at_one, undeclared_shown}

@@ -10,21 +10,21 @@ use Rattle.camac_branch.specs.Address.{address}
 use Rattle.camac_branch.specs.Allowed.{allowed}
 use Rattle.camac_branch.specs.Plan.{Layout, IsPlan}
 use Rattle.camac_branch.proofs.Allowed.{allows_commands}
-use Rattle.camac_check_rules.specs.declared.case.Case.{Case}
-use Rattle.camac_check_rules.specs.declared.case.Case.TheVariants.{Counted, Unset}
-use Rattle.camac_check_rules.specs.declared.rule.CheckRule.{CheckRule}
-use Rattle.camac_check_rules.specs.declared.rule.CheckRule.TheVariants.{StationNotInstalled, CommandNotDeclared, WrongDirection, RegisterUnset, ScanCratesDiffer, LoopVariableAssigned}
-use Rattle.camac_check_rules.specs.Cases.{crates_of, direction}
-use Rattle.camac_check_rules.specs.Costs.{Verdict}
-use Rattle.camac_check_rules.specs.Fault.{Fault, broken}
-use Rattle.camac_check_rules.specs.Refusal.{go_on, required}
-use Rattle.camac_check_rules.specs.Known.{Region, region, Facts, region_at}
-use Rattle.camac_check_rules.specs.Walks.{first_outside}
-use Rattle.camac_check_rules.specs.Addresses.{crate_end, station_end, sub_address_end, in_plan, is_station, all_in, has_command}
-use Rattle.camac_check_rules.specs.Cycles.{Context, Around, may_write, same_class}
-use Rattle.camac_check_rules.specs.Expressions.{range_of}
-use Rattle.camac_check_rules.specs.Windows.{Window, window_of, stations_of, sub_addresses_at, is_empty, holds_at, holds_over, first_over, is_installed_at, is_installed, missing_over, is_declared_at, is_declared}
-use Rattle.camac_check_rules.specs.Transfers.{is_one_crate, has_sub_addresses, undeclared_by, scan_verdict, scan_rule}
+use Rattle.camac_rules.specs.declared.case.Case.{Case}
+use Rattle.camac_rules.specs.declared.case.Case.TheVariants.{Counted, Unset}
+use Rattle.camac_rules.specs.declared.rule.CheckRule.{CheckRule}
+use Rattle.camac_rules.specs.declared.rule.CheckRule.TheVariants.{StationNotInstalled, CommandNotDeclared, WrongDirection, RegisterUnset, ScanCratesDiffer, LoopVariableAssigned}
+use Rattle.camac_rules.specs.Cases.{crates_of, direction}
+use Rattle.camac_rules.specs.Costs.{Verdict}
+use Rattle.camac_rules.specs.Fault.{Fault, broken}
+use Rattle.camac_rules.specs.Refusal.{go_on, required}
+use Rattle.camac_rules.specs.Known.{Region, region, Facts, region_at}
+use Rattle.camac_rules.specs.Walks.{first_outside}
+use Rattle.camac_rules.specs.Addresses.{crate_end, station_end, sub_address_end, in_plan, is_station, all_in, has_command}
+use Rattle.camac_rules.specs.Cycles.{Context, Around, may_write, same_class}
+use Rattle.camac_rules.specs.Expressions.{range_of}
+use Rattle.camac_rules.specs.Windows.{Window, window_of, stations_of, sub_addresses_at, is_empty, holds_at, holds_over, first_over, is_installed_at, is_installed, missing_over, is_declared_at, is_declared}
+use Rattle.camac_rules.specs.Transfers.{is_one_crate, has_sub_addresses, undeclared_by, scan_verdict, scan_rule}
 use Rattle.camac_laws.specs.ShownWindows.{IsInWindow}
 use Rattle.camac_laws.specs.Regions.{IsInstalled}
 use Rattle.camac_laws.specs.Scans.{ComesToWindow, IsPastLast, IsScanJudged, ScansAreJudged}

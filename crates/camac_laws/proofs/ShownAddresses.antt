@@ -8,15 +8,15 @@ use Rattle.camac_module.specs.Commands.{extremes, least_and_greatest}
 use Rattle.camac_branch.specs.Address.{address}
 use Rattle.camac_branch.specs.Allowed.{allowed, widths}
 use Rattle.camac_branch.specs.Plan.{Layout}
-use Rattle.camac_check_rules.specs.declared.case.Case.TheVariants.{NoCrate, NoModule}
-use Rattle.camac_check_rules.specs.declared.rule.CheckRule.TheVariants.{StationNotInstalled, CommandNotDeclared}
-use Rattle.camac_check_rules.specs.Fault.{broken}
-use Rattle.camac_check_rules.specs.Refusal.{required}
-use Rattle.camac_check_rules.specs.Known.{Region}
-use Rattle.camac_check_rules.specs.Walks.{count_below, all_from, first_failing, first_outside, hull_with, hull_from}
-use Rattle.camac_check_rules.specs.Addresses.{crate_end, station_end, sub_address_end, in_plan, is_station, all_in, are_stations_in, are_stations, station_widths, crate_widths, region_widths, has_command, missing, missing_in, undeclared}
-use Rattle.camac_check_rules.proofs.Walks.{all_from_at, all_in_at, hull_from_at}
-use Rattle.camac_check_rules.proofs.Regions.{widths_at}
+use Rattle.camac_rules.specs.declared.case.Case.TheVariants.{NoCrate, NoModule}
+use Rattle.camac_rules.specs.declared.rule.CheckRule.TheVariants.{StationNotInstalled, CommandNotDeclared}
+use Rattle.camac_rules.specs.Fault.{broken}
+use Rattle.camac_rules.specs.Refusal.{required}
+use Rattle.camac_rules.specs.Known.{Region}
+use Rattle.camac_rules.specs.Walks.{count_below, all_from, first_failing, first_outside, hull_with, hull_from}
+use Rattle.camac_rules.specs.Addresses.{crate_end, station_end, sub_address_end, in_plan, is_station, all_in, are_stations_in, are_stations, station_widths, crate_widths, region_widths, has_command, missing, missing_in, undeclared}
+use Rattle.camac_rules.proofs.Walks.{all_from_at, all_in_at, hull_from_at}
+use Rattle.camac_rules.proofs.Regions.{widths_at}
 use Rattle.camac_laws.specs.ShownAddresses.{IsFirst, HasAddresses, MissingShown, MissingAreShown, has_command_at, has_command_in, UndeclaredShown, UndeclaredAreShown}
 use Rattle.camac_laws.proofs.Refused.{go_err, required_err, required_true, given_err}
 

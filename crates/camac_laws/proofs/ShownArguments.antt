@@ -3,12 +3,12 @@ use Rattle.std.proofs.Common.{◌≡◌, ℕ, zero, suc, ◌+◌, ◌<◌, Bool,
 use Rattle.std.specs.Prelude.{◌&&◌, slice_get, if◌then◌else◌}
 use Rattle.camac_lang.specs.Tree.{Parameter, Keep}
 use Rattle.camac_range.specs.Interval.{Interval, is_inside}
-use Rattle.camac_check_rules.specs.declared.case.Case.TheVariants.{Argument, Kept}
-use Rattle.camac_check_rules.specs.declared.case.Numbers.{Numbers}
-use Rattle.camac_check_rules.specs.Cases.{numbers_of, kept_at}
-use Rattle.camac_check_rules.specs.Known.{Facts, range_at}
-use Rattle.camac_check_rules.specs.Loops.{kept_range, keeps_hold, unkept}
-use Rattle.camac_check_rules.specs.Procedures.{parameter_range, arguments_fit, unfit}
+use Rattle.camac_rules.specs.declared.case.Case.TheVariants.{Argument, Kept}
+use Rattle.camac_rules.specs.declared.case.Numbers.{Numbers}
+use Rattle.camac_rules.specs.Cases.{numbers_of, kept_at}
+use Rattle.camac_rules.specs.Known.{Facts, range_at}
+use Rattle.camac_rules.specs.Loops.{kept_range, keeps_hold, unkept}
+use Rattle.camac_rules.specs.Procedures.{parameter_range, arguments_fit, unfit}
 use Rattle.camac_laws.specs.Shown.{IsFirstUnfit, ArgumentsAreShown, UnfitHaveOne, IsFirstUnkept, KeptAreShown, UnkeptHaveOne}
 
 -- the walk begins at argument i

@@ -6,19 +6,19 @@ use Rattle.camac_lang.specs.Tree.{Expression, number, variable, group, add, subt
 use Rattle.camac_range.specs.Interval.{Interval, interval}
 use Rattle.camac_range.specs.Number.{greatest}
 use Rattle.camac_range.specs.Operators as range
-use Rattle.camac_check_rules.specs.declared.case.Case.{Case}
-use Rattle.camac_check_rules.specs.declared.case.Case.TheVariants.{Malformed, Operation}
-use Rattle.camac_check_rules.specs.declared.case.Operator.{Operator}
-use Rattle.camac_check_rules.specs.declared.case.Operator.TheVariants.{Add, Sub, Mul}
-use Rattle.camac_check_rules.specs.declared.rule.CheckRule.{CheckRule}
-use Rattle.camac_check_rules.specs.declared.rule.CheckRule.TheVariants.{ValueOutOfRange}
-use Rattle.camac_check_rules.specs.Cases.{operation}
-use Rattle.camac_check_rules.specs.Conditions.{Branches, branches, split, split_part, split_test}
-use Rattle.camac_check_rules.specs.Expressions.{range_of}
-use Rattle.camac_check_rules.specs.Fault.{Fault, broken}
-use Rattle.camac_check_rules.specs.Joined.{join}
-use Rattle.camac_check_rules.specs.Known.{Facts}
-use Rattle.camac_check_rules.specs.Refusal.{go_on, required, given, if_reached}
+use Rattle.camac_rules.specs.declared.case.Case.{Case}
+use Rattle.camac_rules.specs.declared.case.Case.TheVariants.{Malformed, Operation}
+use Rattle.camac_rules.specs.declared.case.Operator.{Operator}
+use Rattle.camac_rules.specs.declared.case.Operator.TheVariants.{Add, Sub, Mul}
+use Rattle.camac_rules.specs.declared.rule.CheckRule.{CheckRule}
+use Rattle.camac_rules.specs.declared.rule.CheckRule.TheVariants.{ValueOutOfRange}
+use Rattle.camac_rules.specs.Cases.{operation}
+use Rattle.camac_rules.specs.Conditions.{Branches, branches, split, split_part, split_test}
+use Rattle.camac_rules.specs.Expressions.{range_of}
+use Rattle.camac_rules.specs.Fault.{Fault, broken}
+use Rattle.camac_rules.specs.Joined.{join}
+use Rattle.camac_rules.specs.Known.{Facts}
+use Rattle.camac_rules.specs.Refusal.{go_on, required, given, if_reached}
 use Rattle.camac_laws.specs.ShownExpressions.{HasPart, applied, result_of, IsOfNoText, ExpressionShown, ExpressionsAreShown, IsRefusedThere, ConditionsAreShown, IsSide, PartsAreShown}
 use Rattle.camac_laws.proofs.Refused.{go_err, required_err, given_err, reached_err, reached_is}
 use Rattle.camac_laws.proofs.Steps.{go_is}

@@ -3,17 +3,17 @@ use Rattle.std.proofs.Common.{◌≡◌, ℕ, ◌/◌, ◌≤◌, Bool, true, fa
 use Rattle.std.specs.Prelude.{◌&&◌, nat_le, if◌then◌else◌}
 use Rattle.std.proofs.lemmas.Bool.{and_cases, leb-false}
 use Rattle.camac_lang.specs.Tree.{Expression, Keep, Block}
-use Rattle.camac_check_rules.specs.declared.case.Body.{Body}
-use Rattle.camac_check_rules.specs.declared.case.Case.{Case}
-use Rattle.camac_check_rules.specs.declared.case.Case.TheVariants.{Measure, Turns, Annotation}
-use Rattle.camac_check_rules.specs.declared.rule.CheckRule.TheVariants.{MeasureBroken, KeepFailsAtEntry, TooManyTurns, LoopVariableAssigned, ValueOutOfRange}
-use Rattle.camac_check_rules.specs.Cycles.{may_write}
-use Rattle.camac_check_rules.specs.Expressions.{range_of}
-use Rattle.camac_check_rules.specs.Fault.{broken}
-use Rattle.camac_check_rules.specs.Refusal.{required, given}
-use Rattle.camac_check_rules.specs.Known.{Facts, range_at}
-use Rattle.camac_check_rules.specs.Loops.{turn_limit, keeps_hold, limits, turns_between, turns_case, while_head}
-use Rattle.camac_check_rules.specs.Writes.{fall_of}
+use Rattle.camac_rules.specs.declared.case.Body.{Body}
+use Rattle.camac_rules.specs.declared.case.Case.{Case}
+use Rattle.camac_rules.specs.declared.case.Case.TheVariants.{Measure, Turns, Annotation}
+use Rattle.camac_rules.specs.declared.rule.CheckRule.TheVariants.{MeasureBroken, KeepFailsAtEntry, TooManyTurns, LoopVariableAssigned, ValueOutOfRange}
+use Rattle.camac_rules.specs.Cycles.{may_write}
+use Rattle.camac_rules.specs.Expressions.{range_of}
+use Rattle.camac_rules.specs.Fault.{broken}
+use Rattle.camac_rules.specs.Refusal.{required, given}
+use Rattle.camac_rules.specs.Known.{Facts, range_at}
+use Rattle.camac_rules.specs.Loops.{turn_limit, keeps_hold, limits, turns_between, turns_case, while_head}
+use Rattle.camac_rules.specs.Writes.{fall_of}
 use Rattle.camac_laws.specs.Shown.{WhileShown, WhileTurnsAreShown, ForTurnsAreShown}
 use Rattle.camac_laws.proofs.Refused.{go_err, required_err, given_err, given_ok}
 use Rattle.camac_laws.proofs.ShownExpressions.{expressions_are_shown}

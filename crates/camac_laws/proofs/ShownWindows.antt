@@ -7,21 +7,21 @@ use Rattle.camac_func.specs.Class.{class_of}
 use Rattle.camac_func.specs.declared.code.FunctionClass.TheVariants.{Read}
 use Rattle.camac_range.specs.Interval.{IsWithin}
 use Rattle.camac_branch.specs.Plan.{Layout}
-use Rattle.camac_check_rules.specs.declared.case.Case.{Case}
-use Rattle.camac_check_rules.specs.declared.case.Case.TheVariants.{NoCrate, NoModule, Counted, Unset}
-use Rattle.camac_check_rules.specs.declared.rule.CheckRule.{CheckRule}
-use Rattle.camac_check_rules.specs.declared.rule.CheckRule.TheVariants.{StationNotInstalled, CommandNotDeclared, WrongDirection, RegisterUnset, ScanCratesDiffer, LoopVariableAssigned, ValueOutOfRange}
-use Rattle.camac_check_rules.specs.Cases.{crates_of, direction}
-use Rattle.camac_check_rules.specs.Fault.{Fault, broken}
-use Rattle.camac_check_rules.specs.Refusal.{go_on, required, given}
-use Rattle.camac_check_rules.specs.Known.{Region, region, Facts, region_at}
-use Rattle.camac_check_rules.specs.Walks.{first_outside}
-use Rattle.camac_check_rules.specs.Addresses.{crate_end, station_end, sub_address_end, in_plan, is_station, all_in, has_command}
-use Rattle.camac_check_rules.specs.Cycles.{Context, Around, may_write, same_class}
-use Rattle.camac_check_rules.specs.Expressions.{range_of}
-use Rattle.camac_check_rules.specs.Windows.{Window, window_of, stations_of, sub_addresses_at, is_empty, holds_at, holds_over, first_over, is_installed_at, is_installed, missing_over, is_declared_at, is_declared, undeclared_over}
-use Rattle.camac_check_rules.specs.Transfers.{is_one_crate, has_sub_addresses, past_sub_addresses, undeclared_by, scan_rule}
-use Rattle.camac_check_rules.proofs.Walks.{all_in_at}
+use Rattle.camac_rules.specs.declared.case.Case.{Case}
+use Rattle.camac_rules.specs.declared.case.Case.TheVariants.{NoCrate, NoModule, Counted, Unset}
+use Rattle.camac_rules.specs.declared.rule.CheckRule.{CheckRule}
+use Rattle.camac_rules.specs.declared.rule.CheckRule.TheVariants.{StationNotInstalled, CommandNotDeclared, WrongDirection, RegisterUnset, ScanCratesDiffer, LoopVariableAssigned, ValueOutOfRange}
+use Rattle.camac_rules.specs.Cases.{crates_of, direction}
+use Rattle.camac_rules.specs.Fault.{Fault, broken}
+use Rattle.camac_rules.specs.Refusal.{go_on, required, given}
+use Rattle.camac_rules.specs.Known.{Region, region, Facts, region_at}
+use Rattle.camac_rules.specs.Walks.{first_outside}
+use Rattle.camac_rules.specs.Addresses.{crate_end, station_end, sub_address_end, in_plan, is_station, all_in, has_command}
+use Rattle.camac_rules.specs.Cycles.{Context, Around, may_write, same_class}
+use Rattle.camac_rules.specs.Expressions.{range_of}
+use Rattle.camac_rules.specs.Windows.{Window, window_of, stations_of, sub_addresses_at, is_empty, holds_at, holds_over, first_over, is_installed_at, is_installed, missing_over, is_declared_at, is_declared, undeclared_over}
+use Rattle.camac_rules.specs.Transfers.{is_one_crate, has_sub_addresses, past_sub_addresses, undeclared_by, scan_rule}
+use Rattle.camac_rules.proofs.Walks.{all_in_at}
 use Rattle.camac_laws.specs.ShownAddresses.{IsFirst, HasAddresses}
 use Rattle.camac_laws.specs.ShownWindows.{IsUpTo, IsInWindow, MissingOverShown, MissingOverAreShown, IsFirstUndeclared, IsPast, UndeclaredOverShown, UndeclaredOverAreShown}
 use Rattle.camac_laws.proofs.Refused.{go_err}

@@ -6,14 +6,14 @@ use Rattle.camac_range.specs.Number.{greatest}
 use Rattle.camac_branch.specs.Plan.{Layout}
 use Rattle.camac_names.specs.declared.fault.LinkRule.TheVariants.{EventAboveBuffer}
 use Rattle.camac_model.specs.Fine.{Bounds}
-use Rattle.camac_check_rules.specs.declared.rule.CheckRule.{CheckRule}
-use Rattle.camac_check_rules.specs.declared.rule.CheckRule.TheVariants.{TooManyWords, TooManyCycles, TooManySteps}
-use Rattle.camac_check_rules.specs.Fault.{Fault}
-use Rattle.camac_check_rules.specs.declared.case.Body.{Body}
-use Rattle.camac_check_rules.specs.declared.case.Case.{Case}
-use Rattle.camac_check_rules.specs.Refusal.{go_on, required}
-use Rattle.camac_check_rules.specs.Costs.{Verdict}
-use Rattle.camac_check_rules.specs.Accept.{within}
+use Rattle.camac_rules.specs.declared.rule.CheckRule.{CheckRule}
+use Rattle.camac_rules.specs.declared.rule.CheckRule.TheVariants.{TooManyWords, TooManyCycles, TooManySteps}
+use Rattle.camac_rules.specs.Fault.{Fault}
+use Rattle.camac_rules.specs.declared.case.Body.{Body}
+use Rattle.camac_rules.specs.declared.case.Case.{Case}
+use Rattle.camac_rules.specs.Refusal.{go_on, required}
+use Rattle.camac_rules.specs.Costs.{Verdict}
+use Rattle.camac_rules.specs.Accept.{within}
 use Rattle.camac_check.specs.Least.{and_then, event_fits}
 use Rattle.camac_check.specs.declared.fault.LeastFault.{LeastFault}
 use Rattle.camac_check.specs.declared.fault.LeastFault.TheVariants.{Link, Check}

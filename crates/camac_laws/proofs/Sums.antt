@@ -3,8 +3,8 @@ use Rattle.std.proofs.Common.{◌≡◌, ℕ, ◌+◌, ◌-◌, ◌*◌, ◌^◌
 use Rattle.std.specs.Prelude.{min, max, nat_le, nat_lt, if◌then◌else◌}
 use Rattle.std.proofs.lemmas.Bool.{lt-ltb, le-ltb, lt-leb, le-leb, cases_lt}
 use Rattle.camac_model.specs.Fine.{Bounds}
-use Rattle.camac_check_rules.specs.Capped.{capped}
-use Rattle.camac_check_rules.specs.Costs.{costs, no_costs, plus, choice_costs, lock_costs, loop_costs}
+use Rattle.camac_rules.specs.Capped.{capped}
+use Rattle.camac_rules.specs.Costs.{costs, no_costs, plus, choice_costs, lock_costs, loop_costs}
 use Rattle.camac_check_rows.specs.declared.inside.Weight.{Weight}
 use Rattle.camac_check_rows.specs.declared.row.Row.{Row}
 use Rattle.camac_check_rows.specs.Weights.{once, turning, first_arm, second_arm, weighed, inside_row}

@@ -8,26 +8,26 @@ use Rattle.camac_lang.specs.declared.word.WordSize.{WordSize}
 use Rattle.camac_lang.specs.Tree.{Expression, Condition, Keep, Move, no_data, into, from, Statement, assign, set_register, single, address_scan, q_stop, q_repeat, put, crate_call, lam_call, choose, choose_else, for_, while_, locked, call, Block, done, next}
 use Rattle.camac_branch.specs.Plan.{crate_waits}
 use Rattle.camac_model.specs.Fine.{Bounds}
-use Rattle.camac_check_rules.specs.Fault.{Fault}
-use Rattle.camac_check_rules.specs.Refusal.{go_on, required, if_reached}
-use Rattle.camac_check_rules.specs.Known.{Facts, Known}
-use Rattle.camac_check_rules.specs.Conditions.{Branches, branches, split}
-use Rattle.camac_check_rules.specs.Capped.{capped}
-use Rattle.camac_check_rules.specs.Costs.{no_costs, plus, choice_costs, lock_costs, loop_costs, Verdict, unreached}
-use Rattle.camac_check_rules.specs.Cycles.{Context, Around, alone_in, with_locked}
-use Rattle.camac_check_rules.specs.Calls.{lock_rule}
-use Rattle.camac_check_rules.specs.Loops.{with_fixed, for_limits, for_head, keeps_hold_after, turns_between, while_head, turn_bound}
-use Rattle.camac_check_rules.specs.Statements.{accept_statement, accept_block}
-use Rattle.camac_check_rules.specs.declared.case.Body.TheVariants as body
-use Rattle.camac_check_rules.specs.Accept.{Section, of_procedure, of_service, at_start, bare, own_body, with_procedure}
-use Rattle.camac_check_rules.specs.Procedures.{at_entry}
-use Rattle.camac_costs.specs.declared.bodies.Owner.{Owner}
-use Rattle.camac_costs.specs.declared.bodies.Owner.TheVariants as owner
+use Rattle.camac_rules.specs.Fault.{Fault}
+use Rattle.camac_rules.specs.Refusal.{go_on, required, if_reached}
+use Rattle.camac_rules.specs.Known.{Facts, Known}
+use Rattle.camac_rules.specs.Conditions.{Branches, branches, split}
+use Rattle.camac_rules.specs.Capped.{capped}
+use Rattle.camac_rules.specs.Costs.{no_costs, plus, choice_costs, lock_costs, loop_costs, Verdict, unreached}
+use Rattle.camac_rules.specs.Cycles.{Context, Around, alone_in, with_locked}
+use Rattle.camac_rules.specs.Calls.{lock_rule}
+use Rattle.camac_rules.specs.Loops.{with_fixed, for_limits, for_head, keeps_hold_after, turns_between, while_head, turn_bound}
+use Rattle.camac_rules.specs.Statements.{accept_statement, accept_block}
+use Rattle.camac_rules.specs.declared.case.Body.TheVariants as body
+use Rattle.camac_rules.specs.Accept.{Section, of_procedure, of_service, at_start, bare, own_body, with_procedure}
+use Rattle.camac_rules.specs.Procedures.{at_entry}
+use Rattle.camac_check_costs.specs.declared.bodies.Owner.{Owner}
+use Rattle.camac_check_costs.specs.declared.bodies.Owner.TheVariants as owner
 use Rattle.camac_check_rows.specs.declared.row.Row.{Row}
 use Rattle.camac_check_rows.specs.declared.inside.Weight.{Weight}
 use Rattle.camac_check_rows.specs.Weights.{once, turning, first_arm, second_arm, in_64_bits, inside_row}
 use Rattle.camac_check_rows.specs.Rows.{found, block_verdict, Turning, turning_from, lock_inside, lock_head, simple_row, else_row, inside, times_at, statement_rows, block_rows}
-use Rattle.camac_costs.specs.Bodies.{rows_if, body_costs, costs_over, sections_of}
+use Rattle.camac_check_costs.specs.Bodies.{rows_if, body_costs, costs_over, sections_of}
 use Rattle.camac_laws.specs.Times.{NoMore, InSteps, TimesInSteps}
 use Rattle.camac_laws.proofs.Shares.{in_code, go_ok, ok_same}
 

@@ -16,20 +16,20 @@ use Rattle.camac_branch.specs.Allowed.{allowed}
 use Rattle.camac_branch.specs.Plan.{Layout, IsPlan}
 use Rattle.camac_model.specs.Cycle.{sized}
 use Rattle.camac_model.specs.Meaning.{fits_size}
-use Rattle.camac_check_rules.specs.declared.case.Case.{Case}
-use Rattle.camac_check_rules.specs.declared.case.Case.TheVariants.{Unset, Counted, Width, Count}
-use Rattle.camac_check_rules.specs.declared.rule.CheckRule.TheVariants.{StationNotInstalled, CommandNotDeclared, WrongDirection, ValueTooWide, RegisterUnset, CountAboveTable, LoopVariableAssigned}
-use Rattle.camac_check_rules.specs.Addresses.{are_stations, region_widths, command_widths, missing, undeclared}
-use Rattle.camac_check_rules.specs.Cases.{direction}
-use Rattle.camac_check_rules.specs.Costs.{Verdict}
-use Rattle.camac_check_rules.specs.Cycles.{Context, Around, may_write, same_class, one_cycle, read_rule, write_rule}
-use Rattle.camac_check_rules.specs.Costs.{verdict}
-use Rattle.camac_check_rules.specs.Expressions.{range_of}
-use Rattle.camac_check_rules.specs.Fault.{Fault, broken}
-use Rattle.camac_check_rules.specs.Known.{Region, Facts, range_at, region_at, with_range}
-use Rattle.camac_check_rules.specs.Refusal.{go_on, required, given}
-use Rattle.camac_check_rules.specs.Transfers.{block_class, has_words, words_fit, words_sent, greatest_of, block_region}
-use Rattle.camac_check_rules.proofs.Heads.{write_at}
+use Rattle.camac_rules.specs.declared.case.Case.{Case}
+use Rattle.camac_rules.specs.declared.case.Case.TheVariants.{Unset, Counted, Width, Count}
+use Rattle.camac_rules.specs.declared.rule.CheckRule.TheVariants.{StationNotInstalled, CommandNotDeclared, WrongDirection, ValueTooWide, RegisterUnset, CountAboveTable, LoopVariableAssigned}
+use Rattle.camac_rules.specs.Addresses.{are_stations, region_widths, command_widths, missing, undeclared}
+use Rattle.camac_rules.specs.Cases.{direction}
+use Rattle.camac_rules.specs.Costs.{Verdict}
+use Rattle.camac_rules.specs.Cycles.{Context, Around, may_write, same_class, one_cycle, read_rule, write_rule}
+use Rattle.camac_rules.specs.Costs.{verdict}
+use Rattle.camac_rules.specs.Expressions.{range_of}
+use Rattle.camac_rules.specs.Fault.{Fault, broken}
+use Rattle.camac_rules.specs.Known.{Region, Facts, range_at, region_at, with_range}
+use Rattle.camac_rules.specs.Refusal.{go_on, required, given}
+use Rattle.camac_rules.specs.Transfers.{block_class, has_words, words_fit, words_sent, greatest_of, block_region}
+use Rattle.camac_rules.proofs.Heads.{write_at}
 use Rattle.camac_laws.specs.ShownAddresses.{HasAddresses}
 use Rattle.camac_laws.specs.Regions.{IsIn, HasWidths}
 use Rattle.camac_laws.specs.Values.{FitsAll, IsTooWide, IsWriteFit, WritesAreFit, IsGreatestWord, AreWordsFit, BlocksAreFit, IsReadInto, ReadsAreAll}

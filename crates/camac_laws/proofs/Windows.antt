@@ -6,11 +6,11 @@ use Rattle.std.proofs.lemmas.Nat.{div-add-mod', mod_below}
 use Rattle.camac_range.specs.Interval.{IsWithin}
 use Rattle.camac_branch.specs.Address.{address}
 use Rattle.camac_branch.proofs.Allowed.{allows_commands}
-use Rattle.camac_check_rules.specs.Known.{region}
-use Rattle.camac_check_rules.specs.Addresses.{crate_end, station_end, sub_address_end, in_plan, is_station, all_in, station_widths, has_command}
-use Rattle.camac_check_rules.specs.Windows.{Window, stations_of, sub_addresses_at, is_empty, holds_at, holds_over, is_installed_at, is_installed, is_declared_at, is_declared, window_size}
-use Rattle.camac_check_rules.proofs.Regions.{widths_at}
-use Rattle.camac_check_rules.proofs.Walks.{all_in_at}
+use Rattle.camac_rules.specs.Known.{region}
+use Rattle.camac_rules.specs.Addresses.{crate_end, station_end, sub_address_end, in_plan, is_station, all_in, station_widths, has_command}
+use Rattle.camac_rules.specs.Windows.{Window, stations_of, sub_addresses_at, is_empty, holds_at, holds_over, is_installed_at, is_installed, is_declared_at, is_declared, window_size}
+use Rattle.camac_rules.proofs.Regions.{widths_at}
+use Rattle.camac_rules.proofs.Walks.{all_in_at}
 use Rattle.camac_laws.specs.ShownWindows.{IsUpTo, IsInWindow}
 use Rattle.camac_laws.specs.Windows.{AreInstalledOver, AreDeclaredOver, WindowsAreInstalled, WindowsAreDeclared, WindowsAreCounted}
 use Rattle.camac_laws.proofs.ShownAddresses.{at_one, one_of, station_same}

@@ -13,7 +13,7 @@ use Rattle.camac_model.specs.Run.{service_meaning, rounds, run}
 use Rattle.camac_model.specs.Fine.{Bounds, most_turns, AreInRanges}
 use Rattle.camac_model.specs.Moments.{Holds}
 use Rattle.camac_model.specs.Headline.{nothing, right_watch}
-use Rattle.camac_check_rules.specs.Accept.{accept}
+use Rattle.camac_rules.specs.Accept.{accept}
 
 -- whether the first variables, which a body has its arguments in, are in the ranges of these parameters
 abbrev pub begins_in_ranges : List Parameter → Variables → Bool

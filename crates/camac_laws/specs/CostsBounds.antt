@@ -4,13 +4,13 @@ use Rattle.camac_lang.specs.Scope.{is_well_formed}
 use Rattle.camac_lang.specs.Tree.{Script}
 use Rattle.camac_branch.specs.Plan.{Layout}
 use Rattle.camac_model.specs.Fine.{Bounds}
-use Rattle.camac_check_rules.specs.Accept.{Section, of_procedure, of_service, accept, accept_procedure, accept_service, with_procedure, bare}
-use Rattle.camac_check_rules.specs.Capped.{capped}
-use Rattle.camac_check_rules.specs.Cycles.{Context}
-use Rattle.camac_costs.specs.declared.bodies.Owner.{Owner}
-use Rattle.camac_costs.specs.declared.bodies.Owner.TheVariants as owner
-use Rattle.camac_costs.specs.Body.{BodyRows}
-use Rattle.camac_costs.specs.Bodies.{costs_with, sections_of}
+use Rattle.camac_rules.specs.Accept.{Section, of_procedure, of_service, accept, accept_procedure, accept_service, with_procedure, bare}
+use Rattle.camac_rules.specs.Capped.{capped}
+use Rattle.camac_rules.specs.Cycles.{Context}
+use Rattle.camac_check_costs.specs.declared.bodies.Owner.{Owner}
+use Rattle.camac_check_costs.specs.declared.bodies.Owner.TheVariants as owner
+use Rattle.camac_check_costs.specs.Body.{BodyRows}
+use Rattle.camac_check_costs.specs.Bodies.{costs_with, sections_of}
 use Rattle.camac_laws.specs.Shares.{total}
 
 abbrev pub bound_of_service : Owner → Bounds → List Bounds

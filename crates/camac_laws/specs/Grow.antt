@@ -2,11 +2,11 @@
 use Rattle.std.specs.Prelude.{◌≡◌, ℕ, Result, Ok, Err}
 use Rattle.camac_lang.specs.Tree.{Block, Script}
 use Rattle.camac_branch.specs.Plan.{Layout}
-use Rattle.camac_check_rules.specs.Fault.{Fault}
-use Rattle.camac_check_rules.specs.Known.{Facts}
-use Rattle.camac_check_rules.specs.Costs.{Verdict}
-use Rattle.camac_check_rules.specs.Cycles.{Around}
-use Rattle.camac_check_rules.specs.Statements.{accept_block}
+use Rattle.camac_rules.specs.Fault.{Fault}
+use Rattle.camac_rules.specs.Known.{Facts}
+use Rattle.camac_rules.specs.Costs.{Verdict}
+use Rattle.camac_rules.specs.Cycles.{Around}
+use Rattle.camac_rules.specs.Statements.{accept_block}
 use Rattle.camac_check.specs.Least.{after_procedures}
 use Rattle.camac_laws.specs.Lower.{AtMost, HasAtMost}
 

@@ -7,8 +7,8 @@ use Rattle.camac_branch.specs.Plan.{Layout}
 use Rattle.camac_names.specs.Link.{link_fault}
 use Rattle.camac_names.specs.Linked.{LinkedScript, IsLinked}
 use Rattle.camac_model.specs.Fine.{Bounds}
-use Rattle.camac_check_rules.specs.Accept.{accept}
-use Rattle.camac_check_result.specs.Checked.{CheckedScript}
+use Rattle.camac_rules.specs.Accept.{accept}
+use Rattle.camac_checked.specs.Checked.{CheckedScript}
 use Rattle.camac_check.specs.Judges.{Judges}
 use Rattle.camac_check.specs.Least.{Finds, least}
 use Rattle.camac_check.specs.declared.fault.LeastFault.{LeastFault}

@@ -3,7 +3,7 @@ use Rattle.std.specs.Prelude.{◌≡◌, ◌≢◌, ◌<◌, ◌≤◌, ◌⊎�
 use Rattle.std.specs.List.{flat_map}
 use Rattle.camac_module.specs.Entry.{Entry}
 use Rattle.camac_module.specs.Commands.{Commands, entry}
-use Rattle.camac_report_text.specs.Commands.{command_line, commands_text}
+use Rattle.camac_lines.specs.Commands.{command_line, commands_text}
 
 -- a function, from a first sub-address to a last one
 pub record CommandLine : Type 0 where

@@ -10,10 +10,10 @@ use Rattle.camac_model.specs.Value.{value, truth}
 use Rattle.camac_model.specs.Cycle.{Outcome, no_crate, no_answer, too_long, answered, outcome, after_lock}
 use Rattle.camac_model.specs.Fine.{Bounds, most_turns, AreInRanges}
 use Rattle.camac_model.specs.Meaning.{Context, context, entered, for_state, meaning, block_meaning}
-use Rattle.camac_check_rules.specs.Accept.{Section, of_procedure, of_service, accept}
-use Rattle.camac_check_rules.specs.Capped.{capped}
-use Rattle.camac_costs.specs.Body.{BodyRows}
-use Rattle.camac_costs.specs.Bodies.{costs_with, sections_of}
+use Rattle.camac_rules.specs.Accept.{Section, of_procedure, of_service, accept}
+use Rattle.camac_rules.specs.Capped.{capped}
+use Rattle.camac_check_costs.specs.Body.{BodyRows}
+use Rattle.camac_check_costs.specs.Bodies.{costs_with, sections_of}
 use Rattle.camac_check_rows.specs.declared.row.Row.{Row}
 use Rattle.camac_laws.specs.Lower.{AtMost}
 

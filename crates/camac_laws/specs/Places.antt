@@ -1,11 +1,11 @@
 -- Each register that is set where the checker comes while it judges a body has an address.
 use Rattle.std.specs.Prelude.{◌≡◌, ℕ, List, Some, ◌⊎◌}
 use Rattle.camac_lang.specs.Tree.{Block, Parameter}
-use Rattle.camac_check_rules.specs.Accept.{at_start}
-use Rattle.camac_check_rules.specs.Cycles.{Context, Around}
-use Rattle.camac_check_rules.specs.Known.{Region, Facts, region_at}
-use Rattle.camac_check_rules.specs.Procedures.{at_entry}
-pub use Rattle.camac_costs.specs.Places.{Place, place, IfReached, HasPlace, BlockHasPlace}
+use Rattle.camac_rules.specs.Accept.{at_start}
+use Rattle.camac_rules.specs.Cycles.{Context, Around}
+use Rattle.camac_rules.specs.Known.{Region, Facts, region_at}
+use Rattle.camac_rules.specs.Procedures.{at_entry}
+pub use Rattle.camac_check_costs.specs.Places.{Place, place, IfReached, HasPlace, BlockHasPlace}
 use Rattle.camac_laws.specs.ShownAddresses.{HasAddresses}
 
 -- what is known where the body of a service begins, or that of a procedure with these parameters

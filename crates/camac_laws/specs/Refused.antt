@@ -4,21 +4,21 @@ use Rattle.camac_range.specs.Number.{greatest}
 use Rattle.camac_lang.specs.Tree.{Block, Script, line_of}
 use Rattle.camac_branch.specs.Plan.{Layout}
 use Rattle.camac_model.specs.Fine.{Bounds, annotated}
-use Rattle.camac_check_rules.specs.declared.case.Body.{Body}
-use Rattle.camac_check_rules.specs.declared.case.Body.TheVariants as body
-use Rattle.camac_check_rules.specs.declared.case.Case.{Case}
-use Rattle.camac_check_rules.specs.declared.rule.CheckRule.{CheckRule}
-use Rattle.camac_check_rules.specs.declared.rule.CheckRule.TheVariants.{TooManyWords, TooManyCycles, TooManySteps}
-use Rattle.camac_check_rules.specs.Accept.{Section, of_procedure, of_service, at_start, own_body, accept_procedure, accept_service, with_procedure, bare, accept}
-use Rattle.camac_check_rules.specs.Cases.{budget}
-use Rattle.camac_check_rules.specs.Costs.{costs, Verdict, unreached}
-use Rattle.camac_check_rules.specs.Cycles.{Context, alone_in}
-use Rattle.camac_check_rules.specs.Fault.{Fault, broken}
-use Rattle.camac_check_rules.specs.Known.{Facts, Known}
-use Rattle.camac_check_rules.specs.Procedures.{at_entry}
-use Rattle.camac_check_rules.specs.Refusal.{if_reached}
-use Rattle.camac_check_rules.specs.Statements.{accept_statement, accept_block}
-use Rattle.camac_costs.specs.Bodies.{sections_of}
+use Rattle.camac_rules.specs.declared.case.Body.{Body}
+use Rattle.camac_rules.specs.declared.case.Body.TheVariants as body
+use Rattle.camac_rules.specs.declared.case.Case.{Case}
+use Rattle.camac_rules.specs.declared.rule.CheckRule.{CheckRule}
+use Rattle.camac_rules.specs.declared.rule.CheckRule.TheVariants.{TooManyWords, TooManyCycles, TooManySteps}
+use Rattle.camac_rules.specs.Accept.{Section, of_procedure, of_service, at_start, own_body, accept_procedure, accept_service, with_procedure, bare, accept}
+use Rattle.camac_rules.specs.Cases.{budget}
+use Rattle.camac_rules.specs.Costs.{costs, Verdict, unreached}
+use Rattle.camac_rules.specs.Cycles.{Context, alone_in}
+use Rattle.camac_rules.specs.Fault.{Fault, broken}
+use Rattle.camac_rules.specs.Known.{Facts, Known}
+use Rattle.camac_rules.specs.Procedures.{at_entry}
+use Rattle.camac_rules.specs.Refusal.{if_reached}
+use Rattle.camac_rules.specs.Statements.{accept_statement, accept_block}
+use Rattle.camac_check_costs.specs.Bodies.{sections_of}
 use Rattle.camac_laws.specs.Places.{Place, HasPlace, BlockHasPlace}
 
 -- ---- a procedure or service

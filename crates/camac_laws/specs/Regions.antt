@@ -5,11 +5,11 @@ use Rattle.camac_crate.specs.Lock.{permitted}
 use Rattle.camac_branch.specs.Address.{address}
 use Rattle.camac_branch.specs.Allowed.{allowed}
 use Rattle.camac_branch.specs.Plan.{Layout, IsPlan, crate_waits}
-use Rattle.camac_check_rules.specs.declared.case.Case.{Case}
-use Rattle.camac_check_rules.specs.declared.rule.CheckRule.TheVariants.{StationNotInstalled, CommandNotDeclared}
-use Rattle.camac_check_rules.specs.Addresses.{in_plan, is_station, are_stations, region_widths, command_widths, is_among, waits_in, cycle_cost}
-use Rattle.camac_check_rules.specs.Fault.{broken}
-use Rattle.camac_check_rules.specs.Known.{Region}
+use Rattle.camac_rules.specs.declared.case.Case.{Case}
+use Rattle.camac_rules.specs.declared.rule.CheckRule.TheVariants.{StationNotInstalled, CommandNotDeclared}
+use Rattle.camac_rules.specs.Addresses.{in_plan, is_station, are_stations, region_widths, command_widths, is_among, waits_in, cycle_cost}
+use Rattle.camac_rules.specs.Fault.{broken}
+use Rattle.camac_rules.specs.Known.{Region}
 use Rattle.camac_laws.specs.ShownAddresses.{HasAddresses}
 
 -- an installed station: its crate is in the plan, and it has a module or is one of those that the controller answers for

@@ -3,16 +3,16 @@ use Rattle.std.specs.Prelude.{◌≡◌, ◌↔◌, ◌⊎◌, ℕ, ◌≤◌, t
 use Rattle.camac_lang.specs.Tree.{Expression}
 use Rattle.camac_range.specs.Interval.{Interval}
 use Rattle.camac_branch.specs.Plan.{Layout, IsPlan}
-use Rattle.camac_check_rules.specs.declared.case.Case.{Case}
-use Rattle.camac_check_rules.specs.declared.rule.CheckRule.TheVariants.{StationNotInstalled, CommandNotDeclared}
-use Rattle.camac_check_rules.specs.Addresses.{sub_address_end}
-use Rattle.camac_check_rules.specs.Costs.{Verdict}
-use Rattle.camac_check_rules.specs.Cycles.{Context, Around, may_write}
-use Rattle.camac_check_rules.specs.Expressions.{range_of}
-use Rattle.camac_check_rules.specs.Fault.{Fault, broken}
-use Rattle.camac_check_rules.specs.Known.{Region, Facts, region_at}
-use Rattle.camac_check_rules.specs.Transfers.{is_one_crate, scan_rule}
-use Rattle.camac_check_rules.specs.Windows.{window_of}
+use Rattle.camac_rules.specs.declared.case.Case.{Case}
+use Rattle.camac_rules.specs.declared.rule.CheckRule.TheVariants.{StationNotInstalled, CommandNotDeclared}
+use Rattle.camac_rules.specs.Addresses.{sub_address_end}
+use Rattle.camac_rules.specs.Costs.{Verdict}
+use Rattle.camac_rules.specs.Cycles.{Context, Around, may_write}
+use Rattle.camac_rules.specs.Expressions.{range_of}
+use Rattle.camac_rules.specs.Fault.{Fault, broken}
+use Rattle.camac_rules.specs.Known.{Region, Facts, region_at}
+use Rattle.camac_rules.specs.Transfers.{is_one_crate, scan_rule}
+use Rattle.camac_rules.specs.Windows.{window_of}
 use Rattle.camac_laws.specs.Windows.{AreInstalledOver, HasMissingOver, HasUndeclaredOver}
 
 -- a scan comes to its window: its expression has a range, its variable may be written, its registers hold addresses of g and of h, and all

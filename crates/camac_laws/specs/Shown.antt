@@ -2,19 +2,19 @@
 use Rattle.std.specs.Prelude.{◌≡◌, ℕ, ◌/◌, ◌<◌, ◌≤◌, List, Some, Ok, Err, true, false, length, slice_get}
 use Rattle.camac_lang.specs.Tree.{Expression, Parameter, Keep, Block}
 use Rattle.camac_range.specs.Interval.{Interval, is_inside}
-use Rattle.camac_check_rules.specs.declared.case.Body.{Body}
-use Rattle.camac_check_rules.specs.declared.case.Case.{Case}
-use Rattle.camac_check_rules.specs.declared.case.Case.TheVariants.{Argument, Kept, Turns, Annotation}
-use Rattle.camac_check_rules.specs.declared.case.Numbers.{Numbers}
-use Rattle.camac_check_rules.specs.declared.rule.CheckRule.TheVariants.{TooManyTurns}
-use Rattle.camac_check_rules.specs.Cases.{numbers_of}
-use Rattle.camac_check_rules.specs.Cycles.{Around}
-use Rattle.camac_check_rules.specs.Expressions.{range_of}
-use Rattle.camac_check_rules.specs.Fault.{broken}
-use Rattle.camac_check_rules.specs.Known.{Facts, range_at}
-use Rattle.camac_check_rules.specs.Loops.{turn_limit, kept_range, keeps_hold, unkept, limits, turns_between, for_limits, while_head}
-use Rattle.camac_check_rules.specs.Procedures.{parameter_range, arguments_fit, unfit}
-use Rattle.camac_check_rules.specs.Writes.{fall_of}
+use Rattle.camac_rules.specs.declared.case.Body.{Body}
+use Rattle.camac_rules.specs.declared.case.Case.{Case}
+use Rattle.camac_rules.specs.declared.case.Case.TheVariants.{Argument, Kept, Turns, Annotation}
+use Rattle.camac_rules.specs.declared.case.Numbers.{Numbers}
+use Rattle.camac_rules.specs.declared.rule.CheckRule.TheVariants.{TooManyTurns}
+use Rattle.camac_rules.specs.Cases.{numbers_of}
+use Rattle.camac_rules.specs.Cycles.{Around}
+use Rattle.camac_rules.specs.Expressions.{range_of}
+use Rattle.camac_rules.specs.Fault.{broken}
+use Rattle.camac_rules.specs.Known.{Facts, range_at}
+use Rattle.camac_rules.specs.Loops.{turn_limit, kept_range, keeps_hold, unkept, limits, turns_between, for_limits, while_head}
+use Rattle.camac_rules.specs.Procedures.{parameter_range, arguments_fit, unfit}
+use Rattle.camac_rules.specs.Writes.{fall_of}
 
 -- ---- arguments
 

@@ -2,12 +2,12 @@
 use Rattle.std.specs.Prelude.{◌≡◌, ℕ, ◌<◌, ◌≤◌, Bool, true, false, Err}
 use Rattle.camac_branch.specs.Plan.{Layout}
 use Rattle.camac_range.specs.Interval.{Interval, IsWithin}
-use Rattle.camac_check_rules.specs.declared.case.Case.{Case}
-use Rattle.camac_check_rules.specs.declared.case.Case.TheVariants.{NoCrate, NoModule, NoCommand}
-use Rattle.camac_check_rules.specs.declared.rule.CheckRule.TheVariants.{StationNotInstalled, CommandNotDeclared}
-use Rattle.camac_check_rules.specs.Addresses.{crate_end, station_end, sub_address_end, in_plan, is_station, all_in, are_stations_in, has_command, command_widths}
-use Rattle.camac_check_rules.specs.Fault.{broken}
-use Rattle.camac_check_rules.specs.Known.{Region}
+use Rattle.camac_rules.specs.declared.case.Case.{Case}
+use Rattle.camac_rules.specs.declared.case.Case.TheVariants.{NoCrate, NoModule, NoCommand}
+use Rattle.camac_rules.specs.declared.rule.CheckRule.TheVariants.{StationNotInstalled, CommandNotDeclared}
+use Rattle.camac_rules.specs.Addresses.{crate_end, station_end, sub_address_end, in_plan, is_station, all_in, are_stations_in, has_command, command_widths}
+use Rattle.camac_rules.specs.Fault.{broken}
+use Rattle.camac_rules.specs.Known.{Region}
 
 -- k is the first number of a range that is not below the end, or of which the test does not hold
 pub record IsFirst (end : ℕ) (r : Interval) (test : ℕ → Bool) (k : ℕ) : Type 0 where

@@ -4,18 +4,18 @@ use Rattle.camac_lang.specs.Tree.{Expression, number, variable, group, add, subt
 use Rattle.camac_range.specs.Interval.{Interval}
 use Rattle.camac_range.specs.Number.{greatest}
 use Rattle.camac_range.specs.Operators as range
-use Rattle.camac_check_rules.specs.declared.case.Case.{Case}
-use Rattle.camac_check_rules.specs.declared.case.Case.TheVariants.{Malformed, Operation}
-use Rattle.camac_check_rules.specs.declared.case.Numbers.{Numbers}
-use Rattle.camac_check_rules.specs.declared.case.Operator.{Operator}
-use Rattle.camac_check_rules.specs.declared.case.Operator.TheVariants.{Add, Sub, Mul}
-use Rattle.camac_check_rules.specs.declared.rule.CheckRule.{CheckRule}
-use Rattle.camac_check_rules.specs.declared.rule.CheckRule.TheVariants.{ValueOutOfRange}
-use Rattle.camac_check_rules.specs.Cases.{numbers_of}
-use Rattle.camac_check_rules.specs.Conditions.{Branches, split, split_part}
-use Rattle.camac_check_rules.specs.Expressions.{range_of}
-use Rattle.camac_check_rules.specs.Fault.{Fault, broken}
-use Rattle.camac_check_rules.specs.Known.{Facts}
+use Rattle.camac_rules.specs.declared.case.Case.{Case}
+use Rattle.camac_rules.specs.declared.case.Case.TheVariants.{Malformed, Operation}
+use Rattle.camac_rules.specs.declared.case.Numbers.{Numbers}
+use Rattle.camac_rules.specs.declared.case.Operator.{Operator}
+use Rattle.camac_rules.specs.declared.case.Operator.TheVariants.{Add, Sub, Mul}
+use Rattle.camac_rules.specs.declared.rule.CheckRule.{CheckRule}
+use Rattle.camac_rules.specs.declared.rule.CheckRule.TheVariants.{ValueOutOfRange}
+use Rattle.camac_rules.specs.Cases.{numbers_of}
+use Rattle.camac_rules.specs.Conditions.{Branches, split, split_part}
+use Rattle.camac_rules.specs.Expressions.{range_of}
+use Rattle.camac_rules.specs.Fault.{Fault, broken}
+use Rattle.camac_rules.specs.Known.{Facts}
 
 -- the first is a part of the second, or the whole of it
 abbrev pub HasPart : Expression → Expression → Type 0

@@ -3,15 +3,15 @@ use Rattle.std.specs.Prelude.{◌≡◌, ℕ, ◌<◌, ◌≤◌, true, false, S
 use Rattle.camac_lang.specs.Tree.{Expression}
 use Rattle.camac_branch.specs.Plan.{Layout}
 use Rattle.camac_range.specs.Interval.{IsWithin}
-use Rattle.camac_check_rules.specs.declared.case.Case.{Case}
-use Rattle.camac_check_rules.specs.declared.case.Case.TheVariants.{NoCrate, NoModule, NoCommand}
-use Rattle.camac_check_rules.specs.declared.rule.CheckRule.TheVariants.{StationNotInstalled, CommandNotDeclared}
-use Rattle.camac_check_rules.specs.Addresses.{crate_end, station_end, sub_address_end, in_plan, is_station, has_command}
-use Rattle.camac_check_rules.specs.Cycles.{Context, Around}
-use Rattle.camac_check_rules.specs.Fault.{broken}
-use Rattle.camac_check_rules.specs.Known.{Region, Facts, region_at}
-use Rattle.camac_check_rules.specs.Transfers.{scan_rule}
-use Rattle.camac_check_rules.specs.Windows.{Window, window_of, stations_of}
+use Rattle.camac_rules.specs.declared.case.Case.{Case}
+use Rattle.camac_rules.specs.declared.case.Case.TheVariants.{NoCrate, NoModule, NoCommand}
+use Rattle.camac_rules.specs.declared.rule.CheckRule.TheVariants.{StationNotInstalled, CommandNotDeclared}
+use Rattle.camac_rules.specs.Addresses.{crate_end, station_end, sub_address_end, in_plan, is_station, has_command}
+use Rattle.camac_rules.specs.Cycles.{Context, Around}
+use Rattle.camac_rules.specs.Fault.{broken}
+use Rattle.camac_rules.specs.Known.{Region, Facts, region_at}
+use Rattle.camac_rules.specs.Transfers.{scan_rule}
+use Rattle.camac_rules.specs.Windows.{Window, window_of, stations_of}
 use Rattle.camac_laws.specs.ShownAddresses.{IsFirst, HasAddresses}
 
 -- station m with sub-address b comes before station n with sub-address a; or is it

@@ -2,9 +2,9 @@
 use Rattle.std.specs.Prelude.{ℕ, ◌≤◌, List, [], ◌∷◌}
 use Rattle.camac_lang.specs.Tree.{Script}
 use Rattle.camac_branch.specs.Plan.{Layout}
-use Rattle.camac_check_rules.specs.Capped.{capped}
-use Rattle.camac_costs.specs.Body.{BodyRows}
-use Rattle.camac_costs.specs.Bodies.{costs_with}
+use Rattle.camac_rules.specs.Capped.{capped}
+use Rattle.camac_check_costs.specs.Body.{BodyRows}
+use Rattle.camac_check_costs.specs.Bodies.{costs_with}
 use Rattle.camac_check_rows.specs.declared.row.Row.{Row}
 
 -- none of these is made more often

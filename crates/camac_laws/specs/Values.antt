@@ -8,15 +8,15 @@ use Rattle.camac_branch.specs.Address.{address}
 use Rattle.camac_branch.specs.Allowed.{allowed}
 use Rattle.camac_branch.specs.Plan.{Layout, IsPlan}
 use Rattle.camac_model.specs.Cycle.{sized}
-use Rattle.camac_check_rules.specs.declared.case.Case.{Case}
-use Rattle.camac_check_rules.specs.declared.case.Case.TheVariants.{Width}
-use Rattle.camac_check_rules.specs.declared.rule.CheckRule.TheVariants.{ValueTooWide}
-use Rattle.camac_check_rules.specs.Costs.{Verdict}
-use Rattle.camac_check_rules.specs.Cycles.{Context, Around, read_rule, write_rule}
-use Rattle.camac_check_rules.specs.Expressions.{range_of}
-use Rattle.camac_check_rules.specs.Fault.{Fault, broken}
-use Rattle.camac_check_rules.specs.Known.{Region, Facts, range_at, region_at}
-use Rattle.camac_check_rules.specs.Transfers.{words_sent, block_region}
+use Rattle.camac_rules.specs.declared.case.Case.{Case}
+use Rattle.camac_rules.specs.declared.case.Case.TheVariants.{Width}
+use Rattle.camac_rules.specs.declared.rule.CheckRule.TheVariants.{ValueTooWide}
+use Rattle.camac_rules.specs.Costs.{Verdict}
+use Rattle.camac_rules.specs.Cycles.{Context, Around, read_rule, write_rule}
+use Rattle.camac_rules.specs.Expressions.{range_of}
+use Rattle.camac_rules.specs.Fault.{Fault, broken}
+use Rattle.camac_rules.specs.Known.{Region, Facts, range_at, region_at}
+use Rattle.camac_rules.specs.Transfers.{words_sent, block_region}
 use Rattle.camac_laws.specs.ShownAddresses.{HasAddresses}
 use Rattle.camac_laws.specs.Regions.{IsIn}
 

@@ -4,8 +4,8 @@ use Rattle.std.specs.Prelude.{◌≡◌, ◌↔◌, ℕ, ◌<◌, true, Some, No
 use Rattle.camac_branch.specs.Address.{address}
 use Rattle.camac_branch.specs.Allowed.{allowed}
 use Rattle.camac_branch.specs.Plan.{Layout, IsPlan}
-use Rattle.camac_check_rules.specs.Addresses.{sub_address_end}
-use Rattle.camac_check_rules.specs.Windows.{Window, is_installed, is_declared, window_size}
+use Rattle.camac_rules.specs.Addresses.{sub_address_end}
+use Rattle.camac_rules.specs.Windows.{Window, is_installed, is_declared, window_size}
 use Rattle.camac_laws.specs.ShownWindows.{IsInWindow}
 use Rattle.camac_laws.specs.Regions.{IsInstalled}
 

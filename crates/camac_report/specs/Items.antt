@@ -1,11 +1,11 @@
 -- The lines of what a run tells.
 use Rattle.std.specs.Prelude.{ℕ, List, [], ◌++◌, codes, decimal, Option, Some, None, option_map, unwrap_or, slice_get}
 use Rattle.std.specs.List.{flat_map}
-use Rattle.camac_report_text.specs.Cycles.{cycle_text}
-use Rattle.camac_report_text.specs.Digits.{hex_word}
+use Rattle.camac_lines.specs.Cycles.{cycle_text}
+use Rattle.camac_lines.specs.Digits.{hex_word}
 use Rattle.camac_lang.specs.Tree.{Script}
 use Rattle.camac_model.specs.Behaviour.{Piece, demanded, cycled, lock_taken, lock_released, event_left}
-use Rattle.camac_report_text.specs.Verdict.{lam_name}
+use Rattle.camac_lines.specs.Verdict.{lam_name}
 
 -- a service has the name of its LAM
 abbrev pub service_name : Script → ℕ → List ℕ

@@ -1,7 +1,7 @@
 -- The lines by which a live run asks a driver for its operations.
 use Rattle.std.specs.Prelude.{ℕ, List, [], ◌++◌, codes, decimal, Option, Some, None}
-use Rattle.camac_report_text.specs.Cycles.{cycle_start}
-use Rattle.camac_report_text.specs.Digits.{hex_word}
+use Rattle.camac_lines.specs.Cycles.{cycle_start}
+use Rattle.camac_lines.specs.Digits.{hex_word}
 use Rattle.camac_report.specs.Items.{unlock_text}
 use Rattle.camac_func.specs.declared.data.DataMove.{DataMove}
 use Rattle.camac_func.specs.declared.data.DataMove.TheVariants as moved

@@ -2,12 +2,12 @@
 
 ghost use Rattle.std.specs.Prelude.{◌≡◌, ◌||◌, is_err};
 ghost use Rattle.camac_branch.specs.Address.{address};
-ghost use Rattle.camac_report_text.specs.Cycles.{cycle_text};
+ghost use Rattle.camac_lines.specs.Cycles.{cycle_text};
 ghost use Rattle.camac_word.specs.Watched.{inner_of, has_failed};
 ghost use Rattle.camac_word.specs.Writing.{Writes};
 
 use camac_branch::CycleDone;
-use camac_report_text::{LONGEST_LINE, cycle_in};
+use camac_lines::{LONGEST_LINE, cycle_in};
 use camac_word::{Watched, WriteFault};
 use std::io::Write;
 

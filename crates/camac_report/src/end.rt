@@ -5,7 +5,7 @@ ghost use Rattle.camac_report.specs.Ends.{end_text};
 ghost use Rattle.camac_run.specs.Ends.{stop_in};
 
 use camac_branch::Overrun;
-use camac_report_text::Line;
+use camac_lines::Line;
 use camac_run::End;
 
 /// The last line of a run: how it ended, and how many events it left.

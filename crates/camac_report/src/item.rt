@@ -2,13 +2,13 @@
 
 ghost use Rattle.std.specs.Prelude.{◌≡◌, ◌≤◌, ◌+◌, ◌*◌, ◌||◌, ◌++◌, length, take, is_err};
 ghost use Rattle.camac_report.specs.Items.{service_name, called_text, demand_text, lock_text, unlock_text, unlock_texts, item_text};
-ghost use Rattle.camac_run_machine.specs.MachineState.{piece_of};
+ghost use Rattle.camac_machine.specs.MachineState.{piece_of};
 ghost use Rattle.camac_word.specs.Watched.{inner_of, has_failed};
 ghost use Rattle.camac_word.specs.Writing.{Writes};
 
-use camac_check_result::Checked;
+use camac_checked::Checked;
 use camac_lang::Script;
-use camac_report_text::{LONGEST_LINE, bytes_in, cycle_in, hex_word, lam_name, small_in, text_in};
+use camac_lines::{LONGEST_LINE, bytes_in, cycle_in, hex_word, lam_name, small_in, text_in};
 use camac_run::Item;
 use camac_word::{CrateNo, Watched, Word24, WriteFault};
 use std::io::Write;

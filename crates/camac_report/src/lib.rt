@@ -1,5 +1,5 @@
 //! The lines that the program prints: verdicts, headings, refusals, plans, event files, and the items and the end of a run.
-// What needs no runner stands in camac_report_text, so that it is proved beside the runner, whose proof is the longest, and not after it.
+// What needs no runner stands in camac_lines, so that it is proved beside the runner, whose proof is the longest, and not after it.
 #![tactic(auto)]
 
 mod cycle;
@@ -7,7 +7,7 @@ mod end;
 mod item;
 mod request;
 
-pub use camac_report_text::{
+pub use camac_lines::{
     Code, LONGEST_LINE, Line, Refusal, lam_name, refusal_line, write_event_file, write_events,
     write_headings, write_plan, write_plan_with_commands, write_refusal, write_verdict,
 };

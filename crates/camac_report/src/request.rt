@@ -8,7 +8,7 @@ ghost use Rattle.camac_report.specs.Requests.{asked_text, request_text};
 use crate::item::unlocks_in;
 use camac_branch::Command;
 use camac_func::DataMove;
-use camac_report_text::{LONGEST_LINE, Line};
+use camac_lines::{LONGEST_LINE, Line};
 use camac_run::Wanted;
 use camac_word::CrateNo;
 

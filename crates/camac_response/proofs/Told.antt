@@ -11,7 +11,7 @@ use Rattle.camac_names.specs.Link.{lam_bit, service_bit as link_bit}
 use Rattle.camac_names.specs.Linked.{IsLinked}
 use Rattle.camac_names.specs.OwnBits.{HasOwnBits}
 use Rattle.camac_names.proofs.OwnBits.{linked_have_own_bits}
-use Rattle.camac_check_result.specs.Checked.{CheckedScript, linked_of}
+use Rattle.camac_checked.specs.Checked.{CheckedScript, linked_of}
 use Rattle.camac_response_times.specs.declared.setting.Setting.{Setting}
 use Rattle.camac_response_times.specs.declared.source.Source.{Source}
 use Rattle.camac_response_times.specs.Rounds.{most_rounds}

@@ -3,7 +3,7 @@ use Rattle.std.specs.Prelude.{◌≡◌, ℕ, zero, suc, Bool, List, [], ◌∷�
 use Rattle.std.specs.List.{list_any}
 use Rattle.std.specs.Str.{bytes_eq}
 use Rattle.camac_lang.specs.Tree.{Text, Lam, Service, Script}
-use Rattle.camac_report_text.specs.Verdict.{lam_name}
+use Rattle.camac_lines.specs.Verdict.{lam_name}
 use Rattle.camac_response_times.specs.declared.setting.Misuse.{Misuse}
 use Rattle.camac_response_times.specs.declared.setting.Misuse.TheVariants.{NoService}
 use Rattle.camac_response_times.specs.declared.setting.Setting.{Setting}
@@ -14,7 +14,7 @@ use Rattle.camac_branch.specs.Plan.{IsPlan}
 use Rattle.camac_model.specs.Run.{the_run}
 use Rattle.camac_model.specs.Moments.{Holds}
 use Rattle.camac_names.specs.Linked.{IsLinked, bit_of_service}
-use Rattle.camac_check_result.specs.Checked.{CheckedScript, linked_of, IsChecked}
+use Rattle.camac_checked.specs.Checked.{CheckedScript, linked_of, IsChecked}
 use Rattle.camac_response_times.specs.declared.source.Source.{Source}
 use Rattle.camac_response_times.specs.Rounds.{longest, response}
 use Rattle.camac_model.specs.Headline.{nothing}

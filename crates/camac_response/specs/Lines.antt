@@ -2,7 +2,7 @@
 use Rattle.std.specs.Prelude.{ℕ, List, [], ◌++◌, codes, decimal, nat_eq, slice_get, Option, Some, None, option_map, unwrap_or}
 use Rattle.std.specs.List.{position}
 use Rattle.camac_lang.specs.Tree.{Text, Script}
-use Rattle.camac_report_text.specs.Texts.{texts}
+use Rattle.camac_lines.specs.Texts.{texts}
 use Rattle.camac_response_times.specs.declared.search.Response.{Response}
 use Rattle.camac_response_times.specs.declared.setting.Setting.{Setting}
 use Rattle.camac_response_times.specs.declared.source.Source.{Source}

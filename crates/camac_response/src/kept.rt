@@ -7,7 +7,7 @@ ghost use Rattle.camac_response_times.specs.Found.{response_at};
 ghost use Rattle.camac_response_times.specs.Setting.{told_for};
 
 use crate::of_checked::service_name;
-use camac_check_result::Checked;
+use camac_checked::Checked;
 use camac_response_times::{Responses, Setting, told_for};
 
 /// Whether each service for which a number is asked for has a response, and has ended by then.

@@ -3,7 +3,7 @@
 ghost use Rattle.camac_response.specs.Checked.{CheckedRespond, Responds};
 ghost use Rattle.camac_response.specs.Laws.{AnswersInTime, LookAtMesAreAnswered, LowestAreCalled, StretchesEnd};
 
-use camac_check_result::Checked;
+use camac_checked::Checked;
 
 /// While the rates are kept, no stretch of a bit takes more cycles than any number that is enough for all that is wanted within it.
 pub fn stretches_end()

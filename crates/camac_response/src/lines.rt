@@ -7,8 +7,8 @@ ghost use Rattle.camac_word.specs.Watched.{inner_of, has_failed};
 ghost use Rattle.camac_word.specs.Writing.{Writes};
 
 use crate::of_checked::service_name;
-use camac_check_result::Checked;
-use camac_report_text::Line;
+use camac_checked::Checked;
+use camac_lines::Line;
 use camac_response_times::{Rate, Response, Responses, Setting, Source, told_for};
 use camac_word::{Watched, WriteFault};
 use std::io::Write;

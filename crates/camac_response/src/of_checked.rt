@@ -5,9 +5,9 @@ ghost use Rattle.camac_lang.specs.View.{lam_of, service_of};
 ghost use Rattle.camac_response_times.specs.Setting.{told_for};
 ghost use Rattle.camac_response.specs.Checked.{AreTold, IsNoService, first_unknown, has_name, has_service, rate_of, service_name};
 
-use camac_check_result::Checked;
+use camac_checked::Checked;
 use camac_lang::{Lam, Service};
-use camac_report_text::lam_name;
+use camac_lines::lam_name;
 use camac_response_times::{Misuse, Rate, Setting, SettingOption, Settings, Source, told_for};
 use std::alloc::{AllocError, Global};
 

@@ -4,12 +4,12 @@ use Rattle.std.specs.Prelude.{Option, Some, None, is_some}
 use Rattle.std.proofs.lemmas.Bool.{false≢true}
 use Rattle.camac_branch.specs.Crates.{Crates, branch_of}
 use Rattle.camac_branch.specs.declared.answer.Overrun.{Overrun}
-use Rattle.camac_check_result.specs.Checked.{CheckedScript}
+use Rattle.camac_checked.specs.Checked.{CheckedScript}
 use Rattle.camac_run.specs.Abandoned.{LeavesIf, AbandoningHolds}
 use Rattle.camac_run.specs.Holds.{after}
 use Rattle.camac_run.specs.Runner.{RunnerState, rest_from}
-use Rattle.camac_run_machine.specs.MachineState.{context_in}
-use Rattle.camac_run_machine.specs.Rest.{Operation, onward}
+use Rattle.camac_machine.specs.MachineState.{context_in}
+use Rattle.camac_machine.specs.Rest.{Operation, onward}
 
 pub abandoning_holds : AbandoningHolds
 abandoning_holds plan script answers told at old new unlocks holds idle checked crates leaves = record {

@@ -8,16 +8,16 @@ use Rattle.arrayvec.specs.ArrayVec.{ArrayVec}
 use Rattle.camac_lang.specs.Tree.{done}
 use Rattle.camac_branch.specs.Branch.{Branch, with_lock}
 use Rattle.camac_branch.specs.Crates.{Crates, branch_of}
-use Rattle.camac_run_machine.specs.declared.machine.Frame.{Frame}
-use Rattle.camac_run_machine.specs.declared.machine.Machine.{Machine}
+use Rattle.camac_machine.specs.declared.machine.Frame.{Frame}
+use Rattle.camac_machine.specs.declared.machine.Machine.{Machine}
 use Rattle.camac_run.specs.Locks.{lock_of, locks_in}
-use Rattle.camac_run_machine.specs.MachineState.{open_in, opens_in, opens_of, AreHeld, locked_among, HasRoomFor, HasRoom}
-use Rattle.camac_run_machine.specs.Rest.{releases, Open}
-use Rattle.camac_run_machine.specs.Within.{OpenFit}
-use Rattle.camac_run_machine.proofs.Blocks.{opens_pop, opens_push}
-use Rattle.camac_run_machine.proofs.Frames.{room_stepped, room_with}
-use Rattle.camac_run_machine.proofs.Leaves.{lock_leaves}
-use Rattle.camac_run_machine.proofs.Locks.{held_same, none_held, none_locked}
+use Rattle.camac_machine.specs.MachineState.{open_in, opens_in, opens_of, AreHeld, locked_among, HasRoomFor, HasRoom}
+use Rattle.camac_machine.specs.Rest.{releases, Open}
+use Rattle.camac_machine.specs.Within.{OpenFit}
+use Rattle.camac_machine.proofs.Blocks.{opens_pop, opens_push}
+use Rattle.camac_machine.proofs.Frames.{room_stepped, room_with}
+use Rattle.camac_machine.proofs.Leaves.{lock_leaves}
+use Rattle.camac_machine.proofs.Locks.{held_same, none_held, none_locked}
 
 locks_push : (os : List Open) (o : Open) → locks_in (os ++ o ∷ []) ≡ lock_of o.owner ++ locks_in os
 locks_push [] o = sym (append-nil (lock_of o.owner))

@@ -6,8 +6,8 @@ use Rattle.camac_branch.specs.Branch.{Answer}
 use Rattle.camac_branch.specs.Plan.{Layout}
 use Rattle.camac_model.specs.Behaviour.{Behaviour, does, ends, stops, Piece, lock_released, pieces, stop_of, short, overrun, wrong, more}
 use Rattle.camac_model.specs.Run.{the_run}
-use Rattle.camac_run_machine.specs.MachineState.{Left, piece_of}
-use Rattle.camac_run_machine.specs.Rest.{says}
+use Rattle.camac_machine.specs.MachineState.{Left, piece_of}
+use Rattle.camac_machine.specs.Rest.{says}
 use Rattle.camac_run.specs.Holds.{after, HoldsAfter, event_pieces, GoingOnHolds, AllIsTold, WantsAreWanted}
 use Rattle.camac_run.specs.Operation.{Begins, Waits, operation_of, quiet_answer}
 use Rattle.camac_run.specs.Runner.{RunnerState, rest, with_event, last_words_in}

@@ -12,10 +12,10 @@ use Rattle.camac_run.specs.Ends.{stop_in}
 use Rattle.camac_model.specs.Behaviour.{Behaviour, does, stops, Event, Piece, item_of, event_in, lock_released, items, events, stop_of, Stop, overrun}
 use Rattle.camac_model.specs.Fine.{Bounds}
 use Rattle.camac_model.specs.Run.{the_run}
-use Rattle.camac_run_machine.specs.declared.item.Item.{Item}
-use Rattle.camac_run_machine.specs.declared.item.Item.TheVariants as item
-use Rattle.camac_run_machine.specs.MachineState.{piece_of, Left}
-use Rattle.camac_run_machine.specs.Rest.{says}
+use Rattle.camac_machine.specs.declared.item.Item.{Item}
+use Rattle.camac_machine.specs.declared.item.Item.TheVariants as item
+use Rattle.camac_machine.specs.MachineState.{piece_of, Left}
+use Rattle.camac_machine.specs.Rest.{says}
 use Rattle.camac_run.specs.Runner.{RunnerState, rest, state_in, with_event, last_words_in, GoesOn, Stops}
 use Rattle.camac_run.specs.Headline.{entry_of, entries_in, event_file, Headline, RunsByHeadline, LeavesFewEvents}
 use Rattle.camac_run.specs.Log.{IsLogOf, left_entries, unlock_items}

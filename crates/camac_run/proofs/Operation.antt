@@ -21,22 +21,22 @@ use Rattle.camac_model.specs.Cycle.{cycle, kept, take_lock, release}
 use Rattle.camac_model.specs.Fine.{most_turns}
 use Rattle.camac_model.specs.Meaning.{block_meaning}
 use Rattle.camac_model.specs.Transfer.{keep_word, transfer}
-use Rattle.camac_run_machine.specs.Course.{left_at, words_from, words_sent}
-use Rattle.camac_run_machine.specs.MachineState.{context_in, left_in, stands, state_of, pending_of, IsPending, IsFineHere, bounds_of, bit_at}
-use Rattle.camac_run_machine.specs.Rest.{address_of, awaited, onward, served}
+use Rattle.camac_machine.specs.Course.{left_at, words_from, words_sent}
+use Rattle.camac_machine.specs.MachineState.{context_in, left_in, stands, state_of, pending_of, IsPending, IsFineHere, bounds_of, bit_at}
+use Rattle.camac_machine.specs.Rest.{address_of, awaited, onward, served}
 use Rattle.camac_run.specs.Runner.{rest}
 use Rattle.camac_run.specs.Sound.{runner_state}
 use Rattle.camac_run.specs.Operation.{Begins, IsWaiting, Waits, Wants, operation, operation_of, quiet_answer}
 use Rattle.camac_run.specs.Requested.{IsSafeRequest, held_in}
 use Rattle.camac_run.specs.declared.progress.Wanted.{Wanted}
 use Rattle.camac_run.specs.declared.progress.Wanted.TheVariants as wanted
-use Rattle.camac_run_machine.specs.declared.machine.Machine.{Machine}
-use Rattle.camac_run_machine.specs.declared.machine.Pending.{Pending}
-use Rattle.camac_run_machine.specs.declared.machine.Pending.TheVariants.{Cycle, Read, Lock, Transfer}
+use Rattle.camac_machine.specs.declared.machine.Machine.{Machine}
+use Rattle.camac_machine.specs.declared.machine.Pending.{Pending}
+use Rattle.camac_machine.specs.declared.machine.Pending.TheVariants.{Cycle, Read, Lock, Transfer}
 use Rattle.camac_run.proofs.Told.{rest_short, rest_over}
-use Rattle.camac_run_machine.proofs.Takes.{cycle_goes, cycle_halts}
-use Rattle.camac_run_machine.proofs.Taken.{lock_goes, lock_halts}
-use Rattle.camac_run_machine.proofs.Transfers.{transfer_goes}
+use Rattle.camac_machine.proofs.Takes.{cycle_goes, cycle_halts}
+use Rattle.camac_machine.proofs.Taken.{lock_goes, lock_halts}
+use Rattle.camac_machine.proofs.Transfers.{transfer_goes}
 
 -- no wait is always permitted
 some_wait : (l : Bool) (waits w : ℕ) → permitted l waits w ≡ false → 0 < w

@@ -6,12 +6,12 @@ use Rattle.std.proofs.lemmas.Option.{slice_get-map}
 use Rattle.std.specs.Prelude.{slice_get, option_map, option_and_then, nat_eq, if◌then◌else◌}
 use Rattle.camac_lang.specs.Tree.{Lam, Service}
 use Rattle.camac_branch.specs.Plan.{Layout, gl}
-use Rattle.camac_check_result.specs.Checked.{CheckedScript, linked_of}
+use Rattle.camac_checked.specs.Checked.{CheckedScript, linked_of}
 use Rattle.camac_model.specs.Meaning.{Context, context, lam_address}
 use Rattle.camac_model.specs.Run.{Chosen, service_bit, is_bit, is_bit_set, with_bit, or_next, first_service}
 use Rattle.camac_names.specs.Link.{lam_bit, service_bit as link_bit}
 use Rattle.camac_names.specs.Linked.{bit_of_service}
-use Rattle.camac_run_machine.proofs.Lists.{place}
+use Rattle.camac_machine.proofs.Lists.{place}
 use Rattle.camac_run.specs.Called.{chosen_of}
 use Rattle.camac_run.specs.declared.service.Called.{Called}
 

@@ -13,8 +13,8 @@ use Rattle.camac_model.specs.Run.{Chosen, service_for, service_meaning, event_of
 use Rattle.camac_model.proofs.AnswersUsed.{rounds_suffice}
 use Rattle.camac_model.proofs.Counts.{services_count}
 use Rattle.camac_model.proofs.Runs.{where_reached, drop_length}
-use Rattle.camac_run_machine.proofs.Fine.{turns_are}
-use Rattle.camac_run_machine.specs.Rest.{says, onward, served}
+use Rattle.camac_machine.proofs.Fine.{turns_are}
+use Rattle.camac_machine.specs.Rest.{says, onward, served}
 
 -- what goes on in the same way at each end of a kind
 then_same : {A : Type 0} (Q : State → Type 0) (b : Behaviour State) (f g : State → Behaviour A) → EndsWith Q b → ((s : State) → Q s → f s ≡ g s) → then_do b f ≡ then_do b g

@@ -11,30 +11,30 @@ use Rattle.camac_branch.specs.Crates.{Crates, branch_of}
 use Rattle.camac_branch.specs.Branch.{Answer}
 use Rattle.arrayvec.specs.ArrayVec.{ArrayVec}
 use Rattle.camac_branch.specs.declared.answer.Overrun.{Overrun}
-use Rattle.camac_check_result.specs.Checked.{CheckedScript, IsChecked}
+use Rattle.camac_checked.specs.Checked.{CheckedScript, IsChecked}
 use Rattle.camac_lang.specs.Fits.{fits}
 use Rattle.camac_model.specs.State.{State}
 use Rattle.camac_model.specs.Behaviour.{Behaviour, ends, stops, short, Action, then_do}
 use Rattle.camac_model.specs.Fine.{IsFine, most_turns}
 use Rattle.camac_model.specs.Meaning.{Context}
 use Rattle.camac_model.specs.Run.{service_meaning}
-use Rattle.camac_run_machine.specs.declared.item.Item.{Item}
-use Rattle.camac_run_machine.specs.declared.machine.Machine.{Machine}
-use Rattle.camac_run_machine.specs.declared.machine.Pending.{Pending}
-use Rattle.camac_run_machine.specs.declared.machine.Pending.TheVariants as pending
-use Rattle.camac_run_machine.specs.declared.machine.Pending.TheVariants.{Cycle, Read, Lock}
-use Rattle.camac_run_machine.specs.MachineState.{bounds_at, bounds_of, opens_in, locked_among, context_in, state_of, left_in, stands, pending_of, FineThen, IsFineHere, HasRoom, IsPending, IsOperationOf, StandsIn, Takes, Settles, Serves, Left, bit_at, event_here}
-use Rattle.camac_run_machine.specs.Rest.{follows, rest_in, says, served}
+use Rattle.camac_machine.specs.declared.item.Item.{Item}
+use Rattle.camac_machine.specs.declared.machine.Machine.{Machine}
+use Rattle.camac_machine.specs.declared.machine.Pending.{Pending}
+use Rattle.camac_machine.specs.declared.machine.Pending.TheVariants as pending
+use Rattle.camac_machine.specs.declared.machine.Pending.TheVariants.{Cycle, Read, Lock}
+use Rattle.camac_machine.specs.MachineState.{bounds_at, bounds_of, opens_in, locked_among, context_in, state_of, left_in, stands, pending_of, FineThen, IsFineHere, HasRoom, IsPending, IsOperationOf, StandsIn, Takes, Settles, Serves, Left, bit_at, event_here}
+use Rattle.camac_machine.specs.Rest.{follows, rest_in, says, served}
 use Rattle.camac_run.specs.Place.{IsPlace}
 use Rattle.camac_run.specs.declared.place.Place.{Place}
 use Rattle.camac_run.specs.Runner.{RunnerState, rest, last_words_in, with_event}
 use Rattle.camac_run.specs.Sound.{runner_state, IsSound}
-use Rattle.camac_run_machine.proofs.Bounds.{fine_at}
-use Rattle.camac_run_machine.proofs.Fine.{fine_says}
-use Rattle.camac_run_machine.proofs.Frames.{fine_along}
-use Rattle.camac_run_machine.proofs.Locks.{among_few}
+use Rattle.camac_machine.proofs.Bounds.{fine_at}
+use Rattle.camac_machine.proofs.Fine.{fine_says}
+use Rattle.camac_machine.proofs.Frames.{fine_along}
+use Rattle.camac_machine.proofs.Locks.{among_few}
 use Rattle.camac_run.proofs.Serving.{served_says, served_stops, onward_over}
-use Rattle.camac_run_machine.proofs.Takes.{waits_first}
+use Rattle.camac_machine.proofs.Takes.{waits_first}
 
 module _ {V D C : ℕ} where
   -- the event of a service that is over is told and counted, and nothing else changes

@@ -9,8 +9,8 @@ use Rattle.camac_model.specs.Behaviour.{Piece}
 use Rattle.camac_run.specs.Holds.{HoldsAfter}
 use Rattle.camac_run.specs.Runner.{RunnerState, rest, last_words_in}
 use Rattle.camac_run.specs.Locks.{locks_in}
-use Rattle.camac_run_machine.specs.MachineState.{context_in}
-use Rattle.camac_run_machine.specs.Rest.{Operation, onward}
+use Rattle.camac_machine.specs.MachineState.{context_in}
+use Rattle.camac_machine.specs.Rest.{Operation, onward}
 
 -- The run goes on as from the demand that called the service in progress: the crates are as they were there, and it leaves no event. The
 -- locks that it held are to be released. Answers that were used stay so, and events count on.

@@ -5,8 +5,8 @@ use Rattle.camac_branch.specs.Branch.{Answer}
 use Rattle.camac_branch.specs.Plan.{Layout}
 use Rattle.camac_model.specs.Behaviour.{Behaviour, does, Piece, lock_released, event_left, pieces}
 use Rattle.camac_model.specs.Run.{the_run}
-use Rattle.camac_run_machine.specs.MachineState.{Left, piece_of}
-use Rattle.camac_run_machine.specs.declared.item.Item.{Item}
+use Rattle.camac_machine.specs.MachineState.{Left, piece_of}
+use Rattle.camac_machine.specs.declared.item.Item.{Item}
 use Rattle.camac_run.specs.Operation.{IsWaiting, Wants, wanted_after}
 use Rattle.camac_run.specs.Runner.{RunnerState, rest, last_words_in, GoesOn}
 use Rattle.camac_run.specs.declared.progress.Wanted.{Wanted}

@@ -1,6 +1,6 @@
 -- The locks that open blocks hold.
 use Rattle.std.specs.Prelude.{ℕ, List, [], ◌∷◌, ◌++◌}
-use Rattle.camac_run_machine.specs.Rest.{Owner, nothing, releases, for_loop, while_loop, returns, Open}
+use Rattle.camac_machine.specs.Rest.{Owner, nothing, releases, for_loop, while_loop, returns, Open}
 
 abbrev pub lock_of : Owner → List ℕ
 lock_of nothing = []

@@ -4,9 +4,9 @@ use Rattle.camac_event.specs.Spelling.{Entry}
 use Rattle.camac_event.specs.declared.event.Version.TheVariants.{Two}
 use Rattle.camac_run.specs.Ends.{stop_in}
 use Rattle.camac_model.specs.Behaviour.{Behaviour, items, stop_of}
-use Rattle.camac_run_machine.specs.MachineState.{piece_of, Left}
-use Rattle.camac_run_machine.specs.declared.item.Item.{Item}
-use Rattle.camac_run_machine.specs.declared.item.Item.TheVariants as item
+use Rattle.camac_machine.specs.MachineState.{piece_of, Left}
+use Rattle.camac_machine.specs.declared.item.Item.{Item}
+use Rattle.camac_machine.specs.declared.item.Item.TheVariants as item
 use Rattle.camac_run.specs.Headline.{entries_in}
 use Rattle.camac_run.specs.declared.log.Log.{Log}
 

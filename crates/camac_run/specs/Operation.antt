@@ -8,8 +8,8 @@ use Rattle.camac_model.specs.Run.{the_run}
 use Rattle.camac_run.specs.Runner.{RunnerState, rest}
 use Rattle.camac_run.specs.declared.progress.Wanted.{Wanted}
 use Rattle.camac_run.specs.declared.progress.Wanted.TheVariants.{Demand, Cycle, Lock}
-use Rattle.camac_run_machine.specs.declared.machine.Pending.{Pending}
-use Rattle.camac_run_machine.specs.declared.machine.Pending.TheVariants as waits_for
+use Rattle.camac_machine.specs.declared.machine.Pending.{Pending}
+use Rattle.camac_machine.specs.declared.machine.Pending.TheVariants as waits_for
 
 -- the operation that a piece is; a release and an event are none
 abbrev pub operation_of : Piece → Option Wanted

@@ -1,7 +1,7 @@
 -- Where a run stands in its script.
 use Rattle.std.specs.Prelude.{◌≡◌, IfSome, IsSomeAnd}
 use Rattle.camac_lang.specs.Tree.{line_of}
-use Rattle.camac_run_machine.specs.MachineState.{context_in, IsOperationOf}
+use Rattle.camac_machine.specs.MachineState.{context_in, IsOperationOf}
 use Rattle.camac_run.specs.Runner.{RunnerState}
 use Rattle.camac_run.specs.declared.place.Place.{Place}
 

@@ -4,16 +4,16 @@ use Rattle.camac_branch.specs.Address.{Address}
 use Rattle.camac_branch.specs.Branch.{Answer}
 use Rattle.camac_branch.specs.Crates.{Crates, branch_of}
 use Rattle.camac_branch.specs.declared.answer.Overrun.{Overrun}
-use Rattle.camac_check_result.specs.Checked.{CheckedScript}
+use Rattle.camac_checked.specs.Checked.{CheckedScript}
 use Rattle.camac_lang.specs.Tree.{Statement}
 use Rattle.camac_model.specs.State.{State}
 use Rattle.camac_model.specs.Behaviour.{Behaviour, does, ends, stops, event_left, overrun as overruns, then_do}
-use Rattle.camac_run_machine.specs.declared.item.Item.{Item}
+use Rattle.camac_machine.specs.declared.item.Item.{Item}
 use Rattle.camac_run.specs.declared.progress.Progress.{Progress}
 use Rattle.camac_run.specs.declared.progress.Progress.TheVariants as progress
-use Rattle.camac_run_machine.specs.MachineState.{Left, bit_at, context_in, piece_of}
-use Rattle.camac_run_machine.specs.Rest.{Operation, awaited, Open, rest_in, says, onward, served}
-use Rattle.camac_run_machine.specs.Store.{variables_in, registers_in}
+use Rattle.camac_machine.specs.MachineState.{Left, bit_at, context_in, piece_of}
+use Rattle.camac_machine.specs.Rest.{Operation, awaited, Open, rest_in, says, onward, served}
+use Rattle.camac_machine.specs.Store.{variables_in, registers_in}
 
 pub record RunnerState : Type 0 where
   pub checked : CheckedScript

@@ -7,12 +7,12 @@ use Rattle.camac_lang.specs.declared.tree.Stmt.{Stmt}
 use Rattle.camac_branch.specs.Branch.{Answer}
 use Rattle.camac_branch.specs.Crates.{Crates, branch_of}
 use Rattle.camac_branch.specs.declared.answer.Overrun.{Overrun}
-use Rattle.camac_check_result.specs.Checked.{IsChecked}
+use Rattle.camac_checked.specs.Checked.{IsChecked}
 use Rattle.camac_lang.specs.Fits.{fits}
-use Rattle.camac_run_machine.specs.declared.machine.Machine.{Machine}
-use Rattle.camac_run_machine.specs.declared.machine.Pending.{Pending}
-use Rattle.camac_run_machine.specs.MachineState.{opens_in, pending_of, stands, IsFineHere, HasRoom, IsPending, StandsIn}
-use Rattle.camac_run_machine.specs.Store.{held_at}
+use Rattle.camac_machine.specs.declared.machine.Machine.{Machine}
+use Rattle.camac_machine.specs.declared.machine.Pending.{Pending}
+use Rattle.camac_machine.specs.MachineState.{opens_in, pending_of, stands, IsFineHere, HasRoom, IsPending, StandsIn}
+use Rattle.camac_machine.specs.Store.{held_at}
 use Rattle.camac_run.specs.Runner.{RunnerState}
 
 module _ {V D C : ℕ} where

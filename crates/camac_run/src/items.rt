@@ -2,7 +2,7 @@
 
 ghost use Rattle.std.specs.Prelude.{◌≡◌, ◌++◌, ◌∷◌, [], OnOk};
 
-use camac_run_machine::Item;
+use camac_machine::Item;
 use std::alloc::{AllocError, Global};
 use std::marker::Model;
 
@@ -14,7 +14,7 @@ pub struct Items {
 
 impl Model for Items {
     ghost use Rattle.std.specs.Prelude.{List};
-    ghost use Rattle.camac_run_machine.specs.declared.item.Item.{Item as Told};
+    ghost use Rattle.camac_machine.specs.declared.item.Item.{Item as Told};
 
     ghost Value = { List Told };
 

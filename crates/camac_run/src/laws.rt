@@ -5,7 +5,7 @@ ghost use Rattle.camac_run.specs.Holds.{AllIsTold, GoingOnHolds, WantsAreWanted}
 ghost use Rattle.camac_run.specs.Headline.{RunsAlways, RunsByHeadline, LeavesFewEvents};
 ghost use Rattle.camac_run.specs.Requested.{RequestsAreSafe};
 
-use camac_check_result::Checked;
+use camac_checked::Checked;
 
 /// The law that the headline is true of every run of this script (`always`), and of its event file where its events can be numbered. A run
 /// leaves no more events than it has answers.

@@ -3,11 +3,11 @@
 ghost use Rattle.std.specs.Prelude.{◌≡◌, ℕ, ◌++◌, ◌∷◌, [], length, false};
 ghost use Rattle.camac_branch.specs.Crates.{branch_of};
 ghost use Rattle.camac_lang.specs.Tree.{done};
-ghost use Rattle.camac_run_machine.specs.MachineState.{owner_in, opens_in, HasRoomFor, HasRoom};
+ghost use Rattle.camac_machine.specs.MachineState.{owner_in, opens_in, HasRoomFor, HasRoom};
 ghost use Rattle.camac_run.specs.Locks.{lock_of, locks_in};
 
 use camac_branch::{Branch, unlock};
-use camac_run_machine::{Machine, Owner};
+use camac_machine::{Machine, Owner};
 use camac_word::CrateNo;
 
 // Leaves a block before its end: releases its lock, or sees what its caller sees.

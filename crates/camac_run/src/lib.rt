@@ -11,7 +11,7 @@ mod progress;
 mod runner;
 mod service;
 
-pub use camac_run_machine::Item;
+pub use camac_machine::Item;
 pub use items::Items;
 pub use laws::{abandoning_holds, requests_are_safe, runner_holds_the_rest, runs_by_headline};
 pub use log::{Log, run};

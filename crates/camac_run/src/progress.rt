@@ -3,7 +3,7 @@
 use arrayvec::ArrayVec;
 use camac_branch::{Command, Overrun};
 use camac_event::Usage;
-use camac_run_machine::Item;
+use camac_machine::Item;
 use camac_word::{CrateNo, GlBit};
 
 /// How a run ended (own).

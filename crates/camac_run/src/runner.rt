@@ -2,7 +2,7 @@
 
 ghost use Rattle.std.specs.Prelude.{◌≡◌, ◌+◌, ◌<◌, ◌≤◌, List, [], length, true, Some, None, false, is_some, IsSome, IfSome, IfNone, OnSome, if◌then◌else◌};
 ghost use Rattle.camac_branch.specs.Branch.{Answer};
-ghost use Rattle.camac_run_machine.specs.MachineState.{bounds_at};
+ghost use Rattle.camac_machine.specs.MachineState.{bounds_at};
 ghost use Rattle.camac_lang.specs.Fits.{fits};
 ghost use Rattle.camac_model.specs.Behaviour.{stops, short, ends};
 ghost use Rattle.camac_model.specs.Run.{the_run};
@@ -19,10 +19,10 @@ use crate::progress::{Progress, Wanted};
 use crate::service::service_for;
 use arrayvec::ArrayVec;
 use camac_branch::{Answer, Branch, Overrun, demand};
-use camac_check_result::Checked;
+use camac_checked::Checked;
 use camac_event::Usage;
 use camac_lang::limits;
-use camac_run_machine::{Item, Machine, Pending};
+use camac_machine::{Item, Machine, Pending};
 use camac_word::{CrateNo, GlBit, Word24};
 use std::marker::Model;
 
@@ -53,8 +53,8 @@ pub type FullRunner<'a> = Runner<
 
 impl<'a, const V: usize, const DEPTH: usize, const CAP: usize> Model for Runner<'a, V, DEPTH, CAP> {
     ghost use Rattle.std.specs.Coded.{codes};
-    ghost use Rattle.camac_check_result.specs.Checked.{checked_coded};
-    ghost use Rattle.camac_run_machine.proofs.Codes.{want_coded, open_coded, statement_coded};
+    ghost use Rattle.camac_checked.specs.Checked.{checked_coded};
+    ghost use Rattle.camac_machine.proofs.Codes.{want_coded, open_coded, statement_coded};
     ghost use Rattle.camac_run.specs.Runner.{RunnerState};
     ghost use Rattle.camac_run.specs.Sound.{runner_state, IsSound};
 

@@ -3,11 +3,11 @@ use Rattle.std.proofs.Common.{◌≡◌, ℕ, ◌+◌, ◌≤◌, ◌<◌, true,
 use Rattle.std.proofs.lemmas.Bool.{ltb-true}
 use Rattle.camac_lang.specs.Tests.{is_name, is_new, is_number, is_sub_address}
 use Rattle.camac_lang.specs.Tree.{Statement, Lam}
-use Rattle.camac_text_tokens.specs.declared.fault.Limit.TheVariants as limit
-use Rattle.camac_text_tokens.specs.declared.fault.TextCase.TheVariants as told
-use Rattle.camac_text_tokens.specs.declared.token.Keyword.TheVariants as word
-use Rattle.camac_text_tokens.specs.declared.token.TokenKind.{TokenKind}
-use Rattle.camac_text_tokens.specs.declared.token.TokenKind.TheVariants as kind
+use Rattle.camac_tokens.specs.declared.fault.Limit.TheVariants as limit
+use Rattle.camac_tokens.specs.declared.fault.TextCase.TheVariants as told
+use Rattle.camac_tokens.specs.declared.token.Keyword.TheVariants as word
+use Rattle.camac_tokens.specs.declared.token.TokenKind.{TokenKind}
+use Rattle.camac_tokens.specs.declared.token.TokenKind.TheVariants as kind
 use Rattle.camac_text_cursor.specs.Reading.{State, give, change, kind_of, line_of, after_first, while_next}
 use Rattle.camac_text_cursor.specs.Readers.{new_name, new_variable, is_name as next_is_name, expect, any_number, branch_number, sub_address_number, used_lam}
 use Rattle.camac_text_cursor.specs.Declaring.{with_lam, with_variables_of, with_service}

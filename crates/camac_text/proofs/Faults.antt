@@ -1,11 +1,11 @@
 -- A fault is at a token, and no token after it matters.
 use Rattle.std.proofs.Common.{◌≡◌, ℕ, List, Result, Ok, Err, sym, ap}
 use Rattle.camac_lang.specs.Tree.{Script}
-use Rattle.camac_text_tokens.specs.declared.token.Token.{Token}
-use Rattle.camac_text_tokens.specs.declared.fault.TextFault.{TextFault}
-use Rattle.camac_text_tokens.specs.declared.fault.TextFault.TheVariants as text_fault
-use Rattle.camac_text_tokens.specs.Fault.{Fault, Answers}
-use Rattle.camac_text_tokens.specs.Scanning.{tokens_of, last_line}
+use Rattle.camac_tokens.specs.declared.token.Token.{Token}
+use Rattle.camac_tokens.specs.declared.fault.TextFault.{TextFault}
+use Rattle.camac_tokens.specs.declared.fault.TextFault.TheVariants as text_fault
+use Rattle.camac_tokens.specs.Fault.{Fault, Answers}
+use Rattle.camac_tokens.specs.Scanning.{tokens_of, last_line}
 use Rattle.camac_text_cursor.specs.Reading.{State}
 use Rattle.camac_text.specs.Declarations.{declarations_at}
 use Rattle.camac_text.specs.Parser.{start, tree_in, tree_of_tokens, tree_after, script_of}

@@ -3,18 +3,18 @@ use Rattle.std.proofs.Common.{◌≡◌, ℕ, zero, suc, ◌-◌, ◌≤◌, ◌
 use Rattle.std.specs.Prelude.{take_while}
 use Rattle.std.specs.Char.{is_ascii_digit, is_ascii_alphabetic}
 use Rattle.std.proofs.lemmas.Bool.{ltb-true}
-use Rattle.camac_text_tokens.specs.declared.token.Keyword.{Keyword}
-use Rattle.camac_text_tokens.specs.declared.token.Sign.{Sign}
-use Rattle.camac_text_tokens.specs.declared.token.Token.{Token}
-use Rattle.camac_text_tokens.specs.declared.token.TokenKind.TheVariants as kind
-use Rattle.camac_text_tokens.specs.Start.{Start}
-use Rattle.camac_text_tokens.specs.Start as start
-use Rattle.camac_text_tokens.specs.declared.fault.Limit.TheVariants as limit
-use Rattle.camac_text_tokens.specs.declared.fault.TextCase.TheVariants as told
-use Rattle.camac_text_tokens.specs.Fault.{Fault}
-use Rattle.camac_text_tokens.specs.Words.{keyword}
-use Rattle.camac_text_tokens.specs.Scanning.{is_name_byte, is_blank, decimal_value, keyword_or, pair_at, single_at, pair_or_single, start_of, line_number, line_after, with_first, tokens_by, tokens_from, tokens_of}
-use Rattle.camac_text_tokens.proofs.Scans.{run_some, name_begins}
+use Rattle.camac_tokens.specs.declared.token.Keyword.{Keyword}
+use Rattle.camac_tokens.specs.declared.token.Sign.{Sign}
+use Rattle.camac_tokens.specs.declared.token.Token.{Token}
+use Rattle.camac_tokens.specs.declared.token.TokenKind.TheVariants as kind
+use Rattle.camac_tokens.specs.Start.{Start}
+use Rattle.camac_tokens.specs.Start as start
+use Rattle.camac_tokens.specs.declared.fault.Limit.TheVariants as limit
+use Rattle.camac_tokens.specs.declared.fault.TextCase.TheVariants as told
+use Rattle.camac_tokens.specs.Fault.{Fault}
+use Rattle.camac_tokens.specs.Words.{keyword}
+use Rattle.camac_tokens.specs.Scanning.{is_name_byte, is_blank, decimal_value, keyword_or, pair_at, single_at, pair_or_single, start_of, line_number, line_after, with_first, tokens_by, tokens_from, tokens_of}
+use Rattle.camac_tokens.proofs.Scans.{run_some, name_begins}
 use Rattle.camac_text_cursor.proofs.Moves.{kind_fits, AllFit}
 use Rattle.camac_text_cursor.proofs.Registers.{both, below_le}
 

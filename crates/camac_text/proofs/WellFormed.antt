@@ -6,8 +6,8 @@ use Rattle.camac_lang.specs.Scope.{Before, is_all, within_limits, is_well_formed
 use Rattle.camac_lang.specs.Statements.{statements}
 use Rattle.camac_lang.specs.Tests.{has, total, most}
 use Rattle.camac_lang.specs.Tree.{Text, Procedure, Service}
-use Rattle.camac_text_tokens.specs.declared.token.Token.{Token}
-use Rattle.camac_text_tokens.specs.Scanning.{tokens_of}
+use Rattle.camac_tokens.specs.declared.token.Token.{Token}
+use Rattle.camac_tokens.specs.Scanning.{tokens_of}
 use Rattle.camac_text_cursor.specs.Reading.{State}
 use Rattle.camac_text_cursor.specs.Declaring.{tree_so_far}
 use Rattle.camac_text.specs.Declarations.{declaration_at, is_token, declarations_at}

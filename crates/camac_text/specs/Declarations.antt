@@ -1,10 +1,10 @@
 -- What is read at each place of a declaration.
 use Rattle.std.specs.Prelude.{ℕ, ◌+◌, Bool, true, false, length, Option, Some, None, nat_lt}
-use Rattle.camac_text_tokens.specs.declared.token.Keyword.TheVariants as word
-use Rattle.camac_text_tokens.specs.declared.token.TokenKind.{TokenKind}
-use Rattle.camac_text_tokens.specs.declared.token.TokenKind.TheVariants as kind
-use Rattle.camac_text_tokens.specs.declared.fault.Limit.TheVariants as limit
-use Rattle.camac_text_tokens.specs.declared.fault.TextCase.TheVariants as told
+use Rattle.camac_tokens.specs.declared.token.Keyword.TheVariants as word
+use Rattle.camac_tokens.specs.declared.token.TokenKind.{TokenKind}
+use Rattle.camac_tokens.specs.declared.token.TokenKind.TheVariants as kind
+use Rattle.camac_tokens.specs.declared.fault.Limit.TheVariants as limit
+use Rattle.camac_tokens.specs.declared.fault.TextCase.TheVariants as told
 use Rattle.camac_text_cursor.specs.Reading.{Reader, ◌>>=◌, ◌>>◌, give, ask, change, peek, advance, line_here, fail, check, while_next}
 use Rattle.camac_text_cursor.specs.Readers.{is_name, expect, any_number, branch_number, sub_address_number, new_name, new_variable, used_lam}
 use Rattle.camac_text_cursor.specs.Declaring.{with_lam, with_variables_of, with_service}

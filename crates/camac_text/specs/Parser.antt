@@ -1,9 +1,9 @@
 -- From the tokens of a text to its tree.
 use Rattle.std.specs.Prelude.{ℕ, List, Result, Ok, Err}
 use Rattle.camac_lang.specs.Tree.{Script}
-use Rattle.camac_text_tokens.specs.declared.token.Token.{Token}
-use Rattle.camac_text_tokens.specs.Fault.{Fault}
-use Rattle.camac_text_tokens.specs.Scanning.{tokens_of, last_line}
+use Rattle.camac_tokens.specs.declared.token.Token.{Token}
+use Rattle.camac_tokens.specs.Fault.{Fault}
+use Rattle.camac_tokens.specs.Scanning.{tokens_of, last_line}
 use Rattle.camac_text_cursor.specs.Reading.{State}
 use Rattle.camac_text_cursor.specs.Declaring.{tree_so_far}
 use Rattle.camac_text_cursor.specs.Parser.{unread}

@@ -1,10 +1,10 @@
 -- Where a fault of the parser is.
 use Rattle.std.specs.Prelude.{◌≡◌, ℕ, List, ◌∷◌, ◌++◌, Result, Ok, Err}
-use Rattle.camac_text_tokens.specs.declared.token.Token.{Token}
-use Rattle.camac_text_tokens.specs.declared.fault.TextFault.{TextFault}
-use Rattle.camac_text_tokens.specs.declared.fault.TextFault.TheVariants as text_fault
-use Rattle.camac_text_tokens.specs.Fault.{Fault}
-use Rattle.camac_text_tokens.specs.Scanning.{tokens_of, last_line}
+use Rattle.camac_tokens.specs.declared.token.Token.{Token}
+use Rattle.camac_tokens.specs.declared.fault.TextFault.{TextFault}
+use Rattle.camac_tokens.specs.declared.fault.TextFault.TheVariants as text_fault
+use Rattle.camac_tokens.specs.Fault.{Fault}
+use Rattle.camac_tokens.specs.Scanning.{tokens_of, last_line}
 use Rattle.camac_text_cursor.specs.Places.{CaseFits}
 use Rattle.camac_text_cursor.specs.Reading.{kind_of, line_of, left_of}
 use Rattle.camac_text.specs.Parser.{tree_of_tokens}

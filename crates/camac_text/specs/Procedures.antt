@@ -2,10 +2,10 @@
 use Rattle.std.specs.Prelude.{ℕ, List, [], ◌∷◌, length, nat_lt, if◌then◌else◌}
 use Rattle.camac_lang.specs.Tree.{Text, Statement, Parameter, Procedure}
 use Rattle.camac_lang.specs.View.{block_of}
-use Rattle.camac_text_tokens.specs.declared.token.Keyword.TheVariants as word
-use Rattle.camac_text_tokens.specs.declared.token.Sign.TheVariants as sign
-use Rattle.camac_text_tokens.specs.declared.fault.Limit.TheVariants as limit
-use Rattle.camac_text_tokens.specs.declared.fault.TextCase.TheVariants as told
+use Rattle.camac_tokens.specs.declared.token.Keyword.TheVariants as word
+use Rattle.camac_tokens.specs.declared.token.Sign.TheVariants as sign
+use Rattle.camac_tokens.specs.declared.fault.Limit.TheVariants as limit
+use Rattle.camac_tokens.specs.declared.fault.TextCase.TheVariants as told
 use Rattle.camac_text_cursor.specs.Reading.{Reader, ◌>>=◌, ◌>>◌, give, ask, change, peek, advance, check, while_next, one_more}
 use Rattle.camac_text_cursor.specs.Readers.{is_sign, expect, expect_sign, any_number, new_name, new_parameter}
 use Rattle.camac_text_cursor.specs.Declaring.{opened, with_procedure}

@@ -1,8 +1,8 @@
 -- What is read at each place of a table.
 use Rattle.std.specs.Prelude.{ℕ, List, [], ◌∷◌, ◌++◌, length, nat_lt}
-use Rattle.camac_text_tokens.specs.declared.token.Sign.TheVariants as sign
-use Rattle.camac_text_tokens.specs.declared.fault.Limit.TheVariants as limit
-use Rattle.camac_text_tokens.specs.declared.fault.TextCase.TheVariants as told
+use Rattle.camac_tokens.specs.declared.token.Sign.TheVariants as sign
+use Rattle.camac_tokens.specs.declared.fault.Limit.TheVariants as limit
+use Rattle.camac_tokens.specs.declared.fault.TextCase.TheVariants as told
 use Rattle.camac_text_cursor.specs.Reading.{Reader, ◌>>=◌, ◌>>◌, give, ask, change, advance, check, while_next}
 use Rattle.camac_text_cursor.specs.Readers.{is_number, expect_sign, number_here, new_name}
 use Rattle.camac_text_cursor.specs.Declaring.{with_table}

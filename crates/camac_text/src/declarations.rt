@@ -11,7 +11,7 @@ use crate::tables::table_declaration;
 use camac_lang::{Lam, limits};
 use camac_text_cursor::{Choice, Parser};
 use camac_text_statements::block;
-use camac_text_tokens::{Keyword, Limit, TextCase, TextFault, TokenKind};
+use camac_tokens::{Keyword, Limit, TextCase, TextFault, TokenKind};
 
 /// All declarations to the text's end.
 #[tactic(auto, unfolding(crate::specs::Declarations::declarations_at))]

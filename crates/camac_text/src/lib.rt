@@ -7,7 +7,7 @@ mod reading;
 mod tables;
 
 pub use camac_text_cursor::{Choice, Choices};
-pub use camac_text_tokens::{
+pub use camac_tokens::{
     Found, Keyword, Limit, NameKind, Sign, TextCase, TextFault, TextRule, Token, TokenKind,
     TokensLeft, tokens,
 };

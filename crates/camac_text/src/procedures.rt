@@ -9,7 +9,7 @@ ghost use Rattle.camac_text.specs.Procedures.{parameter_at, next_parameter, para
 use camac_lang::{Parameter, Procedure, limits};
 use camac_text_cursor::Parser;
 use camac_text_statements::block;
-use camac_text_tokens::{Keyword, Limit, Sign, TextCase, TextFault};
+use camac_tokens::{Keyword, Limit, Sign, TextCase, TextFault};
 
 /// What stands in a procedure's heading after its name.
 #[derive(Drop)]

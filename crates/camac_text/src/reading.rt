@@ -1,13 +1,13 @@
 // From the text of a script to its tree.
 
-ghost use Rattle.camac_text_tokens.specs.Fault.{Answers};
+ghost use Rattle.camac_tokens.specs.Fault.{Answers};
 ghost use Rattle.camac_text.specs.Places.{HasFault, FaultIs};
 ghost use Rattle.camac_text.specs.Parser.{script_of};
 
 use crate::declarations::declarations;
 use camac_lang::Script;
 use camac_text_cursor::{Choices, Parser};
-use camac_text_tokens::{TextFault, TokensLeft};
+use camac_tokens::{TextFault, TokensLeft};
 use std::alloc::Global;
 
 // A fault of a token comes before each fault of the grammar, wherever the two stand. So the tokens are cut twice, first for their faults alone, and

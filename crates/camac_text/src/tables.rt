@@ -6,7 +6,7 @@ ghost use Rattle.camac_text.specs.Tables.{word_after, table_words, table_declara
 
 use camac_lang::{Table, limits};
 use camac_text_cursor::Parser;
-use camac_text_tokens::{Limit, Sign, TextCase, TextFault};
+use camac_tokens::{Limit, Sign, TextCase, TextFault};
 use camac_word::Word24;
 
 /// `table`

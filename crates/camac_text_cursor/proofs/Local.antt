@@ -4,16 +4,16 @@ use Rattle.std.specs.Prelude.{slice_get}
 use Rattle.camac_lang.specs.Expressions.{Callable}
 use Rattle.camac_lang.specs.Tests.{is_new}
 use Rattle.camac_lang.specs.Tree.{Text}
-use Rattle.camac_text_tokens.specs.declared.fault.NameKind.{NameKind}
-use Rattle.camac_text_tokens.specs.declared.fault.NameKind.TheVariants as named
-use Rattle.camac_text_tokens.specs.declared.fault.Found.TheVariants as found
-use Rattle.camac_text_tokens.specs.declared.fault.Limit.TheVariants as limit
-use Rattle.camac_text_tokens.specs.declared.fault.TextCase.TheVariants as told
-use Rattle.camac_text_tokens.specs.declared.token.Keyword.{Keyword}
-use Rattle.camac_text_tokens.specs.declared.token.Sign.{Sign}
-use Rattle.camac_text_tokens.specs.declared.token.Token.{Token}
-use Rattle.camac_text_tokens.specs.declared.token.TokenKind.{TokenKind}
-use Rattle.camac_text_tokens.specs.declared.token.TokenKind.TheVariants as kind
+use Rattle.camac_tokens.specs.declared.fault.NameKind.{NameKind}
+use Rattle.camac_tokens.specs.declared.fault.NameKind.TheVariants as named
+use Rattle.camac_tokens.specs.declared.fault.Found.TheVariants as found
+use Rattle.camac_tokens.specs.declared.fault.Limit.TheVariants as limit
+use Rattle.camac_tokens.specs.declared.fault.TextCase.TheVariants as told
+use Rattle.camac_tokens.specs.declared.token.Keyword.{Keyword}
+use Rattle.camac_tokens.specs.declared.token.Sign.{Sign}
+use Rattle.camac_tokens.specs.declared.token.Token.{Token}
+use Rattle.camac_tokens.specs.declared.token.TokenKind.{TokenKind}
+use Rattle.camac_tokens.specs.declared.token.TokenKind.TheVariants as kind
 use Rattle.camac_text_cursor.specs.Names.{place_of, lam_place, table_place, procedure_place}
 use Rattle.camac_text_cursor.specs.Reading.{State, Reader, ◌>>=◌, ◌>>◌, give, ask, change, advance, fail, check, kind_of}
 use Rattle.camac_text_cursor.specs.Readers.{begin, is_keyword, is_sign, expect, expect_sign, name_of, name_here, number_of, number_here, any_number, branch_number, function_number, sub_address_number, declared_as, new_name, with_variable, added, new_variable, new_parameter, other_registers, with_register, register_at, set_name, found_here, undeclared, used_at, used, used_register, used_variable, used_lam, used_table, known_at, known, variable_here, procedure_here, callable_by, called}

@@ -1,9 +1,9 @@
 -- A loop of the parser beside the loop that reads.
 use Rattle.std.proofs.Common.{◌≡◌, Bool, true, false, List, [], ◌∷◌, ◌++◌, Option, Result, Ok, sym, ap, ◌∙◌}
-use Rattle.camac_text_tokens.specs.declared.token.TokenKind.{TokenKind}
-use Rattle.camac_text_tokens.specs.Fault.{Fault, Fails}
-use Rattle.camac_text_tokens.specs.declared.fault.TextFault.{TextFault}
-use Rattle.camac_text_tokens.specs.declared.fault.TextFault.TheVariants as fault
+use Rattle.camac_tokens.specs.declared.token.TokenKind.{TokenKind}
+use Rattle.camac_tokens.specs.Fault.{Fault, Fails}
+use Rattle.camac_tokens.specs.declared.fault.TextFault.{TextFault}
+use Rattle.camac_tokens.specs.declared.fault.TextFault.TheVariants as fault
 use Rattle.camac_text_cursor.specs.Reading.{State, Reader, then_read, give, kind_of, while_next, one_more}
 use Rattle.camac_text_cursor.proofs.Steps.{Progresses, while_on, while_off}
 

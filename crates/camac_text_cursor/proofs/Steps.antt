@@ -1,7 +1,7 @@
 -- What follows from an answer of a reader made of others, and of a loop.
 use Rattle.std.proofs.Common.{◌≡◌, ℕ, zero, suc, ◌<◌, Bool, true, false, cond, length, Option, Result, Ok, Err, refl, ◌∙◌, subst, ◌⊎◌, inl, inr, arith}
-use Rattle.camac_text_tokens.specs.declared.token.TokenKind.{TokenKind}
-use Rattle.camac_text_tokens.specs.Fault.{Fault}
+use Rattle.camac_tokens.specs.declared.token.TokenKind.{TokenKind}
+use Rattle.camac_tokens.specs.Fault.{Fault}
 use Rattle.camac_text_cursor.specs.Reading.{State, Reader, then_read, ◌>>=◌, give, peek, kind_of, turns, while_next}
 
 pub ok_is : {A : Type 0} (p q : A × State) → (let r : Result (A × State) Fault = Ok p in r) ≡ Ok q → p ≡ q

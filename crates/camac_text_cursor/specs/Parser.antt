@@ -1,10 +1,10 @@
 -- What the parser's functions return, beside the readers.
 use Rattle.std.specs.Prelude.{◌≡◌, ℕ, false, List, [], map, Result, Ok, Err}
 use Rattle.camac_lang.specs.View.{item_of, table_of, lam_of, procedure_of, service_of, callable_of}
-use Rattle.camac_text_tokens.specs.declared.fault.TextFault.{TextFault}
-use Rattle.camac_text_tokens.specs.declared.token.Token.{Token}
+use Rattle.camac_tokens.specs.declared.fault.TextFault.{TextFault}
+use Rattle.camac_tokens.specs.declared.token.Token.{Token}
 use Rattle.camac_text_cursor.specs.declared.cursor.Parser.{Parser}
-use Rattle.camac_text_tokens.specs.Fault.{Fault, Fails}
+use Rattle.camac_tokens.specs.Fault.{Fault, Fails}
 use Rattle.camac_text_cursor.specs.Reading.{State}
 
 abbrev pub state : Parser → State

@@ -1,10 +1,10 @@
 -- At which token a case can be told.
 use Rattle.std.specs.Prelude.{◌≡◌, ℕ, Option, Some}
 use Rattle.camac_lang.specs.Tree.{Text}
-use Rattle.camac_text_tokens.specs.declared.token.TokenKind.{TokenKind}
-use Rattle.camac_text_tokens.specs.declared.token.TokenKind.TheVariants as kind
-use Rattle.camac_text_tokens.specs.declared.fault.TextCase.{TextCase}
-use Rattle.camac_text_tokens.specs.declared.fault.TextCase.TheVariants as told
+use Rattle.camac_tokens.specs.declared.token.TokenKind.{TokenKind}
+use Rattle.camac_tokens.specs.declared.token.TokenKind.TheVariants as kind
+use Rattle.camac_tokens.specs.declared.fault.TextCase.{TextCase}
+use Rattle.camac_tokens.specs.declared.fault.TextCase.TheVariants as told
 
 abbrev pub IsNumber : Option TokenKind → Type 0
 IsNumber at = (n : ℕ) × (at ≡ Some (kind.Number n))

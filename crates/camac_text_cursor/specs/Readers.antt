@@ -4,18 +4,18 @@ use denote.Enum.Bare.{sameb}
 use Rattle.camac_lang.specs.Expressions.{Callable}
 use Rattle.camac_lang.specs.Tests.{is_new, total, most}
 use Rattle.camac_lang.specs.Tree.{Text, Procedure, Service}
-use Rattle.camac_text_tokens.specs.contracts.token.Keyword as keyword_type
-use Rattle.camac_text_tokens.specs.contracts.token.Sign as sign_type
-use Rattle.camac_text_tokens.specs.declared.token.Keyword.{Keyword}
-use Rattle.camac_text_tokens.specs.declared.token.Sign.{Sign}
-use Rattle.camac_text_tokens.specs.declared.token.TokenKind.{TokenKind}
-use Rattle.camac_text_tokens.specs.declared.token.TokenKind.TheVariants as kind
-use Rattle.camac_text_tokens.specs.declared.fault.NameKind.{NameKind}
-use Rattle.camac_text_tokens.specs.declared.fault.NameKind.TheVariants as named
-use Rattle.camac_text_tokens.specs.declared.fault.Found.{Found}
-use Rattle.camac_text_tokens.specs.declared.fault.Found.TheVariants as found
-use Rattle.camac_text_tokens.specs.declared.fault.Limit.TheVariants as limit
-use Rattle.camac_text_tokens.specs.declared.fault.TextCase.TheVariants as told
+use Rattle.camac_tokens.specs.contracts.token.Keyword as keyword_type
+use Rattle.camac_tokens.specs.contracts.token.Sign as sign_type
+use Rattle.camac_tokens.specs.declared.token.Keyword.{Keyword}
+use Rattle.camac_tokens.specs.declared.token.Sign.{Sign}
+use Rattle.camac_tokens.specs.declared.token.TokenKind.{TokenKind}
+use Rattle.camac_tokens.specs.declared.token.TokenKind.TheVariants as kind
+use Rattle.camac_tokens.specs.declared.fault.NameKind.{NameKind}
+use Rattle.camac_tokens.specs.declared.fault.NameKind.TheVariants as named
+use Rattle.camac_tokens.specs.declared.fault.Found.{Found}
+use Rattle.camac_tokens.specs.declared.fault.Found.TheVariants as found
+use Rattle.camac_tokens.specs.declared.fault.Limit.TheVariants as limit
+use Rattle.camac_tokens.specs.declared.fault.TextCase.TheVariants as told
 use Rattle.camac_text_cursor.specs.Names.{place_of, lam_place, table_place, procedure_place}
 use Rattle.camac_text_cursor.specs.Reading.{State, Reader, ◌>>=◌, ◌>>◌, give, ask, change, peek, advance, fail, check}
 

@@ -2,10 +2,10 @@
 use Rattle.std.specs.Prelude.{ℕ, zero, suc, Bool, List, [], ◌∷◌, ◌++◌, length, Option, Some, None, Result, Ok, Err, if◌then◌else◌}
 use Rattle.camac_lang.specs.Expressions.{Callable}
 use Rattle.camac_lang.specs.Tree.{Text, Item, Table, Lam, Procedure, Service}
-use Rattle.camac_text_tokens.specs.declared.token.Token.{Token}
-use Rattle.camac_text_tokens.specs.declared.token.TokenKind.{TokenKind}
-use Rattle.camac_text_tokens.specs.declared.fault.TextCase.{TextCase}
-use Rattle.camac_text_tokens.specs.Fault.{Fault}
+use Rattle.camac_tokens.specs.declared.token.Token.{Token}
+use Rattle.camac_tokens.specs.declared.token.TokenKind.{TokenKind}
+use Rattle.camac_tokens.specs.declared.fault.TextCase.{TextCase}
+use Rattle.camac_tokens.specs.Fault.{Fault}
 
 pub record State : Type 0 where
   -- what is left of the tokens, and the line of the text's end

@@ -1,10 +1,10 @@
 // What may stand at a place of a text.
 
 ghost use Rattle.std.specs.Prelude.{◌≡◌, Some};
-ghost use Rattle.camac_text_tokens.specs.declared.token.TokenKind.TheVariants as kind;
+ghost use Rattle.camac_tokens.specs.declared.token.TokenKind.TheVariants as kind;
 ghost use Rattle.camac_text_cursor.specs.Choice.{takes};
 
-use camac_text_tokens::{Keyword, Sign, TokenKind};
+use camac_tokens::{Keyword, Sign, TokenKind};
 
 /// Tokens of which the grammar takes any one at a place.
 #[derive(Clone, Copy, Debug, PartialEq, Eq)]

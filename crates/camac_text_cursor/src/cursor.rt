@@ -1,16 +1,16 @@
 // The parser's state, and its steps over single tokens.
 
 ghost use Rattle.std.specs.Prelude.{◌≡◌, [], false, option_copied};
-ghost use Rattle.camac_text_tokens.specs.Fault.{Fails};
+ghost use Rattle.camac_tokens.specs.Fault.{Fails};
 ghost use Rattle.camac_text_cursor.specs.Reading.{line_of, left_of, kind_of, after_first};
 ghost use Rattle.camac_text_cursor.specs.Readers.{begin, is_keyword, is_sign, is_name, is_number, expect, expect_sign, name_here, number_here, any_number, branch_number, function_number, sub_address_number};
 ghost use Rattle.camac_text_cursor.specs.Choice.{takes};
 ghost use Rattle.camac_text_cursor.specs.Parser.{state, unread, Gives};
-ghost use Rattle.camac_text_tokens.specs.declared.fault.TextCase.TheVariants.{Unexpected};
+ghost use Rattle.camac_tokens.specs.declared.fault.TextCase.TheVariants.{Unexpected};
 
 use crate::choice::{Choice, Choices};
 use camac_lang::{Callable, Item, Lam, Name, Node, Procedure, Service, Table, limits};
-use camac_text_tokens::{Keyword, Limit, Sign, TextCase, TextFault, TokenKind, TokensLeft};
+use camac_tokens::{Keyword, Limit, Sign, TextCase, TextFault, TokenKind, TokensLeft};
 use camac_word::{Function, SubAddress};
 use std::alloc::Global;
 use std::cell::Cell;

@@ -10,7 +10,7 @@ ghost use Rattle.camac_text_cursor.specs.Parser.{state, Gives};
 
 use crate::cursor::Parser;
 use camac_lang::{Callable, Item, Lam, Name, Procedure, Script, Service, Stmt, Table};
-use camac_text_tokens::TextFault;
+use camac_tokens::TextFault;
 use std::mem;
 
 impl Parser<'_> {

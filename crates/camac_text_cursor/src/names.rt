@@ -7,7 +7,7 @@ ghost use Rattle.camac_lang.specs.View.{lam_of, procedure_of, table_of};
 ghost use Rattle.camac_text_cursor.specs.Names.{place_of, lam_place, table_place, procedure_place};
 
 use camac_lang::{Lam, Name, Procedure, Table};
-use camac_text_tokens::are_same;
+use camac_tokens::are_same;
 
 /// The first place of a name.
 pub fn place_of(names: &[Name], name: &Name) -> Option<usize>

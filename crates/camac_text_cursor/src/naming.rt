@@ -2,8 +2,8 @@
 
 ghost use Rattle.std.specs.Prelude.{◌≡◌, Some, None, if◌then◌else◌};
 ghost use Rattle.camac_lang.specs.Tests.{is_new};
-ghost use Rattle.camac_text_tokens.specs.declared.fault.NameKind.TheVariants.{Parameter, Variable};
-ghost use Rattle.camac_text_tokens.specs.declared.fault.TextCase.TheVariants.{Undeclared};
+ghost use Rattle.camac_tokens.specs.declared.fault.NameKind.TheVariants.{Parameter, Variable};
+ghost use Rattle.camac_tokens.specs.declared.fault.TextCase.TheVariants.{Undeclared};
 ghost use Rattle.camac_text_cursor.specs.Reading.{line_of, left_of};
 ghost use Rattle.camac_text_cursor.specs.Readers.{new_name, added, new_variable, new_parameter, register_at, set_name, declared_as, found_as, found_here, used_register, used_variable, used_lam, used_table, variable_here, procedure_here, called};
 ghost use Rattle.camac_text_cursor.specs.Parser.{state, Gives};
@@ -12,7 +12,7 @@ use crate::choice::Choice;
 use crate::cursor::Parser;
 use crate::names::{is_new, lam_place, place_of, procedure_place, table_place};
 use camac_lang::{Name, limits};
-use camac_text_tokens::{Found, Limit, NameKind, TextCase, TextFault, TokenKind};
+use camac_tokens::{Found, Limit, NameKind, TextCase, TextFault, TokenKind};
 
 impl Parser<'_> {
     // Whether no table, LAM, variable or procedure before it has this name.

@@ -1,8 +1,8 @@
 -- An expression, step by step: its first factor, the factors behind it, and the terms behind these.
 use Rattle.std.proofs.Common.{◌≡◌, ℕ, Option, Some, None, Ok, refl, ◌∙◌}
 use Rattle.camac_lang.specs.declared.expression.Node.{Node}
-use Rattle.camac_text_tokens.specs.Fault.{Fails}
-use Rattle.camac_text_tokens.specs.declared.fault.TextFault.{TextFault}
+use Rattle.camac_tokens.specs.Fault.{Fails}
+use Rattle.camac_tokens.specs.declared.fault.TextFault.{TextFault}
 use Rattle.camac_text_cursor.specs.Reading.{State, while_next}
 use Rattle.camac_text_cursor.specs.Parser.{state}
 use Rattle.camac_text_cursor.specs.declared.cursor.Parser.{Parser}

@@ -1,11 +1,11 @@
 -- Readers of arguments are local.
 use Rattle.std.proofs.Common.{ℕ, zero, suc, Bool, Option, cond, List, [], ◌∷◌, ◌++◌}
 use Rattle.camac_lang.specs.Tree.{Expression}
-use Rattle.camac_text_tokens.specs.declared.fault.Limit.TheVariants as limit
-use Rattle.camac_text_tokens.specs.declared.fault.TextCase.TheVariants as told
-use Rattle.camac_text_tokens.specs.declared.token.Sign.{Sign}
-use Rattle.camac_text_tokens.specs.declared.token.Sign.TheVariants as sign
-use Rattle.camac_text_tokens.specs.declared.token.TokenKind.{TokenKind}
+use Rattle.camac_tokens.specs.declared.fault.Limit.TheVariants as limit
+use Rattle.camac_tokens.specs.declared.fault.TextCase.TheVariants as told
+use Rattle.camac_tokens.specs.declared.token.Sign.{Sign}
+use Rattle.camac_tokens.specs.declared.token.Sign.TheVariants as sign
+use Rattle.camac_tokens.specs.declared.token.TokenKind.{TokenKind}
 use Rattle.camac_text_cursor.specs.Reading.{State, ◌>>=◌, ◌>>◌, give, advance, fail, kind_of}
 use Rattle.camac_text_cursor.specs.Readers.{is_sign, expect_sign}
 use Rattle.camac_text_cursor.proofs.Places.{IsLocal, local_then, local_peek, local_give, local_fail, local_advance, local_if}

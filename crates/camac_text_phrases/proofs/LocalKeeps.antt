@@ -1,11 +1,11 @@
 -- Readers of kept ranges are local.
 use Rattle.std.proofs.Common.{◌≡◌, ℕ, Bool, true, false, nat_eq, Option, List, [], ◌∷◌, ◌++◌, cond, Some, Ok, sym, subst}
 use Rattle.camac_lang.specs.Tree.{Text, Keep}
-use Rattle.camac_text_tokens.specs.declared.fault.TextCase.TheVariants as told
-use Rattle.camac_text_tokens.specs.declared.token.Keyword.TheVariants as word
-use Rattle.camac_text_tokens.specs.declared.token.Sign.TheVariants as sign
-use Rattle.camac_text_tokens.specs.declared.token.TokenKind.{TokenKind}
-use Rattle.camac_text_tokens.specs.declared.token.TokenKind.TheVariants as kind
+use Rattle.camac_tokens.specs.declared.fault.TextCase.TheVariants as told
+use Rattle.camac_tokens.specs.declared.token.Keyword.TheVariants as word
+use Rattle.camac_tokens.specs.declared.token.Sign.TheVariants as sign
+use Rattle.camac_tokens.specs.declared.token.TokenKind.{TokenKind}
+use Rattle.camac_tokens.specs.declared.token.TokenKind.TheVariants as kind
 use Rattle.camac_text_cursor.specs.Reading.{State, ◌>>=◌, ◌>>◌, give, advance, check, kind_of, while_next}
 use Rattle.camac_text_cursor.specs.Places.{IsName, CaseFits}
 use Rattle.camac_text_cursor.specs.Readers.{is_keyword, is_sign, expect, expect_sign, any_number, variable_here}

@@ -3,8 +3,8 @@ use Rattle.std.specs.Prelude.{◌≡◌, ℕ, List, [], ◌∷◌, ◌++◌, Opt
 use Rattle.camac_lang.specs.Tree.{Expression}
 use Rattle.camac_lang.specs.Nodes.{AreWhole, expression_in, nodes_of}
 use Rattle.camac_lang.specs.declared.expression.Node.{Node}
-use Rattle.camac_text_tokens.specs.Fault.{Fault, Fails}
-use Rattle.camac_text_tokens.specs.declared.fault.TextFault.{TextFault}
+use Rattle.camac_tokens.specs.Fault.{Fault, Fails}
+use Rattle.camac_tokens.specs.declared.fault.TextFault.{TextFault}
 use Rattle.camac_text_cursor.specs.Reading.{State}
 use Rattle.camac_text_cursor.specs.Parser.{state}
 use Rattle.camac_text_cursor.specs.declared.cursor.Parser.{Parser}

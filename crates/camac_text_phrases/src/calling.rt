@@ -5,13 +5,13 @@ ghost use Rattle.camac_lang.specs.View.{expression_of};
 ghost use Rattle.camac_text_cursor.specs.Parser.{state, Gives};
 ghost use Rattle.camac_text_cursor.specs.Reading.{kind_of};
 ghost use Rattle.camac_text_cursor.specs.Readers.{is_sign};
-ghost use Rattle.camac_text_tokens.specs.declared.token.Sign.TheVariants.{Comma, RightBracket};
+ghost use Rattle.camac_tokens.specs.declared.token.Sign.TheVariants.{Comma, RightBracket};
 ghost use Rattle.camac_text_phrases.specs.Arguments.{begins_value, shows_more, counted_sign, argument_after, more_arguments, arguments_at};
 
 use crate::expressions::expression;
 use camac_lang::Expr;
 use camac_text_cursor::{Choice, Parser};
-use camac_text_tokens::{Limit, Sign, TextCase, TextFault, TokenKind};
+use camac_tokens::{Limit, Sign, TextCase, TextFault, TokenKind};
 
 /// So many arguments in their brackets, where so many brackets may be open at once: S2 at the token where another number of
 /// arguments shows, S6 at a bracket too many, else the faults of expressions.

@@ -9,7 +9,7 @@ use crate::expressions::expression;
 use camac_lang::{Cond, Part, Test, limits};
 use camac_range::Cmp;
 use camac_text_cursor::{Choice, Parser};
-use camac_text_tokens::{Keyword, Limit, Sign, TextCase, TextFault, TokenKind};
+use camac_tokens::{Keyword, Limit, Sign, TextCase, TextFault, TokenKind};
 
 /// A condition, where so many brackets may be open at once.
 #[tactic(auto, unfolding(crate::specs::Conditions::condition_at))]

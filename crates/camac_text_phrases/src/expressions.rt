@@ -10,7 +10,7 @@ ghost use Rattle.camac_text_phrases.specs.Views.{Continues, Leaf, Puts};
 
 use camac_lang::{Divisor, Expr, Node, limits};
 use camac_text_cursor::{Choice, Parser};
-use camac_text_tokens::{Limit, Sign, TextCase, TextFault, TokenKind};
+use camac_tokens::{Limit, Sign, TextCase, TextFault, TokenKind};
 use std::alloc::AllocError;
 
 /// An expression, where so many brackets may be open at once.

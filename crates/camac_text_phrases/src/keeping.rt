@@ -8,7 +8,7 @@ ghost use Rattle.camac_text_cursor.specs.Parser.{state, Gives};
 
 use camac_lang::Keep;
 use camac_text_cursor::Parser;
-use camac_text_tokens::{Keyword, Sign, TextCase, TextFault};
+use camac_tokens::{Keyword, Sign, TextCase, TextFault};
 
 /// The variable of a loop's own, which it may not keep.
 #[derive(Clone, Copy)]

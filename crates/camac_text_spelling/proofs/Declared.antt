@@ -3,7 +3,7 @@ use Rattle.std.proofs.Common.{◌≡◌, ℕ, ◌+◌, List, [], ◌∷◌, ◌+
 use Rattle.std.specs.Prelude.{slice_get}
 use Rattle.std.proofs.lemmas.List.{append-nil}
 use Rattle.camac_lang.specs.Tree.{Text, Table, Lam, Procedure, Service, Item, next_table, next_lam, next_variables, next_procedure, next_service, Script}
-use Rattle.camac_text_tokens.specs.declared.token.Token.{Token}
+use Rattle.camac_tokens.specs.declared.token.Token.{Token}
 use Rattle.camac_text.proofs.Listed.{at_place, between}
 use Rattle.camac_text_spelling.specs.Pieces.{Piece, Prefix}
 use Rattle.camac_text_spelling.specs.Declarations as spell

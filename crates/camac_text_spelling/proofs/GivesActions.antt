@@ -13,12 +13,12 @@ use Rattle.camac_lang.specs.declared.word.CrateCall.TheVariants as crate_word
 use Rattle.camac_lang.specs.declared.word.LamCall.{LamCall}
 use Rattle.camac_lang.specs.declared.word.LamCall.TheVariants as lam_word
 use Rattle.camac_lang.proofs.Options.{unless_parts}
-use Rattle.camac_text_tokens.specs.declared.token.Keyword.{Keyword}
-use Rattle.camac_text_tokens.specs.declared.token.Keyword.TheVariants as keyword
-use Rattle.camac_text_tokens.specs.declared.token.Sign.TheVariants as mark
-use Rattle.camac_text_tokens.specs.declared.token.Token.{Token}
-use Rattle.camac_text_tokens.specs.declared.token.TokenKind.{TokenKind}
-use Rattle.camac_text_tokens.specs.declared.token.TokenKind.TheVariants as kind
+use Rattle.camac_tokens.specs.declared.token.Keyword.{Keyword}
+use Rattle.camac_tokens.specs.declared.token.Keyword.TheVariants as keyword
+use Rattle.camac_tokens.specs.declared.token.Sign.TheVariants as mark
+use Rattle.camac_tokens.specs.declared.token.Token.{Token}
+use Rattle.camac_tokens.specs.declared.token.TokenKind.{TokenKind}
+use Rattle.camac_tokens.specs.declared.token.TokenKind.TheVariants as kind
 use Rattle.camac_text_cursor.specs.Names.{place_of}
 use Rattle.camac_text_cursor.specs.Reading.{State, Reader, ◌>>=◌, ◌>>◌, give, kind_of, after_first}
 use Rattle.camac_text_cursor.specs.Readers.{expect_sign, branch_number, function_number, set_name, used_register, used_lam, variable_here}

@@ -6,7 +6,7 @@ use Rattle.camac_lang.specs.Statements.{after as reached_by, after_block, statem
 use Rattle.camac_lang.specs.Tree.{Text, Statement, assign, set_register, single, address_scan, q_stop, q_repeat, put, crate_call, lam_call, choose, choose_else, for_, while_, locked, call, Block, done, next}
 use Rattle.camac_lang.proofs.Grows.{block_grows}
 use Rattle.camac_lang.proofs.Options.{then_parts}
-use Rattle.camac_text_tokens.specs.declared.token.Token.{Token}
+use Rattle.camac_tokens.specs.declared.token.Token.{Token}
 use Rattle.camac_text_cursor.specs.Reading.{State, kind_of, one_more, give}
 use Rattle.camac_text_statements.specs.Statements.{statement_with, is_no_end, block_at}
 use Rattle.camac_text_cursor.proofs.Steps.{while_off}

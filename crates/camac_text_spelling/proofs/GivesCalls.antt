@@ -10,11 +10,11 @@ use Rattle.camac_lang.specs.Statements.{head_fits}
 use Rattle.camac_lang.specs.Tests.{each, has, most}
 use Rattle.camac_lang.specs.Tree.{Expression, Statement, call}
 use Rattle.camac_lang.proofs.Options.{unless_parts}
-use Rattle.camac_text_tokens.specs.declared.token.Keyword.TheVariants as keyword
-use Rattle.camac_text_tokens.specs.declared.token.Sign.TheVariants as mark
-use Rattle.camac_text_tokens.specs.declared.token.Token.{Token}
-use Rattle.camac_text_tokens.specs.declared.fault.TextCase.TheVariants as told
-use Rattle.camac_text_tokens.specs.declared.token.TokenKind.TheVariants as kind
+use Rattle.camac_tokens.specs.declared.token.Keyword.TheVariants as keyword
+use Rattle.camac_tokens.specs.declared.token.Sign.TheVariants as mark
+use Rattle.camac_tokens.specs.declared.token.Token.{Token}
+use Rattle.camac_tokens.specs.declared.fault.TextCase.TheVariants as told
+use Rattle.camac_tokens.specs.declared.token.TokenKind.TheVariants as kind
 use Rattle.camac_text_cursor.specs.Reading.{State, ◌>>◌, give, advance, kind_of, after_first, Reader, fail}
 use Rattle.camac_text_cursor.specs.Readers.{expect_sign, procedure_here, callable_by, called, is_sign}
 use Rattle.camac_text_phrases.specs.Expressions.{expression_at}
@@ -32,8 +32,8 @@ use Rattle.camac_text_spelling.proofs.GivesExpressions.{NoSign, expression_given
 use Rattle.camac_text_spelling.proofs.GivesPhrases.{no_sign, begins_value, value_begins}
 use Rattle.camac_text_spelling.proofs.Runs.{first_given, simple_given}
 use Rattle.camac_text_spelling.proofs.GivesActions.{IsGiven}
-use Rattle.camac_text_tokens.specs.declared.token.Sign.{Sign}
-use Rattle.camac_text_tokens.specs.declared.token.TokenKind.{TokenKind}
+use Rattle.camac_tokens.specs.declared.token.Sign.{Sign}
+use Rattle.camac_tokens.specs.declared.token.TokenKind.{TokenKind}
 
 -- ---- what is called
 

@@ -5,11 +5,11 @@ use Rattle.camac_lang.specs.Depth.{move_depth}
 use Rattle.camac_lang.specs.Statements.{keeps_fit, move_fits}
 use Rattle.camac_lang.specs.Tests.{each, are_distinct, is_number}
 use Rattle.camac_lang.specs.Tree.{Move, no_data, into, from, Keep}
-use Rattle.camac_text_tokens.specs.declared.token.Keyword.TheVariants as keyword
-use Rattle.camac_text_tokens.specs.declared.token.Sign.TheVariants as mark
-use Rattle.camac_text_tokens.specs.declared.token.Token.{Token}
-use Rattle.camac_text_tokens.specs.declared.token.TokenKind.{TokenKind}
-use Rattle.camac_text_tokens.specs.declared.token.TokenKind.TheVariants as kind
+use Rattle.camac_tokens.specs.declared.token.Keyword.TheVariants as keyword
+use Rattle.camac_tokens.specs.declared.token.Sign.TheVariants as mark
+use Rattle.camac_tokens.specs.declared.token.Token.{Token}
+use Rattle.camac_tokens.specs.declared.token.TokenKind.{TokenKind}
+use Rattle.camac_tokens.specs.declared.token.TokenKind.TheVariants as kind
 use Rattle.camac_text_cursor.specs.Reading.{State, give, kind_of, after_first}
 use Rattle.camac_text_cursor.specs.Readers.{is_keyword, is_sign, expect, expect_sign, any_number, used_variable, variable_here}
 use Rattle.camac_text_phrases.specs.Expressions.{expression_at}

@@ -6,10 +6,10 @@ use Rattle.camac_lang.specs.Statements.{head_fits, begun as begun_by, after_bloc
 use Rattle.camac_lang.specs.Tests.{most, is_number}
 use Rattle.camac_lang.specs.Tree.{Expression, Condition, Keep, Statement, for_, while_, Block}
 use Rattle.camac_lang.proofs.Options.{unless_parts, then_parts}
-use Rattle.camac_text_tokens.specs.declared.token.Keyword.TheVariants as keyword
-use Rattle.camac_text_tokens.specs.declared.token.Sign.TheVariants as mark
-use Rattle.camac_text_tokens.specs.declared.token.Token.{Token}
-use Rattle.camac_text_tokens.specs.declared.token.TokenKind.TheVariants as kind
+use Rattle.camac_tokens.specs.declared.token.Keyword.TheVariants as keyword
+use Rattle.camac_tokens.specs.declared.token.Sign.TheVariants as mark
+use Rattle.camac_tokens.specs.declared.token.Token.{Token}
+use Rattle.camac_tokens.specs.declared.token.TokenKind.TheVariants as kind
 use Rattle.camac_text_cursor.specs.Reading.{State, kind_of, after_first}
 use Rattle.camac_text_cursor.specs.Readers.{is_keyword, expect, expect_sign, any_number, used_variable}
 use Rattle.camac_text_phrases.specs.Expressions.{expression_at}

@@ -6,11 +6,11 @@ use Rattle.std.proofs.Math.Seq.{take-append_seam}
 use Rattle.camac_lang.specs.Depth.{callable}
 use Rattle.camac_lang.specs.Tests.{is_new, are_new}
 use Rattle.camac_lang.specs.Tree.{Text, Block, Parameter, Procedure, next_procedure, Script}
-use Rattle.camac_text_tokens.specs.declared.token.Keyword.TheVariants as keyword
-use Rattle.camac_text_tokens.specs.declared.token.Sign.TheVariants as mark
-use Rattle.camac_text_tokens.specs.declared.token.Token.{Token}
-use Rattle.camac_text_tokens.specs.declared.token.TokenKind.{TokenKind}
-use Rattle.camac_text_tokens.specs.declared.token.TokenKind.TheVariants as kind
+use Rattle.camac_tokens.specs.declared.token.Keyword.TheVariants as keyword
+use Rattle.camac_tokens.specs.declared.token.Sign.TheVariants as mark
+use Rattle.camac_tokens.specs.declared.token.Token.{Token}
+use Rattle.camac_tokens.specs.declared.token.TokenKind.{TokenKind}
+use Rattle.camac_tokens.specs.declared.token.TokenKind.TheVariants as kind
 use Rattle.camac_text_cursor.specs.Reading.{State, ◌>>◌, give, kind_of, after_first, while_next, one_more}
 use Rattle.camac_text_cursor.specs.Readers.{is_sign, expect, expect_sign, any_number, new_name, added, new_parameter}
 use Rattle.camac_text_cursor.specs.Declaring.{in_heading, with_procedure}

@@ -7,11 +7,11 @@ use Rattle.camac_lang.specs.Tree.{Expression, Condition, Statement, choose, choo
 use Rattle.camac_lang.specs.View.{block_of}
 use Rattle.camac_lang.proofs.Grows.{block_grows}
 use Rattle.camac_lang.proofs.Options.{unless_parts, then_parts}
-use Rattle.camac_text_tokens.specs.declared.token.Keyword.TheVariants as keyword
-use Rattle.camac_text_tokens.specs.declared.token.Sign.TheVariants as mark
-use Rattle.camac_text_tokens.specs.declared.token.Token.{Token}
-use Rattle.camac_text_tokens.specs.declared.token.TokenKind.{TokenKind}
-use Rattle.camac_text_tokens.specs.declared.token.TokenKind.TheVariants as kind
+use Rattle.camac_tokens.specs.declared.token.Keyword.TheVariants as keyword
+use Rattle.camac_tokens.specs.declared.token.Sign.TheVariants as mark
+use Rattle.camac_tokens.specs.declared.token.Token.{Token}
+use Rattle.camac_tokens.specs.declared.token.TokenKind.{TokenKind}
+use Rattle.camac_tokens.specs.declared.token.TokenKind.TheVariants as kind
 use Rattle.camac_text_cursor.specs.Reading.{State, Reader, kind_of, after_first, while_next, one_more, many}
 use Rattle.camac_text_cursor.specs.Readers.{is_keyword, expect_sign}
 use Rattle.camac_text_phrases.specs.Expressions.{expression_at}

@@ -7,11 +7,11 @@ use Rattle.camac_lang.specs.Statements.{table_fits, head_fits}
 use Rattle.camac_lang.specs.Tests.{is_function}
 use Rattle.camac_lang.specs.Tree.{Expression, Statement, address_scan, q_stop, q_repeat}
 use Rattle.camac_lang.proofs.Options.{unless_parts}
-use Rattle.camac_text_tokens.specs.declared.token.Keyword.{Keyword}
-use Rattle.camac_text_tokens.specs.declared.token.Keyword.TheVariants as keyword
-use Rattle.camac_text_tokens.specs.declared.token.Token.{Token}
-use Rattle.camac_text_tokens.specs.declared.token.TokenKind.{TokenKind}
-use Rattle.camac_text_tokens.specs.declared.token.TokenKind.TheVariants as kind
+use Rattle.camac_tokens.specs.declared.token.Keyword.{Keyword}
+use Rattle.camac_tokens.specs.declared.token.Keyword.TheVariants as keyword
+use Rattle.camac_tokens.specs.declared.token.Token.{Token}
+use Rattle.camac_tokens.specs.declared.token.TokenKind.{TokenKind}
+use Rattle.camac_tokens.specs.declared.token.TokenKind.TheVariants as kind
 use Rattle.camac_text_cursor.specs.Names.{place_of}
 use Rattle.camac_text_cursor.specs.Reading.{State, kind_of, after_first}
 use Rattle.camac_text_cursor.specs.Readers.{expect, function_number, used_register, used_variable, used_table}

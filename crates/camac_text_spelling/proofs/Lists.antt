@@ -1,7 +1,7 @@
 -- Lists of phrases with separators, and what a loop reads of them.
 use Rattle.std.proofs.Common.{◌≡◌, Bool, true, List, [], ◌∷◌, ◌++◌, Option, Ok, refl, sym, ap, subst, ◌∙◌, append_assoc}
 use Rattle.std.proofs.lemmas.List.{append-nil}
-use Rattle.camac_text_tokens.specs.declared.token.TokenKind.{TokenKind}
+use Rattle.camac_tokens.specs.declared.token.TokenKind.{TokenKind}
 use Rattle.camac_text_cursor.specs.Reading.{State, Reader, ◌>>=◌, give, kind_of, while_next}
 use Rattle.camac_text_cursor.proofs.Steps.{then_ok, ok_is, while_keeps}
 use Rattle.camac_text_spelling.specs.Pieces.{Piece, others, separated, Names}

@@ -2,13 +2,13 @@
 use Rattle.std.proofs.Common.{ℕ, List, [], ◌∷◌, refl}
 use Rattle.std.specs.Prelude.{codes}
 use Rattle.camac_lang.specs.Scope.{is_well_formed}
-use Rattle.camac_text_tokens.specs.declared.token.Keyword.TheVariants as keyword
-use Rattle.camac_text_tokens.specs.declared.token.Sign.TheVariants as mark
-use Rattle.camac_text_tokens.specs.declared.token.Token.{Token}
-use Rattle.camac_text_tokens.specs.declared.token.TokenKind.{TokenKind}
-use Rattle.camac_text_tokens.specs.declared.token.TokenKind.TheVariants as kind
-use Rattle.camac_text_tokens.specs.Scanning.{start_of, tokens_from, tokens_of}
-use Rattle.camac_text_tokens.specs.Words.{keyword as keyword_of}
+use Rattle.camac_tokens.specs.declared.token.Keyword.TheVariants as keyword
+use Rattle.camac_tokens.specs.declared.token.Sign.TheVariants as mark
+use Rattle.camac_tokens.specs.declared.token.Token.{Token}
+use Rattle.camac_tokens.specs.declared.token.TokenKind.{TokenKind}
+use Rattle.camac_tokens.specs.declared.token.TokenKind.TheVariants as kind
+use Rattle.camac_tokens.specs.Scanning.{start_of, tokens_from, tokens_of}
+use Rattle.camac_tokens.specs.Words.{keyword as keyword_of}
 use Rattle.camac_lang.specs.Example.{straight_line}
 use Rattle.camac_text_spelling.specs.Spells.{IsSpelled}
 use Rattle.camac_text_spelling.specs.Laws.{example_text}

@@ -5,10 +5,10 @@ use Rattle.std.proofs.lemmas.List.{length-take-le}
 use Rattle.camac_lang.specs.Tests.{is_new}
 use Rattle.camac_lang.specs.Tree.{Text, Statement, Block, done, next}
 use Rattle.camac_lang.specs.View.{block_of}
-use Rattle.camac_text_tokens.specs.declared.token.Keyword.TheVariants as keyword
-use Rattle.camac_text_tokens.specs.declared.token.Token.{Token}
-use Rattle.camac_text_tokens.specs.declared.token.TokenKind.{TokenKind}
-use Rattle.camac_text_tokens.specs.declared.token.TokenKind.TheVariants as kind
+use Rattle.camac_tokens.specs.declared.token.Keyword.TheVariants as keyword
+use Rattle.camac_tokens.specs.declared.token.Token.{Token}
+use Rattle.camac_tokens.specs.declared.token.TokenKind.{TokenKind}
+use Rattle.camac_tokens.specs.declared.token.TokenKind.TheVariants as kind
 use Rattle.camac_text_cursor.specs.Names.{place_of}
 use Rattle.camac_text_cursor.specs.Reading.{State, Reader, ◌>>◌, give, change, advance, kind_of, after_first}
 use Rattle.camac_text_cursor.specs.Readers.{other_registers, is_keyword, new_name, with_register, register_at, set_name}

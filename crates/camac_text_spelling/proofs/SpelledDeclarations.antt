@@ -3,11 +3,11 @@ use Rattle.std.proofs.Common.{◌≡◌, ℕ, ◌+◌, nat_lt, List, [], ◌∷�
 use Rattle.std.proofs.lemmas.List.{append-nil, map_push, map-append}
 use Rattle.camac_lang.specs.Tree.{Text, Table, Lam, Procedure, Service, next_variables, Script}
 use Rattle.camac_lang.specs.View.{block_of}
-use Rattle.camac_text_tokens.specs.declared.token.Keyword.TheVariants as keyword
-use Rattle.camac_text_tokens.specs.declared.token.Sign.TheVariants as mark
-use Rattle.camac_text_tokens.specs.declared.token.Token.{Token}
-use Rattle.camac_text_tokens.specs.declared.token.TokenKind.{TokenKind}
-use Rattle.camac_text_tokens.specs.declared.token.TokenKind.TheVariants as kind
+use Rattle.camac_tokens.specs.declared.token.Keyword.TheVariants as keyword
+use Rattle.camac_tokens.specs.declared.token.Sign.TheVariants as mark
+use Rattle.camac_tokens.specs.declared.token.Token.{Token}
+use Rattle.camac_tokens.specs.declared.token.TokenKind.{TokenKind}
+use Rattle.camac_tokens.specs.declared.token.TokenKind.TheVariants as kind
 use Rattle.camac_text_cursor.specs.Reading.{State, give, change, kind_of, line_of, after_first, while_next, advance, Reader, ◌>>◌}
 use Rattle.camac_text_cursor.specs.Readers.{is_number, new_name, new_variable, is_name, expect, any_number, branch_number, sub_address_number, used_lam, expect_sign, number_here}
 use Rattle.camac_text_cursor.specs.Declaring.{with_lam as lam_added, with_variables_of, with_service as service_added, with_table as table_added, tree_so_far}

@@ -4,12 +4,12 @@ use Rattle.std.proofs.lemmas.List.{append-nil}
 use Rattle.camac_lang.specs.Tree.{Statement, choose, choose_else, for_, while_, locked, Condition}
 use Rattle.camac_lang.specs.View.{block_of}
 use Rattle.camac_lang.specs.declared.word.WordSize.TheVariants.{Full, Short}
-use Rattle.camac_text_tokens.specs.declared.fault.Limit.TheVariants as limit
-use Rattle.camac_text_tokens.specs.declared.fault.TextCase.TheVariants as told
-use Rattle.camac_text_tokens.specs.declared.token.Keyword.TheVariants as keyword
-use Rattle.camac_text_tokens.specs.declared.token.Sign.TheVariants as mark
-use Rattle.camac_text_tokens.specs.declared.token.TokenKind.{TokenKind}
-use Rattle.camac_text_tokens.specs.declared.token.TokenKind.TheVariants as kind
+use Rattle.camac_tokens.specs.declared.fault.Limit.TheVariants as limit
+use Rattle.camac_tokens.specs.declared.fault.TextCase.TheVariants as told
+use Rattle.camac_tokens.specs.declared.token.Keyword.TheVariants as keyword
+use Rattle.camac_tokens.specs.declared.token.Sign.TheVariants as mark
+use Rattle.camac_tokens.specs.declared.token.TokenKind.{TokenKind}
+use Rattle.camac_tokens.specs.declared.token.TokenKind.TheVariants as kind
 use Rattle.camac_text_cursor.specs.Reading.{State, Reader, give, fail, kind_of, line_of, after_first, one_more, many}
 use Rattle.camac_text_cursor.specs.Readers.{is_sign, expect, expect_sign, any_number, used_variable}
 use Rattle.camac_text_phrases.specs.Expressions.{expression_at}

@@ -2,13 +2,13 @@
 use Rattle.std.proofs.Common.{◌≡◌, ℕ, zero, suc, Bool, true, false, cond, List, [], ◌∷◌, ◌++◌, Option, Some, None, Ok, refl, sym, subst, ap}
 use Rattle.std.proofs.lemmas.List.{append-nil}
 use Rattle.camac_lang.specs.Tree.{Expression, Statement, address_scan, q_stop, q_repeat, call}
-use Rattle.camac_text_tokens.specs.declared.fault.Limit.TheVariants as limit
-use Rattle.camac_text_tokens.specs.declared.fault.TextCase.TheVariants as told
-use Rattle.camac_text_tokens.specs.declared.token.Keyword.{Keyword}
-use Rattle.camac_text_tokens.specs.declared.token.Keyword.TheVariants as keyword
-use Rattle.camac_text_tokens.specs.declared.token.Sign.TheVariants as mark
-use Rattle.camac_text_tokens.specs.declared.token.TokenKind.{TokenKind}
-use Rattle.camac_text_tokens.specs.declared.token.TokenKind.TheVariants as kind
+use Rattle.camac_tokens.specs.declared.fault.Limit.TheVariants as limit
+use Rattle.camac_tokens.specs.declared.fault.TextCase.TheVariants as told
+use Rattle.camac_tokens.specs.declared.token.Keyword.{Keyword}
+use Rattle.camac_tokens.specs.declared.token.Keyword.TheVariants as keyword
+use Rattle.camac_tokens.specs.declared.token.Sign.TheVariants as mark
+use Rattle.camac_tokens.specs.declared.token.TokenKind.{TokenKind}
+use Rattle.camac_tokens.specs.declared.token.TokenKind.TheVariants as kind
 use Rattle.camac_text_cursor.specs.Reading.{State, Reader, ◌>>=◌, give, fail, kind_of, line_of, after_first, advance}
 use Rattle.camac_text_cursor.specs.Readers.{begin, is_sign, expect, expect_sign, function_number, used_register, used_variable, used_table, procedure_here, called}
 use Rattle.camac_text_phrases.specs.Arguments.{argument_after, more_arguments, arguments_at, counted_sign, shows_more}
@@ -24,7 +24,7 @@ use Rattle.camac_text_spelling.proofs.Takes.{Took, join, returns, nothing, took_
 use Rattle.camac_text_spelling.proofs.Lists.{separated_push}
 use Rattle.camac_text_spelling.proofs.SpelledExpressions.{took_expression}
 use Rattle.camac_text_spelling.proofs.SpelledActions.{took_begin, took_crate_call}
-use Rattle.camac_text_tokens.specs.declared.token.Sign.{Sign}
+use Rattle.camac_tokens.specs.declared.token.Sign.{Sign}
 
 -- ---- transfers
 

@@ -5,15 +5,15 @@ use Rattle.std.specs.Prelude.{slice_get}
 use denote.Enum.Bare.{same_true}
 use Rattle.camac_lang.specs.Expressions.{Callable}
 use Rattle.camac_lang.specs.Tree.{Text, Table, Lam, Procedure}
-use Rattle.camac_text_tokens.specs.contracts.token.Keyword as keyword_type
-use Rattle.camac_text_tokens.specs.contracts.token.Sign as sign_type
-use Rattle.camac_text_tokens.specs.declared.token.Keyword.{Keyword}
-use Rattle.camac_text_tokens.specs.declared.token.Sign.{Sign}
-use Rattle.camac_text_tokens.specs.declared.token.TokenKind.{TokenKind}
-use Rattle.camac_text_tokens.specs.declared.token.TokenKind.TheVariants as kind
-use Rattle.camac_text_tokens.specs.declared.fault.TextCase.TheVariants as told
-use Rattle.camac_text_tokens.specs.declared.fault.NameKind.{NameKind}
-use Rattle.camac_text_tokens.specs.Fault.{Fault}
+use Rattle.camac_tokens.specs.contracts.token.Keyword as keyword_type
+use Rattle.camac_tokens.specs.contracts.token.Sign as sign_type
+use Rattle.camac_tokens.specs.declared.token.Keyword.{Keyword}
+use Rattle.camac_tokens.specs.declared.token.Sign.{Sign}
+use Rattle.camac_tokens.specs.declared.token.TokenKind.{TokenKind}
+use Rattle.camac_tokens.specs.declared.token.TokenKind.TheVariants as kind
+use Rattle.camac_tokens.specs.declared.fault.TextCase.TheVariants as told
+use Rattle.camac_tokens.specs.declared.fault.NameKind.{NameKind}
+use Rattle.camac_tokens.specs.Fault.{Fault}
 use Rattle.camac_text_cursor.specs.Names.{place_of, lam_place, table_place, procedure_place}
 use Rattle.camac_text_cursor.specs.Reading.{◌>>◌, State, advance, fail, kind_of, line_of, after_first, give}
 use Rattle.camac_text_cursor.specs.Readers.{is_keyword, is_sign, expect, expect_sign, number_here, branch_number, used, used_register, used_variable, used_lam, used_table, variable_here, procedure_here, callable_by, called}

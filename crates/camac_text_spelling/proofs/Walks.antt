@@ -10,7 +10,7 @@ use Rattle.camac_lang.specs.Scope.{Before, are_declarable, table_stands, lam_sta
 use Rattle.camac_lang.specs.Tests.{each, total, is_name, is_new, are_new, is_number, is_sub_address, unless_broken}
 use Rattle.camac_lang.specs.Tree.{Text, Table, Lam, Procedure, Item, next_table, next_lam, next_variables, Script}
 use Rattle.camac_lang.proofs.Options.{unless_parts, then_parts}
-use Rattle.camac_text_tokens.specs.declared.token.Token.{Token}
+use Rattle.camac_tokens.specs.declared.token.Token.{Token}
 use Rattle.camac_text_cursor.specs.Reading.{State, kind_of}
 use Rattle.camac_text_cursor.specs.Readers.{is_name as next_is_name}
 use Rattle.camac_text_cursor.specs.Declaring.{with_lam as lam_added, with_variables_of, with_table as table_added}

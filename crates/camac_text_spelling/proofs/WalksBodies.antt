@@ -11,7 +11,7 @@ use Rattle.camac_lang.specs.Statements.{after_block, statements}
 use Rattle.camac_lang.specs.Tests.{each, has, total, most, is_name, is_new, are_new, is_number, unless_broken}
 use Rattle.camac_lang.specs.Tree.{Text, Block, Table, Lam, Procedure, Service, Item, next_table, next_lam, next_variables, next_procedure, next_service, Script}
 use Rattle.camac_lang.proofs.Options.{unless_parts, then_parts}
-use Rattle.camac_text_tokens.specs.declared.token.Token.{Token}
+use Rattle.camac_tokens.specs.declared.token.Token.{Token}
 use Rattle.camac_text_cursor.specs.Reading.{State, kind_of}
 use Rattle.camac_text_cursor.specs.Readers.{other_registers}
 use Rattle.camac_text.proofs.ParametersRead.{names_of, names_counted}

@@ -1,10 +1,10 @@
 -- What is read is spelled, at the whole text.
 use Rattle.std.proofs.Common.{◌≡◌, ℕ, zero, suc, ◌<◌, Bool, true, false, cond, List, [], ◌∷◌, length, Option, Result, Ok, Err, refl, subst, arith}
 use Rattle.camac_lang.specs.Tree.{Script}
-use Rattle.camac_text_tokens.specs.declared.token.Token.{Token}
-use Rattle.camac_text_tokens.specs.declared.token.TokenKind.{TokenKind}
-use Rattle.camac_text_tokens.specs.Fault.{Fault}
-use Rattle.camac_text_tokens.specs.Scanning.{tokens_of, last_line}
+use Rattle.camac_tokens.specs.declared.token.Token.{Token}
+use Rattle.camac_tokens.specs.declared.token.TokenKind.{TokenKind}
+use Rattle.camac_tokens.specs.Fault.{Fault}
+use Rattle.camac_tokens.specs.Scanning.{tokens_of, last_line}
 use Rattle.camac_text_cursor.specs.Reading.{State, Reader, ◌>>=◌, give, kind_of, turns, while_next}
 use Rattle.camac_text_cursor.specs.Declaring.{tree_so_far}
 use Rattle.camac_text.specs.Declarations.{declaration_at, is_token, declarations_at}

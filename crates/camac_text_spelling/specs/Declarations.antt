@@ -1,8 +1,8 @@
 -- The tokens of declarations, in their order.
 use Rattle.std.specs.Prelude.{ℕ, ◌+◌, List, [], ◌∷◌, ◌++◌, map, take, drop, Option, Some, None, slice_get}
 use Rattle.camac_lang.specs.Tree.{Text, Table, Lam, Parameter, Procedure, Service, Item, next_table, next_lam, next_variables, next_procedure, next_service, Script}
-use Rattle.camac_text_tokens.specs.declared.token.Keyword.TheVariants as keyword
-use Rattle.camac_text_tokens.specs.declared.token.Sign.TheVariants as mark
+use Rattle.camac_tokens.specs.declared.token.Keyword.TheVariants as keyword
+use Rattle.camac_tokens.specs.declared.token.Sign.TheVariants as mark
 use Rattle.camac_text_spelling.specs.Pieces.{Piece, first_word, word, sign, numeral, name, separated, Names, name_at}
 use Rattle.camac_text_spelling.specs.Statements.{braced, block}
 

@@ -2,8 +2,8 @@
 use Rattle.std.specs.Prelude.{◌≡◌, ℕ, List, ◌∷◌, ◌++◌, Ok, Err, codes}
 use Rattle.camac_lang.specs.Example.{straight_line}
 use Rattle.camac_lang.specs.Tree.{Script}
-use Rattle.camac_text_tokens.specs.declared.token.Token.{Token}
-use Rattle.camac_text_tokens.specs.Fault.{Fault}
+use Rattle.camac_tokens.specs.declared.token.Token.{Token}
+use Rattle.camac_tokens.specs.Fault.{Fault}
 use Rattle.camac_text.specs.Parser.{tree_of_tokens, script_of}
 use Rattle.camac_text.specs.Places.{IsPlaced}
 use Rattle.camac_text_spelling.specs.Spells.{Spells, IsSpelled}

@@ -7,9 +7,9 @@ use Rattle.camac_lang.specs.Statements.{move_fits}
 use Rattle.camac_lang.specs.Tests.{is_function, unless_broken}
 use Rattle.camac_lang.specs.Tree.{Text, Expression, Move, no_data, into, from, Statement, assign, set_register, single, put}
 use Rattle.camac_lang.specs.declared.word.WordSize.{WordSize}
-use Rattle.camac_text_tokens.specs.declared.token.Sign.TheVariants as sign
-use Rattle.camac_text_tokens.specs.declared.token.TokenKind.{TokenKind}
-use Rattle.camac_text_tokens.specs.declared.token.TokenKind.TheVariants as kind
+use Rattle.camac_tokens.specs.declared.token.Sign.TheVariants as sign
+use Rattle.camac_tokens.specs.declared.token.TokenKind.{TokenKind}
+use Rattle.camac_tokens.specs.declared.token.TokenKind.TheVariants as kind
 use Rattle.camac_text_cursor.specs.Reading.{State, Reader, then_read, ◌>>=◌, ◌>>◌, give, kind_of, after_first}
 use Rattle.camac_text_cursor.specs.Readers.{begin, expect_sign, branch_number, function_number, set_name, used_register, used_variable, variable_here}
 use Rattle.camac_text_phrases.specs.Expressions.{expression_at}

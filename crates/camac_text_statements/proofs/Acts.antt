@@ -4,9 +4,9 @@ use Rattle.std.proofs.lemmas.Bool.{ltb-true}
 use Rattle.camac_lang.specs.Depth.{statement_depth}
 use Rattle.camac_lang.specs.Statements.{after, statements_in}
 use Rattle.camac_lang.specs.Tree.{Text, Statement}
-use Rattle.camac_text_tokens.specs.declared.fault.Limit.TheVariants as limit
-use Rattle.camac_text_tokens.specs.declared.fault.TextCase.TheVariants as told
-use Rattle.camac_text_tokens.specs.declared.token.TokenKind.{TokenKind}
+use Rattle.camac_tokens.specs.declared.fault.Limit.TheVariants as limit
+use Rattle.camac_tokens.specs.declared.fault.TextCase.TheVariants as told
+use Rattle.camac_tokens.specs.declared.token.TokenKind.{TokenKind}
 use Rattle.camac_text_cursor.specs.Reading.{State, ◌>>◌, change, advance, kind_of, after_first}
 use Rattle.camac_text_cursor.specs.Readers.{begin}
 use Rattle.camac_text_cursor.proofs.Steps.{ok_is}

@@ -7,7 +7,7 @@ use Rattle.camac_lang.specs.Statements.{after, after_block, statements_in, state
 use Rattle.camac_lang.specs.Tests.{most, unless_broken}
 use Rattle.camac_lang.specs.Tree.{Text, Statement, choose, choose_else, Condition}
 use Rattle.camac_lang.specs.View.{block_of}
-use Rattle.camac_text_tokens.specs.declared.token.TokenKind.{TokenKind}
+use Rattle.camac_tokens.specs.declared.token.TokenKind.{TokenKind}
 use Rattle.camac_text_cursor.specs.Reading.{State, kind_of, after_first}
 use Rattle.camac_text_cursor.proofs.Moves.{AllFit, Moves, after_less, moved}
 use Rattle.camac_text_cursor.proofs.Uses.{scope_of}

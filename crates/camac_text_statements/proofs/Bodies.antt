@@ -6,9 +6,9 @@ use Rattle.camac_lang.specs.Expressions.{Callable, Scope}
 use Rattle.camac_lang.specs.Statements.{after, after_block, statements_in, statements}
 use Rattle.camac_lang.specs.Tree.{Statement}
 use Rattle.camac_lang.specs.View.{block_of}
-use Rattle.camac_text_tokens.specs.declared.fault.Limit.TheVariants as limit
-use Rattle.camac_text_tokens.specs.declared.fault.TextCase.TheVariants as told
-use Rattle.camac_text_tokens.specs.declared.token.Sign.TheVariants as sign
+use Rattle.camac_tokens.specs.declared.fault.Limit.TheVariants as limit
+use Rattle.camac_tokens.specs.declared.fault.TextCase.TheVariants as told
+use Rattle.camac_tokens.specs.declared.token.Sign.TheVariants as sign
 use Rattle.camac_text_cursor.specs.Reading.{State, Reader, give, fail, kind_of, one_more, many}
 use Rattle.camac_text_cursor.specs.Readers.{is_sign, expect_sign}
 use Rattle.camac_text_statements.specs.Statements.{is_no_end, statement_with, block_at}

@@ -1,10 +1,10 @@
 -- Readers of transfers and of calls are local.
 use Rattle.std.proofs.Common.{◌≡◌, ℕ, Option, Some, None, Ok, sym, subst}
 use Rattle.camac_lang.specs.Tree.{Text, address_scan, q_stop, q_repeat, call}
-use Rattle.camac_text_tokens.specs.declared.token.Keyword.{Keyword}
-use Rattle.camac_text_tokens.specs.declared.token.Keyword.TheVariants as word
-use Rattle.camac_text_tokens.specs.declared.token.TokenKind.{TokenKind}
-use Rattle.camac_text_tokens.specs.declared.token.TokenKind.TheVariants as kind
+use Rattle.camac_tokens.specs.declared.token.Keyword.{Keyword}
+use Rattle.camac_tokens.specs.declared.token.Keyword.TheVariants as word
+use Rattle.camac_tokens.specs.declared.token.TokenKind.{TokenKind}
+use Rattle.camac_tokens.specs.declared.token.TokenKind.TheVariants as kind
 use Rattle.camac_text_cursor.specs.Reading.{State, ◌>>=◌, ◌>>◌, give, advance, kind_of}
 use Rattle.camac_text_cursor.specs.Readers.{begin, expect, function_number, used_register, used_variable, used_table, procedure_here, called}
 use Rattle.camac_text_phrases.specs.Expressions.{expression_at}

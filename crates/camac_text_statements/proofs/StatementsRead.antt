@@ -2,9 +2,9 @@
 use Rattle.std.proofs.Common.{◌≡◌, ℕ, List, Option, Some, Ok, refl}
 use Rattle.camac_lang.specs.Tree.{Statement}
 use Rattle.camac_lang.specs.declared.word.WordSize.TheVariants.{Full, Short}
-use Rattle.camac_text_tokens.specs.declared.token.Keyword.TheVariants as word
-use Rattle.camac_text_tokens.specs.declared.token.TokenKind.{TokenKind}
-use Rattle.camac_text_tokens.specs.declared.token.TokenKind.TheVariants as kind
+use Rattle.camac_tokens.specs.declared.token.Keyword.TheVariants as word
+use Rattle.camac_tokens.specs.declared.token.TokenKind.{TokenKind}
+use Rattle.camac_tokens.specs.declared.token.TokenKind.TheVariants as kind
 use Rattle.camac_text_cursor.specs.Reading.{State, Reader, kind_of, line_of}
 use Rattle.camac_text_statements.specs.Statements.{nested_by, statement_by, statement_with}
 use Rattle.camac_text_statements.proofs.Acts.{Acts}

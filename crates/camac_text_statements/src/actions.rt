@@ -8,7 +8,7 @@ ghost use Rattle.camac_text_cursor.specs.Parser.{state, Gives};
 use camac_lang::{Move, Stmt, WordSize};
 use camac_text_cursor::{Choice, Parser};
 use camac_text_phrases::expression;
-use camac_text_tokens::{Sign, TextFault, TokenKind};
+use camac_tokens::{Sign, TextFault, TokenKind};
 
 #[tactic(auto, unfolding(crate::specs::Statements::assignment))]
 pub fn assignment(parser: &mut Parser<'_>, room: u32, line: u32) -> Result<Stmt, TextFault>

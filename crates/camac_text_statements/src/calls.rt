@@ -8,7 +8,7 @@ ghost use Rattle.camac_text_cursor.specs.Parser.{state, Gives};
 use camac_lang::{CrateCall, LamCall, Stmt};
 use camac_text_cursor::{Choice, Parser};
 use camac_text_phrases::expression;
-use camac_text_tokens::{Keyword, TextFault, TokenKind};
+use camac_tokens::{Keyword, TextFault, TokenKind};
 
 #[tactic(auto, unfolding(crate::specs::Statements::crate_action))]
 pub fn crate_action(

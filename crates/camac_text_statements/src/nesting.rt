@@ -9,7 +9,7 @@ use crate::statements::block;
 use camac_lang::Stmt;
 use camac_text_cursor::{Choice, Parser};
 use camac_text_phrases::{Own, condition, expression, keeps};
-use camac_text_tokens::{Keyword, Sign, TextCase, TextFault, TokenKind};
+use camac_tokens::{Keyword, Sign, TextCase, TextFault, TokenKind};
 
 /// `if`
 #[cycle(statement)]

@@ -5,8 +5,8 @@ ghost use Rattle.camac_lang.specs.View.{statement_of};
 ghost use Rattle.camac_text_cursor.specs.Choice.{takes};
 ghost use Rattle.camac_text_cursor.specs.declared.choice.Choice.TheVariants as choice;
 ghost use Rattle.camac_text_cursor.specs.Reading.{kind_of, left_of, line_of, many};
-ghost use Rattle.camac_text_tokens.specs.declared.fault.TextCase.TheVariants.{Unexpected};
-ghost use Rattle.camac_text_tokens.specs.declared.token.TokenKind.TheVariants as kind;
+ghost use Rattle.camac_tokens.specs.declared.fault.TextCase.TheVariants.{Unexpected};
+ghost use Rattle.camac_tokens.specs.declared.token.TokenKind.TheVariants as kind;
 ghost use Rattle.camac_text_statements.specs.Statements.{statement_by, statement_with, is_no_end, block_at};
 ghost use Rattle.camac_text_cursor.specs.Parser.{state, Gives};
 
@@ -16,7 +16,7 @@ use crate::nesting::{for_statement, if_statement, lock_statement, while_statemen
 use crate::transfers::{call, q_repeat, q_stop, scan};
 use camac_lang::{CrateCall, LamCall, Stmt, WordSize};
 use camac_text_cursor::{Choice, Parser};
-use camac_text_tokens::{Keyword, Limit, Sign, TextCase, TextFault, TokenKind};
+use camac_tokens::{Keyword, Limit, Sign, TextCase, TextFault, TokenKind};
 
 /// The statements between two braces, where so many braces and brackets may be open at once.
 #[cycle(statement)]

@@ -8,7 +8,7 @@ ghost use Rattle.camac_text_statements.specs.Transfers.{last_bound, table_at, sc
 use camac_lang::{Expr, Stmt};
 use camac_text_cursor::{Choice, Parser};
 use camac_text_phrases::{arguments, expression};
-use camac_text_tokens::{Keyword, TextFault, TokenKind};
+use camac_tokens::{Keyword, TextFault, TokenKind};
 
 /// `cfmad`
 #[tactic(auto, unfolding(crate::specs::Transfers::scan_statement))]

@@ -6,9 +6,9 @@ use Rattle.std.specs.Result.{IsErr}
 use Rattle.camac_word.specs.Writing.{AppendsPrefix, Writes}
 use Rattle.camac_lang.specs.Tree.{Script}
 use Rattle.camac_report.specs.Items.{item_text}
-use Rattle.camac_run_machine.specs.MachineState.{piece_of}
-use Rattle.camac_run_machine.specs.declared.item.Item.{Item}
-use Rattle.camac_run_machine.specs.declared.item.Item.TheVariants as item
+use Rattle.camac_machine.specs.MachineState.{piece_of}
+use Rattle.camac_machine.specs.declared.item.Item.{Item}
+use Rattle.camac_machine.specs.declared.item.Item.TheVariants as item
 
 pub some_line : (script : Script) (i : Item) (after : List ℕ) → 0 < length (item_text script (piece_of i) ++ after)
 some_line script (item.Cycle d) after = omega arith

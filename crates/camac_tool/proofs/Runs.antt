@@ -2,19 +2,19 @@
 use Rattle.std.proofs.Common.{◌≡◌, ℕ, List, Option, Bool, true, false, ◌||◌, refl, sym, ap, subst, ◌∙◌, inl, inr}
 use Rattle.std.specs.Prelude.{Result, Ok, Err}
 use Rattle.std.proofs.Math.Bool.{or-false}
-use Rattle.camac_report_text.specs.Refusal.{refusal_text}
-use Rattle.camac_report_text.specs.declared.refusal.Refusal.{Refusal}
-use Rattle.camac_tool_check.specs.Engine.{Shows, is_write_fault}
-use Rattle.camac_tool_check.specs.Found.{HasJudged, ReadsJudged}
-use Rattle.camac_tool_check.specs.Reading.{is_read_fault}
-use Rattle.camac_tool_check.specs.Report.{refused}
-use Rattle.camac_tool_check.specs.declared.fault.ToolFault.{ToolFault}
-use Rattle.camac_tool_check.specs.declared.fault.ToolFault.TheVariants as fault
-use Rattle.camac_tool_check.specs.declared.judging.Judged.{Judged}
-use Rattle.camac_tool_check.specs.declared.judging.Judged.TheVariants as judged
-use Rattle.camac_tool_check.specs.declared.outcome.Outcome.{Outcome}
-use Rattle.camac_tool_play.specs.declared.telling.Telling.{Telling}
-use Rattle.camac_tool_play.proofs.Sending.{both, sends_listing, prefix_listing}
+use Rattle.camac_lines.specs.Refusal.{refusal_text}
+use Rattle.camac_lines.specs.declared.refusal.Refusal.{Refusal}
+use Rattle.camac_engines.specs.Engine.{Shows, is_write_fault}
+use Rattle.camac_engines.specs.Found.{HasJudged, ReadsJudged}
+use Rattle.camac_engines.specs.Reading.{is_read_fault}
+use Rattle.camac_engines.specs.Report.{refused}
+use Rattle.camac_engines.specs.declared.fault.ToolFault.{ToolFault}
+use Rattle.camac_engines.specs.declared.fault.ToolFault.TheVariants as fault
+use Rattle.camac_engines.specs.declared.judging.Judged.{Judged}
+use Rattle.camac_engines.specs.declared.judging.Judged.TheVariants as judged
+use Rattle.camac_engines.specs.declared.outcome.Outcome.{Outcome}
+use Rattle.camac_play.specs.declared.telling.Telling.{Telling}
+use Rattle.camac_play.proofs.Sending.{both, sends_listing, prefix_listing}
 use Rattle.camac_tool.specs.Headline.{JudgedKeeps, KeepsHeadline}
 use Rattle.camac_tool.specs.Run.{Refuses, RunsJudged, RunsOn, StaysQuiet, Runs}
 use Rattle.camac_tool.specs.World.{World}

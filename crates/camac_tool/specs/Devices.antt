@@ -1,11 +1,11 @@
 -- What the devices of a run are given.
 use Rattle.std.specs.Prelude.{◌≡◌, ◌⊎◌, ℕ, true, false, List, [], Option, Result, Err}
 use Rattle.std.specs.Io.KnownBytes.{Keeps, append_known}
-use Rattle.camac_tool_check.specs.declared.fault.ToolFault.{ToolFault}
-use Rattle.camac_tool_check.specs.declared.fault.ToolFault.TheVariants.{Write}
-use Rattle.camac_tool_check.specs.declared.outcome.Outcome.{Outcome}
-use Rattle.camac_tool_play.specs.RunIo.{RunState}
-use Rattle.camac_tool_play.specs.declared.telling.Telling.TheVariants.{Listing}
+use Rattle.camac_engines.specs.declared.fault.ToolFault.{ToolFault}
+use Rattle.camac_engines.specs.declared.fault.ToolFault.TheVariants.{Write}
+use Rattle.camac_engines.specs.declared.outcome.Outcome.{Outcome}
+use Rattle.camac_play.specs.RunIo.{RunState}
+use Rattle.camac_play.specs.declared.telling.Telling.TheVariants.{Listing}
 use Rattle.camac_tool.specs.Run.{Runs}
 use Rattle.camac_tool.specs.World.{World}
 

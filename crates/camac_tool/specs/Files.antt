@@ -3,8 +3,8 @@ use Rattle.std.specs.Prelude.{◌≡◌, ◌⊎◌, ◌&&◌, ◌<◌, Bool, tru
 use Rattle.std.specs.Fs.{IsFile, file_type, metadata_len, new_options, with_create, with_truncate, with_write}
 use Rattle.std.specs.declared.fs.options.OpenOptions.{OpenOptions}
 use Rattle.std.specs.declared.fs.attrs.Metadata.{Metadata}
-use Rattle.camac_tool_check.specs.declared.fault.ToolFault.{ToolFault}
-use Rattle.camac_tool_check.specs.declared.fault.ToolFault.TheVariants.{Write}
+use Rattle.camac_engines.specs.declared.fault.ToolFault.{ToolFault}
+use Rattle.camac_engines.specs.declared.fault.ToolFault.TheVariants.{Write}
 use Rattle.camac_tool.specs.declared.target.Earlier.{Earlier}
 use Rattle.camac_tool.specs.declared.target.Earlier.TheVariants.{Emptied, Refused}
 use Rattle.camac_tool.specs.declared.target.FileId.{FileId}

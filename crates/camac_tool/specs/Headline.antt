@@ -2,17 +2,17 @@
 use Rattle.std.specs.Prelude.{◌≡◌, ◌⊎◌, ℕ, List, [], Option, Result, Ok, Err}
 use Rattle.std.specs.Io.KnownBytes.{Appends}
 use Rattle.camac_answer.specs.Answers.{left_in}
-use Rattle.camac_check_result.specs.Checked.{CheckedScript}
-use Rattle.camac_check_rules.specs.Accept.{accept}
-use Rattle.camac_tool_check.specs.Found.{HasJudged}
-use Rattle.camac_tool_check.specs.declared.fault.ToolFault.{ToolFault}
-use Rattle.camac_tool_check.specs.declared.fault.ToolFault.TheVariants as fault
-use Rattle.camac_tool_check.specs.declared.judging.Judged.{Judged}
-use Rattle.camac_tool_check.specs.declared.judging.Judged.TheVariants as judged
-use Rattle.camac_tool_check.specs.declared.outcome.Outcome.{Outcome}
-use Rattle.camac_tool_play.specs.Told.{most_answers}
-use Rattle.camac_tool_play.specs.declared.telling.Telling.{Telling}
-use Rattle.camac_tool_play.specs.Headline.{PlaysByHeadline, PlaysByHeadlineSoFar}
+use Rattle.camac_checked.specs.Checked.{CheckedScript}
+use Rattle.camac_rules.specs.Accept.{accept}
+use Rattle.camac_engines.specs.Found.{HasJudged}
+use Rattle.camac_engines.specs.declared.fault.ToolFault.{ToolFault}
+use Rattle.camac_engines.specs.declared.fault.ToolFault.TheVariants as fault
+use Rattle.camac_engines.specs.declared.judging.Judged.{Judged}
+use Rattle.camac_engines.specs.declared.judging.Judged.TheVariants as judged
+use Rattle.camac_engines.specs.declared.outcome.Outcome.{Outcome}
+use Rattle.camac_play.specs.Told.{most_answers}
+use Rattle.camac_play.specs.declared.telling.Telling.{Telling}
+use Rattle.camac_play.specs.Headline.{PlaysByHeadline, PlaysByHeadlineSoFar}
 use Rattle.camac_tool.specs.World.{World}
 
 -- Of a run that came to its end the headline is true, and where an answer could not be read of the run on the answers before it. The answers'

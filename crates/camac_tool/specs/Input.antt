@@ -1,7 +1,7 @@
 -- What an input of the program has left.
 use Rattle.std.specs.Prelude.{◌≡◌, ℕ, Bool, true, false, List, Option, Some, None}
-use Rattle.camac_tool_check.specs.declared.plan.PlanSource.{PlanSource}
-use Rattle.camac_tool_check.specs.declared.plan.PlanSource.TheVariants.{Sample, Text}
+use Rattle.camac_engines.specs.declared.plan.PlanSource.{PlanSource}
+use Rattle.camac_engines.specs.declared.plan.PlanSource.TheVariants.{Sample, Text}
 use Rattle.camac_word.specs.Watched.{inner_of, has_failed}
 use Rattle.camac_tool.specs.declared.input.Input.{Input}
 use Rattle.camac_tool.specs.declared.input.Input.TheVariants.{Standard, File}

@@ -3,26 +3,26 @@ use Rattle.std.specs.Prelude.{◌≡◌, ◌⊎◌, ℕ, Bool, true, false, ◌|
 use Rattle.camac_lang.specs.Tree.{Script}
 use Rattle.camac_branch.specs.Plan.{Layout}
 use Rattle.camac_answer.specs.Answers.{left_in}
-use Rattle.camac_report_text.specs.Refusal.{refusal_text}
-use Rattle.camac_report_text.specs.declared.refusal.Refusal.{Refusal}
+use Rattle.camac_lines.specs.Refusal.{refusal_text}
+use Rattle.camac_lines.specs.declared.refusal.Refusal.{Refusal}
 use Rattle.camac_run.specs.declared.progress.End.TheVariants as end
 use Rattle.camac_explain.specs.Finding.{refusal_of}
-use Rattle.camac_tool_check.specs.Engine.{is_write_fault}
-use Rattle.camac_tool_check.specs.Found.{HasJudged, IsTooLong}
-use Rattle.camac_tool_check.specs.Reading.{is_read_fault}
-use Rattle.camac_tool_check.specs.declared.fault.ToolFault.{ToolFault}
-use Rattle.camac_tool_check.specs.declared.fault.ToolFault.TheVariants as fault
-use Rattle.camac_tool_check.specs.declared.judging.Judged.{Judged}
-use Rattle.camac_tool_check.specs.declared.judging.Judged.TheVariants as judged
-use Rattle.camac_tool_check.specs.declared.outcome.Outcome.{Outcome}
-use Rattle.camac_tool_check.specs.declared.outcome.Outcome.TheVariants.{Good, Refused}
-use Rattle.camac_tool_play.specs.Play.{PlaysOver}
-use Rattle.camac_tool_play.specs.Told.{most_answers}
-use Rattle.camac_tool_play.specs.Sent.{Outputs, Sends, SendsPrefix, to_listing}
-use Rattle.camac_tool_play.specs.declared.ending.Ending.{Ending}
-use Rattle.camac_tool_play.specs.declared.ending.Ending.TheVariants as how
-use Rattle.camac_tool_play.specs.declared.fault.PlayFault.TheVariants as play
-use Rattle.camac_tool_play.specs.declared.telling.Telling.{Telling}
+use Rattle.camac_engines.specs.Engine.{is_write_fault}
+use Rattle.camac_engines.specs.Found.{HasJudged, IsTooLong}
+use Rattle.camac_engines.specs.Reading.{is_read_fault}
+use Rattle.camac_engines.specs.declared.fault.ToolFault.{ToolFault}
+use Rattle.camac_engines.specs.declared.fault.ToolFault.TheVariants as fault
+use Rattle.camac_engines.specs.declared.judging.Judged.{Judged}
+use Rattle.camac_engines.specs.declared.judging.Judged.TheVariants as judged
+use Rattle.camac_engines.specs.declared.outcome.Outcome.{Outcome}
+use Rattle.camac_engines.specs.declared.outcome.Outcome.TheVariants.{Good, Refused}
+use Rattle.camac_play.specs.Play.{PlaysOver}
+use Rattle.camac_play.specs.Told.{most_answers}
+use Rattle.camac_play.specs.Sent.{Outputs, Sends, SendsPrefix, to_listing}
+use Rattle.camac_play.specs.declared.ending.Ending.{Ending}
+use Rattle.camac_play.specs.declared.ending.Ending.TheVariants as how
+use Rattle.camac_play.specs.declared.fault.PlayFault.TheVariants as play
+use Rattle.camac_play.specs.declared.telling.Telling.{Telling}
 use Rattle.camac_tool.specs.Headline.{KeepsHeadline}
 use Rattle.camac_tool.specs.World.{World}
 

@@ -7,12 +7,12 @@ use Rattle.camac_explain.specs.Rule.{IsRuleOf}
 use Rattle.camac_explain.specs.declared.rule.Rule.{Rule}
 use Rattle.camac_response_times.specs.declared.setting.Misuse.{Misuse}
 use Rattle.camac_response_times.specs.declared.setting.Misuse.TheVariants.{Form}
-use Rattle.camac_tool_check.specs.Engine.{status_of}
-use Rattle.camac_tool_check.specs.declared.fault.ToolFault.{ToolFault}
-use Rattle.camac_tool_check.specs.declared.fault.ToolFault.TheVariants.{Write}
-use Rattle.camac_tool_check.specs.declared.outcome.Outcome.{Outcome}
-use Rattle.camac_tool_check.specs.declared.response.Responded.{Responded}
-use Rattle.camac_tool_check.specs.declared.response.Responded.TheVariants.{Told, Misused}
+use Rattle.camac_engines.specs.Engine.{status_of}
+use Rattle.camac_engines.specs.declared.fault.ToolFault.{ToolFault}
+use Rattle.camac_engines.specs.declared.fault.ToolFault.TheVariants.{Write}
+use Rattle.camac_engines.specs.declared.outcome.Outcome.{Outcome}
+use Rattle.camac_engines.specs.declared.response.Responded.{Responded}
+use Rattle.camac_engines.specs.declared.response.Responded.TheVariants.{Told, Misused}
 use Rattle.camac_tool_words.specs.Words.{IsFaultOf, IsJob, camac_app, input_count_of}
 use Rattle.camac_tool_words.specs.declared.words.Job.{Job}
 use Rattle.camac_tool_words.specs.declared.words.Job.TheVariants.{ExplainRule, Response}

@@ -1,7 +1,7 @@
 -- What a clause reads of the streams of a run.
 use Rattle.std.specs.Prelude.{◌≡◌, ◌||◌, ℕ, Bool, true, List, [], Option}
 use Rattle.std.specs.Io.Buffered.{reader_inner, reader_remaining}
-use Rattle.camac_tool_play.specs.RunIo.{RunState}
+use Rattle.camac_play.specs.RunIo.{RunState}
 use Rattle.camac_tool.specs.Gathered.{given_to, has_stopped, held_in}
 use Rattle.camac_tool.specs.declared.ahead.Ahead.{Ahead}
 use Rattle.camac_tool.specs.declared.gathered.Gathered.{Gathered}

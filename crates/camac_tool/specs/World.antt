@@ -1,9 +1,9 @@
 -- The readers and the writers of an engine, as a clause sees them before a call and after it.
 use Rattle.std.specs.Prelude.{ℕ, Bool, false, ◌||◌, List, [], Option}
-use Rattle.camac_tool_check.specs.Plan.{plan_failed}
-use Rattle.camac_tool_check.specs.declared.plan.PlanSource.{PlanSource}
-use Rattle.camac_tool_play.specs.RunIo.{RunState, sent_in}
-use Rattle.camac_tool_play.specs.Sent.{Outputs}
+use Rattle.camac_engines.specs.Plan.{plan_failed}
+use Rattle.camac_engines.specs.declared.plan.PlanSource.{PlanSource}
+use Rattle.camac_play.specs.RunIo.{RunState, sent_in}
+use Rattle.camac_play.specs.Sent.{Outputs}
 use Rattle.camac_word.specs.Watched.{inner_of, has_failed}
 use Rattle.camac_word.specs.declared.watched.Watched.{Watched}
 

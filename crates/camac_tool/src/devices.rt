@@ -3,12 +3,12 @@
 ghost use Rattle.std.specs.Prelude.{◌≡◌, IfOk, IfErr, OnErr};
 ghost use Rattle.camac_tool.specs.Devices.{RunsOnDevices, before};
 ghost use Rattle.camac_tool.specs.World.{world};
-ghost use Rattle.camac_tool_check.specs.declared.fault.ToolFault.TheVariants.{Memory};
+ghost use Rattle.camac_engines.specs.declared.fault.ToolFault.TheVariants.{Memory};
 
 use crate::running::run_over;
 use crate::streams::{Ran, Streams};
-use camac_tool_check::{Outcome, PlanSource, ToolFault};
-use camac_tool_play::Telling;
+use camac_engines::{Outcome, PlanSource, ToolFault};
+use camac_play::Telling;
 use camac_word::Watched;
 use std::alloc::Global;
 use std::io::{Read, Write};

@@ -2,10 +2,10 @@
 
 ghost use Rattle.std.specs.Prelude.{◌≡◌, Err};
 ghost use Rattle.camac_tool.specs.Status.{EndsAs, fault_status};
-ghost use Rattle.camac_tool_check.specs.declared.fault.ToolFault.TheVariants.{Read as read-fault, Write as write-fault};
+ghost use Rattle.camac_engines.specs.declared.fault.ToolFault.TheVariants.{Read as read-fault, Write as write-fault};
 
 use arrayvec::ArrayString;
-use camac_tool_check::{ToolFault, status};
+use camac_engines::{ToolFault, status};
 use std::cell::Cell;
 use std::fmt::Write as TextWrite;
 use std::io;

@@ -5,10 +5,10 @@ ghost use Rattle.std.specs.Io.{ReadsAtMost};
 ghost use Rattle.std.specs.Io.KnownBytes.{ReadConsumes};
 ghost use Rattle.std.specs.Str.{bytes_eq};
 ghost use Rattle.camac_tool.specs.Input.{is_standard, left_in};
-ghost use Rattle.camac_tool_check.specs.declared.fault.ToolFault.TheVariants.{Read as read-fault};
+ghost use Rattle.camac_engines.specs.declared.fault.ToolFault.TheVariants.{Read as read-fault};
 
 use crate::failure::{Failure, Named};
-use camac_tool_check::ToolFault;
+use camac_engines::ToolFault;
 use std::fs::Files;
 use std::io::{Error, ErrorKind, Input as StandardInput, Read};
 use std::{fs, io};

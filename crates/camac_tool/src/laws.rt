@@ -2,7 +2,7 @@
 
 ghost use Rattle.std.specs.Prelude.{◌≡◌};
 ghost use Rattle.camac_model.specs.Sample.{sample_plan};
-ghost use Rattle.camac_tool_check.specs.Sample.{sample};
+ghost use Rattle.camac_engines.specs.Sample.{sample};
 
 /// The sample plan is the one of the worked rows.
 pub fn sample_is_of_the_rows()

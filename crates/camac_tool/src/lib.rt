@@ -14,7 +14,7 @@ mod running;
 mod streams;
 mod target;
 
-pub use camac_tool_check::{
+pub use camac_engines::{
     Outcome, PlanSource, Responded, ToolFault, engine_bounds, engine_check, engine_commands,
     engine_costs, engine_events, engine_explain, engine_explain_at, engine_explain_plan,
     engine_plan, engine_response, sample_plan, status,

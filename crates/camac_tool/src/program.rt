@@ -2,7 +2,7 @@
 
 ghost use Rattle.std.specs.Prelude.{◌≡◌, ◌||◌, [], Err, IfOk, IfErr, OnOk, codes, is_err, is_none, map, string_bytes};
 ghost use Rattle.std.specs.Str.{bytes_eq};
-ghost use Rattle.camac_tool_check.specs.declared.fault.ToolFault.TheVariants.{Read as read-fault, Write};
+ghost use Rattle.camac_engines.specs.declared.fault.ToolFault.TheVariants.{Read as read-fault, Write};
 ghost use Rattle.clap.specs.Words.{kind_of};
 ghost use Rattle.camac_tool.specs.Status.{Ends, EndsAs, EndsJob, EndsMisuse, EndsResponse, EndsRule, EndsUsage};
 ghost use Rattle.camac_tool.specs.declared.launch.ArgumentsFault.TheVariants.{Memory, NotText};
@@ -17,13 +17,13 @@ use crate::launch::ArgumentsFault;
 use crate::places::hold_places;
 use crate::running::engine_drive;
 use crate::target::{Earlier, NewFile, keep_apart, settle};
-use camac_explain::Rule;
-use camac_response::{Misuse, read_settings};
-use camac_tool_check::{
+use camac_engines::{
     Outcome, PlanSource, Responded, ToolFault, engine_bounds, engine_check, engine_commands,
     engine_costs, engine_events, engine_explain, engine_explain_at, engine_explain_plan,
     engine_explain_rule, engine_plan, engine_response, status,
 };
+use camac_explain::Rule;
+use camac_response::{Misuse, read_settings};
 use camac_tool_words::{Job, JobFault, read_words, setting_error};
 use camac_word::Watched;
 use clap::Error;

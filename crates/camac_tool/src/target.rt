@@ -2,11 +2,11 @@
 
 ghost use Rattle.std.specs.Prelude.{◌≡◌, ◌↔◌, None, IfErr, IsTrue};
 ghost use Rattle.camac_tool.specs.Files.{HoldsBytes, SaysRegular, SaysSame, options_of};
-ghost use Rattle.camac_tool_check.specs.declared.fault.ToolFault.TheVariants.{Write as write-fault};
+ghost use Rattle.camac_engines.specs.declared.fault.ToolFault.TheVariants.{Write as write-fault};
 
 use crate::failure::{Failure, Named};
 use crate::input::Input;
-use camac_tool_check::ToolFault;
+use camac_engines::ToolFault;
 use std::fs::{Files, Metadata, OpenFile, OpenOptions};
 use std::io::{Error, ErrorKind, Write};
 use std::os::unix::fs::MetadataExt;

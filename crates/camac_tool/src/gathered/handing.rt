@@ -4,7 +4,7 @@ ghost use Rattle.std.specs.Prelude.{◌≡◌, ◌≤◌, ◌<◌, ◌+◌, ◌|
 ghost use Rattle.std.specs.Io.{WritesAtMost};
 ghost use Rattle.std.specs.Io.KnownBytes.{Keeps, Appends, WriteAppends};
 ghost use Rattle.camac_report.specs.Items.{item_text, unlock_texts};
-ghost use Rattle.camac_run_machine.specs.MachineState.{piece_of};
+ghost use Rattle.camac_machine.specs.MachineState.{piece_of};
 ghost use Rattle.camac_tool.specs.Gathered.{device_of, given_to, has_stopped, held_in};
 ghost use Rattle.camac_word.specs.Watched.{inner_of, has_failed};
 ghost use Rattle.camac_word.specs.Writing.{Writes};

@@ -2,7 +2,7 @@
 
 ghost use Rattle.std.specs.Prelude.{◌≡◌, ◌≤◌, ◌+◌, ◌-◌, ◌++◌, [], true, length, take, drop, min, IfOk};
 ghost use Rattle.camac_report.specs.Items.{item_text, unlock_texts};
-ghost use Rattle.camac_run_machine.specs.MachineState.{piece_of};
+ghost use Rattle.camac_machine.specs.MachineState.{piece_of};
 
 use camac_check::Checked;
 use camac_report::{LONGEST_LINE, items_in};

@@ -1,7 +1,7 @@
 use Rattle.std.proofs.Common.{sym, ap, ◌∙◌}
 use Rattle.std.specs.Prelude.{Some}
 use Rattle.std.specs.contracts.io.impls.RefSliceU8Read.TheImpl.{ghosts}
-use Rattle.camac_tool_check.specs.declared.plan.PlanSource.TheVariants.{Text}
+use Rattle.camac_engines.specs.declared.plan.PlanSource.TheVariants.{Text}
 use Rattle.camac_word.specs.Watched.{inner_of}
 use Rattle.camac_c.proofs.Answered.{explain_told}
 use Rattle.camac_c.proofs.texts.camac_raw_explain.Goals as goal

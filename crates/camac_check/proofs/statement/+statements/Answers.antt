@@ -4,14 +4,14 @@ use Rattle.std.proofs.lemmas.List.{drop_all}
 use Rattle.camac_lang.specs.Tree.{for_, while_}
 use Rattle.camac_lang.specs.View.{condition_of, expression_of, keep_of, part_of, statement_of, statements_of}
 use Rattle.camac_model.specs.Fine.{Bounds}
-use Rattle.camac_check_rules.specs.Capped.{capped}
-use Rattle.camac_check_rules.specs.Conditions.{branches, split}
-use Rattle.camac_check_rules.specs.Costs.{choice_costs, costs, lock_costs, no_costs, plus, unreached, verdict}
-use Rattle.camac_check_rules.specs.Cycles.{Around, with_locked}
-use Rattle.camac_check_rules.specs.Known.{Known}
-use Rattle.camac_check_rules.specs.Loops.{for_head, turn_bound, while_head, with_fixed}
-use Rattle.camac_check_rules.specs.Refusal.{if_reached}
-use Rattle.camac_check_rules.specs.Statements.{accept_block}
+use Rattle.camac_rules.specs.Capped.{capped}
+use Rattle.camac_rules.specs.Conditions.{branches, split}
+use Rattle.camac_rules.specs.Costs.{choice_costs, costs, lock_costs, no_costs, plus, unreached, verdict}
+use Rattle.camac_rules.specs.Cycles.{Around, with_locked}
+use Rattle.camac_rules.specs.Known.{Known}
+use Rattle.camac_rules.specs.Loops.{for_head, turn_bound, while_head, with_fixed}
+use Rattle.camac_rules.specs.Refusal.{if_reached}
+use Rattle.camac_rules.specs.Statements.{accept_block}
 use Rattle.camac_check_simple.specs.Gives.{Fails, by_code, verdict_of}
 use Rattle.camac_check_rows.specs.declared.row.Detail.TheVariants as detail
 use Rattle.camac_check_rows.specs.declared.row.Kind.TheVariants as kind

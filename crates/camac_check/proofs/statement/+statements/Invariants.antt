@@ -1,9 +1,9 @@
 use Rattle.std.proofs.Common.{◌≡◌, drop}
 use Rattle.camac_lang.specs.View.{statements_of}
-use Rattle.camac_check_rules.specs.Capped.{capped}
-use Rattle.camac_check_rules.specs.Costs.{unreached, verdict}
-use Rattle.camac_check_rules.specs.Refusal.{if_reached}
-use Rattle.camac_check_rules.specs.Statements.{accept_block}
+use Rattle.camac_rules.specs.Capped.{capped}
+use Rattle.camac_rules.specs.Costs.{unreached, verdict}
+use Rattle.camac_rules.specs.Refusal.{if_reached}
+use Rattle.camac_rules.specs.Statements.{accept_block}
 use Rattle.camac_check_simple.specs.Gives.{by_code}
 use Rattle.camac_check_rows.specs.Rows.{block_rows, with_rows}
 use Rattle.camac_check.proofs.Blocks.{rest_rule}

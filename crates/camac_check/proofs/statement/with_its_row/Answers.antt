@@ -1,6 +1,6 @@
 use Rattle.std.proofs.Common.{ap, refl, ◌∙◌}
 use Rattle.camac_lang.specs.View.{statement_of}
-use Rattle.camac_check_rules.specs.Refusal.{if_reached}
+use Rattle.camac_rules.specs.Refusal.{if_reached}
 use Rattle.camac_check_simple.specs.Gives.{by_code, verdict_of}
 use Rattle.camac_check_rows.specs.Rows.{with_rows}
 use Rattle.camac_check.proofs.Rows.{simple_found}

@@ -1,5 +1,5 @@
-use Rattle.camac_check_rules.specs.Addresses.{region_widths, undeclared}
-use Rattle.camac_check_rules.specs.declared.rule.CheckRule.TheVariants.{CommandNotDeclared}
+use Rattle.camac_rules.specs.Addresses.{region_widths, undeclared}
+use Rattle.camac_rules.specs.declared.rule.CheckRule.TheVariants.{CommandNotDeclared}
 use Rattle.camac_check_known.proofs.Walks.{region_small, given_small}
 use Rattle.camac_check_known.proofs.address.command_widths.Goals as goal
 

@@ -1,5 +1,5 @@
 use Rattle.std.proofs.Common.{Option, None, subst}
-use Rattle.camac_check_rules.specs.Expressions.{range_of}
+use Rattle.camac_rules.specs.Expressions.{range_of}
 use Rattle.camac_lang.specs.View.{term_of}
 use Rattle.camac_check_known.specs.declared.expression.Beyond.{Beyond}
 use Rattle.camac_check_known.specs.Told.{Tells}

@@ -1,5 +1,5 @@
 use Rattle.std.proofs.Common.{◌≡◌, take}
-use Rattle.camac_check_rules.specs.Joined.{hulls}
+use Rattle.camac_rules.specs.Joined.{hulls}
 use Rattle.camac_check_known.proofs.joined.hulls.Given as goal
 
 abbrev pub invariant-places : goal.invariant-places

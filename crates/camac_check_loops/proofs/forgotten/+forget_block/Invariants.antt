@@ -1,6 +1,6 @@
 use Rattle.std.proofs.Common.{◌≡◌, drop}
 use Rattle.camac_lang.specs.View.{statements_of}
-use Rattle.camac_check_rules.specs.Writes.{forget_block}
+use Rattle.camac_rules.specs.Writes.{forget_block}
 use Rattle.camac_check_loops.proofs.forgotten.+forget_block.Given as goal
 
 abbrev pub invariant-statements : goal.invariant-statements

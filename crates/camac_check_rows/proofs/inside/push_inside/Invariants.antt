@@ -1,5 +1,5 @@
 use Rattle.std.proofs.Common.{◌≡◌, ◌++◌, map, take}
-use Rattle.camac_check_rules.specs.Capped.{capped}
+use Rattle.camac_rules.specs.Capped.{capped}
 use Rattle.camac_check_rows.specs.Weights.{inside_row}
 use Rattle.camac_check_rows.proofs.inside.push_inside.Given as goal
 

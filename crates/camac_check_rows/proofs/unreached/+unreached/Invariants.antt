@@ -1,6 +1,6 @@
 use Rattle.std.proofs.Common.{◌≡◌, ◌++◌, None, drop}
 use Rattle.camac_lang.specs.View.{statements_of}
-use Rattle.camac_check_rules.specs.Cycles.{Around}
+use Rattle.camac_rules.specs.Cycles.{Around}
 use Rattle.camac_check_simple.specs.Gives.{by_code}
 use Rattle.camac_check_rows.specs.Rows.{block_rows, inside}
 use Rattle.camac_check_rows.proofs.unreached.+unreached.Given as goal

@@ -1,6 +1,6 @@
 use Rattle.std.proofs.Common.{◌∙◌}
-use Rattle.camac_check_rules.specs.declared.case.Case.TheVariants.{Malformed}
-use Rattle.camac_check_rules.specs.declared.rule.CheckRule.TheVariants.{StationNotInstalled}
+use Rattle.camac_rules.specs.declared.case.Case.TheVariants.{Malformed}
+use Rattle.camac_rules.specs.declared.rule.CheckRule.TheVariants.{StationNotInstalled}
 use Rattle.camac_check_simple.proofs.Lams.{lam_there, no_lam, same_region}
 use Rattle.camac_check_simple.proofs.calls.address_of.Goals as goal
 

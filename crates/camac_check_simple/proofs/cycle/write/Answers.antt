@@ -1,7 +1,7 @@
 use Rattle.std.proofs.Common.{ap, refl, sym, ◌∙◌}
 use Rattle.camac_lang.specs.View.{expression_of}
-use Rattle.camac_check_rules.specs.Expressions.{range_of}
-use Rattle.camac_check_rules.specs.Cycles.{one_cycle}
+use Rattle.camac_rules.specs.Expressions.{range_of}
+use Rattle.camac_rules.specs.Cycles.{one_cycle}
 use Rattle.camac_check_simple.specs.Gives.{by_code}
 use Rattle.camac_check_simple.proofs.Steps.{step, same_findings}
 use Rattle.camac_check_simple.proofs.cycle.write.Goals as goal

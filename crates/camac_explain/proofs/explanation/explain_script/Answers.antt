@@ -1,5 +1,5 @@
 use Rattle.std.proofs.Common.{ap, ◌∙◌, ◌++◌}
-use Rattle.camac_report_text.specs.Refusal.{code_of}
+use Rattle.camac_lines.specs.Refusal.{code_of}
 use Rattle.camac_explain.specs.Explanation.{told_of}
 use Rattle.camac_explain.specs.Source.{source_of}
 use Rattle.camac_explain.proofs.Told.{explained, same_advice}

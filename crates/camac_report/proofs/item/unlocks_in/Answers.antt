@@ -1,5 +1,5 @@
 use Rattle.std.proofs.Common.{◌≡◌, ◌∙◌, ◌++◌, List, ℕ, ap, sym, append_assoc, refl, drop, take, ◌+◌, arith}
-use Rattle.camac_report_text.proofs.Texts.{flat_map-next}
+use Rattle.camac_lines.proofs.Texts.{flat_map-next}
 use Rattle.camac_report.specs.Items.{unlock_text, unlock_texts}
 use Rattle.camac_report.proofs.item.unlocks_in.Goals as goal
 

@@ -1,7 +1,7 @@
 use Rattle.std.proofs.Common.{◌∙◌, refl}
 use Rattle.std.proofs.Math.Bool.{or-false}
-use Rattle.camac_report_text.proofs.Lines.{under_way_next, under_way_stops, Writes-at_err}
-use Rattle.camac_report_text.proofs.Texts.{texts-next, texts-none, under_way_ends}
+use Rattle.camac_lines.proofs.Lines.{under_way_next, under_way_stops, Writes-at_err}
+use Rattle.camac_lines.proofs.Texts.{texts-next, texts-none, under_way_ends}
 use Rattle.camac_response.specs.Lines.{bit_text}
 use Rattle.camac_response.proofs.lines.write_responses.Goals as goal
 

@@ -1,7 +1,7 @@
 use Rattle.std.proofs.Common.{◌≡◌, ◌-◌}
 use Rattle.camac_word.specs.Watched.{inner_of, has_failed}
 use Rattle.camac_word.proofs.Prefixes.{IsUnderWay}
-use Rattle.camac_report_text.specs.Texts.{texts}
+use Rattle.camac_lines.specs.Texts.{texts}
 use Rattle.camac_response.specs.Lines.{bit_text}
 use Rattle.camac_response.proofs.lines.write_responses.Given as goal
 

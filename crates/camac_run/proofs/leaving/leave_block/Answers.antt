@@ -4,7 +4,7 @@ use Rattle.std.proofs.lemmas.List.{append-nil}
 use Rattle.camac_branch.specs.Branch.{with_lock}
 use Rattle.camac_branch.specs.Crates.{branch_of}
 use Rattle.camac_run.proofs.Early.{room_released}
-use Rattle.camac_run_machine.proofs.Leaves.{in_range, is_locked, one_more, room_left, return_leaves}
+use Rattle.camac_machine.proofs.Leaves.{in_range, is_locked, one_more, room_left, return_leaves}
 use Rattle.camac_run.proofs.leaving.leave_block.Goals as goal
 
 pub unlock-requires : goal.unlock-requires

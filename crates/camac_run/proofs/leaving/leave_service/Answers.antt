@@ -1,9 +1,9 @@
 use Rattle.std.proofs.Common.{◌++◌, ◌∷◌, [], List, ℕ, length, length-append, refl, ap, ◌∙◌, rules, arith}
-use Rattle.camac_run_machine.specs.declared.machine.Machine.{Machine}
+use Rattle.camac_machine.specs.declared.machine.Machine.{Machine}
 use Rattle.camac_run.specs.Locks.{locks_in}
-use Rattle.camac_run_machine.specs.MachineState.{open_in, opens_in}
+use Rattle.camac_machine.specs.MachineState.{open_in, opens_in}
 use Rattle.camac_run.proofs.Early.{room_over, told_on, room_idle, all_told, none_popped}
-use Rattle.camac_run_machine.proofs.Frames.{room_popped}
+use Rattle.camac_machine.proofs.Frames.{room_popped}
 use Rattle.camac_run.proofs.leaving.leave_service.Goals as goal
 
 pub loop-frame-init : goal.loop-frame-init

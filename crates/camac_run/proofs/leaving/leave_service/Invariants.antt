@@ -1,6 +1,6 @@
 use Rattle.std.proofs.Common.{◌≡◌, ◌++◌, length}
 use Rattle.camac_run.specs.Locks.{locks_in}
-use Rattle.camac_run_machine.specs.MachineState.{opens_in, HasRoom}
+use Rattle.camac_machine.specs.MachineState.{opens_in, HasRoom}
 use Rattle.camac_run.proofs.leaving.leave_service.Given as goal
 
 -- what was told and what is still held are the locks that were held

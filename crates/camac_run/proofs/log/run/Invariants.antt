@@ -3,7 +3,7 @@ use Rattle.std.specs.Prelude.{None}
 use Rattle.camac_event.specs.declared.event.Version.TheVariants.{Two}
 use Rattle.camac_model.specs.Behaviour.{items, stop_of}
 use Rattle.camac_model.specs.Run.{the_run}
-use Rattle.camac_run_machine.specs.MachineState.{piece_of}
+use Rattle.camac_machine.specs.MachineState.{piece_of}
 use Rattle.camac_run.specs.Runner.{rest}
 use Rattle.camac_run.specs.Headline.{entries_in}
 use Rattle.camac_run.proofs.log.run.Given as goal

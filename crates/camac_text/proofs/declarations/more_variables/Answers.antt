@@ -1,6 +1,6 @@
 use Rattle.std.proofs.Common.{◌≡◌, suc, ◌+◌, ◌<◌, Result, sym, ap, ◌∙◌, arith}
 use Rattle.std.proofs.lemmas.Result.{err_from_is_err_and}
-use Rattle.camac_text_tokens.specs.Fault.{Fault}
+use Rattle.camac_tokens.specs.Fault.{Fault}
 use Rattle.camac_text_cursor.specs.Reading.{State, then_read, give, while_next}
 use Rattle.camac_text_cursor.specs.Readers.{is_name, new_variable}
 use Rattle.camac_text.specs.Declarations.{one_more_variable}

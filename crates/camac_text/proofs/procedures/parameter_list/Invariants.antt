@@ -1,6 +1,6 @@
 use Rattle.std.proofs.Common.{◌≡◌, length, map}
 use Rattle.camac_lang.specs.View.{parameter_of}
-use Rattle.camac_text_tokens.specs.declared.token.Sign.TheVariants as sign
+use Rattle.camac_tokens.specs.declared.token.Sign.TheVariants as sign
 use Rattle.camac_text_cursor.specs.Reading.{while_next, one_more}
 use Rattle.camac_text_cursor.specs.Readers.{is_sign}
 use Rattle.camac_text_cursor.specs.Parser.{state}

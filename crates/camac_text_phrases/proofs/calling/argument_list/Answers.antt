@@ -3,7 +3,7 @@ use Rattle.std.proofs.lemmas.Result.{err_from_is_err_and}
 use Rattle.std.proofs.lemmas.List.{map_push}
 use Rattle.camac_lang.specs.Tree.{Expression}
 use Rattle.camac_lang.specs.View.{expression_of}
-use Rattle.camac_text_tokens.specs.Fault.{Fails}
+use Rattle.camac_tokens.specs.Fault.{Fails}
 use Rattle.camac_text_cursor.specs.Parser.{state}
 use Rattle.camac_text_phrases.specs.Arguments.{argument_after, more_arguments}
 use Rattle.camac_text_phrases.proofs.ArgumentsRead.{arguments_go, arguments_fail, arguments_end}

@@ -3,8 +3,8 @@ use Rattle.std.proofs.lemmas.Result.{err_from_is_err_and}
 use Rattle.std.proofs.lemmas.List.{map_push, length-map}
 use Rattle.camac_lang.specs.Tree.{Part}
 use Rattle.camac_lang.specs.View.{part_of}
-use Rattle.camac_text_tokens.specs.Fault.{Fault, Fails}
-use Rattle.camac_text_tokens.specs.declared.token.Keyword.TheVariants as word
+use Rattle.camac_tokens.specs.Fault.{Fault, Fails}
+use Rattle.camac_tokens.specs.declared.token.Keyword.TheVariants as word
 use Rattle.camac_text_cursor.specs.Reading.{State, then_read, give}
 use Rattle.camac_text_cursor.specs.Readers.{is_keyword}
 use Rattle.camac_text_phrases.specs.Conditions.{and_part, one_more_part, condition_at}

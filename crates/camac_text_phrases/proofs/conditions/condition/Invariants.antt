@@ -1,6 +1,6 @@
 use Rattle.std.proofs.Common.{◌≡◌, length, map}
 use Rattle.camac_lang.specs.View.{part_of}
-use Rattle.camac_text_tokens.specs.declared.token.Keyword.TheVariants as word
+use Rattle.camac_tokens.specs.declared.token.Keyword.TheVariants as word
 use Rattle.camac_text_cursor.specs.Reading.{while_next}
 use Rattle.camac_text_cursor.specs.Readers.{is_keyword}
 use Rattle.camac_text_phrases.specs.Conditions.{one_more_part, condition_at}

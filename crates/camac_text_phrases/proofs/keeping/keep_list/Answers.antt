@@ -3,8 +3,8 @@ use Rattle.std.proofs.lemmas.Result.{err_from_is_err_and}
 use Rattle.std.proofs.lemmas.List.{map_push}
 use Rattle.camac_lang.specs.Tree.{Keep}
 use Rattle.camac_lang.specs.View.{keep_of}
-use Rattle.camac_text_tokens.specs.Fault.{Fault, Fails}
-use Rattle.camac_text_tokens.specs.declared.token.Sign.TheVariants as sign
+use Rattle.camac_tokens.specs.Fault.{Fault, Fails}
+use Rattle.camac_tokens.specs.declared.token.Sign.TheVariants as sign
 use Rattle.camac_text_cursor.specs.Reading.{State, then_read, give}
 use Rattle.camac_text_cursor.specs.Readers.{is_sign}
 use Rattle.camac_text_phrases.specs.Keeps.{next_keep, one_more_keep, keep_list}

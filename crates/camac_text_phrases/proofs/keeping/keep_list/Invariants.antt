@@ -1,6 +1,6 @@
 use Rattle.std.proofs.Common.{◌≡◌, length, map}
 use Rattle.camac_lang.specs.View.{keep_of}
-use Rattle.camac_text_tokens.specs.declared.token.Sign.TheVariants as sign
+use Rattle.camac_tokens.specs.declared.token.Sign.TheVariants as sign
 use Rattle.camac_text_cursor.specs.Reading.{while_next}
 use Rattle.camac_text_cursor.specs.Readers.{is_sign}
 use Rattle.camac_text_phrases.specs.Keeps.{one_more_keep, keep_list}

@@ -1,5 +1,5 @@
 use Rattle.std.proofs.Common.{Err, subst}
-use Rattle.camac_tool_play.specs.Play.{PlaysIn}
+use Rattle.camac_play.specs.Play.{PlaysIn}
 use Rattle.camac_tool.proofs.running.run_checked.Goals as goal
 
 pub returns-in-Ok-clause-runs : goal.returns-in-Ok-clause-runs

@@ -1,6 +1,6 @@
 use Rattle.std.proofs.Common.{◌∙◌, ap, Err, refl}
 use Rattle.std.proofs.lemmas.Result.{err_from_is_err_and}
-use Rattle.camac_tool_play.proofs.Sending.{sends_nothing}
+use Rattle.camac_play.proofs.Sending.{sends_nothing}
 use Rattle.camac_tool.proofs.Runs.{ends_before, ends_found}
 use Rattle.camac_tool.proofs.running.run_over.Goals as goal
 

@@ -2,9 +2,9 @@ use Rattle.std.proofs.Common.{◌≡◌, ℕ, None, false, refl, sym, subst, ap,
 use Rattle.std.specs.Borrow.{Bor}
 use Rattle.arrayvec.specs.ArrayVec.{ArrayVec}
 use Rattle.camac_branch.specs.Crates.{Crates, branch_of}
-use Rattle.camac_check_result.specs.Checked.{CheckedScript}
-use Rattle.camac_run_machine.specs.MachineState.{context_in}
-use Rattle.camac_run_machine.specs.Rest.{onward}
+use Rattle.camac_checked.specs.Checked.{CheckedScript}
+use Rattle.camac_machine.specs.MachineState.{context_in}
+use Rattle.camac_machine.specs.Rest.{onward}
 use Rattle.camac_run.proofs.Abandoned.{stays_over, stays_idle}
 use Rattle.camac_run.proofs.Operation.{not_some}
 use Rattle.camac_run.proofs.Sizes.{machine_fits}

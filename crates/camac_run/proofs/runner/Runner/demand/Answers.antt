@@ -5,13 +5,13 @@ use Rattle.camac_branch.specs.Crates.{Crates, branch_of}
 use Rattle.camac_model.specs.Behaviour.{does, demanded}
 use Rattle.std.specs.Borrow.{Bor}
 use Rattle.arrayvec.specs.ArrayVec.{ArrayVec}
-use Rattle.camac_check_result.specs.Checked.{CheckedScript}
+use Rattle.camac_checked.specs.Checked.{CheckedScript}
 use Rattle.camac_model.specs.Fine.{most_turns}
 use Rattle.camac_model.specs.Run.{Chosen, service_for, service_meaning}
-use Rattle.camac_run_machine.specs.MachineState.{context_in, pending_of, bit_at}
-use Rattle.camac_run_machine.specs.Rest.{onward, served, says}
+use Rattle.camac_machine.specs.MachineState.{context_in, pending_of, bit_at}
+use Rattle.camac_machine.specs.Rest.{onward, served, says}
 use Rattle.camac_run.specs.Runner.{RunnerState, rest, with_event, last_words_in}
-use Rattle.camac_run_machine.proofs.Lists.{place}
+use Rattle.camac_machine.proofs.Lists.{place}
 use Rattle.camac_run.proofs.Early.{idle_free}
 use Rattle.camac_run.proofs.Serving.{onward_passes, onward_serves}
 use Rattle.camac_run.proofs.Sizes.{machine_fits}

@@ -2,11 +2,11 @@ use Rattle.std.proofs.Common.{◌≡◌, ℕ, ◌+◌, ◌<◌, Some, refl, sym,
 use Rattle.std.specs.Prelude.{None}
 use Rattle.std.specs.Borrow.{Bor}
 use Rattle.arrayvec.specs.ArrayVec.{ArrayVec}
-use Rattle.camac_check_result.specs.Checked.{CheckedScript}
+use Rattle.camac_checked.specs.Checked.{CheckedScript}
 use Rattle.camac_model.specs.Behaviour.{does, then_do}
-use Rattle.camac_run_machine.specs.declared.machine.Machine.{Machine}
-use Rattle.camac_run_machine.specs.MachineState.{context_in, state_of, left_in, pending_of, piece_of, bit_at}
-use Rattle.camac_run_machine.specs.Rest.{follows, served, says}
+use Rattle.camac_machine.specs.declared.machine.Machine.{Machine}
+use Rattle.camac_machine.specs.MachineState.{context_in, state_of, left_in, pending_of, piece_of, bit_at}
+use Rattle.camac_machine.specs.Rest.{follows, served, says}
 use Rattle.camac_run.specs.Runner.{RunnerState, rest, with_event, last_words_in}
 use Rattle.camac_run.specs.Sound.{runner_state}
 use Rattle.camac_run.proofs.Serving.{served_does, served_stops}

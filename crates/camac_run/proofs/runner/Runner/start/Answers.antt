@@ -5,12 +5,12 @@ use Rattle.camac_lang.specs.Scope.{is_well_formed}
 use Rattle.camac_lang.specs.Tree.{Script}
 use Rattle.camac_branch.specs.Branch.{Branch}
 use Rattle.camac_branch.specs.Crates.{branch_of}
-use Rattle.camac_check_result.specs.Checked.{CheckedScript, IsChecked}
+use Rattle.camac_checked.specs.Checked.{CheckedScript, IsChecked}
 use Rattle.camac_lang.specs.Fits.{fits}
 use Rattle.camac_model.specs.Meaning.{context}
 use Rattle.camac_model.specs.Run.{rounds}
-use Rattle.camac_run_machine.specs.MachineState.{context_in}
-use Rattle.camac_run_machine.specs.Rest.{onward}
+use Rattle.camac_machine.specs.MachineState.{context_in}
+use Rattle.camac_machine.specs.Rest.{onward}
 use Rattle.camac_run.proofs.Sizes.{machine_fits}
 use Rattle.camac_run.proofs.Serving.{starts}
 use Rattle.camac_run.proofs.runner.Runner.start.Goals as goal

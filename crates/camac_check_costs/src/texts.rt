@@ -1,0 +1,323 @@
+// The lines of `camac costs`.
+
+ghost use Rattle.std.specs.Prelude.{◌≡◌, ◌≤◌, ◌<◌, ◌+◌, ◌||◌, ◌++◌, [], codes, is_err, length, map, option_map, slice_get, unwrap_or};
+ghost use Rattle.std.specs.List.{flat_map};
+ghost use Rattle.camac_lang.specs.View.{lam_of, procedure_of, service_of};
+ghost use Rattle.camac_check_costs.specs.Texts.{address_after, body_text, costs_text, detail_text, head_text, kind_word, procedure_line, procedure_name, range_text, region_text, row_start, row_text, service_line, service_text, window_text};
+ghost use Rattle.camac_rules.specs.Windows.{window_of};
+ghost use Rattle.camac_word.specs.Watched.{inner_of, has_failed};
+ghost use Rattle.camac_word.specs.Writing.{Writes};
+
+use crate::bodies::{BodyCosts, Owner};
+use camac_check::Checked;
+use camac_check_known::{Costs, Region};
+use camac_check_rows::{Detail, Kind, Row};
+use camac_lang::{Lam, Procedure, Service};
+use camac_lines::Line;
+use camac_range::Range;
+use camac_word::{GlBit, Watched, WriteFault};
+use std::io::Write;
+
+/// Writes the costs of bodies of a script: a line of each body, with each of its numbers beside that of its heading, and after it a line for
+/// each of its statements. After a write fault a prefix of this was written.
+pub fn write_costs<W: Write>(
+    out: &mut Watched<W>,
+    checked: &Checked,
+    bodies: &[BodyCosts],
+) -> Result<(), WriteFault>
+    ensures text { Writes (W.contents (inner_of out.old)) (W.contents (inner_of out.new)) result (costs_text checked.now.plan checked.now.script bodies.now) }
+    ensures failed { has_failed out.new ≡ (has_failed out.old || is_err result) }
+{
+    'bodies: for body in bodies {
+        write_body(out, checked, body)?;
+    }
+    Ok(())
+}
+
+fn write_body<W: Write>(
+    out: &mut Watched<W>,
+    checked: &Checked,
+    body: &BodyCosts,
+) -> Result<(), WriteFault>
+    ensures text { Writes (W.contents (inner_of out.old)) (W.contents (inner_of out.new)) result (body_text checked.now.plan checked.now.script body.now) }
+    ensures failed { has_failed out.new ≡ (has_failed out.old || is_err result) }
+{
+    let head = line_of_body(checked, body.owner(), body.costs());
+    out.write_text(head.as_bytes())?;
+    write_rows(out, checked.script().procedures(), body.rows())
+}
+
+fn write_rows<W: Write>(
+    out: &mut Watched<W>,
+    procedures: &[Procedure],
+    rows: &[Row],
+) -> Result<(), WriteFault>
+    ensures text { Writes (W.contents (inner_of out.old)) (W.contents (inner_of out.new)) result (flat_map (row_text (map procedure_of procedures.now)) rows.now) }
+    ensures failed { has_failed out.new ≡ (has_failed out.old || is_err result) }
+{
+    'rows: for row in rows {
+        write_row(out, procedures, row)?;
+    }
+    Ok(())
+}
+
+fn write_row<W: Write>(
+    out: &mut Watched<W>,
+    procedures: &[Procedure],
+    row: &Row,
+) -> Result<(), WriteFault>
+    ensures text { Writes (W.contents (inner_of out.old)) (W.contents (inner_of out.new)) result (row_text (map procedure_of procedures.now) row.now) }
+    ensures failed { has_failed out.new ≡ (has_failed out.old || is_err result) }
+{
+    out.write_text(start_of_row(row).as_bytes())?;
+    out.write_text(end_of_row(procedures, row.detail).as_bytes())
+}
+
+fn start_of_row(row: &Row) -> Line
+    ensures { result ≡ row_start row.now }
+{
+    let mut line = Line::new();
+    line.push_str("line ");
+    line.push_number(row.line);
+    line.push_str(" depth ");
+    line.push_number(row.depth);
+    line.push_str(" ");
+    line.push_str(kind_word(row.kind));
+    line.push_str(" times ");
+    line.push_number(row.times);
+    line.push_str(" cycles ");
+    line.push_number(row.each.cycles());
+    line.push_str(" words ");
+    line.push_number(row.each.words());
+    line.push_str(" steps ");
+    line.push_number(row.each.steps());
+    line.push_str(" share ");
+    line.push_number(row.share.cycles());
+    line.push_str(" ");
+    line.push_number(row.share.words());
+    line.push_str(" ");
+    line.push_number(row.share.steps());
+    line
+}
+
+fn end_of_row(procedures: &[Procedure], detail: Detail) -> Line
+    ensures { result ≡ detail_text (map procedure_of procedures.now) detail ++ codes "\n" }
+{
+    let mut line = Line::new();
+    match detail {
+        Detail::Nothing => {}
+        Detail::At(region) => push_region(&mut line, region),
+        Detail::Turns(turns) => {
+            line.push_str(" turns ");
+            line.push_number(turns);
+        }
+        Detail::Between(first, last) => push_window(&mut line, first, last),
+        Detail::Crates(crates) => {
+            line.push_str(" crate ");
+            push_range(&mut line, crates);
+        }
+        Detail::Procedure(number) => {
+            line.push_str(" proc ");
+            line.push_bytes(name_of(procedures, number));
+        }
+    }
+    line.push_str("\n");
+    line
+}
+
+fn push_region(line: &mut Line, region: Region)
+    requires { length line.old ≤ 100 }
+    ensures text { line.new ≡ line.old ++ region_text region }
+    ensures len { length line.new ≤ length line.old + 72 }
+{
+    line.push_str(" at ");
+    push_range(line, region.crates());
+    line.push_str(" ");
+    push_range(line, region.stations());
+    line.push_str(" ");
+    push_range(line, region.sub_addresses());
+}
+
+// The window of a scan between the addresses of two registers.
+fn push_window(line: &mut Line, first: Region, last: Region)
+    requires { length line.old ≤ 100 }
+    ensures text { line.new ≡ line.old ++ window_text (window_of first last) }
+    ensures len { length line.new ≤ length line.old + 72 }
+{
+    let from = first.crates().lo();
+    push_address(
+        line,
+        " at ",
+        from,
+        first.stations().lo(),
+        first.sub_addresses().lo(),
+    );
+    let to = last.sub_addresses().hi().min(15);
+    push_address(line, " to ", from, last.stations().hi(), to);
+}
+
+// An address after a word.
+fn push_address(line: &mut Line, word: &str, c: u32, n: u32, a: u32)
+    requires room { length line.old ≤ 140 }
+    requires word { length word.now ≤ 4 }
+    ensures text { line.new ≡ line.old ++ address_after word.now c n a }
+    ensures len { length line.new ≤ length line.old + 36 }
+{
+    line.push_str(word);
+    line.push_number(c);
+    line.push_str(" ");
+    line.push_number(n);
+    line.push_str(" ");
+    line.push_number(a);
+}
+
+/// Puts one number, or the first and the last of several, at the end.
+pub fn push_range(line: &mut Line, range: Range)
+    requires { length line.old ≤ 200 }
+    ensures text { line.new ≡ line.old ++ range_text range }
+    ensures len { length line.new ≤ length line.old + 22 }
+{
+    line.push_number(range.lo());
+    if range.lo() != range.hi() {
+        line.push_str("..");
+        line.push_number(range.hi());
+    }
+}
+
+// The name of a procedure by its number, nothing where there is none.
+fn name_of(procedures: &[Procedure], number: usize) -> &[u8]
+    ensures name { result.now ≡ procedure_name (map procedure_of procedures.now) number }
+    ensures short { length result.now ≤ 32 }
+{
+    match procedures.get(number) {
+        Some(procedure) => procedure.name.as_bytes(),
+        None => &[],
+    }
+}
+
+// The word of a statement.
+fn kind_word(kind: Kind) -> &'static str
+    ensures word { result.now ≡ kind_word kind }
+    ensures short { length result.now ≤ 5 }
+{
+    match kind {
+        Kind::Assign => "=",
+        Kind::Cdreg => "cdreg",
+        Kind::Put => "put",
+        Kind::Cfsa => "cfsa",
+        Kind::Cssa => "cssa",
+        Kind::Cfmad => "cfmad",
+        Kind::Cfubc => "cfubc",
+        Kind::Cfubr => "cfubr",
+        Kind::Cccz => "cccz",
+        Kind::Cccc => "cccc",
+        Kind::Ccci => "ccci",
+        Kind::Ctci => "ctci",
+        Kind::Cccd => "cccd",
+        Kind::Ctcd => "ctcd",
+        Kind::Ctgl => "ctgl",
+        Kind::Cclm => "cclm",
+        Kind::Cclc => "cclc",
+        Kind::Ctlm => "ctlm",
+        Kind::If => "if",
+        Kind::Else => "else",
+        Kind::For => "for",
+        Kind::While => "while",
+        Kind::Lock => "lock",
+        Kind::Call => "call",
+    }
+}
+
+// The line of a body, nothing where the script has none of this number.
+fn line_of_body(checked: &Checked, owner: Owner, costs: Costs) -> Line
+    ensures { result ≡ head_text checked.now.plan checked.now.script owner costs }
+{
+    match owner {
+        Owner::Procedure(number) => line_of_procedure(checked.script().procedures(), number, costs),
+        Owner::Service(number) => line_of_service(checked, number, costs),
+    }
+}
+
+fn line_of_procedure(procedures: &[Procedure], number: usize, costs: Costs) -> Line
+    ensures { result ≡ unwrap_or (option_map (λ p. procedure_line p costs) (slice_get (map procedure_of procedures.now) number)) [] }
+{
+    match procedures.get(number) {
+        Some(procedure) => procedure_line(procedure, costs),
+        None => Line::new(),
+    }
+}
+
+fn line_of_service(checked: &Checked, number: usize, costs: Costs) -> Line
+    ensures { result ≡ unwrap_or (option_map (λ v. service_text checked.now.plan checked.now.script.lams v costs) (slice_get checked.now.script.services number)) [] }
+{
+    let script = checked.script();
+    match script.services().get(number) {
+        Some(service) => line_of_lam(script.lams(), checked.gl(number), service, costs),
+        None => Line::new(),
+    }
+}
+
+// Nothing where there is no such LAM.
+fn line_of_lam(lams: &[Lam], bit: GlBit, service: &Service, costs: Costs) -> Line
+    ensures { result ≡ unwrap_or (option_map (λ l. service_line l bit (service_of service.now) costs) (slice_get (map lam_of lams.now) service.now.lam)) [] }
+{
+    match lams.get(service.lam) {
+        Some(lam) => service_line(lam, bit, service, costs),
+        None => Line::new(),
+    }
+}
+
+fn service_line(lam: &Lam, bit: GlBit, service: &Service, costs: Costs) -> Line
+    ensures { result ≡ service_line (lam_of lam.now) bit (service_of service.now) costs }
+{
+    let mut line = Line::new();
+    line.push_str("service ");
+    line.push_bytes(lam.name.as_bytes());
+    line.push_str(" line ");
+    line.push_number(service.line);
+    line.push_str(" gl ");
+    line.push_number(bit.get());
+    push_address(
+        &mut line,
+        " at ",
+        lam.crate_no,
+        lam.station,
+        lam.sub_address.get(),
+    );
+    line.push_str(" cycles ");
+    line.push_number(costs.cycles());
+    line.push_str(" of ");
+    line.push_number(service.cycles);
+    line.push_str(" words ");
+    line.push_number(costs.words());
+    line.push_str(" of ");
+    line.push_number(service.words);
+    line.push_str(" steps ");
+    line.push_number(costs.steps());
+    line.push_str("\n");
+    line
+}
+
+fn procedure_line(procedure: &Procedure, costs: Costs) -> Line
+    ensures { result ≡ procedure_line (procedure_of procedure.now) costs }
+{
+    let mut line = Line::new();
+    line.push_str("proc ");
+    line.push_bytes(procedure.name.as_bytes());
+    line.push_str(" line ");
+    line.push_number(procedure.line);
+    line.push_str(" cycles ");
+    line.push_number(costs.cycles());
+    line.push_str(" of ");
+    line.push_number(procedure.cycles);
+    line.push_str(" words ");
+    line.push_number(costs.words());
+    line.push_str(" of ");
+    line.push_number(procedure.words);
+    line.push_str(" steps ");
+    line.push_number(costs.steps());
+    line.push_str(" of ");
+    line.push_number(procedure.steps);
+    line.push_str("\n");
+    line
+}

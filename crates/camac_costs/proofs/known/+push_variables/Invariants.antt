@@ -1,5 +1,0 @@
-use Rattle.std.proofs.Common.{length}
-use Rattle.camac_costs.proofs.known.+push_variables.Given as goal
-
-abbrev pub decreases-push_variables : goal.decreases-push_variables
-decreases-push_variables l = length l.names.now

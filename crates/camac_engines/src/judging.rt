@@ -1,0 +1,101 @@
+// The judgement on a plan and a script: the script's text, then its links to the plan, then the checker's rules.
+
+ghost use Rattle.std.specs.Prelude.{◌≡◌, ◌||◌, IfOk, IfErr};
+ghost use Rattle.camac_names.specs.Link.{link_fault};
+ghost use Rattle.camac_rules.specs.Accept.{accept};
+ghost use Rattle.camac_engines.specs.Accepted.{Accepts, accepted, accepted_linked, accepted_checked};
+ghost use Rattle.camac_engines.specs.Engine.{Judges};
+ghost use Rattle.camac_engines.specs.Found.{JudgesOn, ReadsJudged};
+ghost use Rattle.camac_engines.specs.Plan.{plan_failed};
+ghost use Rattle.camac_engines.specs.Reading.{is_read_fault};
+ghost use Rattle.camac_engines.specs.Report.{report, report_linked, report_accepted};
+ghost use Rattle.camac_word.specs.Watched.{inner_of, has_failed};
+
+use crate::fault::ToolFault;
+use crate::plan::{PlanSource, read_plan};
+use crate::reading::{TEXT_LIMIT, read_whole};
+use camac_branch::Plan;
+use camac_check::{CheckFault, Checked, check};
+use camac_explain::Finding;
+use camac_lang::Script;
+use camac_names::{LinkFault, Linked, resolve};
+use camac_text::{TextFault, parse};
+use camac_word::Watched;
+use std::alloc::Global;
+use std::io::Read;
+
+/// What is found of a script.
+#[derive(Drop)]
+pub enum Judged {
+    Accepted(Checked),
+    Refused(Finding),
+}
+
+/// Reads and judges a plan, and then a script for it.
+pub fn read_judged<P: Read, S: Read>(
+    alloc: Global,
+    plan: &mut PlanSource<P>,
+    script: &mut Watched<S>,
+) -> Result<Judged, ToolFault>
+    ensures reads { ReadsJudged P.remaining plan.old plan.new (S.remaining (inner_of script.old)) (S.remaining (inner_of script.new)) result }
+    ensures failed { (plan_failed plan.new || has_failed script.new) ≡ ((plan_failed plan.old || has_failed script.old) || is_read_fault result) }
+{
+    let says = read_plan(alloc, plan)?;
+    match says {
+        Ok(plan) => judge_on(alloc, &plan, script),
+        Err(rule) => Ok(Judged::Refused(Finding::Plan(rule))),
+    }
+}
+
+fn judge_on<S: Read>(
+    alloc: Global,
+    plan: &Plan,
+    script: &mut Watched<S>,
+) -> Result<Judged, ToolFault>
+    ensures judges { JudgesOn plan.now (S.remaining (inner_of script.old)) (S.remaining (inner_of script.new)) result }
+    ensures failed { has_failed script.new ≡ (has_failed script.old || is_read_fault result) }
+{
+    let text = read_whole(alloc, script, TEXT_LIMIT)?;
+    judge(alloc, plan, &text)
+}
+
+/// Judges the text of a script for a plan.
+pub fn judge(alloc: Global, plan: &Plan, text: &[u8]) -> Result<Judged, ToolFault>
+    ensures report { Judges result (report plan.now text.now) }
+    ensures script { Accepts result plan.now (accepted plan.now text.now) }
+{
+    match parse(alloc, text) {
+        Ok(script) => judge_script(alloc, plan, script),
+        Err(TextFault::OutOfMemory) => Err(ToolFault::Memory),
+        Err(TextFault::Broken { case, line, left }) => {
+            let rule = case.rule();
+            Ok(Judged::Refused(Finding::Text { rule, line, left }))
+        }
+    }
+}
+
+fn judge_script(alloc: Global, plan: &Plan, script: Script) -> Result<Judged, ToolFault>
+    ensures report { Judges result (report_linked plan.now script (link_fault plan.now script)) }
+    ensures script { Accepts result plan.now (accepted_linked plan.now script (link_fault plan.now script)) }
+{
+    match resolve(alloc, script, plan) {
+        Ok(linked) => judge_linked(alloc, linked),
+        Err(LinkFault::OutOfMemory) => Err(ToolFault::Memory),
+        Err(LinkFault::Broken { rule, line, case }) => {
+            Ok(Judged::Refused(Finding::Link { rule, line, case }))
+        }
+    }
+}
+
+fn judge_linked(alloc: Global, linked: Linked) -> Result<Judged, ToolFault>
+    ensures report { Judges result (report_accepted linked.plan linked.script (accept linked.plan linked.script)) }
+    ensures script { Accepts result linked.plan (accepted_checked linked.script (accept linked.plan linked.script)) }
+{
+    match check(alloc, linked) {
+        Ok(checked) => Ok(Judged::Accepted(checked)),
+        Err(CheckFault::OutOfMemory) => Err(ToolFault::Memory),
+        Err(CheckFault::Broken { rule, line, case }) => {
+            Ok(Judged::Refused(Finding::Check { rule, line, case }))
+        }
+    }
+}

@@ -1,0 +1,47 @@
+// Reading a whole input.
+
+ghost use Rattle.std.specs.Prelude.{◌≡◌, ◌≤◌, ◌<◌, ◌+◌, ◌^◌, ◌||◌, IfOk, IsErrOf};
+ghost use Rattle.std.specs.Io.KnownBytes.{Consumes, IsAtEnd};
+ghost use Rattle.camac_word.specs.Watched.{inner_of, has_failed};
+ghost use Rattle.camac_engines.specs.Reading.{Reads, is_read_fault};
+
+use crate::fault::ToolFault;
+use camac_word::Watched;
+use std::alloc::Global;
+use std::io::Read;
+
+/// The greatest length of a plan and of a script, in bytes.
+pub const TEXT_LIMIT: usize = 1_048_576;
+
+/// The greatest length of an event file, in bytes.
+pub const EVENTS_LIMIT: usize = 16_777_216;
+
+/// How many bytes are asked for at a time.
+const CHUNK: usize = 65_536;
+
+/// All that the reader has left, where that is at most `limit` bytes. No more than one byte past
+/// the limit is taken.
+pub fn read_whole<R: Read>(
+    alloc: Global,
+    reader: &mut Watched<R>,
+    limit: usize,
+) -> Result<Vec<u8>, ToolFault>
+    requires { limit < 2 ^ 32 }
+    ensures bytes { Reads (R.remaining (inner_of reader.old)) (R.remaining (inner_of reader.new)) limit result }
+    ensures failed { has_failed reader.new ≡ (has_failed reader.old || is_read_fault result) }
+{
+    let mut bytes = Vec::new(alloc);
+    let mut chunk = [0; CHUNK];
+    while bytes.len() <= limit {
+        let room = CHUNK.min(limit + 1 - bytes.len());
+        let part = &mut chunk[..room];
+        let Ok(taken) = reader.read(part) else {
+            return Err(ToolFault::Read);
+        };
+        if taken == 0 {
+            return Ok(bytes);
+        }
+        bytes.extend_from_slice(&part[..taken])?;
+    }
+    Err(ToolFault::TooLong)
+}

@@ -1,0 +1,87 @@
+// The line of a dataway cycle over the bytes of a line, from a place on. The place stays at hand until the whole line is laid out, so that
+// the length of the line is set once.
+
+ghost use Rattle.std.specs.Prelude.{◌≡◌, ◌≤◌, ◌+◌, ◌++◌, length, take, codes, decimal};
+ghost use Rattle.camac_branch.specs.Address.{address};
+ghost use Rattle.camac_lines.specs.Cycles.{flag_text, move_text, cycle_start, cycle_text};
+
+use crate::bytes::{bytes_in, small_in, text_in};
+use crate::digits::hex_word;
+use camac_branch::{Command, CycleDone, Reply};
+use camac_func::DataMove;
+
+/// Lays out the line of a cycle, and returns the place after it.
+pub fn cycle_in(bytes: &mut [u8], start: usize, cycle: &CycleDone) -> usize
+    requires { start + 48 ≤ length bytes.old }
+    ensures written { take result bytes.new ≡ take start bytes.old ++ cycle_text (address cycle.now.command.c cycle.now.command.n cycle.now.command.a) cycle.now.command.f cycle.now.command.mv cycle.now.reply cycle.now.wait }
+    ensures end { result ≤ start + 48 }
+    ensures len { length bytes.new ≡ length bytes.old }
+{
+    let moved = command_in(bytes, start, &cycle.command);
+    let replied = move_in(bytes, moved, cycle.command.mv, cycle.reply);
+    let waited = text_in(bytes, replied, reply_bits(cycle.reply));
+    let number = text_in(bytes, waited, " wait ");
+    let end = small_in(bytes, number, cycle.wait);
+    text_in(bytes, end, "\n")
+}
+
+/// Lays out the line's beginning, the command alone, and returns the place after it.
+#[inline(always)]
+pub fn command_in(bytes: &mut [u8], start: usize, command: &Command) -> usize
+    requires { start + 22 ≤ length bytes.old }
+    ensures written { take result bytes.new ≡ take start bytes.old ++ cycle_start (address command.now.c command.now.n command.now.a) command.now.f }
+    ensures end { result ≤ start + 22 }
+    ensures len { length bytes.new ≡ length bytes.old }
+{
+    let c = text_in(bytes, start, "cycle ");
+    let n = spaced_in(bytes, c, command.c.get() as u8);
+    let a = spaced_in(bytes, n, command.n.get() as u8);
+    let f = spaced_in(bytes, a, command.a.get() as u8);
+    spaced_in(bytes, f, command.f.get() as u8)
+}
+
+// A number and a space.
+#[inline(always)]
+fn spaced_in(bytes: &mut [u8], start: usize, number: u8) -> usize
+    requires { start + 4 ≤ length bytes.old }
+    ensures written { take result bytes.new ≡ take start bytes.old ++ decimal number ++ codes " " }
+    ensures end { result ≤ start + 4 }
+    ensures len { length bytes.new ≡ length bytes.old }
+{
+    let end = small_in(bytes, start, number);
+    text_in(bytes, end, " ")
+}
+
+#[inline(always)]
+fn move_in(bytes: &mut [u8], start: usize, moves: DataMove, reply: Reply) -> usize
+    requires { start + 10 ≤ length bytes.old }
+    ensures written { take result bytes.new ≡ take start bytes.old ++ move_text moves reply }
+    ensures end { result ≤ start + 10 }
+    ensures len { length bytes.new ≡ length bytes.old }
+{
+    match moves {
+        DataMove::In => {
+            let word = text_in(bytes, start, "in ");
+            bytes_in(bytes, word, &hex_word(reply.word))
+        }
+        DataMove::Out(sent) => {
+            let word = text_in(bytes, start, "out ");
+            bytes_in(bytes, word, &hex_word(sent))
+        }
+        DataMove::None => text_in(bytes, start, "none"),
+    }
+}
+
+// The reply's X and Q.
+#[inline(always)]
+fn reply_bits(reply: Reply) -> &'static str
+    ensures text { result.now ≡ codes " x" ++ flag_text reply.x ++ codes " q" ++ flag_text reply.q }
+    ensures short { length result.now ≡ 6 }
+{
+    match (reply.x, reply.q) {
+        (false, false) => " x0 q0",
+        (false, true) => " x0 q1",
+        (true, false) => " x1 q0",
+        (true, true) => " x1 q1",
+    }
+}

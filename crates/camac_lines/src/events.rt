@@ -1,0 +1,193 @@
+// The lines of an event file.
+
+ghost use Rattle.std.specs.Prelude.{◌≡◌, ◌≤◌, ◌<◌, ◌+◌, ◌||◌, ◌++◌, length, is_err, codes, OnOk, Some};
+ghost use Rattle.std.specs.List.{flat_map};
+ghost use Rattle.camac_event.specs.Spelling.{entry_of};
+ghost use Rattle.camac_event.specs.Found.{entry_in};
+ghost use Rattle.camac_lines.specs.Events.{usage_text, start_text, word_text, event_line, last_line, events_text};
+ghost use Rattle.camac_lines.specs.Texts.{Puts};
+ghost use Rattle.camac_word.specs.Watched.{inner_of, has_failed};
+ghost use Rattle.camac_word.specs.Writing.{Writes};
+
+use crate::digits::{hex_word, spaced};
+use crate::line::{LONGEST_LINE, Line};
+use camac_event::{Event, EventFile, EventRecord, EventWords, Events, Usage};
+use camac_word::{GlBit, Watched, Word24, WriteFault};
+use std::io::Write;
+
+/// Writes a list of events: of each a line of its number from 1, its GL bit, its usage in version Two, and its words; then a line of how
+/// many there are. After a write fault a prefix of this was written.
+pub fn write_events<W: Write>(out: &mut Watched<W>, events: &Events) -> Result<(), WriteFault>
+    ensures text { Writes (W.contents (inner_of out.old)) (W.contents (inner_of out.new)) result (events_text events.now.events) }
+    ensures failed { has_failed out.new ≡ (has_failed out.old || is_err result) }
+{
+    'events: for i in 0..events.len() {
+        write_event(out, i + 1, events.get(i).unwrap())?;
+    }
+    out.write_text(line_of_number(events.len()).as_bytes())
+}
+
+/// Writes the events of a file as `write_events` writes those of a list, and takes no memory.
+pub fn write_event_file<W: Write>(
+    out: &mut Watched<W>,
+    file: &EventFile<'_>,
+) -> Result<(), WriteFault>
+    ensures text { Writes (W.contents (inner_of out.old)) (W.contents (inner_of out.new)) result (events_text file.now.events) }
+    ensures failed { has_failed out.new ≡ (has_failed out.old || is_err result) }
+{
+    let mut line = Line::new();
+    let mut records = file.records();
+    'records: while let Some(record) = records.next() {
+        put_record(out, &mut line, &record)?;
+    }
+    push_last(&mut line, records.read());
+    out.write_text(line.as_bytes())
+}
+
+fn write_event<W: Write>(
+    out: &mut Watched<W>,
+    number: usize,
+    event: &Event,
+) -> Result<(), WriteFault>
+    ensures text { Writes (W.contents (inner_of out.old)) (W.contents (inner_of out.new)) result (event_line number (entry_of event.now)) }
+    ensures failed { has_failed out.new ≡ (has_failed out.old || is_err result) }
+{
+    let mut line = Line::new();
+    push_start(&mut line, number, event.gl, event.usage, event.words.len());
+    write_words(out, &mut line, &event.words)
+}
+
+// Puts the line of an event after what is laid out and not written yet.
+fn put_record<W: Write>(
+    out: &mut Watched<W>,
+    line: &mut Line,
+    record: &EventRecord<'_>,
+) -> Result<(), WriteFault>
+    requires { length line.old ≤ FULL }
+    ensures text { Puts (W.contents (inner_of out.old)) (W.contents (inner_of out.new)) result (line.old ++ event_line record.now.number (entry_in record.now)) line.new }
+    ensures room { OnOk result (length line.new ≤ FULL) }
+    ensures failed { has_failed out.new ≡ (has_failed out.old || is_err result) }
+{
+    push_start(
+        line,
+        record.number,
+        record.gl,
+        record.usage,
+        record.words.len(),
+    );
+    put_file_words(out, line, &record.words)?;
+    make_room(out, line)
+}
+
+// Writes what is laid out where the line of another event may not fit after it.
+fn make_room<W: Write>(out: &mut Watched<W>, line: &mut Line) -> Result<(), WriteFault>
+    ensures text { Puts (W.contents (inner_of out.old)) (W.contents (inner_of out.new)) result line.old line.new }
+    ensures room { OnOk result (length line.new ≤ FULL) }
+    ensures failed { has_failed out.new ≡ (has_failed out.old || is_err result) }
+{
+    if line.len() <= FULL {
+        return Ok(());
+    }
+    out.write_text(line.as_bytes())?;
+    line.clear();
+    Ok(())
+}
+
+/// Puts the line up to the words, of which `words` is the number.
+fn push_start(line: &mut Line, number: usize, gl: GlBit, usage: Option<Usage>, words: usize)
+    requires { length line.old ≤ FULL }
+    ensures text { line.new ≡ line.old ++ start_text number gl usage words }
+    ensures short { length line.new ≤ length line.old + 100 }
+{
+    line.push_str("event ");
+    line.push_count(number);
+    line.push_str(" gl ");
+    line.push_small(gl.get() as u8);
+    if let Some(usage) = usage {
+        push_usage(line, usage);
+    }
+    line.push_str(" words ");
+    line.push_count(words);
+}
+
+fn push_usage(line: &mut Line, usage: Usage)
+    requires { length line.old ≤ 200 }
+    ensures bytes { line.new ≡ line.old ++ usage_text (Some usage) }
+    ensures len { length line.new ≤ length line.old + 31 }
+{
+    line.push_str(" cycles ");
+    line.push_number(usage.cycles);
+    line.push_str(" missed ");
+    line.push_number(usage.missed);
+}
+
+// Writes the line, and the words and an LF after it, in as few pieces as there is room for.
+fn write_words<W: Write>(
+    out: &mut Watched<W>,
+    line: &mut Line,
+    words: &[Word24],
+) -> Result<(), WriteFault>
+    requires room { length line.old < LONGEST_LINE }
+    ensures text { Writes (W.contents (inner_of out.old)) (W.contents (inner_of out.new)) result (line.old ++ flat_map word_text words.now ++ codes "\n") }
+    ensures failed { has_failed out.new ≡ (has_failed out.old || is_err result) }
+{
+    'words: for word in words {
+        if line.len() >= LAST_WORD {
+            out.write_text(line.as_bytes())?;
+            line.clear();
+        }
+        line.push_bytes(&spaced(hex_word(*word)));
+    }
+    line.push_str("\n");
+    out.write_text(line.as_bytes())
+}
+
+// Puts the words of a file and an LF after what is laid out. Where there is no more room, that is written.
+fn put_file_words<W: Write>(
+    out: &mut Watched<W>,
+    line: &mut Line,
+    words: &EventWords<'_>,
+) -> Result<(), WriteFault>
+    requires { length line.old < LAST_WORD }
+    ensures text { Puts (W.contents (inner_of out.old)) (W.contents (inner_of out.new)) result (line.old ++ flat_map word_text words.now ++ codes "\n") line.new }
+    ensures failed { has_failed out.new ≡ (has_failed out.old || is_err result) }
+{
+    let mut first = 0;
+    let mut room = (LONGEST_LINE - 1 - line.len()) / 7;
+    'pieces: while words.len() - first > room {
+        line.push_words(words, first, first + room);
+        out.write_text(line.as_bytes())?;
+        line.clear();
+        first += room;
+        room = MOST_WORDS;
+    }
+    line.push_words(words, first, words.len());
+    line.push_str("\n");
+    Ok(())
+}
+
+/// How many words a line has room for beside an LF.
+const MOST_WORDS: usize = (LONGEST_LINE - 1) / 7;
+
+/// Where a line has no more room for a word and an LF.
+const LAST_WORD: usize = LONGEST_LINE - 7;
+
+/// The greatest length after which a line has room for the numbers of another event.
+const FULL: usize = LONGEST_LINE - 116;
+
+fn line_of_number(events: usize) -> Line
+    ensures { result ≡ last_line events }
+{
+    let mut line = Line::new();
+    push_last(&mut line, events);
+    line
+}
+
+fn push_last(line: &mut Line, events: usize)
+    requires { length line.old ≤ FULL }
+    ensures { line.new ≡ line.old ++ last_line events }
+{
+    line.push_str("events ");
+    line.push_count(events);
+    line.push_str("\n");
+}

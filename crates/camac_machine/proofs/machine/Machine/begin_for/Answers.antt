@@ -1,0 +1,66 @@
+use Rattle.std.proofs.Common.{◌-◌, suc, [], sym}
+use Rattle.std.specs.Prelude.{None}
+use Rattle.camac_lang.specs.Tree.{for_}
+use Rattle.camac_lang.specs.View.{expression_of, statements_of}
+use Rattle.camac_model.specs.Fine.{most_turns}
+use Rattle.camac_model.specs.Meaning.{effect, for_turns, block_meaning}
+use Rattle.camac_model.specs.Value.{value}
+use Rattle.camac_machine.specs.MachineState.{variables_here}
+use Rattle.camac_machine.proofs.Actions.{has_value, known}
+use Rattle.camac_machine.proofs.Loops.{fine_as, advances_as, unchanged, count_goes, count_none}
+use Rattle.camac_machine.proofs.machine.Machine.begin_for.Goals as goal
+
+pub value_of-first-requires : goal.value_of-first-requires
+value_of-first-requires g c =
+    (search, (c.requires.room, (c.requires.from, has_value c.args.self.now (expression_of c.args.from.now) _ (c.requires.fine []))))
+
+pub value_of-last-requires : goal.value_of-last-requires
+value_of-last-requires g c =
+    let h = c.args.self.now in
+    let has = has_value h (expression_of c.args.to.now) _
+    (known h (value (expression_of c.args.from.now) (variables_here h)) c.value_of-first.result _ [] c.value_of-first.ensures (c.requires.fine [])) in
+    (search, (c.requires.room, (c.requires.to, has)))
+
+pub turn-requires : goal.turn-requires
+turn-requires g c =
+    let h = c.args.self.now in
+    let x = c.args.variable in
+    let e1 = expression_of c.args.from.now in
+    let e2 = expression_of c.args.to.now in
+    let b = statements_of c.args.body.now in
+    let v = c.value_of-first.result in
+    let w = c.value_of-last.result in (
+      search,
+      (
+        c.requires.room,
+        (
+          c.requires.variable,
+          (
+            c.requires.body,
+            fine_as h (λ k. effect k most_turns (for_ 0 x e1 e2 [] b)) (λ k. for_turns (suc (w - v)) 65535 x v w (block_meaning k most_turns b))
+                (count_goes h x e1 e2 b v w c.value_of-first.ensures c.value_of-last.ensures c.if-first-last.true) c.requires.fine,
+          ),
+        ),
+      ),
+    )
+
+pub returns-then-first-last : goal.returns-then-first-last
+returns-then-first-last g c =
+    let h = c.args.self.now in
+    let x = c.args.variable in
+    let e1 = expression_of c.args.from.now in
+    let e2 = expression_of c.args.to.now in
+    let b = statements_of c.args.body.now in
+    let v = c.value_of-first.result in
+    let w = c.value_of-last.result in
+    advances_as h (λ k. for_turns (suc (w - v)) 65535 x v w (block_meaning k most_turns b)) (λ k. effect k most_turns (for_ 0 x e1 e2 [] b)) None c.turn.new.self
+    (λ answers. sym (count_goes h x e1 e2 b v w c.value_of-first.ensures c.value_of-last.ensures c.if-first-last.true answers)) c.turn.ensures
+
+pub returns-else-first-last : goal.returns-else-first-last
+returns-else-first-last g c =
+    let h = c.args.self.now in
+    let x = c.args.variable in
+    let e1 = expression_of c.args.from.now in
+    let e2 = expression_of c.args.to.now in
+    let b = statements_of c.args.body.now in
+    unchanged h (λ k. effect k most_turns (for_ 0 x e1 e2 [] b)) (count_none h x e1 e2 b c.value_of-first.result c.value_of-last.result c.value_of-first.ensures c.value_of-last.ensures c.if-first-last.false) c.requires.room

@@ -1,0 +1,52 @@
+use Rattle.std.proofs.Common.{[], Some, None, set, ap, sym, ◌∙◌, refl, arith, ◌+◌}
+use Rattle.std.proofs.lemmas.List.{append-nil}
+use Rattle.camac_lang.specs.View.{expression_of}
+use Rattle.camac_branch.specs.Address.{address}
+use Rattle.camac_model.specs.Value.{value}
+use Rattle.camac_machine.specs.MachineState.{context_in, variables_here, state_of}
+use Rattle.camac_machine.specs.Rest.{rest_in}
+use Rattle.camac_machine.specs.Store.{registers_in, held_at}
+use Rattle.camac_machine.proofs.Actions.{has_value, known, register_goes}
+use Rattle.camac_machine.proofs.Scopes.{held_set, opens_register, room_register}
+use Rattle.camac_machine.proofs.machine.Machine.set_register.Goals as goal
+
+pub value_of-c-requires : goal.value_of-c-requires
+value_of-c-requires g c =
+    (search, (c.requires.room, (c.requires.crate_no, has_value c.args.self.now (expression_of c.args.crate_no.now) _ (c.requires.fine []))))
+
+pub value_of-n-requires : goal.value_of-n-requires
+value_of-n-requires g c =
+    let h = c.args.self.now in
+    let has = has_value h (expression_of c.args.station.now) _
+    (known h (value (expression_of c.args.crate_no.now) (variables_here h)) c.value_of-c.result _ [] c.value_of-c.ensures (c.requires.fine [])) in
+    (search, (c.requires.room, (c.requires.station, has)))
+
+pub value_of-a-requires : goal.value_of-a-requires
+value_of-a-requires g c =
+    let h = c.args.self.now in
+    let has = has_value h (expression_of c.args.sub_address.now) _
+    (known h (value (expression_of c.args.station.now) (variables_here h)) c.value_of-n.result _ [] c.value_of-n.ensures
+    (known h (value (expression_of c.args.crate_no.now) (variables_here h)) c.value_of-c.result _ [] c.value_of-c.ensures (c.requires.fine []))) in
+    (search, (c.requires.room, (c.requires.sub_address, has)))
+
+pub returns : goal.returns
+returns g c =
+    let h = c.args.self.now in
+    let r = c.args.register in
+    let at = Some (address c.value_of-c.result c.value_of-n.result c.value_of-a.result) in
+    let rs = set h.registers (h.scope.registers.start + r) at in
+    let few = c.requires.room.scope.more_registers in
+    rw c.set_in.ensures (record {
+      room = room_register h r at c.requires.room;
+      checked = refl;
+      service = refl;
+      awaits = tt;
+      pace = omega arith;
+      released = [];
+      unlocks = sym (append-nil h.unlocks.items);
+      goes = λ answers.
+          ap (λ os. rest_in (context_in h.checked.now) os (state_of (record h { registers = rs }) answers)) (sym (opens_register h r at c.requires.room))
+          ∙ register_goes h r (expression_of c.args.crate_no.now) (expression_of c.args.station.now) (expression_of c.args.sub_address.now) c.value_of-c.result c.value_of-n.result c.value_of-a.result c.value_of-c.ensures c.value_of-n.ensures c.value_of-a.ensures (registers_in (held_at h.scope.registers rs))
+          (held_set None h.scope.registers h.registers r at c.requires.register (omega (arith, few, c.requires.room.registers)))
+          answers;
+    })

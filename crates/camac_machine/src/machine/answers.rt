@@ -1,0 +1,212 @@
+// What an answer does: the cycle or the lock that it is for.
+
+ghost use Rattle.std.specs.Prelude.{◌≡◌, ◌+◌, ◌*◌, ◌-◌, ◌<◌, ◌≤◌, [], List, length, true, false, None, Some, IsSome, IfOk, IfErr, OnErr, IfSome, IsSomeAnd, slice_set, ◌^◌, ◌%◌};
+ghost use Rattle.camac_branch.specs.Branch.{Answer};
+ghost use Rattle.camac_branch.specs.Crates.{branch_of, is_permitted};
+ghost use Rattle.camac_branch.specs.Plan.{crate_waits};
+ghost use Rattle.camac_lang.specs.Tree.{done};
+ghost use Rattle.camac_model.specs.State.{missed_with};
+ghost use Rattle.camac_machine.specs.MachineState.{reach, stands, IsFineHere, FineThen, HasRoom, IsPending, CanFollow, IsOf, StandsIn, pending_of, after_pending, Makes, TakesLock, IsRefused, Proceeds, Settles, Takes, Overruns};
+
+use crate::command::command;
+use crate::item::Item;
+use crate::machine::{Frame, Machine, Owner, Pending};
+use camac_branch::{Answer, Command, CycleDone, Overrun, cycle, lock};
+use camac_lang::Stmt;
+use camac_word::{CrateNo, Word24};
+
+// One more cycle with this X; the number stays at 65,535 (own).
+fn missed_with(x: bool, missed: u16) -> u16
+    ensures { result ≡ missed_with x missed }
+{
+    if x { missed } else { missed.saturating_add(1) }
+}
+
+// Keeps so many bits of a word in a variable.
+fn keep(variables: &mut [u32], variable: usize, bits: u32, word: Word24)
+    requires variable { variable < length variables.old }
+    requires bits { bits ≤ 24 }
+    ensures { variables.new ≡ slice_set variables.old variable (word % 2 ^ bits) }
+{
+    variables[variable] = word.get() % (1 << bits);
+}
+
+// The word that came in.
+pub fn word_of(done: &CycleDone) -> Word24
+    ensures { result ≡ done.now.reply.word }
+{
+    done.reply.word
+}
+
+impl<'a, const V: usize, const DEPTH: usize, const CAP: usize> Machine<'a, V, DEPTH, CAP> {
+    // Makes a cycle with this answer, and sets the flags and the counts.
+    #[inline(always)]
+    pub(crate) fn make(&mut self, command: Command, answer: Answer) -> Result<CycleDone, Overrun>
+        requires room { HasRoom self.old }
+        requires in_plan { IsSome (crate_waits self.old.checked.now.plan command.c) }
+        requires few { is_permitted self.old.checked.now.plan (branch_of self.old.branch) command.c answer.wait ≡ true → self.old.cost + (1 + answer.wait) < 2 ^ 32 }
+        ensures made { IfOk result (λ d. Makes self.old command answer d self.new) }
+        ensures overrun { IfErr result (λ o. IsRefused self.old command.c answer o) }
+        ensures same { OnErr result (self.new ≡ self.old) }
+    {
+        let done = cycle(&mut self.branch, self.checked.plan(), command, answer)?;
+        self.q = done.reply.q;
+        self.x = done.reply.x;
+        self.cost += 1 + u32::from(done.wait);
+        self.missed = missed_with(done.reply.x, self.missed);
+        Ok(done)
+    }
+
+    // Locks auxiliary controllers out of a crate with this answer, and counts its wait.
+    pub(crate) fn lock(&mut self, crate_no: CrateNo, answer: Answer) -> Result<u8, Overrun>
+        requires in_plan { IsSome (crate_waits self.old.checked.now.plan crate_no) }
+        requires is_free { (branch_of self.old.branch crate_no).locked ≡ false }
+        requires few { is_permitted self.old.checked.now.plan (branch_of self.old.branch) crate_no answer.wait ≡ true → self.old.cost + answer.wait < 2 ^ 32 }
+        ensures took { IfOk result (λ w. TakesLock self.old crate_no answer w self.new) }
+        ensures overrun { IfErr result (λ o. IsRefused self.old crate_no answer o) }
+        ensures same { OnErr result (self.new ≡ self.old) }
+    {
+        let wait = lock(&mut self.branch, self.checked.plan(), crate_no, answer)?;
+        self.cost += u32::from(wait);
+        Ok(wait)
+    }
+
+    // Makes a cycle that keeps no word.
+    #[inline(always)]
+    pub(crate) fn take_cycle(&mut self, command: Command, answer: Answer) -> Result<Item, Overrun>
+        requires room { HasRoom self.old }
+        requires pending { IsPending self.old (Pending.Cycle command) }
+        requires fine { (answers : List Answer) → IsFineHere self.old (stands (Some (Pending.Cycle command)) self.old answers) }
+        ensures took { IfOk result (λ used. Takes self.old (Pending.Cycle command) answer used self.new) }
+        ensures overrun { IfErr result (λ o. Overruns self.old (Pending.Cycle command) answer o) }
+        ensures same { OnErr result (self.new ≡ self.old) }
+    {
+        let done = self.make(command, answer)?;
+        Ok(Item::Cycle(done))
+    }
+
+    // Makes a cycle of which a variable keeps so many bits of the word.
+    #[inline(always)]
+    pub(crate) fn take_read(
+        &mut self,
+        command: Command,
+        variable: usize,
+        bits: u32,
+        answer: Answer,
+    ) -> Result<Item, Overrun>
+        requires room { HasRoom self.old }
+        requires pending { IsPending self.old (Pending.Read command variable bits) }
+        requires fine { (answers : List Answer) → IsFineHere self.old (stands (Some (Pending.Read command variable bits)) self.old answers) }
+        ensures took { IfOk result (λ used. Takes self.old (Pending.Read command variable bits) answer used self.new) }
+        ensures overrun { IfErr result (λ o. Overruns self.old (Pending.Read command variable bits) answer o) }
+        ensures same { OnErr result (self.new ≡ self.old) }
+    {
+        let done = self.make(command, answer)?;
+        let place = self.scope.variables.start + variable;
+        keep(&mut self.variables, place, bits, word_of(&done));
+        Ok(Item::Cycle(done))
+    }
+
+    // Takes the lock of a crate, and opens its block.
+    #[inline(never)]
+    pub(crate) fn take_lock(
+        &mut self,
+        crate_no: CrateNo,
+        body: &'a [Stmt],
+        answer: Answer,
+    ) -> Result<Item, Overrun>
+        requires room { HasRoom self.old }
+        requires quiet { self.old.unlocks.items ≡ [] }
+        requires pending { IsPending self.old (Pending.Lock crate_no body) }
+        requires fine { (answers : List Answer) → IsFineHere self.old (stands (Some (Pending.Lock crate_no body)) self.old answers) }
+        ensures took { IfOk result (λ used. Takes self.old (Pending.Lock crate_no body.entry) answer used self.new) }
+        ensures overrun { IfErr result (λ o. Overruns self.old (Pending.Lock crate_no body.entry) answer o) }
+        ensures same { OnErr result (self.new ≡ self.old) }
+    {
+        let wait = self.lock(crate_no, answer)?;
+        self.frames.push(Frame {
+            rest: body,
+            owner: Owner::Locked(crate_no.get()),
+        });
+        Ok(Item::Lock(crate_no, wait))
+    }
+
+    /// Takes the answer that is wanted, and returns the item that it was used for. Where its wait is not permitted, it returns that wait, and
+    /// nothing changes.
+    #[inline(always)]
+    pub fn take(&mut self, pending: &Pending<'a>, answer: Answer) -> Result<Item, Overrun>
+        requires room { HasRoom self.old }
+        requires quiet { self.old.unlocks.items ≡ [] }
+        requires pending { IsPending self.old pending.now }
+        requires fine { (answers : List Answer) → IsFineHere self.old (stands (Some pending.now) self.old answers) }
+        ensures took { IfOk result (λ used. Takes self.old pending.now answer used self.new) }
+        ensures overrun { IfErr result (λ o. Overruns self.old pending.now answer o) }
+        ensures same { OnErr result (self.new ≡ self.old) }
+    {
+        match pending {
+            Pending::Cycle(command) => self.take_cycle(*command, answer),
+            Pending::Read {
+                command,
+                variable,
+                bits,
+            } => self.take_read(*command, *variable, *bits, answer),
+            Pending::Lock { crate_no, body } => self.take_lock(*crate_no, body, answer),
+            Pending::Transfer(transfer) => {
+                let done = self.make(transfer.command, answer)?;
+                self.put_read(transfer.table, &done);
+                self.steps += 1;
+                Ok(Item::Cycle(done))
+            }
+        }
+    }
+
+    /// Goes on after the answer that was wanted, until the next one is wanted, or the service is over: with the transfer that it was wanted for, or
+    /// else with the open blocks.
+    #[inline(always)]
+    pub fn go_further(&mut self, pending: &mut Option<Pending<'a>>)
+        requires room { HasRoom self.old }
+        requires quiet { self.old.unlocks.items ≡ [] }
+        requires follows { IfSome pending.old (CanFollow (reach self.old).variables) }
+        requires begun { IfSome pending.old (StandsIn self.old) }
+        requires fine { FineThen self.old (λ c. after_pending c pending.old) }
+        ensures { Settles self.old (λ c. after_pending c pending.old) pending.new self.new }
+    {
+        if !self.follow_transfer(pending) {
+            self.settle(pending);
+        }
+    }
+
+    // Goes on with the transfer that an answer was wanted for, if one was: to its next cycle, or else to its tally. Answers whether a cycle
+    // is wanted next.
+    #[inline(always)]
+    fn follow_transfer(&mut self, pending: &mut Option<Pending<'a>>) -> bool
+        requires room { HasRoom self.old }
+        requires follows { IfSome pending.old (CanFollow (reach self.old).variables) }
+        requires fine { FineThen self.old (λ c. after_pending c pending.old) }
+        ensures cycle { result ≡ true → IsSome pending.new × Proceeds self.old (λ c. after_pending c pending.old) pending.new self.new }
+        ensures tally { result ≡ false → Proceeds self.old (λ c. after_pending c pending.old) None self.new }
+        ensures same { result ≡ true → IsSomeAnd pending.old (λ w. IfSome pending.new (λ v. IsOf (pending_of w) (pending_of v))) }
+    {
+        match pending {
+            Some(Pending::Transfer(transfer)) => {
+                transfer.course.take(self.q);
+                match self.next_cycle(
+                    &transfer.course,
+                    transfer.command.f,
+                    transfer.table,
+                    transfer.tally,
+                ) {
+                    Some(command) => {
+                        transfer.command = command;
+                        true
+                    }
+                    None => false,
+                }
+            }
+            Some(Pending::Cycle(_)) => false,
+            Some(Pending::Read { .. }) => false,
+            Some(Pending::Lock { .. }) => false,
+            None => false,
+        }
+    }
+}

@@ -1,0 +1,129 @@
+use Rattle.std.proofs.Common.{◌≡◌, ℕ, None, Some, ◌∙◌, ◌+◌, refl, sym, ap, subst, arith, rules, inl, Ok, Err}
+use Rattle.std.proofs.lemmas.Result.{err_from_is_err_and}
+use Rattle.std.proofs.Math.Bool.{or-false}
+use Rattle.camac_run.specs.Runner.{last_words_in}
+use Rattle.camac_answer.specs.Answers.{window, IsOpen}
+use Rattle.camac_play.specs.Told.{asked_text, most_answers}
+use Rattle.camac_play.proofs.Fed.{starts, stops_asking, ends_here, faults_here, unread_here, overruns_here, goes_on, stops_here, same_number}
+use Rattle.camac_play.proofs.Given.{one_more, next_is, left_at}
+use Rattle.camac_play.proofs.Sending.{SendsPrefix-longer, SendsPrefix-after, Sends-trans, Sends-kept, listing_sent, listing_part, events_sent, events_part}
+use Rattle.camac_play.proofs.feeding.feed.Goals as goal
+
+pub answers-init : goal.answers-init
+answers-init g c = record {
+  fed = starts c.args.telling c.args.checked.now.plan c.args.checked.now.script _ _ c.start-runner.result c.start-runner.ensures.rest;
+  number = refl;
+  counted = c.start-runner.ensures.fed;
+  few = omega arith;
+  events = c.start-runner.ensures.events;
+  fits = omega arith;
+  first = c.start-runner.ensures.overrun;
+  out_flag = refl;
+  in_flag = refl;
+  gathers = refl;
+  same = refl;
+}
+
+pub returns-in_err-ask-clause-feeds : goal.returns-in_err-ask-clause-feeds
+returns-in_err-ask-clause-feeds g c =
+    let p = err_from_is_err_and c.from_residual.result c.from_residual.ensures.1 in
+    let q = c.in_err-ask.ensures.asks in
+    let i = c.answers.invariant in
+    inl (stops_asking c.args.telling c.args.checked.now.plan c.args.checked.now.script _ _ _ _ c.answers.runner c.answers.count i.fed q.0 q.1
+    c.from_residual.result _ _ (p.1 ∙ ap Err p.2) (left_at _ _ _ _ _ i.number c.in_err-ask.ensures.only.left) (listing_part _ _ _ _ (asked_text c.args.telling q.0) c.in_err-ask.ensures.only.records q.2))
+
+pub returns-in_err-next-clause-feeds : goal.returns-in_err-next-clause-feeds
+returns-in_err-next-clause-feeds g c =
+    let p = err_from_is_err_and c.from_residual-in_err-next.result c.from_residual-in_err-next.ensures.1 in
+    let q = c.in_ok-ask.ensures.asks in
+    let i = c.answers.invariant in
+    unread_here c.args.telling c.args.checked.now.plan c.args.checked.now.script _ _ _ _ c.answers.runner c.answers.count i.fed q.0 q.1
+    _ (Sends-kept _ _ _ _ (listing_sent _ _ _ _ (asked_text c.args.telling q.0) c.in_ok-ask.ensures.only.records q.2) c.in_err-next.ensures.only.listing c.in_err-next.ensures.only.records)
+    _ _ _ c.in_err-next.field-0.0 c.from_residual-in_err-next.result (p.1 ∙ ap Err p.2) i.fits
+    (left_at _ _ _ _ _ i.number c.in_ok-ask.ensures.only.left)
+    (λ e. subst (λ (w : ℕ). IsOpen w (g.I.RunIo.state c.ask.new.io).remaining (g.I.RunIo.state c.next_answer.new.io).remaining)
+    (ap (λ (l : ℕ). window l c.answers.given) c.most_answers-limit.ensures ∙ ap (window (most_answers c.args.telling)) i.number) (c.in_err-next.ensures.open (rw e refl)))
+    (λ e. (c.in_err-next.ensures.unread (rw e refl), sym (c.in_ok-ask.ensures.only.gathers ∙ i.gathers) ∙ c.in_err-next.ensures.holding (rw e refl)))
+
+pub returns-in-Ok-None-clause-feeds : goal.returns-in-Ok-None-clause-feeds
+returns-in-Ok-None-clause-feeds g c =
+    let q = c.in_ok-ask.ensures.asks in
+    let i = c.answers.invariant in
+    let is : c.in_ok-next.next ≡ Ok None = search rules in
+    let n = next_is _ _ _ _ _ _ _ (Ok None) c.most_answers-limit.ensures c.in_ok-ask.ensures.only.left is c.in_ok-next.ensures.next in
+    inl (ends_here c.args.telling c.args.checked.now.plan c.args.checked.now.script _ _ _ _ c.answers.runner c.answers.count i.fed q.0 q.1
+    _ (Sends-kept _ _ _ _ (listing_sent _ _ _ _ (asked_text c.args.telling q.0) c.in_ok-ask.ensures.only.records q.2) c.in_ok-next.ensures.only.listing c.in_ok-next.ensures.only.records) _ _ c.end_of.result n c.end_of.ensures)
+
+pub returns-in-Err-clause-feeds : goal.returns-in-Err-clause-feeds
+returns-in-Err-clause-feeds g c =
+    let q = c.in_ok-ask.ensures.asks in
+    let i = c.answers.invariant in
+    let is : c.in_ok-next.next ≡ Err c.in-Err.fault = c.in-Err.is in
+    let n = next_is _ _ _ _ _ _ _ (Err c.in-Err.fault) c.most_answers-limit.ensures c.in_ok-ask.ensures.only.left is c.in_ok-next.ensures.next in
+    inl (faults_here c.args.telling c.args.checked.now.plan c.args.checked.now.script _ _ _ _ c.answers.runner c.answers.count i.fed q.0 q.1
+    _ (Sends-kept _ _ _ _ (listing_sent _ _ _ _ (asked_text c.args.telling q.0) c.in_ok-ask.ensures.only.records q.2) c.in_ok-next.ensures.only.listing c.in_ok-next.ensures.only.records) _ (g.I.RunIo.state c.next_answer.new.io).remaining c.in-Err.fault n)
+
+pub returns-in_err-tell-in-Went-clause-feeds : goal.returns-in_err-tell-in-Went-clause-feeds
+returns-in_err-tell-in-Went-clause-feeds g c =
+    let p = err_from_is_err_and c.from_residual-in_err-tell-in-Went.result c.from_residual-in_err-tell-in-Went.ensures.1 in
+    let q = c.in_ok-ask.ensures.asks in
+    let i = c.answers.invariant in
+    let is : c.in_ok-next.next ≡ Ok (Some c.in-Ok-Some.answer) = search rules in
+    let n = next_is _ _ _ _ _ _ _ (Ok (Some c.in-Ok-Some.answer)) c.most_answers-limit.ensures c.in_ok-ask.ensures.only.left is c.in_ok-next.ensures.next in
+    inl (stops_here c.args.telling c.args.checked.now.plan c.args.checked.now.script _ _ _ _ c.answers.runner c.answers.count i.fed q.0 q.1
+    _ (Sends-kept _ _ _ _ (listing_sent _ _ _ _ (asked_text c.args.telling q.0) c.in_ok-ask.ensures.only.records q.2) c.in_ok-next.ensures.only.listing c.in_ok-next.ensures.only.records) _ _ c.in-Ok-Some.answer n c.next.new.self c.in-Went.item c.in-Went.unlocks.items c.in-Went.event (last_words_in c.next.new.self) c.in-Went.ensures refl i.events
+    c.from_residual-in_err-tell-in-Went.result _ (p.1 ∙ ap Err p.2) (left_at _ _ _ _ _ (one_more _ _ i.fed.taken c.in-Ok-Some.answer refl i.number) c.in_err-tell-in-Went.ensures.only.left)
+    (SendsPrefix-longer _ _ _ _ (listing_part _ _ _ _ _ c.in_err-tell-in-Went.ensures.only.records (rw c.deref.ensures.0 at c.in_err-tell-in-Went.ensures.text))))
+
+pub returns-in_err-write_event-in-Went-clause-feeds : goal.returns-in_err-write_event-in-Went-clause-feeds
+returns-in_err-write_event-in-Went-clause-feeds g c =
+    let p = err_from_is_err_and c.from_residual-in_err-write_event-in-Went.result c.from_residual-in_err-write_event-in-Went.ensures.1 in
+    let q = c.in_ok-ask.ensures.asks in
+    let i = c.answers.invariant in
+    let is : c.in_ok-next.next ≡ Ok (Some c.in-Ok-Some.answer) = search rules in
+    let n = next_is _ _ _ _ _ _ _ (Ok (Some c.in-Ok-Some.answer)) c.most_answers-limit.ensures c.in_ok-ask.ensures.only.left is c.in_ok-next.ensures.next in
+    inl (stops_here c.args.telling c.args.checked.now.plan c.args.checked.now.script _ _ _ _ c.answers.runner c.answers.count i.fed q.0 q.1
+    _ (Sends-kept _ _ _ _ (listing_sent _ _ _ _ (asked_text c.args.telling q.0) c.in_ok-ask.ensures.only.records q.2) c.in_ok-next.ensures.only.listing c.in_ok-next.ensures.only.records) _ _ c.in-Ok-Some.answer n c.next.new.self c.in-Went.item c.in-Went.unlocks.items c.in-Went.event c.last_words.result.now c.in-Went.ensures c.last_words.ensures.words i.events
+    c.from_residual-in_err-write_event-in-Went.result _ (p.1 ∙ ap Err p.2)
+    (left_at _ _ _ _ _ (one_more _ _ i.fed.taken c.in-Ok-Some.answer refl i.number) (c.in_err-write_event-in-Went.ensures.only.left ∙ c.in_ok-tell-in-Went.ensures.only.left))
+    (SendsPrefix-after _ _ _ _ _ (listing_sent _ _ _ _ _ c.in_ok-tell-in-Went.ensures.only.records (rw c.deref.ensures.0 at c.in_ok-tell-in-Went.ensures.text))
+    (events_part _ _ _ _ _ c.in_err-write_event-in-Went.ensures.only.listing c.in_err-write_event-in-Went.ensures.text)))
+
+pub returns-in-Overrun-clause-feeds : goal.returns-in-Overrun-clause-feeds
+returns-in-Overrun-clause-feeds g c =
+    let q = c.in_ok-ask.ensures.asks in
+    let i = c.answers.invariant in
+    let is : c.in_ok-next.next ≡ Ok (Some c.in-Ok-Some.answer) = search rules in
+    let n = next_is _ _ _ _ _ _ _ (Ok (Some c.in-Ok-Some.answer)) c.most_answers-limit.ensures c.in_ok-ask.ensures.only.left is c.in_ok-next.ensures.next in
+    inl (overruns_here c.args.telling c.args.checked.now.plan c.args.checked.now.script _ _ _ _ c.answers.runner c.answers.count i.fed q.0 q.1
+    _ (Sends-kept _ _ _ _ (listing_sent _ _ _ _ (asked_text c.args.telling q.0) c.in_ok-ask.ensures.only.records q.2) c.in_ok-next.ensures.only.listing c.in_ok-next.ensures.only.records) _ _ c.in-Ok-Some.answer n c.in-Overrun.overrun c.next.new.self c.in-Overrun.ensures
+    (left_at _ _ _ _ _ (one_more _ _ i.fed.taken c.in-Ok-Some.answer refl i.number) refl))
+
+pub answers-preserved : goal.answers-preserved
+answers-preserved g c =
+    let q = c.in_ok-ask.ensures.asks in
+    let i = c.answers.invariant in
+    let is : c.in_ok-next.next ≡ Ok (Some c.in-Ok-Some.answer) = search rules in
+    let n = next_is _ _ _ _ _ _ _ (Ok (Some c.in-Ok-Some.answer)) c.most_answers-limit.ensures c.in_ok-ask.ensures.only.left is c.in_ok-next.ensures.next in
+    record {
+      fed = goes_on c.args.telling c.args.checked.now.plan c.args.checked.now.script _ _ _ _ c.answers.runner c.answers.count i.fed q.0 q.1
+          _ (Sends-kept _ _ _ _ (listing_sent _ _ _ _ (asked_text c.args.telling q.0) c.in_ok-ask.ensures.only.records q.2) c.in_ok-next.ensures.only.listing c.in_ok-next.ensures.only.records)
+          _ (g.I.RunIo.state c.next_answer.new.io).remaining c.in-Ok-Some.answer
+          (rw (c.in_ok-write_event-in-Went.ensures.only.left ∙ c.in_ok-tell-in-Went.ensures.only.left) n) c.next.new.self c.in-Went.item c.in-Went.unlocks.items c.in-Went.event c.last_words.result.now c.in-Went.ensures c.last_words.ensures.words i.events
+          _ c.count_after-count.result c.count_after-count.ensures.same c.count_after-count.ensures.next
+          (Sends-trans _ _ _ _ _ (listing_sent _ _ _ _ _ c.in_ok-tell-in-Went.ensures.only.records (rw c.deref.ensures.0 at c.in_ok-tell-in-Went.ensures.text))
+          (events_sent _ _ _ _ _ c.in_ok-write_event-in-Went.ensures.only.listing c.in_ok-write_event-in-Went.ensures.text));
+      number = one_more _ _ i.fed.taken c.in-Ok-Some.answer refl i.number;
+      counted = c.in-Went.ensures.fed ∙ ap (λ n. n + 1) i.counted;
+      few = (let few = (rw is at c.in_ok-next.ensures.few) refl in omega (arith, few, c.most_answers-limit.ensures));
+      events = same_number c.in-Went.event c.answers.runner.events c.answers.count c.next.new.self.events c.count_after-count.result c.in-Went.ensures.same c.in-Went.ensures.next i.events c.count_after-count.ensures.same c.count_after-count.ensures.next;
+      fits = c.count_after-count.ensures.fits;
+      first = c.in-Went.ensures.overrun;
+      out_flag =
+          c.in_ok-write_event-in-Went.ensures.only.out_failed ∙ or-false _ ∙ c.in_ok-tell-in-Went.ensures.only.out_failed ∙ or-false _ ∙ c.in_ok-next.ensures.only.out_failed ∙ or-false _
+          ∙ c.in_ok-ask.ensures.only.out_failed ∙ or-false _ ∙ i.out_flag;
+      in_flag = search rules;
+      gathers =
+          c.in_ok-write_event-in-Went.ensures.only.gathers ∙ c.in_ok-tell-in-Went.ensures.only.gathers ∙ c.in_ok-next.ensures.only.gathers ∙ c.in_ok-ask.ensures.only.gathers ∙ i.gathers;
+      same = c.in_ok-write_event-in-Went.ensures.only.same ∙ c.in_ok-tell-in-Went.ensures.only.same ∙ c.in_ok-next.ensures.only.same ∙ c.in_ok-ask.ensures.only.same ∙ i.same;
+    }

@@ -1,0 +1,66 @@
+// The loop that feeds a run its answers.
+
+ghost use Rattle.std.specs.Prelude.{◌≡◌, []};
+ghost use Rattle.camac_model.specs.Behaviour.{stop_of};
+ghost use Rattle.camac_run.specs.Ends.{stop_in};
+ghost use Rattle.camac_run.specs.Runner.{rest};
+ghost use Rattle.camac_play.specs.Play.{FeedsIn, is_read_fault, is_write_fault};
+ghost use Rattle.camac_play.specs.RunIo.{FailsBy};
+
+use crate::ending::Ending;
+use crate::fault::PlayFault;
+use crate::next::next_answer;
+use crate::run_io::RunIo;
+use crate::telling::{Telling, ask, count_after, tell, write_event};
+use camac_checked::Checked;
+use camac_run::{End, FullRunner, Progress};
+
+/// Gives the run all answers that it takes. What it wants is asked for before an answer is read, and what an answer did is given before the
+/// next one. Returns how the run ends, and how many events it left.
+pub fn feed<I: RunIo>(
+    telling: Telling,
+    checked: &Checked,
+    io: &mut I,
+) -> Result<(Ending, u32), PlayFault>
+    ensures feeds { FeedsIn telling checked.now.plan checked.now.script (I.state io.old) (I.state io.new) result }
+    ensures fails { FailsBy (I.state io.old) (I.state io.new) (is_write_fault result) (is_read_fault result) }
+{
+    let limit = telling.most_answers();
+    checked.fits_greatest();
+    let mut runner = FullRunner::start(checked);
+    let mut given = 0;
+    let mut count = 0;
+    'answers: loop {
+        ask(telling, &runner, io)?;
+        let next = next_answer(io, given, limit)?;
+        let answer = match next {
+            Ok(Some(answer)) => answer,
+            Ok(None) => return Ok((Ending::End(end_of(&runner)), count)),
+            Err(fault) => return Ok((Ending::Refused(fault), count)),
+        };
+        given += 1;
+        match runner.next(answer) {
+            Progress::Went {
+                item,
+                unlocks,
+                event,
+            } => {
+                tell(telling, checked, &item, &unlocks, io)?;
+                write_event(io, &event, runner.last_words())?;
+                count = count_after(&event, count);
+            }
+            Progress::Overrun(overrun) => return Ok((Ending::End(End::Overrun(overrun)), count)),
+        }
+    }
+}
+
+// How a run ends where no answer is left.
+fn end_of(runner: &FullRunner<'_>) -> End
+    ensures { stop_in result ≡ stop_of (rest runner.now []) }
+{
+    if runner.in_service() {
+        End::Short
+    } else {
+        End::Ended
+    }
+}

@@ -1,0 +1,125 @@
+// How a run tells what it does, and what is written at an answer and at the end.
+
+ghost use Rattle.std.specs.Prelude.{◌≡◌, ◌≤◌, ◌<◌, ◌^◌, ◌++◌, length, is_err, IfSome, IfNone, None};
+ghost use Rattle.camac_report.specs.Items.{unlock_texts};
+ghost use Rattle.camac_machine.specs.MachineState.{piece_of};
+ghost use Rattle.camac_play.specs.RunIo.{OnlyLists, OnlyRecords};
+ghost use Rattle.camac_play.specs.Told.{most_answers, item_line, ending_text, Asks, event_record};
+ghost use Rattle.camac_word.specs.Writing.{Writes};
+
+use crate::ending::Ending;
+use crate::run_io::RunIo;
+use camac_answer::{FILE_ANSWERS, LIVE_ANSWERS};
+use camac_checked::Checked;
+use camac_event::Usage;
+use camac_report::{Refusal, end_line, refusal_line, request_line, unlocks_line};
+use camac_run::{FullRunner, Item};
+use camac_word::{CrateNo, GlBit, Word24, WriteFault};
+
+/// How a run tells what it does (own).
+#[derive(Clone, Copy, Debug, PartialEq, Eq)]
+pub enum Telling {
+    /// By a listing: after an answer a line of what it was used for.
+    Listing,
+    /// By requests: before an answer a line of what it is wanted for.
+    Requests,
+}
+
+impl Telling {
+    /// How many answers a run takes at most: those of an answer file, or of a live run.
+    pub fn most_answers(self) -> u32
+        ensures { result ≡ most_answers self }
+    {
+        match self {
+            Telling::Listing => FILE_ANSWERS,
+            Telling::Requests => LIVE_ANSWERS,
+        }
+    }
+}
+
+/// An event that a service left: its number, its bit and its usage.
+pub type Left = (u32, GlBit, Usage);
+
+/// Asks for the operation that a run wants. A listing asks for nothing.
+pub fn ask<I: RunIo>(
+    telling: Telling,
+    runner: &FullRunner<'_>,
+    io: &mut I,
+) -> Result<(), WriteFault>
+    requires first { runner.now.overrun ≡ None }
+    ensures asks { Asks telling runner.now (I.state io.old).listed (I.state io.new).listed result }
+    ensures only { OnlyLists (I.state io.old) (I.state io.new) (is_err result) }
+{
+    match telling {
+        Telling::Listing => {
+            runner.is_waiting();
+            Ok(())
+        }
+        Telling::Requests => match runner.wants() {
+            Some(wanted) => io.list_line(&request_line(wanted)),
+            None => unreachable!(),
+        },
+    }
+}
+
+/// Writes what an answer did: in a listing what it was used for, and a line for each lock that was released.
+pub fn tell<I: RunIo>(
+    telling: Telling,
+    checked: &Checked,
+    item: &Item,
+    unlocks: &[CrateNo],
+    io: &mut I,
+) -> Result<(), WriteFault>
+    requires few { length unlocks.now ≤ 7 }
+    ensures text { Writes (I.state io.old).listed (I.state io.new).listed result
+        (item_line telling checked.now.script (piece_of item.now) ++ unlock_texts unlocks.now) }
+    ensures only { OnlyLists (I.state io.old) (I.state io.new) (is_err result) }
+{
+    match telling {
+        Telling::Listing => io.list_items(checked, item, unlocks),
+        Telling::Requests => io.list_line(&unlocks_line(unlocks)),
+    }
+}
+
+/// Writes the record of the event that a service left, where one was left.
+pub fn write_event<I: RunIo>(
+    io: &mut I,
+    event: &Option<Left>,
+    words: &[Word24],
+) -> Result<(), WriteFault>
+    requires words { length words.now ≤ 4096 }
+    requires usage { IfSome event.now (λ e. e.2.missed ≤ e.2.cycles) }
+    ensures text { Writes (I.state io.old).recorded (I.state io.new).recorded result (event_record event.now words.now) }
+    ensures only { OnlyRecords (I.state io.old) (I.state io.new) (is_err result) }
+{
+    match event {
+        Some((number, bit, usage)) => io.record_event(*number, *bit, *usage, words),
+        None => Ok(()),
+    }
+}
+
+/// How many events there are after an answer, where so many were before it.
+pub fn count_after(event: &Option<Left>, count: u32) -> u32
+    ensures same { IfNone event.now (result ≡ count) }
+    ensures next { IfSome event.now (λ e. result ≡ e.0) }
+    ensures fits { result < 2 ^ 32 }
+{
+    match event {
+        Some((number, _, _)) => *number,
+        None => count,
+    }
+}
+
+/// Writes the last line, after so many events.
+pub fn close<I: RunIo>(io: &mut I, ending: &Ending, events: u32) -> Result<(), WriteFault>
+    ensures text { Writes (I.state io.old).listed (I.state io.new).listed result (ending_text ending.now events) }
+    ensures only { OnlyLists (I.state io.old) (I.state io.new) (is_err result) }
+{
+    match ending {
+        Ending::End(end) => io.list_line(&end_line(*end, events)),
+        Ending::Refused(fault) => io.list_line(&refusal_line(Refusal::Answer {
+            rule: fault.rule,
+            line: fault.line,
+        })),
+    }
+}

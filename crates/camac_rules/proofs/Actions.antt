@@ -1,0 +1,249 @@
+-- What the rules accept of single actions runs safely.
+use Rattle.std.proofs.Common.{◌≡◌, ℕ, ◌+◌, ◌-◌, ◌%◌, ◌^◌, ◌<◌, ◌≤◌, Bool, true, false, List, Option, Some, None, refl, sym, ap, ◌∙◌, subst, arith}
+use Rattle.std.specs.Prelude.{nat_eq, nat_lt, unwrap_or}
+use Rattle.std.proofs.Math.Nat.{mod-lt, pow-le-pow_right, le_trans}
+use Rattle.std.proofs.lemmas.Nat.{pow_pos}
+use Rattle.std.proofs.lemmas.Bool.{and_parts, cond_both, ltb-true, leb-true, le-leb, eqb-true, not-true, false≢true}
+use Rattle.camac_lang.specs.declared.word.WordSize.{WordSize}
+use Rattle.camac_lang.specs.declared.word.WordSize.TheVariants.{Full, Short}
+use Rattle.camac_lang.specs.Tree.{Expression, Procedure, Move, no_data, into, from, single}
+use Rattle.camac_range.specs.Interval.{Interval, interval, IsWithin}
+use Rattle.camac_func.specs.declared.code.FunctionClass.{FunctionClass}
+use Rattle.camac_func.specs.declared.code.FunctionClass.TheVariants.{Read, Write, Control}
+use Rattle.camac_branch.specs.Address.{Address}
+use Rattle.camac_branch.specs.Allowed.{allowed, width}
+use Rattle.camac_branch.specs.Branch.{Reply, Answer}
+use Rattle.camac_branch.specs.Plan.{Layout}
+use Rattle.camac_crate.specs.Lock.{permitted}
+use Rattle.camac_func.specs.Class.{class_of}
+use Rattle.camac_model.specs.State.{State, Variables, stepped, set_at, with_variable}
+use Rattle.camac_model.specs.Behaviour.{ends, Action, given, unless_wrong}
+use Rattle.camac_model.specs.Value.{value}
+use Rattle.camac_model.specs.Cycle.{cycle, after_cycle, sized, kept}
+use Rattle.camac_model.specs.Meaning.{Context, fits_size, act, effect}
+use Rattle.camac_func.specs.declared.data.DataMove.{DataMove}
+use Rattle.camac_func.specs.declared.data.DataMove.TheVariants as moved
+use Rattle.camac_func.specs.Class.{fits}
+use Rattle.camac_model.specs.Safe.{IsSafe}
+use Rattle.camac_model.specs.Fine.{Bounds}
+use Rattle.camac_rules.specs.Known.{Region, region_at, Facts, Known, with_range}
+use Rattle.camac_rules.specs.Costs.{costs}
+use Rattle.camac_rules.specs.Addresses.{is_among, cycle_cost}
+use Rattle.camac_rules.specs.Cycles as rules
+use Rattle.camac_rules.specs.Cycles.{may_write, same_class, control_rule, read_rule, write_rule, single_rule}
+use Rattle.camac_rules.proofs.Allows.{Allows, allowed as allows, then_allowed, required_allowed, given_allowed}
+use Rattle.camac_rules.proofs.Stores.{Place, around_of, InRegion, IsSetInside, Inside, variables_write}
+use Rattle.camac_rules.proofs.Values.{Fits, Gives, range_each}
+use Rattle.camac_rules.proofs.Regions.{IsAllowed, command_allowed}
+use Rattle.camac_rules.proofs.Sound.{Paid, Sound, SoundFor}
+use Rattle.camac_rules.proofs.Cycles.{OneUsed, permitted_inside, cost_counted, paid_cycle, inside_cycle, cycle_sound}
+
+-- the widths of a plan are those of 24 lines at most
+abbrev pub HasWidths : Layout → Type 0
+HasWidths plan = (at : Address) (f w : ℕ) → allowed plan at f ≡ Some w → w ≤ 24
+
+-- what a statement may refer to, for the meaning and for the rules, where each procedure has a body and a heading
+pub record Setting : Type 0 where
+  pub plan : Layout
+  pub tables : List (List ℕ)
+  pub lams : List Address
+  pub routines : List (ℕ → Action)
+  pub procedures : List Procedure
+
+abbrev pub of : Setting → Context
+of c = record { plan = c.plan; tables = c.tables; lams = c.lams; routines = c.routines }
+
+abbrev pub seen : Setting → rules.Context
+seen c = record { plan = c.plan; tables = c.tables; lams = c.lams; procedures = c.procedures; limit = λ k. k }
+
+-- goes on with what is there
+pub with_given : {A : Type 0} (plan : Layout) (around : Place) (after : Known) (c : Bounds) (s t : State) (o : Option A) (go : A → Action) (v : A) → o ≡ Some v → Sound plan around after c s (go v t) → Sound plan around after c s (given o go t)
+with_given plan around after c s t o go v e h = subst (λ p. Sound plan around after c s (given p go t)) (sym e) h
+
+pub with_test : (plan : Layout) (around : Place) (after : Known) (c : Bounds) (s t : State) (b : Bool) (go : Action) → b ≡ true → Sound plan around after c s (go t) → Sound plan around after c s (unless_wrong b go t)
+with_test plan around after c s t b go e h = subst (λ p. Sound plan around after c s (unless_wrong p go t)) (sym e) h
+
+-- a value that is in a range
+pub record HasValue (o : Option ℕ) (r : Interval) : Type 0 where
+  pub number : ℕ
+  pub is : o ≡ Some number
+  pub fits : Fits r number
+
+pub value_of : (o : Option ℕ) (r : Interval) → Gives o r → HasValue o r
+value_of None r g = absurd g
+value_of (Some v) r g = record { number = v; is = refl; fits = g }
+
+-- a register that is set
+pub record HasAddress (o : Option Address) (g : Region) : Type 0 where
+  pub at : Address
+  pub is : o ≡ Some at
+  pub inside : InRegion g at
+
+pub address_of : (known : Option Region) (o : Option Address) (g : Region) → known ≡ Some g → IsSetInside known o → HasAddress o g
+address_of None o g e i = cc
+address_of (Some h) None g e i = absurd i
+address_of (Some h) (Some at) g e i = record { at = at; is = refl; inside = subst (λ j. InRegion j at) (let same : h ≡ g = cc in same) i }
+
+-- what a cycle at a known register may be
+record CanCycle (plan : Layout) (around : Place) (g : Region) (w : Interval) (f : ℕ) (s : State) (o : Option Address) : Type 0 where
+  at : Address
+  is : o ≡ Some at
+  allowed : IsAllowed plan at f w
+  inside : InRegion g at
+
+can_cycle : (plan : Layout) (around : Place) (g : Region) (w : Interval) (f r : ℕ) (k : Facts) (s : State) → region_at k.registers r ≡ Some g → ((at : Address) → InRegion g at → IsAllowed plan at f w) → Inside around k s → CanCycle plan around g w f s (s.registers r)
+can_cycle plan around g w f r k s set every i =
+    let a = address_of (region_at k.registers r) (s.registers r) g set (i.registers r) in
+    record { at = a.at; is = a.is; allowed = every a.at a.inside; inside = a.inside }
+
+pub reads : (k : FunctionClass) → same_class Read k ≡ true → fits k moved.In ≡ true
+reads Read e = refl
+reads Write e = e
+reads Control e = e
+
+pub writes : (k : FunctionClass) (v : ℕ) → same_class Write k ≡ true → fits k (moved.Out v) ≡ true
+writes Read v e = e
+writes Write v e = refl
+writes Control v e = e
+
+controls : (k : FunctionClass) → same_class Control k ≡ true → fits k moved.None ≡ true
+controls Read e = e
+controls Write e = e
+controls Control e = refl
+
+-- a cycle at an address that is allowed
+pub allowed_sound : (plan : Layout) (around : Place) (after : Known) (k : Facts) (s : State) (crates w : Interval) (at : Address) (f : ℕ) (d : DataMove) (go : Reply → Action) (a : IsAllowed plan at f w) → IsWithin crates at.crate_no → Inside around k s → IsSafe plan at f d → ((reply : Reply) (wait : ℕ) (rest : List Answer) → OneUsed s.answers rest → 1 + wait ≤ cycle_cost plan around.locked crates → Sound plan around after (costs (cycle_cost plan around.locked crates) 0 1) s (go reply (after_cycle at f reply wait rest (stepped s)))) → Sound plan around after (costs (cycle_cost plan around.locked crates) 0 1) s (cycle plan at f d s.answers go (stepped s))
+allowed_sound plan around after k s crates w at f d go a within i safe h =
+    cycle_sound plan around after s at f d go a.waits (cycle_cost plan around.locked crates) safe a.in_plan
+    (λ wait p. cost_counted plan around.locked crates at.crate_no a.waits wait within a.crate_below a.in_plan
+    (permitted_inside (is_among at.crate_no around.locked) (around.outside at.crate_no) a.waits wait
+    (ap (λ l. permitted l a.waits wait) (sym (i.locks at.crate_no)) ∙ p))) h
+
+-- a cycle at a known register
+register_sound : (plan : Layout) (around : Place) (after : Known) (k : Facts) (s : State) (g : Region) (w : Interval) (f r : ℕ) (d : DataMove) (go : Reply → Action) (a : CanCycle plan around g w f s (s.registers r)) → Inside around k s → IsSafe plan a.at f d → ((reply : Reply) (wait : ℕ) (rest : List Answer) → OneUsed s.answers rest → 1 + wait ≤ cycle_cost plan around.locked g.crates → Sound plan around after (costs (cycle_cost plan around.locked g.crates) 0 1) s (go reply (after_cycle a.at f reply wait rest (stepped s)))) → Sound plan around after (costs (cycle_cost plan around.locked g.crates) 0 1) s (cycle plan a.at f d s.answers go (stepped s))
+register_sound plan around after k s g w f r d go a i safe h =
+    allowed_sound plan around after k s g.crates w a.at f d go a.allowed a.inside.crate_no i safe h
+
+-- the cycle ends where nothing more is done
+pub cycle_ends : (plan : Layout) (around : Place) (k : Facts) (s : State) (at : Address) (f u : ℕ) (r : Reply) (wait : ℕ) (rest : List Answer) → Inside around k s → OneUsed s.answers rest → 1 + wait ≤ u → Sound plan around (Some k) (costs u 0 1) s (ends (after_cycle at f r wait rest (stepped s)))
+cycle_ends plan around k s at f u r wait rest i one le = record {
+  reaches = inside_cycle around k at f r wait rest s i;
+  paid = paid_cycle at f r wait u rest s one le;
+  untouched = λ y e. refl;
+}
+
+control_sound : (c : Setting) (around : Place) (line : ℕ) (size : WordSize) (f r : ℕ) (k : Facts) → Allows (control_rule (seen c) (around_of around) line f r k) (SoundFor c.plan around (Some k) (λ n s. effect (of c) n (single line size f r no_data) (stepped s)))
+control_sound c around line size f r k =
+    then_allowed (given_allowed (region_at k.registers r) _ line _) (λ g set.
+    then_allowed (command_allowed c.plan line f g) (λ w every.
+    required_allowed _ line _ (λ class. allows (record {
+      each = λ n le s i.
+          let a = can_cycle c.plan around g w f r k s set every i in
+          with_given c.plan around (Some k) (costs (cycle_cost c.plan around.locked g.crates) 0 1) s (stepped s) (s.registers r) (λ at. act c.plan at f size no_data) a.at a.is
+          (register_sound c.plan around (Some k) k s g w f r moved.None (λ reply. ends) a i
+          (record { width = a.allowed.width; is_allowed = a.allowed.allowed; is_of_class = controls (class_of f) class; fits_width = tt })
+          (λ reply wait rest one le. cycle_ends c.plan around k s a.at f (cycle_cost c.plan around.locked g.crates) reply wait rest i one le));
+    }))))
+
+sized_least : (size : WordSize) (v w : ℕ) → v ≤ w → sized size v ≤ sized size w
+sized_least Full v w h = h
+sized_least Short v w h = omega arith
+
+sized_small : (size : WordSize) (w : ℕ) → sized size w ≤ w
+sized_small Full w = omega arith
+sized_small Short w = omega arith
+
+pub pow_small : (w : ℕ) → w ≤ 24 → 2 ^ w ≤ 16777216
+pow_small w h = let pos : 0 < 2 = omega arith in pow-le-pow_right pos h
+
+-- what a read keeps of a word, at a width up to another
+kept_fits : (size : WordSize) (w most word : ℕ) → w ≤ most → w ≤ 24 → Fits (interval 0 (2 ^ sized size most - 1)) (word % 2 ^ sized size w)
+kept_fits size w most word h small =
+    let pos : 0 < 2 = omega arith in
+    let below : word % 2 ^ sized size w < 2 ^ sized size w = mod-lt word (pow_pos (sized size w)) in
+    let more : 2 ^ sized size w ≤ 2 ^ sized size most = pow-le-pow_right pos (sized_least size w most h) in
+    let few : 2 ^ sized size w ≤ 16777216 = pow_small (sized size w) (le_trans (sized_small size w) small) in
+    record { within = record { low = omega arith; high = omega arith }; small = omega arith }
+
+-- a variable that may be written is none of the loops around
+pub written_other : (around : Place) (x v : ℕ) (env : Variables) → may_write (around_of around) x ≡ true → (y : ℕ) → is_among y around.fixed ≡ true → set_at x v env y ≡ env y
+written_other around x v env may y among =
+    cond_both (nat_eq y x) v (env y) (λ n. n ≡ env y)
+    (λ e. let same : y ≡ x = eqb-true y x e in
+    let no : is_among x around.fixed ≡ false = not-true (is_among x around.fixed) may in
+    let yes' : is_among x around.fixed ≡ true = ap (λ z. is_among z around.fixed) (sym same) ∙ among in
+    absurd (false≢true (sym no ∙ yes')))
+    (λ e. refl)
+
+pub inside_written : (around : Place) (k : Facts) (x v : ℕ) (r : Interval) (s : State) → Inside around k s → Fits r v → Inside around (with_range x r k) (with_variable x v s)
+inside_written around k x v r s i f = record {
+  variables = variables_write k.ranges s.variables x v r i.variables f.within f.small;
+  registers = i.registers;
+  locks = i.locks;
+}
+
+paid_written : (c : Bounds) (x v : ℕ) (s t : State) → Paid c s t → Paid c s (with_variable x v t)
+paid_written c x v s t p = record { cycles = p.cycles; words = p.words; steps = p.steps; are_words = p.are_words; answers = p.answers; easy = p.easy }
+
+read_sound : (c : Setting) → HasWidths c.plan → (around : Place) (line : ℕ) (size : WordSize) (f r x : ℕ) (k : Facts) → Allows (read_rule (seen c) (around_of around) line size f r x k) (SoundFor c.plan around (Some k) (λ n s. effect (of c) n (single line size f r (into x)) (stepped s)))
+read_sound c narrow around line size f r x k =
+    required_allowed _ line _ (λ may.
+    then_allowed (given_allowed (region_at k.registers r) _ line _) (λ g set.
+    then_allowed (command_allowed c.plan line f g) (λ w every.
+    required_allowed _ line _ (λ class. allows (record {
+      each = λ n le s i.
+          let u : ℕ = cycle_cost c.plan around.locked g.crates in
+          let range : Interval = interval 0 (2 ^ sized size w.hi - 1) in
+          let a = can_cycle c.plan around g w f r k s set every i in
+          let go : Reply → Action = λ reply t. ends (with_variable x (kept (sized size (width c.plan a.at f)) reply) t) in
+          with_given c.plan around (Some (with_range x range k)) (costs u 0 1) s (stepped s) (s.registers r) (λ at. act c.plan at f size (into x)) a.at a.is
+          (register_sound c.plan around (Some (with_range x range k)) k s g w f r moved.In go a i
+          (record { width = a.allowed.width; is_allowed = a.allowed.allowed; is_of_class = reads (class_of f) class; fits_width = tt })
+          (λ reply wait rest one lt.
+          let t : State = after_cycle a.at f reply wait rest (stepped s) in
+          let is : a.allowed.width ≡ width c.plan a.at f = ap (λ o. unwrap_or o 24) (sym a.allowed.allowed) in
+          let word : Fits range (kept (sized size (width c.plan a.at f)) reply) =
+          subst (λ v. Fits range (reply.word % 2 ^ sized size v)) is
+          (kept_fits size a.allowed.width w.hi reply.word a.allowed.high (narrow a.at f a.allowed.width a.allowed.allowed)) in
+          let v : ℕ = kept (sized size (width c.plan a.at f)) reply in
+          record {
+            reaches = inside_written around k x v range t (inside_cycle around k a.at f reply wait rest s i) word;
+            paid = paid_written (costs u 0 1) x v s t (paid_cycle a.at f reply wait u rest s one lt);
+            untouched = written_other around x v s.variables may;
+          }));
+    })))))
+
+-- a value up to one that fits the word's size
+size_fits : (size : WordSize) (v most : ℕ) → v ≤ most → fits_size size most ≡ true → fits_size size v ≡ true
+size_fits Full v most h e = refl
+size_fits Short v most h e = le-leb v 65535 (le_trans h (leb-true most 65535 e))
+
+write_sound : (c : Setting) (around : Place) (line : ℕ) (size : WordSize) (f r : ℕ) (e : Expression) (k : Facts) → Allows (write_rule (seen c) (around_of around) line size f r e k) (SoundFor c.plan around (Some k) (λ n s. effect (of c) n (single line size f r (from e)) (stepped s)))
+write_sound c around line size f r e k =
+    then_allowed (range_each line e k.ranges) (λ v gives.
+    then_allowed (given_allowed (region_at k.registers r) _ line _) (λ g set.
+    then_allowed (command_allowed c.plan line f g) (λ w every.
+    required_allowed _ line _ (λ class.
+    required_allowed _ line _ (λ fitting. allows (record {
+      each = λ n le s i.
+          let u : ℕ = cycle_cost c.plan around.locked g.crates in
+          let a = can_cycle c.plan around g w f r k s set every i in
+          let sent = value_of (value e s.variables) v (gives s.variables i.variables) in
+          let both = and_parts (nat_lt v.hi (2 ^ w.lo)) (fits_size size v.hi) fitting in
+          let pos : 0 < 2 = omega arith in
+          let below : v.hi < 2 ^ w.lo = ltb-true v.hi (2 ^ w.lo) both.0 in
+          let most : sent.number ≤ v.hi = sent.fits.within.high in
+          let more : 2 ^ w.lo ≤ 2 ^ a.allowed.width = pow-le-pow_right pos a.allowed.low in
+          let send : ℕ → Action = λ m t. cycle c.plan a.at f (moved.Out m) t.answers (λ reply. ends) t in
+          with_given c.plan around (Some k) (costs u 0 1) s (stepped s) (s.registers r) (λ at. act c.plan at f size (from e)) a.at a.is
+          (with_given c.plan around (Some k) (costs u 0 1) s (stepped s) (value e s.variables) (λ m. unless_wrong (fits_size size m) (send m)) sent.number sent.is
+          (with_test c.plan around (Some k) (costs u 0 1) s (stepped s) (fits_size size sent.number) (send sent.number) (size_fits size sent.number v.hi most both.1)
+          (register_sound c.plan around (Some k) k s g w f r (moved.Out sent.number) (λ reply. ends) a i
+          (record { width = a.allowed.width; is_allowed = a.allowed.allowed; is_of_class = writes (class_of f) sent.number class; fits_width = omega arith })
+          (λ reply wait rest one lt. cycle_ends c.plan around k s a.at f u reply wait rest i one lt))));
+    }))))))
+
+pub single_sound : (c : Setting) → HasWidths c.plan → (around : Place) (line : ℕ) (size : WordSize) (f r : ℕ) (m : Move) (k : Facts) → Allows (single_rule (seen c) (around_of around) line size f r m k) (SoundFor c.plan around (Some k) (λ n s. effect (of c) n (single line size f r m) (stepped s)))
+single_sound c narrow around line size f r no_data k = control_sound c around line size f r k
+single_sound c narrow around line size f r (into x) k = read_sound c narrow around line size f r x k
+single_sound c narrow around line size f r (from e) k = write_sound c around line size f r e k

@@ -1,0 +1,168 @@
+-- What the rules accept of statements runs safely: one induction over statements.
+use Rattle.std.proofs.Common.{◌≡◌, ℕ, ◌+◌, ◌≤◌, [], ◌∷◌, ◌++◌, length, length-append, Option, Some, None, Bool, true, false, refl, arith, ap}
+use Rattle.std.proofs.lemmas.Bool.{leb-true, or_right}
+use Rattle.camac_lang.specs.Tree.{Expression, Statement, assign, set_register, single, address_scan, q_stop, q_repeat, put, crate_call, lam_call, choose, choose_else, for_, while_, locked, call, Block, done, next}
+use Rattle.camac_branch.specs.Address.{address}
+use Rattle.camac_branch.specs.Plan.{Layout}
+use Rattle.camac_model.specs.State.{State, stepped, with_variable, with_register, with_word}
+use Rattle.camac_model.specs.Behaviour.{ends, Action, given, decide}
+use Rattle.camac_model.specs.Value.{value, truth}
+use Rattle.camac_model.specs.Meaning.{effect, block_meaning}
+use Rattle.camac_rules.specs.Known.{region, Facts, Known, with_range, with_region}
+use Rattle.camac_rules.specs.Refusal.{if_reached}
+use Rattle.camac_rules.specs.Joined.{join}
+use Rattle.camac_rules.specs.Conditions.{Branches}
+use Rattle.camac_rules.specs.Costs.{costs, no_costs, choice_costs, Verdict, verdict, unreached}
+use Rattle.camac_rules.specs.Loops.{for_head}
+use Rattle.camac_rules.specs.Statements.{greatest_word, assign_rule, register_rule, put_rule, accept_statement, accept_block}
+use Rattle.camac_rules.proofs.Allows.{Allows, allowed as allows, then_allowed, required_allowed, if_reached_allowed}
+use Rattle.camac_rules.proofs.Stores.{Place, around_of, fixing, holding, InRegion, Reaches, registers_write}
+use Rattle.camac_rules.proofs.Joined.{join_left, join_right}
+use Rattle.camac_rules.proofs.Conditions.{Decides, split_each}
+use Rattle.camac_rules.proofs.Values.{range_each}
+use Rattle.camac_rules.proofs.Sound.{words_push, Sound, SoundFor, paid_nothing, sound_then, sound_begun}
+use Rattle.camac_rules.proofs.Actions.{Setting, of, HasWidths, seen, with_given, value_of, inside_written, written_other, single_sound}
+use Rattle.camac_rules.proofs.Calls.{crate_sound, lam_sound}
+use Rattle.camac_rules.proofs.Held.{MayLock, lock_allowed, lock_sound}
+use Rattle.camac_rules.proofs.ForLoops.{limits_allowed, for_sound}
+use Rattle.camac_rules.proofs.WhileLoops.{head_allowed, while_sound}
+use Rattle.camac_rules.proofs.Blocks.{q_stop_sound, q_repeat_sound}
+use Rattle.camac_rules.proofs.Scans.{scan_sound}
+use Rattle.camac_rules.proofs.Lockless.{has_lock, block_has_lock}
+use Rattle.camac_rules.proofs.Routines.{Serves, call_sound}
+use Rattle.std.specs.Prelude.{◌||◌}
+
+assign_sound : (c : Setting) (around : Place) (line x : ℕ) (e : Expression) (k : Facts) → Allows (assign_rule (around_of around) line x e k) (SoundFor c.plan around (Some k) (λ n s. effect (of c) n (assign line x e) (stepped s)))
+assign_sound c around line x e k =
+    then_allowed (range_each line e k.ranges) (λ r gives.
+    required_allowed _ line _ (λ may. allows (record {
+      each = λ n le s i.
+          let v = value_of (value e s.variables) r (gives s.variables i.variables) in
+          with_given c.plan around (Some (with_range x r k)) (costs 0 0 1) s (stepped s) (value e s.variables) (λ m t. ends (with_variable x m t)) v.number v.is
+          (record {
+            reaches = inside_written around k x v.number r (stepped s) (record { variables = i.variables; registers = i.registers; locks = i.locks }) v.fits;
+            paid = record { cycles = omega arith; words = omega arith; steps = omega arith; are_words = λ w. w; answers = omega arith; easy = λ w. w };
+            untouched = written_other around x v.number s.variables may;
+          });
+    })))
+
+put_sound : (c : Setting) (around : Place) (line : ℕ) (e : Expression) (k : Facts) → Allows (put_rule line e k) (SoundFor c.plan around (Some k) (λ n s. effect (of c) n (put line e) (stepped s)))
+put_sound c around line e k =
+    then_allowed (range_each line e k.ranges) (λ r gives.
+    required_allowed _ line _ (λ small. allows (record {
+      each = λ n le s i.
+          let v = value_of (value e s.variables) r (gives s.variables i.variables) in
+          let most : r.hi ≤ greatest_word = leb-true r.hi greatest_word small in
+          let high : v.number ≤ r.hi = v.fits.within.high in
+          let long : length (s.words ++ v.number ∷ []) ≡ length s.words + 1 = length-append s.words (v.number ∷ []) in
+          with_given c.plan around (Some k) (costs 0 1 1) s (stepped s) (value e s.variables) (λ w t. ends (with_word w t)) v.number v.is
+          (record {
+            reaches = record { variables = i.variables; registers = i.registers; locks = i.locks };
+            paid = record { cycles = omega arith; words = omega arith; steps = omega arith; are_words = words_push s.words v.number (omega arith); answers = omega arith; easy = λ w. w };
+            untouched = λ y among. refl;
+          });
+    })))
+
+register_set_sound : (c : Setting) (around : Place) (line r : ℕ) (e1 e2 e3 : Expression) (k : Facts) → Allows (register_rule line r e1 e2 e3 k) (SoundFor c.plan around (Some k) (λ n s. effect (of c) n (set_register line r e1 e2 e3) (stepped s)))
+register_set_sound c around line r e1 e2 e3 k =
+    then_allowed (range_each line e1 k.ranges) (λ cs gives_c.
+    then_allowed (range_each line e2 k.ranges) (λ ns gives_n.
+    then_allowed (range_each line e3 k.ranges) (λ subs gives_a. allows (record {
+      each = λ n le s i.
+          let after : Known = Some (with_region r (region cs ns subs) k) in
+          let x = value_of (value e1 s.variables) cs (gives_c s.variables i.variables) in
+          let y = value_of (value e2 s.variables) ns (gives_n s.variables i.variables) in
+          let z = value_of (value e3 s.variables) subs (gives_a s.variables i.variables) in
+          let third : ℕ → ℕ → ℕ → Action = λ p q m t. ends (with_register r (address p q m) t) in
+          let second : ℕ → ℕ → Action = λ p q. given (value e3 s.variables) (third p q) in
+          let inside : InRegion (region cs ns subs) (address x.number y.number z.number) = record { crate_no = x.fits.within; station = y.fits.within; sub_address = z.fits.within } in
+          with_given c.plan around after (costs 0 0 1) s (stepped s) (value e1 s.variables) (λ p. given (value e2 s.variables) (second p)) x.number x.is
+          (with_given c.plan around after (costs 0 0 1) s (stepped s) (value e2 s.variables) (second x.number) y.number y.is
+          (with_given c.plan around after (costs 0 0 1) s (stepped s) (value e3 s.variables) (third x.number y.number) z.number z.is
+          (record {
+            reaches = record {
+              variables = i.variables;
+              registers = registers_write k.registers s.registers r (region cs ns subs) (address x.number y.number z.number) i.registers inside;
+              locks = i.locks;
+            };
+            paid = record { cycles = omega arith; words = omega arith; steps = omega arith; are_words = λ w. w; answers = omega arith; easy = λ w. w };
+            untouched = λ q among. refl;
+          })));
+    }))))
+
+-- a block, if it can be reached
+pub reached_sound : (c : Setting) (around : Place) (b : Block) (known : Known) → ((k : Facts) → Allows (accept_block (seen c) (around_of around) b k) (SoundFor c.plan around (Some k) (λ n. block_meaning (of c) n b))) → Allows (if_reached unreached known (accept_block (seen c) (around_of around) b)) (SoundFor c.plan around known (λ n. block_meaning (of c) n b))
+reached_sound c around b known h =
+    if_reached_allowed unreached known (accept_block (seen c) (around_of around) b) (λ k. SoundFor c.plan around k (λ n. block_meaning (of c) n b))
+    (record { each = λ n le s i. absurd i }) h
+
+-- the arm of a condition's truth, each arm from the states that can reach it
+choice_sound : (plan : Layout) (around : Place) (arms : Branches) (first second : Verdict) (s : State) (o : Option Bool) (go other : Action) → Decides around o arms s → ((t : State) → Reaches around arms.holds t → Sound plan around first.after first.costs t (go t)) → ((t : State) → Reaches around arms.fails t → Sound plan around second.after second.costs t (other t)) → Sound plan around (join first.after second.after) (choice_costs first.costs second.costs) s (decide o go other (stepped s))
+choice_sound plan around arms first second s None go other d f g = absurd d
+choice_sound plan around arms first second s (Some true) go other d f g =
+    sound_begun plan around arms.holds first.after (join first.after second.after) first.costs (choice_costs first.costs second.costs) s go d f
+    (join_left around first.after second.after) (omega arith) (omega arith) (omega arith)
+choice_sound plan around arms first second s (Some false) go other d f g =
+    sound_begun plan around arms.fails second.after (join first.after second.after) second.costs (choice_costs first.costs second.costs) s other d g
+    (join_right around first.after second.after) (omega arith) (omega arith) (omega arith)
+
+pub may_first : (a b : Bool) (around : Place) → MayLock around (a || b) → MayLock around a
+may_first a b around m e = m (ap (λ t. t || b) e)
+
+pub may_second : (a b : Bool) (around : Place) → MayLock around (a || b) → MayLock around b
+may_second a b around m e = m (or_right a b e)
+
+mutual
+  pub statement_sound : (c : Setting) → HasWidths c.plan → Serves c → (around : Place) (st : Statement) → MayLock around (has_lock st) → (k : Facts) → Allows (accept_statement (seen c) (around_of around) st k) (SoundFor c.plan around (Some k) (λ n s. effect (of c) n st (stepped s)))
+  statement_sound c narrow serves around (assign line x e) may k = assign_sound c around line x e k
+  statement_sound c narrow serves around (set_register line r e1 e2 e3) may k = register_set_sound c around line r e1 e2 e3 k
+  statement_sound c narrow serves around (single line size f r m) may k = single_sound c narrow around line size f r m k
+  statement_sound c narrow serves around (choose line test a) may k =
+      then_allowed (split_each around line test k) (λ arms d.
+      then_allowed (reached_sound c around a arms.holds (λ q. block_sound c narrow serves around a may q)) (λ first h. allows (record {
+        each = λ n le s i.
+            choice_sound c.plan around arms first (verdict arms.fails no_costs) s (truth test s.variables s.q s.x) (block_meaning (of c) n a) ends (d s i)
+            (λ t j. h.each n le t j)
+            (λ t j. record { reaches = j; paid = paid_nothing t; untouched = λ y among. refl });
+      })))
+  statement_sound c narrow serves around (choose_else line test a b) may k =
+      then_allowed (split_each around line test k) (λ arms d.
+      then_allowed (reached_sound c around a arms.holds (λ q. block_sound c narrow serves around a (may_first (block_has_lock a) (block_has_lock b) around may) q)) (λ first h.
+      then_allowed (reached_sound c around b arms.fails (λ q. block_sound c narrow serves around b (may_second (block_has_lock a) (block_has_lock b) around may) q)) (λ second g. allows (record {
+        each = λ n le s i.
+            choice_sound c.plan around arms first second s (truth test s.variables s.q s.x) (block_meaning (of c) n a) (block_meaning (of c) n b) (d s i)
+            (λ t j. h.each n le t j)
+            (λ t j. g.each n le t j);
+      }))))
+  statement_sound c narrow serves around (locked line e body) may k =
+      then_allowed (lock_allowed c around line e k) (λ crate_no can.
+      then_allowed (block_sound c narrow serves (holding crate_no around) body (λ e. may refl) k) (λ inner h. allows (lock_sound c around line e body k crate_no inner (may refl) can h)))
+  statement_sound c narrow serves around (put line e) may k = put_sound c around line e k
+  statement_sound c narrow serves around (crate_call line which e) may k = crate_sound c around line which e k
+  statement_sound c narrow serves around (lam_call line which l) may k = lam_sound c around line which l k
+  statement_sound c narrow serves around (address_scan line f r1 r2 max x) may k = scan_sound c narrow around line f r1 r2 max x k
+  statement_sound c narrow serves around (q_stop line f r t max x) may k = q_stop_sound c narrow around line f r t max x k
+  statement_sound c narrow serves around (q_repeat line f r t max limit x) may k = q_repeat_sound c narrow around line f r t max limit x k
+  statement_sound c narrow serves around (for_ line x e1 e2 keeps body) may k =
+      then_allowed (limits_allowed around line x e1 e2 keeps k) (λ l m.
+      then_allowed (reached_sound c (fixing x around) body (for_head x l keeps body k) (λ q. block_sound c narrow serves (fixing x around) body may q)) (λ turn h.
+      required_allowed _ line _ (λ keep. allows (for_sound c around line x e1 e2 keeps body k l turn m keep h))))
+  statement_sound c narrow serves around (while_ line test most m keeps body) may k =
+      then_allowed (head_allowed around.body line most m keeps body k) (λ top begins.
+      then_allowed (split_each around line test top) (λ arms d.
+      then_allowed (reached_sound c around body arms.holds (λ q. block_sound c narrow serves around body may q)) (λ turn h.
+      required_allowed _ line _ (λ keep. allows (while_sound c around line test most m keeps body k top arms turn begins d h keep)))))
+  statement_sound c narrow serves around (call line p es) may k = call_sound c serves around line p es k
+
+  -- a block, from what is known at its beginning, if that can be reached
+  pub block_sound : (c : Setting) → HasWidths c.plan → Serves c → (around : Place) (b : Block) → MayLock around (block_has_lock b) → (k : Facts) → Allows (accept_block (seen c) (around_of around) b k) (SoundFor c.plan around (Some k) (λ n. block_meaning (of c) n b))
+  block_sound c narrow serves around done may k =
+      allows (record { each = λ n le s i. record { reaches = i; paid = paid_nothing s; untouched = λ y among. refl } })
+  block_sound c narrow serves around (next st rest) may k =
+      then_allowed (statement_sound c narrow serves around st (may_first (has_lock st) (block_has_lock rest) around may) k) (λ first h.
+      then_allowed
+      (reached_sound c around rest first.after (λ q. block_sound c narrow serves around rest (may_second (has_lock st) (block_has_lock rest) around may) q)) (λ second g.
+      allows (record {
+        each = λ n le s i.
+            sound_then c.plan around first.after second.after first.costs second.costs s (effect (of c) n st (stepped s)) (block_meaning (of c) n rest) (h.each n le s i) (λ t j. g.each n le t j);
+      })))

@@ -1,0 +1,225 @@
+-- Laws of the scanner's definitions.
+use Rattle.std.proofs.Common.{◌≡◌, ℕ, zero, suc, ◌+◌, ◌-◌, ◌*◌, ◌≤◌, ◌<◌, Bool, true, false, ◌&&◌, cond, ltb, eqb, count_by, fold, List, [], ◌∷◌, ◌++◌, length, take, drop, Option, Some, None, IsSome, Result, Ok, Err, refl, sym, ap, subst, ◌∙◌, append_assoc, length-drop, arith}
+use Rattle.std.specs.Prelude.{take_while, slice_index}
+use Rattle.std.specs.Char.{is_ascii_digit, is_ascii_alphabetic}
+use Rattle.std.proofs.lemmas.List.{append-nil}
+use Rattle.std.proofs.lemmas.Bool.{and_parts, eqb-true, le-ltb}
+use Rattle.std.proofs.lemmas.List.Sums.{take_while-cons, sum_by-cons}
+use Rattle.camac_tokens.specs.declared.token.Token.{Token}
+use Rattle.camac_tokens.specs.declared.token.Keyword.{Keyword}
+use Rattle.camac_tokens.specs.declared.token.Sign.{Sign}
+use Rattle.camac_tokens.specs.Start.{Start}
+use Rattle.camac_tokens.specs.Start as start
+use Rattle.camac_tokens.specs.declared.fault.TextCase.{TextCase}
+use Rattle.camac_tokens.specs.Fault.{Fault}
+use Rattle.camac_tokens.specs.Scanning.{is_name_byte, is_blank, is_no_line_feed, keyword_or, pair_at, single_at, pair_or_single, start_of, size, added, wrong, decimal_value, tokens_from, tokens_by, with_first, line_after, line_number}
+use Rattle.camac_tokens.specs.Words.{keyword}
+
+-- ---- the bytes at the start that pass a test
+
+run_step : (b : Bool) (x : ℕ) (xs ys : List ℕ) → take (length ys) xs ≡ ys → take (length (cond b (x ∷ ys) [])) (x ∷ xs) ≡ cond b (x ∷ ys) []
+run_step true x xs ys e = ap (λ (w : List ℕ). x ∷ w) e
+run_step false x xs ys e = refl
+
+pub take_run : (p : ℕ → Bool) (xs : List ℕ) → take (length (take_while p xs)) xs ≡ take_while p xs
+take_run p [] = refl
+take_run p (x ∷ xs) = subst (λ (w : List ℕ). take (length w) (x ∷ xs) ≡ w) (sym (take_while-cons p x xs)) (run_step (p x) x xs (take_while p xs) (take_run p xs))
+
+run_short : (b : Bool) (x : ℕ) (n : ℕ) (ys : List ℕ) → length ys ≤ n → length (cond b (x ∷ ys) []) ≤ suc n
+run_short true x n ys e = omega arith
+run_short false x n ys e = omega arith
+
+pub run_le : (p : ℕ → Bool) (xs : List ℕ) → length (take_while p xs) ≤ length xs
+run_le p [] = omega arith
+run_le p (x ∷ xs) = subst (λ (w : List ℕ). length w ≤ suc (length xs)) (sym (take_while-cons p x xs)) (run_short (p x) x (length xs) (take_while p xs) (run_le p xs))
+
+pub run_some : (p : ℕ → Bool) (x : ℕ) (xs : List ℕ) → p x ≡ true → 0 < length (take_while p (x ∷ xs))
+run_some p x xs e = subst (λ (w : List ℕ). 0 < length w) (sym (take_while-cons p x xs ∙ ap (λ (b : Bool). cond b (x ∷ take_while p xs) []) e)) (let some : 0 < length (x ∷ take_while p xs) = omega arith in some)
+
+take_whole : (n : ℕ) (xs : List ℕ) → length xs ≤ n → take n xs ≡ xs
+take_whole zero [] e = refl
+take_whole zero (x ∷ xs) e = absurd (omega arith)
+take_whole (suc n) [] e = refl
+take_whole (suc n) (x ∷ xs) e = ap (λ (w : List ℕ). x ∷ w) (take_whole n xs (omega arith))
+
+-- the bytes that a pattern of n leaves
+behind : (n : ℕ) (xs : List ℕ) → n ≤ length xs → take (length xs - n) (drop n xs) ≡ drop n xs
+behind n xs some = take_whole (length xs - n) (drop n xs) (omega (arith, length-drop n xs, some))
+
+-- n bytes that pass are counted, and those behind them are left
+pub run_on : (p : ℕ → Bool) (n count : ℕ) (text rest : List ℕ) → n ≤ length rest → length (take_while p rest) ≡ n + length (take_while p (drop n rest))
+    → (count + length (take_while p rest) ≡ length (take_while p text)) × (count + length rest ≡ length text)
+    → (count + n + length (take_while p (take (length rest - n) (drop n rest))) ≡ length (take_while p text)) × (count + n + length (take (length rest - n) (drop n rest)) ≡ length text)
+run_on p n count text rest some run so_far =
+    let more_run : count + n + length (take_while p (drop n rest)) ≡ length (take_while p text) = omega (arith, run, so_far.0) in
+    let more_bytes : count + n + length (drop n rest) ≡ length text = omega (arith, length-drop n rest, some, so_far.1) in
+    subst (λ (left : List ℕ). (count + n + length (take_while p left) ≡ length (take_while p text)) × (count + n + length left ≡ length text)) (sym (behind n rest some)) (more_run, more_bytes)
+
+run_one : (p : ℕ → Bool) (x : ℕ) (xs : List ℕ) → p x ≡ true → take_while p (x ∷ xs) ≡ x ∷ take_while p xs
+run_one p x xs e = take_while-cons p x xs ∙ ap (λ (b : Bool). cond b (x ∷ take_while p xs) []) e
+
+-- four bytes that pass stand before the run of what follows them
+pub run_of_four : (p : ℕ → Bool) (xs : List ℕ) → 4 ≤ length xs → (p (slice_index xs 0) && p (slice_index xs 1) && p (slice_index xs 2) && p (slice_index xs 3)) ≡ true
+    → length (take_while p xs) ≡ 4 + length (take_while p (drop 4 xs))
+run_of_four p (a ∷ b ∷ c ∷ d ∷ xs) four e =
+    let fourth = and_parts (p a && p b && p c) (p d) e in
+    let third = and_parts (p a && p b) (p c) fourth.0 in
+    let second = and_parts (p a) (p b) third.0 in
+    let runs : take_while p (a ∷ b ∷ c ∷ d ∷ xs) ≡ a ∷ b ∷ c ∷ d ∷ take_while p xs = rw (run_one p a (b ∷ c ∷ d ∷ xs) second.0, run_one p b (c ∷ d ∷ xs) second.1, run_one p c (d ∷ xs) third.1, run_one p d xs fourth.1) refl in
+    let longer : length (a ∷ b ∷ c ∷ d ∷ take_while p xs) ≡ 4 + length (take_while p xs) = omega arith in
+    ap length runs ∙ longer
+run_of_four p [] four e = absurd (omega arith)
+run_of_four p (a ∷ []) four e = absurd (omega arith)
+run_of_four p (a ∷ b ∷ []) four e = absurd (omega arith)
+run_of_four p (a ∷ b ∷ c ∷ []) four e = absurd (omega arith)
+
+-- and eight
+pub run_of_eight : (p : ℕ → Bool) (xs : List ℕ) → 8 ≤ length xs → (p (slice_index xs 0) && p (slice_index xs 1) && p (slice_index xs 2) && p (slice_index xs 3)) ≡ true
+    → (p (slice_index xs 4) && p (slice_index xs 5) && p (slice_index xs 6) && p (slice_index xs 7)) ≡ true
+    → length (take_while p xs) ≡ 8 + length (take_while p (drop 8 xs))
+run_of_eight p (a ∷ b ∷ c ∷ d ∷ xs) eight e f =
+    let four : 4 ≤ length (a ∷ b ∷ c ∷ d ∷ xs) = omega (arith, eight) in
+    let more : 4 ≤ length xs = omega (arith, eight) in
+    let front : length (take_while p (a ∷ b ∷ c ∷ d ∷ xs)) ≡ 4 + length (take_while p xs) = run_of_four p (a ∷ b ∷ c ∷ d ∷ xs) four e in
+    let back : length (take_while p xs) ≡ 4 + length (take_while p (drop 4 xs)) = run_of_four p xs more f in
+    omega (arith, front, back)
+run_of_eight p [] eight e f = absurd (omega arith)
+run_of_eight p (a ∷ []) eight e f = absurd (omega arith)
+run_of_eight p (a ∷ b ∷ []) eight e f = absurd (omega arith)
+run_of_eight p (a ∷ b ∷ c ∷ []) eight e f = absurd (omega arith)
+
+-- ---- numbers
+
+grows : (a : ℕ) (ys : List ℕ) → a ≤ fold (λ n d. 10 * n + (d - 48)) a ys
+grows a [] = omega arith
+grows a (y ∷ ys) = let more : 10 * a + (y - 48) ≤ fold (λ n d. 10 * n + (d - 48)) (10 * a + (y - 48)) ys = grows (10 * a + (y - 48)) ys in omega arith
+
+fold_take : (n a : ℕ) (xs : List ℕ) → fold (λ n d. 10 * n + (d - 48)) a (take n xs) ≤ fold (λ n d. 10 * n + (d - 48)) a xs
+fold_take zero a xs = grows a xs
+fold_take (suc n) a [] = omega arith
+fold_take (suc n) a (x ∷ xs) = fold_take n (10 * a + (x - 48)) xs
+
+pub too_large : (digits : List ℕ) (n v : ℕ) → v ≡ decimal_value (take n digits) → 4294967295 < v → (let o : Option ℕ = None in o) ≡ cond (ltb (decimal_value digits) 4294967296) (Some (decimal_value digits)) None
+too_large digits n v e above =
+    let h : decimal_value (take n digits) ≤ decimal_value digits = fold_take n 0 digits in
+    let off : ltb (decimal_value digits) 4294967296 ≡ false = le-ltb _ _ (omega arith) in
+    rw off refl
+
+-- ---- the size of what stands at the start
+
+abbrev pub Sized : Start → ℕ → Type 0
+Sized f len = wrong f ≡ None → (0 < size f) × (size f ≤ len)
+
+sized_if : (b : Bool) (f g : Start) (len : ℕ) → (b ≡ true → Sized f len) → (b ≡ false → Sized g len) → Sized (cond b f g) len
+sized_if true f g len on off = on refl
+sized_if false f g len on off = off refl
+
+sized_keyword : (k : Option Keyword) (text : List ℕ) (len : ℕ) → 0 < length text → length text ≤ len → Sized (keyword_or k text) len
+sized_keyword (Some w) text len some fits = λ e. (some, fits)
+sized_keyword None text len some fits = sized_if (ltb 32 (length text)) _ _ len (λ _ e. absurd cc) (λ _ e. (some, fits))
+
+sized_sign : (p q : Option Sign) (len : ℕ) → (IsSome p → 2 ≤ len) → 0 < len → Sized (pair_or_single p q) len
+sized_sign (Some w) q len two some = λ e. (omega arith, two refl)
+sized_sign None (Some w) len two some = λ e. (omega arith, omega arith)
+sized_sign None None len two some = λ e. absurd cc
+
+pair_long : (bytes : List ℕ) → IsSome (pair_at bytes) → 2 ≤ length bytes
+pair_long [] e = absurd cc
+pair_long (a ∷ []) e = absurd cc
+pair_long (a ∷ b ∷ bs) e = omega arith
+
+pub name_begins : (b : ℕ) → is_ascii_alphabetic b ≡ true → is_name_byte b ≡ true
+name_begins b e = rw e refl
+
+pub sized_start : (b : ℕ) (bs : List ℕ) → Sized (start_of b (b ∷ bs)) (length (b ∷ bs))
+unfolding start_of
+sized_start b bs =
+    let bytes : List ℕ = b ∷ bs in
+    let len = length (b ∷ bs) in
+    sized_if (is_blank b) _ _ len (λ _ e. (omega arith, omega arith)) (λ _.
+    sized_if (eqb b 35) _ _ len (λ is e. (run_some is_no_line_feed b bs (subst (λ (c : ℕ). is_no_line_feed c ≡ true) (sym (eqb-true b 35 is)) refl), run_le is_no_line_feed (b ∷ bs))) (λ _.
+    sized_if (is_ascii_alphabetic b) _ _ len (λ is. sized_keyword (keyword (take_while is_name_byte (b ∷ bs))) (take_while is_name_byte (b ∷ bs)) len (run_some is_name_byte b bs (name_begins b is)) (run_le is_name_byte (b ∷ bs))) (λ _.
+    sized_if (is_ascii_digit b) _ _ len (λ is. sized_if (ltb (decimal_value (take_while is_ascii_digit (b ∷ bs))) 4294967296) _ _ len (λ _ e. (run_some is_ascii_digit b bs is, run_le is_ascii_digit (b ∷ bs))) (λ _ e. absurd cc)) (λ _.
+    sized_sign (pair_at (b ∷ bs)) (single_at (b ∷ bs)) len (pair_long (b ∷ bs)) (omega arith)))))
+
+-- ---- the rest of a text
+
+abbrev pub line_feeds : List ℕ → ℕ
+line_feeds bytes = count_by (λ b. eqb b 10) bytes
+
+pub feeds-cons : (b : ℕ) (bs : List ℕ) → line_feeds (b ∷ bs) ≡ cond (eqb b 10) 1 0 + line_feeds bs
+feeds-cons b bs = sum_by-cons (λ y. cond (eqb y 10) 1 0) b bs
+
+pub lines_step : (t : Bool) (line c : ℕ) → cond t (line + 1) line + c ≡ line + (cond t 1 0 + c)
+lines_step true line c = omega arith
+lines_step false line c = omega arith
+
+skip : (n line : ℕ) (bs : List ℕ) → tokens_from n line bs ≡ tokens_from 0 (line + line_feeds (take n bs)) (drop n bs)
+unfolding tokens_from
+skip zero line bs = ap (λ (l : ℕ). tokens_from 0 l bs) (omega arith)
+skip (suc n) line [] = refl
+skip (suc n) line (b ∷ bs) = skip n (line_after line b) bs ∙ ap (λ (l : ℕ). tokens_from 0 l (drop n bs)) (lines_step (eqb b 10) line (line_feeds (take n bs)) ∙ ap (λ (k : ℕ). line + k) (sym (feeds-cons b (take n bs))))
+
+abbrev pub with_all : List Token → Result (List Token) Fault → Result (List Token) Fault
+with_all start (Ok ts) = Ok (start ++ ts)
+with_all start (Err e) = Err e
+
+all_join : (a b : List Token) (r : Result (List Token) Fault) → with_all a (with_all b r) ≡ with_all (a ++ b) r
+all_join a b (Ok ts) = ap (λ (w : List Token). let r : Result (List Token) Fault = Ok w in r) (sym (append_assoc a b ts))
+all_join a b (Err e) = refl
+
+first_all : (t : Token) (r : Result (List Token) Fault) → with_first t r ≡ with_all (t ∷ []) r
+first_all t (Ok ts) = refl
+first_all t (Err e) = refl
+
+pub none_all : (r : Result (List Token) Fault) → r ≡ with_all [] r
+none_all (Ok ts) = refl
+none_all (Err e) = refl
+
+-- one step over what stands at the start
+pub start_step : (f : Start) (b line : ℕ) (bs : List ℕ) → wrong f ≡ None → 0 < size f → tokens_by f line (length (b ∷ bs)) (λ n. tokens_from n (line_after line b) bs) ≡ with_all (added f (line_number line) (length (b ∷ bs))) (tokens_from 0 (line + line_feeds (take (size f) (b ∷ bs))) (drop (size f) (b ∷ bs)))
+unfolding tokens_from
+start_step (start.Gap zero) b line bs good some = absurd (omega arith)
+start_step (start.Gap (suc n)) b line bs good some = ap (λ (k : ℕ). tokens_from k (line_after line b) bs) (omega arith) ∙ skip (suc n) line (b ∷ bs) ∙ none_all _
+start_step (start.Found k zero) b line bs good some = absurd (omega arith)
+start_step (start.Found k (suc n)) b line bs good some = ap (λ (m : ℕ). with_first (record { kind = k; line = line_number line; left = length (b ∷ bs) }) (tokens_from m (line_after line b) bs)) (omega arith) ∙ ap (with_first (record { kind = k; line = line_number line; left = length (b ∷ bs) })) (skip (suc n) line (b ∷ bs)) ∙ first_all _ _
+start_step (start.Wrong case) b line bs good some = absurd cc
+
+pub sizes : (rest : List ℕ) → 0 < length rest → Sized (start_of (slice_index rest 0) rest) (length rest)
+sizes [] h = absurd (omega arith)
+sizes (b ∷ bs) h = sized_start b bs
+
+pub goes : (xs : List Token) (line : ℕ) (rest : List ℕ) (total : Result (List Token) Fault) → 0 < length rest → wrong (start_of (slice_index rest 0) rest) ≡ None → with_all xs (tokens_from 0 line rest) ≡ total → with_all (xs ++ added (start_of (slice_index rest 0) rest) (line_number line) (length rest)) (tokens_from 0 (line + line_feeds (take (size (start_of (slice_index rest 0) rest)) rest)) (drop (size (start_of (slice_index rest 0) rest)) rest)) ≡ total
+unfolding tokens_from
+goes xs line [] total some good so_far = absurd (omega arith)
+goes xs line (b ∷ bs) total some good so_far =
+    let f = start_of b (b ∷ bs) in
+    sym (all_join xs (added f (line_number line) (length (b ∷ bs))) _) ∙ ap (with_all xs) (sym (start_step f b line bs good (sized_start b bs good).0)) ∙ so_far
+
+pub wrong_is : (f : Start) (case : TextCase) → wrong f ≡ Some case → f ≡ start.Wrong case
+wrong_is (start.Wrong c) case e = ap start.Wrong cc
+wrong_is (start.Gap n) case e = absurd cc
+wrong_is (start.Found k n) case e = absurd cc
+
+pub fails : (xs : List Token) (line : ℕ) (rest : List ℕ) (total : Result (List Token) Fault) (case : TextCase) → 0 < length rest → wrong (start_of (slice_index rest 0) rest) ≡ Some case → with_all xs (tokens_from 0 line rest) ≡ total → total ≡ Err (record { case = case; line = line_number line; left = length rest })
+unfolding tokens_from
+fails xs line [] total case some bad so_far = absurd (omega arith)
+fails xs line (b ∷ bs) total case some bad so_far = sym so_far ∙ ap (λ (f : Start). with_all xs (tokens_by f line (length (b ∷ bs)) (λ n. tokens_from n (line_after line b) bs))) (wrong_is (start_of b (b ∷ bs)) case bad)
+
+pub ends : (xs : List Token) (line : ℕ) (rest : List ℕ) (total : Result (List Token) Fault) → length rest ≡ 0 → with_all xs (tokens_from 0 line rest) ≡ total → total ≡ Ok xs
+unfolding tokens_from
+ends xs line [] total none so_far = sym so_far ∙ ap (λ (w : List Token). let r : Result (List Token) Fault = Ok w in r) (append-nil xs)
+ends xs line (b ∷ bs) total none so_far = absurd (omega arith)
+
+feeds_step : (t : Bool) (c d e : ℕ) → c + d ≤ e → (cond t 1 0 + c) + d ≤ suc e
+feeds_step true c d e h = omega arith
+feeds_step false c d e h = omega arith
+
+pub feeds_le : (n : ℕ) (xs : List ℕ) → line_feeds (take n xs) + length (drop n xs) ≤ length xs
+feeds_le zero xs = omega arith
+feeds_le (suc n) [] = omega arith
+feeds_le (suc n) (x ∷ xs) = subst (λ (k : ℕ). k + length (drop n xs) ≤ suc (length xs)) (sym (feeds-cons x (take n xs))) (feeds_step (eqb x 10) (line_feeds (take n xs)) (length (drop n xs)) (length xs) (feeds_le n xs))
+
+pub some_left : (n : ℕ) → eqb n 0 ≡ false → 0 < n
+some_left zero e = absurd cc
+some_left (suc n) e = omega arith

@@ -1,0 +1,226 @@
+// Cuts a text into tokens.
+
+ghost use Rattle.std.specs.Prelude.{◌≡◌, ◌<◌, ◌&&◌, List, length, take_while, count_by, nat_lt, ◌==◌, Some, None, if◌then◌else◌, slice_index, ◌++◌, IfOk, OnOk, IfErr};
+ghost use Rattle.std.specs.Char.{is_ascii_digit};
+ghost use Rattle.camac_tokens.specs.declared.token.Token.{Token};
+ghost use Rattle.camac_tokens.specs.Words.{keyword};
+ghost use Rattle.camac_tokens.specs.Scanning.{is_name_byte, is_blank, is_no_line_feed, decimal_value, keyword_or, number_or_fault, pair_at, single_at, pair_or_single, start_of, size, added, wrong, line_number, last_line, tokens_of};
+ghost use Rattle.camac_tokens.specs.Cut.{IsCut, HasTokens};
+ghost use Rattle.camac_tokens.specs.Fault.{AnswersList};
+
+use crate::fault::TextFault;
+use crate::left::TokensLeft;
+use crate::signs::{pair_sign, single_sign};
+use crate::token::{Sign, Token};
+use std::alloc::Global;
+
+/// The tokens of a text (own), or its first token fault: S1, S3 or S6. Memory may be refused (S8).
+/// A token's line is 1 plus the line feeds before it, from 4294967295 on that number.
+pub fn tokens(alloc: Global, text: &[u8]) -> Result<Vec<Token>, TextFault>
+    // The one list of tokens, or the first fault of one.
+    ensures exact { AnswersList result (tokens_of text.now) }
+    // The text is cut into gaps and tokens, each the longest, and these are its tokens.
+    ensures cut { IfOk result (λ v. IsCut text.now v.items) }
+    // A text that is cut so has no fault and no other tokens.
+    ensures only { (ts : List Token) → IsCut text.now ts → HasTokens result ts }
+{
+    scan(alloc, text)
+}
+
+// What `tokens` does. That the text is cut so follows from the list of tokens, so `tokens` adds it without the loop.
+fn scan(alloc: Global, text: &[u8]) -> Result<Vec<Token>, TextFault>
+    ensures { AnswersList result (tokens_of text.now) }
+{
+    let mut left = TokensLeft::new(text)?;
+    let mut tokens = Vec::new(alloc);
+    while let Some(token) = left.first() {
+        let kind = token.kind.duplicate();
+        let line = token.line;
+        let bytes_left = token.left;
+        tokens.push(Token {
+            kind,
+            line,
+            left: bytes_left,
+        })?;
+        left.advance();
+    }
+    Ok(tokens)
+}
+
+/// The line of a text's end, from 1.
+pub fn last_line(text: &[u8]) -> u32
+    ensures { result ≡ last_line text.now }
+{
+    line_number(line_feeds(text) + 1)
+}
+
+fn is_name_byte(b: u8) -> bool
+    ensures { result ≡ is_name_byte b }
+{
+    IS_NAME_BYTE[b as usize]
+}
+
+pub fn is_blank(b: u8) -> bool
+    ensures { result ≡ is_blank b }
+{
+    b == b' ' || b == b'\t' || b == b'\r' || b == b'\n'
+}
+
+// Four bytes are looked at in a turn, since most words of a script have that many.
+fn name_len(text: &[u8]) -> usize
+    ensures { result ≡ length (take_while is_name_byte text.now) }
+{
+    let mut rest = text;
+    let mut count = 0;
+    while let [first, second, third, fourth, after @ ..] = rest {
+        if !are_name_bytes(*first, *second, *third, *fourth) {
+            break;
+        }
+        count += 4;
+        rest = after;
+    }
+    count + short_name_len(rest)
+}
+
+// The same, byte by byte.
+fn short_name_len(text: &[u8]) -> usize
+    ensures { result ≡ length (take_while is_name_byte text.now) }
+{
+    text.iter().take_while(|b| is_name_byte(**b)).count()
+}
+
+fn are_name_bytes(first: u8, second: u8, third: u8, fourth: u8) -> bool
+    ensures { result ≡ (is_name_byte first && is_name_byte second && is_name_byte third && is_name_byte fourth) }
+{
+    is_name_byte(first) & is_name_byte(second) & is_name_byte(third) & is_name_byte(fourth)
+}
+
+fn digits_len(text: &[u8]) -> usize
+    ensures { result ≡ length (take_while is_ascii_digit text.now) }
+{
+    text.iter().take_while(|b| b.is_ascii_digit()).count()
+}
+
+// Eight bytes are looked at in a turn, since comments are long.
+pub fn comment_len(text: &[u8]) -> usize
+    ensures { result ≡ length (take_while is_no_line_feed text.now) }
+{
+    let mut rest = text;
+    let mut count = 0;
+    while let [
+        first,
+        second,
+        third,
+        fourth,
+        fifth,
+        sixth,
+        seventh,
+        eighth,
+        after @ ..,
+    ] = rest
+    {
+        if !has_no_line_feed(*first, *second, *third, *fourth)
+            || !has_no_line_feed(*fifth, *sixth, *seventh, *eighth)
+        {
+            break;
+        }
+        count += 8;
+        rest = after;
+    }
+    count + short_comment_len(rest)
+}
+
+// The same, byte by byte.
+fn short_comment_len(text: &[u8]) -> usize
+    ensures { result ≡ length (take_while is_no_line_feed text.now) }
+{
+    text.iter().take_while(|b| **b != b'\n').count()
+}
+
+fn has_no_line_feed(first: u8, second: u8, third: u8, fourth: u8) -> bool
+    ensures { result ≡ (is_no_line_feed first && is_no_line_feed second && is_no_line_feed third && is_no_line_feed fourth) }
+{
+    first != b'\n' && second != b'\n' && third != b'\n' && fourth != b'\n'
+}
+
+pub fn line_feeds(text: &[u8]) -> usize
+    ensures { result ≡ count_by (λ b. b == 10) text.now }
+{
+    text.iter().filter(|b| **b == b'\n').count()
+}
+
+pub fn line_number(line: usize) -> u32
+    ensures { result ≡ line_number line }
+{
+    line.min(4_294_967_295) as u32
+}
+
+#[tactic(auto, using(crate::proofs::Scans::take_run))]
+pub fn name_text(text: &[u8]) -> &[u8]
+    ensures { result.now ≡ take_while is_name_byte text.now }
+{
+    &text[..name_len(text)]
+}
+
+#[tactic(auto, using(crate::proofs::Scans::take_run))]
+pub fn digits_text(text: &[u8]) -> &[u8]
+    ensures { result.now ≡ take_while is_ascii_digit text.now }
+{
+    &text[..digits_len(text)]
+}
+
+/// The number of decimal digits, where it is below 2 to the power of 32.
+pub fn number(digits: &[u8]) -> Option<u32>
+    ensures { result ≡ (if nat_lt (decimal_value digits.now) 4294967296 then Some (decimal_value digits.now) else None) }
+{
+    let mut value: u64 = 0;
+    for d in digits {
+        value = value * 10 + u64::from(d.saturating_sub(b'0'));
+        if value > 4_294_967_295 {
+            return None;
+        }
+    }
+    Some(value as u32)
+}
+
+pub fn pair_at(text: &[u8]) -> Option<Sign>
+    ensures { result ≡ pair_at text.now }
+{
+    match text {
+        [first, second, ..] => pair_sign(*first, *second),
+        _ => None,
+    }
+}
+
+#[inline(always)]
+pub fn single_at(text: &[u8]) -> Option<Sign>
+    ensures { result ≡ single_at text.now }
+{
+    match text {
+        [first, ..] => single_sign(*first),
+        _ => None,
+    }
+}
+
+// The bytes of names. Most bytes of a script are asked for it, and one look costs less than several comparisons.
+static IS_NAME_BYTE: [bool; 256] = [
+    false, false, false, false, false, false, false, false, false, false, false, false, false,
+    false, false, false, false, false, false, false, false, false, false, false, false, false,
+    false, false, false, false, false, false, false, false, false, false, false, false, false,
+    false, false, false, false, false, false, false, false, false, true, true, true, true, true,
+    true, true, true, true, true, false, false, false, false, false, false, false, true, true,
+    true, true, true, true, true, true, true, true, true, true, true, true, true, true, true, true,
+    true, true, true, true, true, true, true, true, false, false, false, false, true, false, true,
+    true, true, true, true, true, true, true, true, true, true, true, true, true, true, true, true,
+    true, true, true, true, true, true, true, true, true, false, false, false, false, false, false,
+    false, false, false, false, false, false, false, false, false, false, false, false, false,
+    false, false, false, false, false, false, false, false, false, false, false, false, false,
+    false, false, false, false, false, false, false, false, false, false, false, false, false,
+    false, false, false, false, false, false, false, false, false, false, false, false, false,
+    false, false, false, false, false, false, false, false, false, false, false, false, false,
+    false, false, false, false, false, false, false, false, false, false, false, false, false,
+    false, false, false, false, false, false, false, false, false, false, false, false, false,
+    false, false, false, false, false, false, false, false, false, false, false, false, false,
+    false, false, false, false, false, false, false, false, false, false, false, false, false,
+    false, false, false, false, false, false, false, false, false, false,
+];
