@@ -139,6 +139,20 @@ class Sum(unittest.TestCase):
         self.assertEqual((ran.returncode, ran.stdout), (0, "crates.sum is that of these sources\n"))
 
 
+class Crates(unittest.TestCase):
+    def test_doors_and_rooms(self):
+        """Each crate names all that it stands on, and a room is used behind its own door alone."""
+        doors = re.findall(r"(?m)^# (camac\w*):", page("crates.txt"))
+        lines = re.findall(r"(?m)^(camac\w*)(?: staticlib)?:(.*)", page("crates.txt"))
+        door = {name: max((it for it in doors if f"{name}_".startswith(f"{it}_")), key=len, default="") for name, _ in lines}
+        for name, below in lines:
+            texts = " ".join(it.read_text() for it in (TOP / "crates" / name).rglob("*") if it.suffix in (".antt", ".rt") and "out" not in it.parts)
+            for other in {*below.split()} - {"core", "std_alloc"}:
+                with self.subTest(crate=name, uses=other):
+                    self.assertRegex(texts, rf"\b{other}\b")
+                    self.assertTrue(other not in door or other in doors or name.startswith(door[other]), "is a room of another door")
+
+
 class Lemmas(unittest.TestCase):
     # Files of worked rows and of proofs that the prover asks for by their names.
     uncited = re.compile(r"(Rows|Arms|Growing|SamplePlan|Proof|Answers|Invariants)\.antt$")
