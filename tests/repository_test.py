@@ -145,12 +145,16 @@ class Crates(unittest.TestCase):
         doors = re.findall(r"(?m)^# (camac\w*):", page("crates.txt"))
         lines = re.findall(r"(?m)^(camac\w*)(?: staticlib)?:(.*)", page("crates.txt"))
         door = {name: max((it for it in doors if f"{name}_".startswith(f"{it}_")), key=len, default="") for name, _ in lines}
+        groups = re.findall(r"(?m)^\| [a-z ]+ \| ((?:`camac\w*`(?:, )?)+) \|$", page("docs/inside/ARCHITECTURE.md"))
+        height = {name: -place for place, names in enumerate(groups) for name in re.findall(r"camac\w*", names)}
+        self.assertEqual({*doors} - {*height}, {"camac_laws"})
         for name, below in lines:
             texts = " ".join(it.read_text() for it in (TOP / "crates" / name).rglob("*") if it.suffix in (".antt", ".rt") and "out" not in it.parts)
             for other in {*below.split()} - {"core", "std_alloc"}:
                 with self.subTest(crate=name, uses=other):
                     self.assertRegex(texts, rf"\b{other}\b")
                     self.assertTrue(other not in door or other in doors or name.startswith(door[other]), "is a room of another door")
+                    self.assertGreaterEqual(height.get(door[name], 0), height.get(door.get(other), -9), "is of a group above")
 
 
 class Lemmas(unittest.TestCase):
