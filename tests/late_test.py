@@ -22,10 +22,10 @@ from camac import __main__ as commands
 from camac import pictures
 from camac.late import Broken
 from camac.pictures.response import NO_NUMBER, pieces_of
+from camac.printed import read_responses
 from camac.report import report
-from camac.scripts import parse_response
 
-VETO, STRIP, SPILL, SLOW = parse_response(told.RESPONSE)
+VETO, STRIP, SPILL, SLOW = read_responses(told.RESPONSE)
 
 
 class Service:
@@ -91,13 +91,13 @@ class Lines(unittest.TestCase):
         self.assertEqual(VETO, Response("veto", 1, 5, 15, 7, 12, 12))
         self.assertEqual(SLOW, Response("slow", 12, 7, 60, None, None, None))
         within = "service reg gl 7 cycles 6 once start 3 end 9 of 10 longest 12\nservice adc gl 3 cycles 3 every 3 start - end - of 10 longest -\n"
-        self.assertEqual(parse_response(within), [Response("reg", 7, 6, None, 3, 9, 12), Response("adc", 3, 3, 3, None, None, None)])
-        self.assertEqual(parse_response(""), [])
+        self.assertEqual(read_responses(within), [Response("reg", 7, 6, None, 3, 9, 12), Response("adc", 3, 3, 3, None, None, None)])
+        self.assertEqual(read_responses(""), [])
         for line in ("service adc gl 3 cycles 3 start 3 end 9 longest 12", "refused E12 line 3: more cycles than annotated"):
             with self.assertRaises(ValueError):
-                parse_response(line)
+                read_responses(line)
         self.assertEqual([VETO.calls(it) for it in (0, 14, 15, 30)], [1, 1, 2, 3])
-        self.assertEqual(parse_response(within)[0].calls(1_000), 1)
+        self.assertEqual(read_responses(within)[0].calls(1_000), 1)
 
     def test_program(self):
         """A service alone begins at once; and faults of the rates."""

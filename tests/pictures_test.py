@@ -23,20 +23,21 @@ from support import told
 from support.browser import CHROMIUM, Browser
 from support.rows import ROWS
 from camac import __main__ as commands
-from camac import pictures, scripts
-from camac.bodies import Kind, calls_of, opened, parse_costs
+from camac import pictures
+from camac.bodies import calls_of, opened, parse_costs
 from camac.columns import Naming
 from camac.events import read_events
 from camac.pictures import svg
 from camac.pictures.costs import nodes_of
 from camac.pictures.lines import line_of
 from camac.pictures.spectra import LOGARITHMIC
-from camac.plans import parse_plan
+from camac.printed import read_plan, read_responses, read_services
 from camac.program import knows_option, output_of
 from camac.report import report
 from camac.runs import Asked, Inputs, Run
-from camac.scripts import parse_response, parse_verdict
 from camac.simulate import FACTORS, Simulated, Simulation
+from camac.texts import source_lines
+from camac.values import Kind
 
 KEPT = TOP / "tests/pictures"
 FIGURE = re.compile(r"<svg .*?</svg>", re.S)
@@ -394,7 +395,7 @@ class Texts(laboratory.BenchCase):
     def test_lines_are_counted_by_lf_alone(self):
         script = self.write("a.script", "")
         script.write_bytes(b"a\r\nb\rc\x0bd\xe2\x80\xa8e\nf")
-        self.assertEqual(scripts.source_lines(script), ["a", "b\rc\x0bd\u2028e", "f"])
+        self.assertEqual(source_lines(script), ["a", "b\rc\x0bd\u2028e", "f"])
 
     def test_numbers_as_text(self):
         self.assertEqual([svg.count(it, "cycle") for it in (0, 1, 2, 12_345)], ["0 cycles", "1 cycle", "2 cycles", "12,345 cycles"])
@@ -476,12 +477,12 @@ def kept_pictures():
     """The pictures that are kept, by name, drawn without the program."""
     rate = [next(it for it in told.WORDS.columns(5) if it.name == name) for name in ("rate[1]", "rate[2]")]
     asked = Asked(told.WORDS, (rate[0], rate[1]))
-    plan, services, bodies, run = parse_plan(told.PLAN), parse_verdict(told.VERDICT), parse_costs(told.COSTS), told.told_run(200, asked)
+    plan, services, bodies, run = read_plan(told.PLAN), read_services(told.VERDICT), parse_costs(told.COSTS), told.told_run(200, asked)
     calls = parse_costs(COSTS.printed.decode())
-    source, seen, responses = laboratory.SCRIPT.split("\n"), run.seen, parse_response(told.RESPONSE)
+    source, seen, responses = laboratory.SCRIPT.split("\n"), run.seen, read_responses(told.RESPONSE)
     drawn = {
         "plan": pictures.draw_plan(plan, services, run),
-        "plan-alone": pictures.draw_plan(parse_plan(LISTED_PLAN)),
+        "plan-alone": pictures.draw_plan(read_plan(LISTED_PLAN)),
         "bounds": pictures.draw_bounds(services, run),
         "response": pictures.draw_response(responses, told.run_of(responses, [(9, 7), (4, 3), (1, 5), (4, 3), (0, 0), (4, 3), (1, 5), (1, 5), (9, 7)])),
         "costs-scaler": pictures.draw_costs(bodies[0], source),
@@ -528,7 +529,7 @@ class Kept(unittest.TestCase):
         self.assertEqual((list(run.no_q), list(run.no_x), list(run.locked)), ([2, 2], [1, 1], [2, 2]))
         self.assertEqual(list(run.of_transfers), [0, 0])
         self.assertEqual([it.agrees for it in run.checks], [True, True, True, False])  # 22 cycles are above the bound of 20
-        plan = pictures.draw_plan(parse_plan(LISTED_PLAN), parse_verdict(VERDICT), run).picture()
+        plan = pictures.draw_plan(read_plan(LISTED_PLAN), read_services(VERDICT), run).picture()
         for text in ("F0 A0 to A11: read group 1, 12 bits", "F0 A12 to A15: probe: no register", "F10 A12: clear LAM", "graded-L bit 24: no service"):
             self.assertIn(text, plan)
         costs = (KEPT / "costs-call.svg").read_text()
@@ -545,7 +546,7 @@ class Kept(unittest.TestCase):
                 its.append(5)
             for its in (run.waits, run.no_q, run.of_transfers, run.no_x, run.locked):
                 its.append(at % 2)
-        drawn = pictures.draw_run(run, parse_verdict(VERDICT)).picture()
+        drawn = pictures.draw_run(run, read_services(VERDICT)).picture()
         bars = re.findall(r"M(\S+) \S+v\S+h(\d+)V", re.search(r'<path d="([^"]*)" class="ours crisp"', drawn)[1])
         edges = [(int(x), int(x) + int(wide)) for x, wide in bars]
         self.assertEqual(len(edges), 250)

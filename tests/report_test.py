@@ -18,7 +18,7 @@ from support.live import PROGRAM, TOP
 from support import laboratory
 import camac
 from camac import __main__ as commands
-from camac import pictures, plans
+from camac import pictures
 from camac.pictures import svg
 from camac.report import report
 from camac.runs import Inputs
@@ -159,7 +159,7 @@ class Ends(laboratory.BenchCase):
         text, page = self.report(plan, laboratory.largest_script(), answers)
         self.assertLess(len(text), 2_300_000)
         self.assertEqual([row[0] for row in page.parts["Checks of this page"]["tables"][0]][:4], ["agrees"] * 4)
-        drawn = pictures.draw_plan(plans.plan(plan)).picture()
+        drawn = pictures.draw_plan(camac.plan(plan)).picture()
         self.assertLess(len(drawn), 130_000)
         self.assertEqual(ElementTree.fromstring(drawn).get("height"), "1624")
 

@@ -17,7 +17,7 @@ from support.live import PROGRAM, Case
 import camac
 from camac import __main__ as commands
 from camac import mock
-from camac.plans import parse_plan
+from camac.printed import read_plan
 from camac.simulate import Setting, simulate
 
 PLAN = """\
@@ -184,7 +184,7 @@ class Simulations(Case):
 
 class Modules(unittest.TestCase):
     def test_declared(self):
-        adc = parse_plan(LISTED).types["ADC"]
+        adc = read_plan(LISTED).types["ADC"]
         its = mock.Declared(adc.declarations, seed=3)
         its.trigger()
         self.assertTrue(its.calls())

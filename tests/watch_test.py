@@ -29,12 +29,12 @@ from support.browser import CHROMIUM, Browser
 from camac.events import NEW_FILE, Event, record
 from camac.export import Given
 from camac.follow import Counts, Follower
+from camac.printed import read_services
 from camac.record import Recording
-from camac.scripts import parse_verdict
 from camac.watch import Server, Watch
 from camac.words import Words
 
-SERVICES = parse_verdict(told.VERDICT)
+SERVICES = read_services(told.VERDICT)
 
 
 def events(count, first=1):

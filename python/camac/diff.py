@@ -3,10 +3,10 @@ from typing import Dict, Iterator, List, Mapping, NamedTuple, Optional, Sequence
 
 from camac import functions
 from camac.drive import File
-from camac.plans import plan as read_plan
-from camac.scripts import Response, Service, check, response
+from camac.subcommands import check, plan as read_plan, response
 from camac.texts import plan_text
 from camac.toml_places import with_commands
+from camac.values import Response, Service
 
 # The quantities that are compared of a service, in the order in which they are printed.
 QUANTITIES = ("cycles", "words", "steps", "start", "end")

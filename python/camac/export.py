@@ -17,10 +17,10 @@ from camac.arrays import Array, EventArrays, event_arrays
 from camac.drive import File, ProgramFault
 from camac.events import GREATEST_COUNT, GREATEST_GL, EventFileFault, whole_size
 from camac.output import bytes_output, holds_bytes, output
-from camac.plans import plan as read_plan
 from camac.record import Record, Source, read_record
-from camac.scripts import Service, check
+from camac.subcommands import check, plan as read_plan
 from camac.texts import plan_text, script_text
+from camac.values import Service
 from camac.word_file import parse_words
 from camac.word_sources import words_of_script
 from camac.words import Words

@@ -12,8 +12,9 @@ from io import FileIO
 from typing import TYPE_CHECKING, Any, Callable, Iterable, Iterator, List, Mapping, NamedTuple, Optional, Tuple, Union
 
 from camac import native
-from camac.drive import Answer, Branch, Ending, File, Lockouts, ProgramFault, Refused, RunEnd, UsageFault, file_fault
+from camac.drive import Answer, Branch, File, Lockouts, ProgramFault, Refused, UsageFault, file_fault
 from camac.events import NEW_FILE
+from camac.values import Ending, RunEnd
 from camac.native import (
     CYCLE as CYCLE,
     DEMAND as DEMAND,
@@ -251,7 +252,7 @@ class Session:
         buffer = _Buffer()
         code = calls.texts.camac_open(self._at, *_given(plan, script), *buffer.words())
         if code == REFUSED:
-            raise Refused(buffer.text().decode().partition("\n")[0])
+            raise Refused(buffer.text().decode())
         if code != OK:
             raise _fault(code)
 

@@ -16,14 +16,15 @@ from dataclasses import dataclass
 from typing import Any, Callable, Dict, List, NamedTuple, Optional, Set, Tuple, Union
 
 from camac import native
-from camac.drive import Answer, Branch, File, ProgramFault, RunEnd, UsageFault, add_note, file_fault, one_line
+from camac.drive import Answer, Branch, File, ProgramFault, UsageFault, add_note, file_fault, one_line
 from camac.events import EventFileFault, read_events
 from camac.output import holds_bytes, output
-from camac.plans import plan
+from camac.printed import read_services
 from camac.program import output_of, version
 from camac.runs import Inputs, collect, is_event_file
-from camac.scripts import Service, parse_verdict
+from camac.subcommands import plan
 from camac.texts import plan_text, script_text
+from camac.values import RunEnd, Service
 
 FORM = "camac record 1"
 # The seconds between two writings of a record while a run goes on.
@@ -120,7 +121,7 @@ class Record:
 
     def list_services(self) -> List[Service]:
         """The services of the script with their bounds."""
-        return parse_verdict("\n".join(self.verdict))
+        return read_services("\n".join(self.verdict))
 
     def text(self) -> str:
         """The record as JSON."""

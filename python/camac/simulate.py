@@ -11,12 +11,11 @@ import tempfile
 from typing import Callable, Dict, List, Mapping, NamedTuple, Optional, Sequence, Tuple
 
 from camac import library
-from camac.drive import Answer, File, RunEnd, UsageFault, drive
+from camac.drive import Answer, File, UsageFault, drive
 from camac.mock import Declared, MockBranch, Module, Place
-from camac.plans import Plan
-from camac.plans import plan as read_plan
 from camac.program import quickest
-from camac.scripts import Response, response
+from camac.subcommands import plan as read_plan, response
+from camac.values import Plan, Response, RunEnd
 
 # After this number of triggers that call nobody all crates are silent, and the run ends.
 PATIENCE = 1000

@@ -4,9 +4,7 @@ from unittest import mock
 
 import camac
 from camac import runs
-from camac.listings import parse_listing
-from camac.plans import parse_plan
-from camac.scripts import parse_verdict
+from camac.printed import parse_listing, read_plan, read_services
 from camac.words import PLACE, Field, Words
 
 PLAN = """\
@@ -195,7 +193,7 @@ def run_of(responses, operations):
 def collected(plan, verdict, lines, events, responses=(), asked=None, meant=frozenset()):
     """The run of such a listing and such events; `responses` are what `camac response` would say of the script, and `meant` the commands of its
     transfers."""
-    services = parse_verdict(verdict)
+    services = read_services(verdict)
     told = {
         "run": lambda *_, **__: parse_listing(lines),
         "read_events": lambda _: iter(events),
@@ -208,4 +206,4 @@ def collected(plan, verdict, lines, events, responses=(), asked=None, meant=froz
     with contextlib.ExitStack() as patched:
         for name, instead in told.items():
             patched.enter_context(mock.patch(f"camac.runs.{name}", instead))
-        return runs.collect(runs.Inputs("plan", "script", "answers"), parse_plan(plan), services, None, responses, asked)
+        return runs.collect(runs.Inputs("plan", "script", "answers"), read_plan(plan), services, None, responses, asked)

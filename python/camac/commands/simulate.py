@@ -4,15 +4,14 @@ import runpy
 import traceback
 from typing import Any, Dict, Iterator, List, Mapping, Optional, Sequence
 
-from camac.commands.rates import add_every, read_every
-from camac.commands.words import add_overwrite
-from camac.drive import Ending, UsageFault
+from camac.commands.options import add_every, add_overwrite, read_every
+from camac.drive import UsageFault
 from camac.mock import Module, Place
 from camac.output import say, write_made
 from camac.pictures import draw_rates
 from camac.pictures.svg import share
-from camac.scripts import check
 from camac.simulate import GREATEST_RATE, PATIENCE, Setting, Simulated, Simulation, curve, simulate
+from camac.values import Ending
 
 GREATEST_CYCLE, GREATEST_SERVICES = 1e6, 10_000_000
 # The most services that are simulated for each rate of a curve.

@@ -7,9 +7,10 @@ from camac.edits import Edit, edited
 from camac.loops.heads import Least
 from camac.loops.ranges import TURNED, constant
 from camac.loops.widths import Widths
+from camac.printed import read_headings
 from camac.program import accepts, verdict
-from camac.scripts import Heading, parse_bounds
 from camac.tree import Body, Expression, For, If, Keep, Loop, Name, Range, all_in, names_in
+from camac.values import Heading
 
 Bounds = Tuple[int, int]
 
@@ -105,7 +106,7 @@ def splits(plan: File, text: bytes, bodies: Sequence[Body], program: Optional[Fi
 def _bounds(plan: File, text: bytes, program: Optional[File]) -> List[Bounds]:
     """The least cycles and words of each service and procedure; nothing if the text is refused."""
     told = verdict("bounds", plan, text, program)
-    return [(it.cycles, it.words) for it in parse_bounds(told.text)] if told.accepted else []
+    return [(it.cycles, it.words) for it in read_headings(told.text)] if told.accepted else []
 
 
 def _is_less(one: Bounds, other: Bounds) -> bool:

@@ -15,9 +15,9 @@ from camac.loops.ranges import MOST, Cause, State
 from camac.loops.trials import Stopped, Trials
 from camac.loops.widths import Widths
 from camac.output import bytes_output
+from camac.printed import read_headings
 from camac.program import verdict
 from camac.reader import read_script
-from camac.scripts import parse_bounds
 from camac.texts import GREATEST_TEXT
 from camac.tree import Assign, Body, Loop, Range, Statement, all_in
 
@@ -39,7 +39,7 @@ def propose(plan: File, script: bytes, program: Optional[File] = None, keeps_onl
     Raises ProgramFault and OSError as `camac.check`, and Refused if the plan is refused."""
     is_long = len(script) > MOST_BYTES
     told = verdict(CHECK if is_long else BOUNDS, plan, script, program)
-    refusal = None if told.accepted else Refused(told.text.partition("\n")[0])
+    refusal = None if told.accepted else Refused(told.text)
     if refusal and refusal.line is None:
         raise refusal
     if is_long or refusal and refusal.code[0] == "S":
@@ -51,7 +51,7 @@ def propose(plan: File, script: bytes, program: Optional[File] = None, keeps_onl
 
 
 def _remaining(refusal: Refused, line: Optional[int]) -> Remaining:
-    return Remaining(refusal.code, line, str(refusal).partition(": ")[2])
+    return Remaining(refusal.code, line, refusal.rule)
 
 
 def write_keeps(plan: File, script: str, program: Optional[File] = None) -> List[Proposal]:
@@ -250,5 +250,5 @@ class _Search:
             return
         self.found = found
         told = self.trials.judged(BOUNDS, self.found.edits())
-        for it in least_headings(self.text, parse_bounds(told.text)):
+        for it in least_headings(self.text, read_headings(told.text)):
             self.headings.append(Proposal(Kind.HEADING, it.line, it.heading, it.edits))

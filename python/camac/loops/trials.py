@@ -52,7 +52,7 @@ class Trials:
     def stopped(self, command: str, edits: Sequence[Edit]) -> Optional[Stopped]:
         """What refuses the script with these changes; None if it is accepted."""
         told = self.judged(command, edits)
-        return None if told.accepted else self.read(Refused(told.text.partition("\n")[0]))
+        return None if told.accepted else self.read(Refused(told.text))
 
     def read(self, refusal: Refused) -> Stopped:
         about = self.at.get(refusal.line or 0)

@@ -3,13 +3,13 @@ import re
 from typing import Iterator, List, NamedTuple, Optional
 
 from camac import functions
-from camac.bodies import Cost, Row
-from camac.lsp.known import Address, addresses, range_at, row_of, statement_tokens
+from camac.lsp.known import addresses, range_at, row_of, statement_tokens
 from camac.lsp.workspace import Choice, Judged
 from camac.names import Kind, Mention
-from camac.plans import Declaration, ModuleType, Plan
+from camac.printed import line_of_body
 from camac.tokens import Token
-from camac.tree import Range
+from camac.values import Address, Cost, Declaration, ModuleType, Plan, Range, Row
+from camac.values import Kind as BodyKind
 
 GREATEST = 4_294_967_295
 OF_FUNCTIONS = ("cfsa", "cssa", "cfmad", "cfubc", "cfubr")
@@ -43,10 +43,10 @@ def _of_name(judged: Judged, mention: Mention, choice: Choice) -> Iterator[str]:
     its = mention.symbol
     if its.kind is Kind.LAM:
         yield from _of_lam(judged, mention)
-        yield from _of_body(judged, "service", its.name)
+        yield from _of_body(judged, BodyKind.SERVICE, its.name)
         yield f"Plan: {choice.told()}"
     elif its.kind is Kind.PROCEDURE:
-        yield from _of_body(judged, "proc", its.name)
+        yield from _of_body(judged, BodyKind.PROCEDURE, its.name)
     elif its.kind is Kind.REGISTER:
         yield from _of_register(judged, mention)
     elif its.kind is Kind.TABLE:
@@ -90,15 +90,15 @@ def _of_lam(judged: Judged, mention: Mention) -> Iterator[str]:
         yield f"LAM `{mention.symbol.name}`: crate {crate}, station {station}, sub-address {sub}{what}" + (f", bit {bit} of the graded-L pattern" if bit else "")
 
 
-def _of_body(judged: Judged, kind: str, name: str) -> Iterator[str]:
+def _of_body(judged: Judged, kind: BodyKind, name: str) -> Iterator[str]:
     """What a service or procedure takes at most, and how late a service can be."""
     told = judged.ask("costs")
-    head = re.search(rf"(?m)^{kind} {name} .*$", told.text) if told.accepted else None
+    head = line_of_body(told.text, kind, name) if told.accepted else None
     if head:
-        yield _code(head[0])
-        late = re.search(rf"(?m)^service {name} .*$", judged.ask("response").text) if kind == "service" else None
+        yield _code(head)
+        late = line_of_body(judged.ask("response").text, kind, name) if kind is BodyKind.SERVICE else None
         if late:
-            yield _code(f"response: {late[0]}")
+            yield _code(f"response: {late}")
 
 
 def _code(text: str) -> str:

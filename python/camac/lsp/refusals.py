@@ -5,10 +5,9 @@ from typing import Iterator, List, NamedTuple, Optional, Tuple
 
 from camac.layout import begins
 from camac.lsp.workspace import Judged
+from camac.printed import read_explanation
 from camac.tokens import PIECE, is_token, tokens_of
 
-FIRST = re.compile(r"refused ([A-Z]\d+) line (\d+): (.*)")
-MARK = re.compile(r"[ |\t]*\^")
 # The most refusals that are shown.
 MOST = 10
 SIGN = re.compile(rb"[\x00-\xff][\x80-\xbf]*")
@@ -43,24 +42,18 @@ def refusals(judged: Judged) -> List[Refusal]:
 def _refusals(judged: Judged) -> Iterator[Refusal]:
     data, told = judged.text.data, judged.ask("explain")
     for _ in range(MOST):
-        found = None if told.accepted else FIRST.match(told.text)
-        if not found:
+        found = read_explanation(told.text)
+        if found is None:
             return
-        code, line = found[1], int(found[2])
-        sentence, advice = _explanation(told.text)
+        code, line, rule = found.refusal
+        if line is None:
+            return
         start, end = _place(judged, data, code, line)
-        yield Refusal(code, line, start, end, found[3], sentence, advice)
+        yield Refusal(code, line, start, end, rule, found.sentence, found.advice)
         rest = _without_body(data, start) if code[0] == "E" else None
         if rest is None:
             return
         data, told = rest, judged.judge.ask("explain", rest)
-
-
-def _explanation(told: str) -> Tuple[str, Tuple[str, ...]]:
-    """What is said of a case, and the lines that follow, behind the line of the script and the mark below it."""
-    its = [it for it in told.split("\n")[2:] if it and not MARK.fullmatch(it)]
-    has_sentence = bool(its) and not its[0].startswith("Why: ")
-    return (its[0], tuple(its[1:])) if has_sentence else ("", tuple(its))
 
 
 def _place(judged: Judged, data: bytes, code: str, line: int) -> Tuple[int, int]:
@@ -75,8 +68,8 @@ def _place(judged: Judged, data: bytes, code: str, line: int) -> Tuple[int, int]
     if not tokens:
         return at + len(its), at + len(its)
     alone = b"\n".join(it.text.encode() for it in tokens)
-    again = FIRST.match(judged.judge.ask("explain", data[:at] + alone + data[at + len(its) :]).text)
-    number = int(again[2]) - line if again and again[1] == code else 0
+    again = read_explanation(judged.judge.ask("explain", data[:at] + alone + data[at + len(its) :]).text)
+    number = (again.refusal.line or line) - line if again and again.refusal.code == code else 0
     if not 0 <= number < len(tokens):
         number = 0
     if code[0] == "S":

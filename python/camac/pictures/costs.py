@@ -1,10 +1,11 @@
 """The picture of a body's cost: what its bound consists of, as bars below bars, and then by line."""
 from typing import Dict, List, NamedTuple, Optional, Sequence, Tuple
 
-from camac.bodies import Body, Kind, Row, calls_of, opened
+from camac.bodies import calls_of, opened
 from camac.pictures.lines import OF_LOCK, draw_lines, parts_of
 from camac.pictures.svg import MONO_11, NO_POINTER, SANS_11, WIDTH, Canvas, count, cut, number, share
 from camac.runs import Seen
+from camac.values import Body, Kind, Row
 
 WIDE = WIDTH - 2
 FIRST_BAR, BAR, STEP = 22, 20, 21

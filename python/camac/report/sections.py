@@ -6,17 +6,15 @@ import os
 from typing import Dict, List, NamedTuple, Optional, Sequence, Tuple, Union
 
 from camac import functions
-from camac.bodies import Body
-from camac.drive import Ending, File
+from camac.drive import File
+from camac.values import Body, Ending, Plan, Response, Service
 from camac.pictures import (
     channel_groups, command_groups, draw_bounds, draw_calls, draw_costs, draw_pairs, draw_places, draw_plan, draw_response, draw_run, draw_strip, event_groups,
 )
 from camac.pictures.spectra import BOTH
 from camac.pictures.svg import count, escape, share
-from camac.plans import Plan
 from camac.report.page import Cell, Column, Row, figure, folded, header, panels, table
 from camac.runs import Inputs, Kept, Run, Why
-from camac.scripts import Response, Service
 
 SECTIONS = (
     ("bounds", "Bounds"),

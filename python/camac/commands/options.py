@@ -1,7 +1,9 @@
-"""The option --every: how soon a module may call again."""
+"""Options of several commands: how soon a module may call again, what the words of events are, and what may be replaced."""
 import argparse
 import re
 from typing import Dict, Sequence
+
+from camac.columns import Naming
 
 GREATEST_EVERY = 4_294_967_295
 
@@ -22,3 +24,17 @@ def read_every(words: Sequence[str], its: argparse.ArgumentParser) -> Dict[str, 
             its.error(f"--every {name} is there twice")
         rates[name] = int(cycles)
     return rates
+
+
+def add_words(to: argparse.ArgumentParser) -> None:
+    to.add_argument("--words", metavar="TOML", help="what the words of events are; else their names come from the script")
+    text = "draws two numbers of an event against each other, named as their spectra are: the one across, the one up"
+    to.add_argument("--pair", nargs=2, metavar=("ACROSS", "UP"), help=text)
+
+
+def add_overwrite(to: argparse.ArgumentParser) -> None:
+    to.add_argument("--overwrite", action="store_true", help="replaces a file that another command made")
+
+
+def naming(args: argparse.Namespace) -> Naming:
+    return Naming(args.words, (args.pair[0], args.pair[1]) if args.pair else None)
