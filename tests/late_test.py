@@ -16,7 +16,7 @@ from unittest import mock
 from support.live import PROGRAM, TOP
 from support import laboratory
 import camac
-from support import told
+from support import two_crates
 from camac import Response
 from camac import __main__ as commands
 from camac import pictures
@@ -25,7 +25,7 @@ from camac.pictures.response import NO_NUMBER, pieces_of
 from camac.printed import read_responses
 from camac.report import report
 
-VETO, STRIP, SPILL, SLOW = read_responses(told.RESPONSE)
+VETO, STRIP, SPILL, SLOW = read_responses(two_crates.RESPONSE)
 
 
 class Service:
@@ -158,7 +158,7 @@ class Watched(unittest.TestCase):
             # Strip calls again after 3 cycles. A stretch of veto knows nothing of it, one of spill does.
             ([(4, 3), (4, 3), (1, 5), (9, 7)], {1: (1, 8, 0), 4: (1, 3, 1), 9: (0, 0, 1)}),
         ]:
-            run = told.run_of(its, operations)
+            run = two_crates.run_of(its, operations)
             self.assertEqual({gl: (it.count, it.most, it.left_out) for gl, it in run.late.items()}, seen)
             self.assertTrue(run.agrees())
         self.assertEqual([run.late[gl].broken for gl in (1, 4, 9)], [None, Broken("strip", 2, 3, 2), Broken("strip", 2, 3, 2)])
@@ -167,7 +167,7 @@ class Watched(unittest.TestCase):
         """A service that did not come to its end is none."""
         lines = ["demand 000001 veto", "cycle 1 5 0 9 none x1 q1 wait 0", "demand 000008 strip", "cycle 1 5 0 9 none x1 q1 wait 0", "short events 1"]
         verdict = "accepted\nservice veto gl 1 cycles 5 of 9 words 0 of 0 steps 9\nservice strip gl 4 cycles 3 of 9 words 0 of 0 steps 9\n"
-        run = told.collected(told.PLAN, verdict, lines, [camac.Event(1, 1, 1, 0, ())], (VETO, STRIP))
+        run = two_crates.collected(two_crates.PLAN, verdict, lines, [camac.Event(1, 1, 1, 0, ())], (VETO, STRIP))
         self.assertEqual([(run.late[gl].count, run.late[gl].most) for gl in (1, 4)], [(1, 1), (0, 0)])
 
     def test_random_runs(self):
@@ -177,7 +177,7 @@ class Watched(unittest.TestCase):
             its = chosen(chance)
             bounds = {0: 0, **{it.gl: it.cycles for it in its}}
             operations = [(gl, bounds[gl] if chance.random() < 0.8 else chance.randint(0, bounds[gl])) for gl in chance.choices(list(bounds), k=25)]
-            run = told.run_of(its, operations)
+            run = two_crates.run_of(its, operations)
             for it in its:
                 ends, broken = ends_of(its, operations)[it.gl]
                 kept, late = [end for end in ends if end is not None], run.late[it.gl]
@@ -190,7 +190,7 @@ class Watched(unittest.TestCase):
         self.assertGreater(reached, 20)
 
     def test_above_the_bound(self):
-        run = told.run_of((VETO._replace(start=0, end=4),), [(1, 5)])
+        run = two_crates.run_of((VETO._replace(start=0, end=4),), [(1, 5)])
         self.assertFalse(run.agrees())
         self.assertIn("no service ended later", run.checks[-1].text)
 

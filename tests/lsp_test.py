@@ -288,7 +288,7 @@ class Plans(Served):
 
 class Shown(Served):
     def test_refusals(self):
-        """Each is at its statement or word, the first of each body, and goes with its mend."""
+        """Each is at its statement or word, the first of each body, and goes with its fix."""
         for text, wanted in [
             (SCRIPT, []),
             (SCRIPT.replace("put s", "puts s"), [(5, 2, 6, "S5")]),

@@ -19,7 +19,7 @@ from unittest import mock
 from support.live import PROGRAM, TOP
 from support import laboratory
 import camac
-from support import told
+from support import two_crates
 from support.browser import CHROMIUM, Browser
 from support.rows import ROWS
 from camac import __main__ as commands
@@ -240,7 +240,7 @@ class Costs(laboratory.BenchCase):
         """The texts of which the kept pictures are drawn are those that the program prints."""
         plan, script, _ = self.files
         printed = [output_of(*words) for words in (("plan", plan, "--commands"), ("check", plan, script), ("costs", plan, script))]
-        self.assertEqual(printed, [told.PLAN, told.VERDICT, told.COSTS])
+        self.assertEqual(printed, [two_crates.PLAN, two_crates.VERDICT, two_crates.COSTS])
 
     def test_shares(self):
         bodies = camac.costs(*self.files[:2])
@@ -260,7 +260,7 @@ class Costs(laboratory.BenchCase):
     def bodies(self):
         """The bodies of the bench and of all worked rows of costs, each with all of its script."""
         worked = [one.printed.decode() for case in ROWS["costs"].values() for one in case]
-        for printed in (told.COSTS, *(it for it in worked if it.startswith(("service", "proc")))):
+        for printed in (two_crates.COSTS, *(it for it in worked if it.startswith(("service", "proc")))):
             its = parse_costs(printed)
             yield from ((body, its) for body in its)
 
@@ -462,7 +462,7 @@ def small_run():
     """A run of two services with all that a strip can show, and of a third one without an end."""
     lines = [*SERVED, *SERVED[:-2], SERVED[-2].replace("15", "0"), *SERVED[:3], "short events 2"]
     events = [camac.Event(1, 3, 22, 1, (0x123, 0xFF)), camac.Event(2, 3, 7, 1, (0x123, 0xFF, 5))]
-    return told.collected(LISTED_PLAN, VERDICT, lines, events)
+    return two_crates.collected(LISTED_PLAN, VERDICT, lines, events)
 
 
 def rates_at(factor):
@@ -475,22 +475,22 @@ def rates_at(factor):
 
 def kept_pictures():
     """The pictures that are kept, by name, drawn without the program."""
-    rate = [next(it for it in told.WORDS.columns(5) if it.name == name) for name in ("rate[1]", "rate[2]")]
-    asked = Asked(told.WORDS, (rate[0], rate[1]))
-    plan, services, bodies, run = read_plan(told.PLAN), read_services(told.VERDICT), parse_costs(told.COSTS), told.told_run(200, asked)
+    rate = [next(it for it in two_crates.WORDS.columns(5) if it.name == name) for name in ("rate[1]", "rate[2]")]
+    asked = Asked(two_crates.WORDS, (rate[0], rate[1]))
+    plan, services, bodies, run = read_plan(two_crates.PLAN), read_services(two_crates.VERDICT), parse_costs(two_crates.COSTS), two_crates.long_run(200, asked)
     calls = parse_costs(COSTS.printed.decode())
-    source, seen, responses = laboratory.SCRIPT.split("\n"), run.seen, read_responses(told.RESPONSE)
+    source, seen, responses = laboratory.SCRIPT.split("\n"), run.seen, read_responses(two_crates.RESPONSE)
     drawn = {
         "plan": pictures.draw_plan(plan, services, run),
         "plan-alone": pictures.draw_plan(read_plan(LISTED_PLAN)),
         "bounds": pictures.draw_bounds(services, run),
-        "response": pictures.draw_response(responses, told.run_of(responses, [(9, 7), (4, 3), (1, 5), (4, 3), (0, 0), (4, 3), (1, 5), (1, 5), (9, 7)])),
+        "response": pictures.draw_response(responses, two_crates.run_of(responses, [(9, 7), (4, 3), (1, 5), (4, 3), (0, 0), (4, 3), (1, 5), (1, 5), (9, 7)])),
         "costs-scaler": pictures.draw_costs(bodies[0], source),
         "costs-adc": pictures.draw_costs(bodies[1], source, seen[3].cycles),
         "costs-tick": pictures.draw_costs(bodies[2], source, seen[5].cycles, bodies),
         "costs-call": pictures.draw_costs(calls[1], COSTS.inputs["SCRIPT"].decode().split("\n"), None, calls),
         "run": pictures.draw_run(run, services),
-        "run-long": pictures.draw_run(told.told_run(270), services),
+        "run-long": pictures.draw_run(two_crates.long_run(270), services),
         "events": pictures.draw_groups("Cycles and words of an event", pictures.event_groups(run, services)),
         "words": pictures.draw_groups("Words by channel", pictures.command_groups(run, plan)),
         "words-log": pictures.draw_groups("Words by channel", pictures.command_groups(run, plan, LOGARITHMIC)[:1]),

@@ -15,7 +15,7 @@ import unittest
 
 from support.live import PROGRAM, TOP, Case
 import camac
-from support import told
+from support import two_crates
 from support.rows import ROWS
 from camac import Cycle, Demand, Ending, Lock, Move, RunEnd, Unlock, bodies, printed, program
 from camac.annotate import annotate
@@ -302,7 +302,7 @@ class Columns(unittest.TestCase):
         """What `numbers` gives of many events is what `values` gives of each."""
         chance = random.Random(3)
         events = [camac.Event(at, chance.choice((3, 5, 9)), 9, 0, tuple(chance.getrandbits(24) for _ in range(chance.randint(0, 14)))) for at in range(1, 400)]
-        for names in (told.WORDS, camac.Words([camac.Field("a", 3, places=(2, 3)), camac.Field("b", 3, bits=(3, 7), count=4), camac.Field("c", 9, of="place", places=(1, 4))])):
+        for names in (two_crates.WORDS, camac.Words([camac.Field("a", 3, places=(2, 3)), camac.Field("b", 3, bits=(3, 7), count=4), camac.Field("c", 9, of="place", places=(1, 4))])):
             wanted = collections.defaultdict(collections.Counter)
             for event in events:
                 for value in names.values(event):

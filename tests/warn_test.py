@@ -288,7 +288,7 @@ class Command(Case):
         self.assertEqual(sorted(it.name for it in self.room.iterdir()), ["a.script", "link"])
 
     def test_refused_headings(self):
-        """A refusal that no heading mends is shown, and the file is as it was. If `explain` names a heading first, that is left out."""
+        """A refusal that no heading fixes is shown, and the file is as it was. If `explain` names a heading first, that is left out."""
         wide = DRAFT.replace(b"event 001", b"event 0").replace(b"call read(11)", b"put 16777216")
         for text, wanted, begins in (
             (wide, "refused E16: word above 24 bits", []),

@@ -137,7 +137,7 @@ def _faults(call: Callable[[], List[Found]], files: List[TextFile], program: Opt
         return call()
     except Refused as refusal:
         its = read_explanation("\n".join(lines_of("explain", "--", *files, program=program)))
-        # The headings as they are may be refused before what no heading mends.
+        # The headings as they are may be refused before what no heading fixes.
         lines, column = (its.lines, its.column) if its and its.refusal == (refusal.code, refusal.line, refusal.rule) else ((), None)
         return [Found("refused", refusal.line, refusal.code, refusal.rule, lines, column)]
     except UsageFault:

@@ -29,7 +29,7 @@ class Code(enum.Enum):
 
 
 class Warned(NamedTuple):
-    """A warning: the line of the script, from 1, what it is about, a sentence, and the edits that mend it, if they are known."""
+    """A warning: the line of the script, from 1, what it is about, a sentence, and the edits that fix it, if they are known."""
 
     line: int
     code: Code

@@ -16,7 +16,7 @@ Bounds = Tuple[int, int]
 
 
 class Wide(NamedTuple):
-    """A variable that a loop keeps, on a line, in a range; the least range, or None if it need not be kept at all; and the edits that mend it."""
+    """A variable that a loop keeps, on a line, in a range; the least range, or None if it need not be kept at all; and the edits that fix it."""
 
     line: int
     name: str

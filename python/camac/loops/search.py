@@ -34,7 +34,7 @@ CHECK, BOUNDS = "check", "bounds"
 def propose(plan: File, script: bytes, program: Optional[File] = None, keeps_only: bool = False) -> Proposals:
     """Returns what the loops of a script have to keep, so that the checker accepts it, or that its first refusal comes later: the fewest ranges,
     and the least. If no range can be kept, statements get another form, but for `keeps_only`. Nothing is proposed for a script that is accepted,
-    or is refused for what no range mends. If its headings are too small, and else it would be accepted, the least ones are proposed, too.
+    or is refused for what no range fixes. If its headings are too small, and else it would be accepted, the least ones are proposed, too.
 
     Raises ProgramFault and OSError as `camac.check`, and Refused if the plan is refused."""
     is_long = len(script) > MOST_BYTES

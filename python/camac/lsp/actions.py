@@ -20,7 +20,7 @@ TITLES = {Code.UNUSED_KEEP: "Remove what is kept for nothing", Code.WIDE_KEEP: "
 
 
 class Fix(NamedTuple):
-    """A change that mends something: its title, the edits, and the code of what it mends."""
+    """A change that fixes something: its title, the edits, and the code of what it fixes."""
 
     title: str
     edits: Tuple[Edit, ...]

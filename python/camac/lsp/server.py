@@ -392,8 +392,8 @@ class Server:
         return made
 
     def action(self, uri: str, judged: Judged, it: actions.Fix, shown: List[Any]) -> Any:
-        mended = [one for one in shown if one.get("code") == it.code]
-        return {"title": it.title, "kind": "quickfix", "edit": self.workspace_edit(uri, judged, it.edits), **({"diagnostics": mended} if mended else {})}
+        fixed = [one for one in shown if one.get("code") == it.code]
+        return {"title": it.title, "kind": "quickfix", "edit": self.workspace_edit(uri, judged, it.edits), **({"diagnostics": fixed} if fixed else {})}
 
     def on_command(self, params: Params) -> Any:
         if params["command"] != KEEPS:

@@ -1,8 +1,8 @@
 #!/usr/bin/env python3
-"""Tries whether the fixes of explanations help: scripts are broken at random, each mend that a program can apply is applied, and the refusal of the case
+"""Tries whether the fixes of explanations help: scripts are broken at random, each fix that a program can apply is applied, and the refusal of the case
 has to be gone.
 
-usage: tests/mends_test.py [--whole] [-v] [TEST ..]     from any folder; takes ten seconds of the processor
+usage: tests/fixes_test.py [--whole] [-v] [TEST ..]     from any folder; takes ten seconds of the processor
 
 With --whole 2,000 refusals are tried, in place of 800. SEED begins them, 1 if it is not set. If the library for C is there (tests/of_c.py), it
 judges, else the program: crates/camac/out/camac (cd crates/camac && rt run makes it), or what CAMAC_PROGRAM names.
@@ -51,7 +51,7 @@ TROUBLES = [
     "while k > 0 turns 3 by t { k = k - 1 }", "for i = 1 to 3 keep k in 1..5 { k = 2 }", "for i = 0 to 9 keep k in 0..5 { k = k + 1 }", "for i = 1 to 9 { t = t + 1 } put i - t", "cfsa 0 r -> t put t * t",
     "for i = 1 to 9 { cfsa 0 r -> t k = k + t } put k", "cfsa 0 r -> t cfsa 0 r -> k put t + k", "cfsa 0 r -> t cfsa 16 r <- t + 1", "cssa 16 r <- 70000", "call get(i - 1)", "put t - 1",
 ]
-# Of these kinds of mends not all help today. The number is how many of a hundred do at least. `put i + 4294967295` has the fix of a loop that is not there; a
+# Of these kinds of fixes not all help today. The number is how many of a hundred do at least. `put i + 4294967295` has the fix of a loop that is not there; a
 # variable that is kept, and that its loop does not write, is not found by --keeps; nor is one that has to stay above the right side of a difference.
 PARTLY = {"E16 --keeps": 0, "E8 --keeps": 60, "E4 --keeps": 80}
 # The least number of kinds that are tried: else explanations have other texts than this test looks for.
@@ -81,7 +81,7 @@ def broken(chance):
 
 
 class Refused:
-    """The first refusal of a script, and its mends."""
+    """The first refusal of a script, and its fixes."""
 
     def __init__(self, judge, script):
         self.judge, self.data = judge, script
@@ -99,8 +99,8 @@ class Refused:
         now = Refused(self.judge, changed).told()
         return now != (self.first.code, self.first.line + more, self.first.sentence)
 
-    def mends(self):
-        """By kind, the edits of each mend that a program can apply."""
+    def fixes(self):
+        """By kind, the edits of each fix that a program can apply."""
         its, text = self.first, self.data[self.first.start : self.first.end].decode()
         advice = " ".join(its.advice)
         for fix in _of_refusal(self.judged, its):
@@ -115,7 +115,7 @@ class Refused:
             yield f"{its.code} --keeps", edits
 
     def of_text(self, text, advice):
-        """What mends a fault of the text."""
+        """What fixes a fault of the text."""
         its = self.first
         put = lambda new: (Edit(its.start, its.end, new),)
         if "remove the byte" in advice:
@@ -131,7 +131,7 @@ class Refused:
             yield "S7 write 1", put("1")
 
     def of_statement(self, text, advice):
-        """What mends a statement."""
+        """What fixes a statement."""
         its = self.first
         put = lambda new: (Edit(its.start, its.end, new),)
         if "as in `v + 4095 - w`" in advice:
@@ -197,12 +197,12 @@ class Refused:
             yield "E4 add the greatest number first", (Edit(self.first.start, self.first.end, made),)
 
 
-class Mends(Case):
+class Fixes(Case):
     def judge(self, plan):
         return Judge(plan if plan is not None else plan_text(SAMPLE), str(self.room))
 
-    def test_mends_help(self):
-        chance = random.Random(f"{SEED} mends")
+    def test_fixes_help(self):
+        chance = random.Random(f"{SEED} fixes")
         tried, helped, failed, count = collections.Counter(), collections.Counter(), {}, 0
         while count < REFUSALS:
             plan, script = broken(chance)
@@ -210,7 +210,7 @@ class Mends(Case):
             if not it.first:
                 continue
             count += 1
-            for kind, edits in it.mends():
+            for kind, edits in it.fixes():
                 is_good = bool(edits) and it.is_gone(edits)
                 tried[kind] += 1
                 helped[kind] += is_good

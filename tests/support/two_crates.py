@@ -106,7 +106,7 @@ class Chance:
         return max(0, middle + sum(self.below(spread) for _ in range(6)) // 2 - spread * 3 // 2)
 
 
-class Told:
+class Written:
     """A listing and its events, written operation by operation."""
 
     def __init__(self):
@@ -165,17 +165,17 @@ class Told:
         self.end(5)
 
 
-def told_run(services, asked=None):
+def long_run(services, asked=None):
     """A run of so many services: each fifth one is a tick, and behind each seventh one nobody calls. `asked` are columns of the words."""
-    told = Told()
+    written = Written()
     for at in range(services):
         if at % 5 == 4:
-            told.tick()
+            written.tick()
         else:
-            told.adc()
+            written.adc()
         if at % 7 == 6:
-            told.begin(0, "-")
-    return collected(PLAN, VERDICT, [*told.lines, f"ended events {services}"], told.events, asked=asked, meant=SCAN)
+            written.begin(0, "-")
+    return collected(PLAN, VERDICT, [*written.lines, f"ended events {services}"], written.events, asked=asked, meant=SCAN)
 
 
 def run_of(responses, operations):
@@ -194,7 +194,7 @@ def collected(plan, verdict, lines, events, responses=(), asked=None, meant=froz
     """The run of such a listing and such events; `responses` are what `camac response` would say of the script, and `meant` the commands of its
     transfers."""
     services = read_services(verdict)
-    told = {
+    written = {
         "run": lambda *_, **__: parse_listing(lines),
         "read_events": lambda _: iter(events),
         "is_event_file": lambda _: False,
@@ -204,6 +204,6 @@ def collected(plan, verdict, lines, events, responses=(), asked=None, meant=froz
         "transfer_commands": lambda *_: meant,
     }
     with contextlib.ExitStack() as patched:
-        for name, instead in told.items():
+        for name, instead in written.items():
             patched.enter_context(mock.patch(f"camac.runs.{name}", instead))
         return runs.collect(runs.Inputs("plan", "script", "answers"), read_plan(plan), services, None, responses, asked)
