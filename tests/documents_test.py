@@ -40,7 +40,7 @@ import unittest
 
 from support import of_c
 
-from support.program import PROGRAM, TOP
+from support.program import PROGRAM, TOP, run_tests
 
 if "CAMAC_PROGRAM" in os.environ:
     os.environ["CAMAC_PROGRAM"] = PROGRAM  # commands of pages run it from other folders, too
@@ -379,8 +379,6 @@ def keep():
 
 
 if __name__ == "__main__":
-    if not os.access(PROGRAM, os.X_OK):
-        sys.exit(f"{PROGRAM} is not there: cd crates/camac && rt run makes it, or CAMAC_PROGRAM names another")
     if sys.argv[1:] == ["--keep"]:
         sys.exit(keep())
-    unittest.main()
+    run_tests()

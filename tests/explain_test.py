@@ -10,13 +10,12 @@ import pathlib
 import random
 import re
 import subprocess
-import sys
 import tempfile
 import unittest
 from typing import NamedTuple
 
 from support import plans
-from support.program import PROGRAM, TOP
+from support.program import PROGRAM, TOP, run_tests
 from support.rows import ROWS
 
 PAGE = (TOP / "docs/REFUSALS.md").read_text()
@@ -540,6 +539,4 @@ class Explain(unittest.TestCase):
 
 
 if __name__ == "__main__":
-    if not os.access(PROGRAM, os.X_OK):
-        sys.exit(f"{PROGRAM} is not there: cd crates/camac && rt run makes it, or CAMAC_PROGRAM names another")
-    unittest.main()
+    run_tests()

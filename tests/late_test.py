@@ -8,12 +8,11 @@ import io
 import os
 import random
 import re
-import sys
 import unittest
 import xml.etree.ElementTree as ElementTree
 from unittest import mock
 
-from support.live import PROGRAM, TOP
+from support.live import PROGRAM, TOP, run_tests
 from support import laboratory
 import camac
 from support import two_crates
@@ -323,6 +322,4 @@ class Shown(laboratory.BenchCase):
 
 
 if __name__ == "__main__":
-    if not os.access(PROGRAM, os.X_OK):
-        sys.exit(f"{PROGRAM} is not there: cd crates/camac && rt run makes it, or CAMAC_PROGRAM names another")
-    unittest.main()
+    run_tests()

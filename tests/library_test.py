@@ -21,7 +21,7 @@ import zipfile
 from random import Random
 
 from support import of_c
-from support.live import LOCKOUT, PROGRAM, STRAIGHT_LINE, TOP, Broken, Case, Listed
+from support.live import LOCKOUT, PROGRAM, STRAIGHT_LINE, TOP, Broken, Case, Listed, run_tests
 import camac
 from camac import Answer, Ending, ProgramFault, Refused, UsageFault, judge, library
 from camac.mock import Adc, Auxiliary, MockBranch, Recorder, Register
@@ -678,9 +678,7 @@ class Package(Case):
 
 
 if __name__ == "__main__":
-    if not os.access(PROGRAM, os.X_OK):
-        sys.exit(f"{PROGRAM} is not there: cd crates/camac && rt run makes it, or CAMAC_PROGRAM names another")
     if of_c.lacking():
         print(f"left out: {of_c.lacking()}")
         sys.exit()
-    unittest.main()
+    run_tests()

@@ -6,7 +6,6 @@ usage: tests/pictures_test.py [-v] [TEST ..]     from any folder; takes about a 
 Tests in Chromium are left out if it is not installed. The pictures that are kept in tests/pictures are compared byte by byte; `tests/pictures_test.py
 --keep` writes them anew, to be looked at before they are committed.
 """
-import os
 import re
 import shutil
 import statistics
@@ -16,7 +15,7 @@ import unittest
 import xml.etree.ElementTree as ElementTree
 from unittest import mock
 
-from support.live import PROGRAM, TOP
+from support.live import PROGRAM, TOP, run_tests
 from support import laboratory
 import camac
 from support import two_crates
@@ -691,6 +690,4 @@ def keep():
 if __name__ == "__main__":
     if sys.argv[1:] == ["--keep"]:
         sys.exit(keep())
-    if not os.access(PROGRAM, os.X_OK):
-        sys.exit(f"{PROGRAM} is not there: cd crates/camac && rt run makes it, or CAMAC_PROGRAM names another")
-    unittest.main()
+    run_tests()

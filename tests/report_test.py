@@ -14,7 +14,7 @@ import unittest
 import xml.etree.ElementTree as ElementTree
 from unittest import mock
 
-from support.live import PROGRAM, TOP
+from support.live import TOP, run_tests
 from support import laboratory
 import camac
 from camac import __main__ as commands
@@ -370,6 +370,4 @@ class Pages(unittest.TestCase):
 
 
 if __name__ == "__main__":
-    if not os.access(PROGRAM, os.X_OK):
-        sys.exit(f"{PROGRAM} is not there: cd crates/camac && rt run makes it, or CAMAC_PROGRAM names another")
-    unittest.main()
+    run_tests()

@@ -8,12 +8,11 @@ import io
 import math
 import os
 import re
-import sys
 import unittest
 import unittest.mock
 import xml.etree.ElementTree as ElementTree
 
-from support.live import PROGRAM, Case
+from support.live import PROGRAM, Case, run_tests
 import camac
 from camac import __main__ as commands
 from camac import mock
@@ -209,6 +208,4 @@ station 5 ADC gl 3
 
 
 if __name__ == "__main__":
-    if not os.access(PROGRAM, os.X_OK):
-        sys.exit(f"{PROGRAM} is not there: cd crates/camac && rt run makes it, or CAMAC_PROGRAM names another")
-    unittest.main()
+    run_tests()

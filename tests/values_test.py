@@ -10,10 +10,9 @@ import os
 import random
 import re
 import statistics
-import sys
 import unittest
 
-from support.live import PROGRAM, TOP, Case
+from support.live import PROGRAM, TOP, Case, run_tests
 import camac
 from support import two_crates
 from support.rows import ROWS
@@ -372,6 +371,4 @@ class Tables(Case):
 
 
 if __name__ == "__main__":
-    if not os.access(PROGRAM, os.X_OK):
-        sys.exit(f"{PROGRAM} is not there: cd crates/camac && rt run makes it, or CAMAC_PROGRAM names another")
-    unittest.main()
+    run_tests()

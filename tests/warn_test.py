@@ -9,10 +9,9 @@ import re
 import subprocess
 import sys
 import time
-import unittest
 from unittest import mock
 
-from support.live import PROGRAM, TOP, Case, script
+from support.live import PROGRAM, TOP, Case, run_tests, script
 import camac
 from camac.warn import Code
 
@@ -316,6 +315,4 @@ class Command(Case):
 
 
 if __name__ == "__main__":
-    if not os.access(PROGRAM, os.X_OK):
-        sys.exit(f"{PROGRAM} is not there: cd crates/camac && rt run makes it, or CAMAC_PROGRAM names another")
-    unittest.main()
+    run_tests()

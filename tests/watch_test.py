@@ -20,7 +20,7 @@ import threading
 import time
 import unittest
 
-from support.live import PROGRAM, TOP, Case
+from support.live import PROGRAM, TOP, Case, run_tests
 from support import laboratory
 import camac
 import camac.mock
@@ -378,6 +378,4 @@ class InChromium(ServedCase):
 
 
 if __name__ == "__main__":
-    if not os.access(PROGRAM, os.X_OK):
-        sys.exit(f"{PROGRAM} is not there: cd crates/camac && rt run makes it, or CAMAC_PROGRAM names another")
-    unittest.main()
+    run_tests()

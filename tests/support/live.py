@@ -6,7 +6,7 @@ import sys
 import tempfile
 import unittest
 
-from support.program import PROGRAM as PROGRAM, TOP as TOP
+from support.program import PROGRAM as PROGRAM, TOP as TOP, run_tests as run_tests
 
 sys.path.insert(0, str(TOP / "python"))
 sys.dont_write_bytecode = True

@@ -6,6 +6,7 @@ import os
 import pathlib
 import re
 import subprocess
+import sys
 import tempfile
 import unittest
 
@@ -44,6 +45,13 @@ def unwritten(why, name="standard output"):
 
 
 FULL = unwritten(errno.ENOSPC)
+
+
+def run_tests():
+    """Runs the tests of the file that is called, if the program is there."""
+    if not os.access(PROGRAM, os.X_OK):
+        sys.exit(f"{PROGRAM} is not there: cd crates/camac && rt run makes it, or CAMAC_PROGRAM names another")
+    unittest.main()
 
 
 class Case(unittest.TestCase):
