@@ -5,17 +5,14 @@ usage: tests/costs_test.py [-v] [TEST ..]     from any folder; takes half a minu
 
 The worked rows of tests/rows/costs.rows are played by tests/rows_test.py. The scripts are made by tools/oracle, which also has each row.
 """
-import os
-import pathlib
 import random
 import re
 import resource
 import subprocess
 import sys
-import tempfile
 import unittest
 
-from support.program import PROGRAM, TOP
+from support.program import PROGRAM, TOP, Room
 
 sys.path.insert(0, str(TOP / "tools"))
 sys.dont_write_bytecode = True
@@ -36,20 +33,14 @@ ROW = re.compile(r"line \d+ depth (\d+) (\S+) times (\d+) cycles (\d+) words (\d
 GREATEST = 2**32 - 1
 
 
-class Costs(unittest.TestCase):
-    def setUp(self):
-        room = tempfile.TemporaryDirectory(prefix="camac-costs-")
-        self.addCleanup(room.cleanup)
-        self.room = pathlib.Path(room.name)
-
+class Costs(Room):
     def call(self, command, inputs, given=b""):
         """Status, standard output and standard error."""
         (self.room / "script").write_bytes(inputs.script)
         if inputs.plan is not None:
             (self.room / "plan").write_bytes(inputs.plan)
-        words = [PROGRAM, command, "@sample" if inputs.plan is None else "plan", "script"]
-        ran = subprocess.run(words, input=given, cwd=self.room, capture_output=True, timeout=60)
-        return ran.returncode, ran.stdout.decode(), ran.stderr
+        status, out, err = super().call(command, "@sample" if inputs.plan is None else "plan", "script", given=given)
+        return status, out.decode(), err
 
 
 def made_scripts():
@@ -159,11 +150,6 @@ class Faults(Costs):
 
 class Streams(Costs):
     """Outputs through pipes, and outputs that fail."""
-
-    def shell(self, line):
-        how = {"stdin": subprocess.DEVNULL, "capture_output": True, "cwd": self.room, "timeout": 60}
-        ran = subprocess.run(["bash", "-c", line], env={**os.environ, "camac": PROGRAM}, **how)
-        return ran.returncode, ran.stdout, ran.stderr
 
     def test_pipes(self):
         inputs = Inputs(None, (TOP / "examples/procedure.script").read_bytes())

@@ -6,16 +6,12 @@ usage: tests/explain_test.py [-v] [TEST ..]     from any folder; takes about hal
 CAMAC_CASES is how many random scripts two of the tests try, 300 if it is not set. SEED begins them, 1 if it is not set.
 """
 import os
-import pathlib
 import random
 import re
-import subprocess
-import tempfile
-import unittest
 from typing import NamedTuple
 
 from support import plans
-from support.program import PROGRAM, TOP, run_tests
+from support.program import TOP, Room, run_tests
 from support.rows import ROWS
 
 PAGE = (TOP / "docs/REFUSALS.md").read_text()
@@ -296,17 +292,12 @@ def chances(name):
     return (Chance(f"{name} {seed} {i}") for i in range(int(os.environ.get("CAMAC_CASES", "300"))))
 
 
-class Explain(unittest.TestCase):
-    def setUp(self):
-        room = tempfile.TemporaryDirectory(prefix="camac-explain-")
-        self.addCleanup(room.cleanup)
-        self.room = pathlib.Path(room.name)
-
+class Explain(Room):
     def call(self, *words, given=""):
         """Status and standard output of the program, which has nothing to say on standard error."""
-        ran = subprocess.run([PROGRAM, *words], input=given.encode("latin-1"), cwd=self.room, capture_output=True, timeout=60)
-        self.assertEqual(ran.stderr, b"")
-        return ran.returncode, ran.stdout.decode("latin-1")
+        status, out, err = super().call(*words, given=given.encode("latin-1"))
+        self.assertEqual(err, b"")
+        return status, out.decode("latin-1")
 
     def explain(self, script):
         """The lines of an explanation, which begins with what `check` prints."""

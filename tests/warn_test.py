@@ -6,8 +6,6 @@ usage: tests/warn_test.py [-v] [TEST ..]     from any folder; takes a few second
 import json
 import os
 import re
-import subprocess
-import sys
 import time
 from unittest import mock
 
@@ -213,18 +211,14 @@ class Warnings(Case):
 
 class Command(Case):
     def command(self, *words):
-        env = {**os.environ, "PYTHONPATH": str(TOP / "python"), "CAMAC_PROGRAM": PROGRAM, "PYTHONDONTWRITEBYTECODE": "1"}
-        words = [sys.executable, "-m", "camac", "check", *map(str, words)]
-        ran = subprocess.run(words, cwd=self.room, env=env, stdout=subprocess.PIPE, stderr=subprocess.PIPE, text=True, timeout=60)
-        self.assertEqual(ran.stderr if ran.returncode != 2 else "", "")
-        return ran.returncode, ran.stdout
+        status, out, err = self.package("check", *words)
+        self.assertEqual(err if status != 2 else "", "")
+        return status, out
 
     def test_no_program(self):
         """A program that is not there is no fault of the plan."""
-        words = [sys.executable, "-m", "camac", "check", "@sample", str(self.write("a.script", script(["cclc adc"])))]
-        env = {**os.environ, "PYTHONPATH": str(TOP / "python"), "CAMAC_PROGRAM": str(self.room / "nowhere")}
-        ran = subprocess.run(words, env=env, stdout=subprocess.PIPE, stderr=subprocess.PIPE, text=True, timeout=60)
-        self.assertEqual((ran.returncode, ran.stdout, ran.stderr), (3, "", f"camac: No such file or directory: {self.room}/nowhere\n"))
+        ran = self.package("check", "@sample", self.write("a.script", script(["cclc adc"])), CAMAC_PROGRAM=str(self.room / "nowhere"))
+        self.assertEqual(ran, (3, "", f"camac: No such file or directory: {self.room}/nowhere\n"))
 
     def test_statuses(self):
         self.write("good", script(["cclc adc"]))
