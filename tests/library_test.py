@@ -381,7 +381,7 @@ class Python(Case):
             judged = [judge.judge(plan, [str(its)], program) for program in (PROGRAM, "@library")]
             for form in judge.FORMATS:
                 with self.subTest(script=its, form=form):
-                    self.assertEqual(*(judge.told(it, form) for it in judged))
+                    self.assertEqual(*(judge.text_of(it, form) for it in judged))
 
     def test_response(self):
         its = self.sample(), (EXAMPLES / "straight_line.script").read_text()

@@ -20,11 +20,11 @@ class _Answers:
     def __init__(self, file: BinaryIO) -> None:
         self.file, self.used = file, 0
 
-    def beside(self, told: str) -> str:
+    def beside(self, line: str) -> str:
         """The next answer line with its number, and the text before the line of the listing."""
         self.used += 1
         answer = self.file.readline().decode("utf-8", "replace").rstrip("\r\n")
-        return f"{NUMBER.format(self.used)}{answer:<{ANSWER}}  {told}"
+        return f"{NUMBER.format(self.used)}{answer:<{ANSWER}}  {line}"
 
     def left(self) -> int:
         return sum(1 for _ in self.file)

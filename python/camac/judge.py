@@ -150,7 +150,7 @@ def _faults(call: Callable[[], List[Found]], files: List[TextFile], program: Opt
         return [Found("fault", None, None, str(fault.strerror or fault))]
 
 
-def told(judged: Sequence[Judged], form: str) -> str:
+def text_of(judged: Sequence[Judged], form: str) -> str:
     """The output on all files, in one of `FORMATS`."""
     if form == "json":
         import json

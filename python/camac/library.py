@@ -142,7 +142,7 @@ def _judged(name: str, *texts: Text) -> Verdict:
     return Verdict(code == OK, text.decode("utf-8", "replace"))
 
 
-def told(command: str, plan: File, *script: File, every: Iterable[str] = ()) -> Verdict:
+def output_of(command: str, plan: File, *script: File, every: Iterable[str] = ()) -> Verdict:
     """The output of the program when it is called with one of `COMMANDS` and these files. `every` has the words that follow this option of
     `response`, as NAME=CYCLES. Raises as the program fails: ProgramFault, UsageFault."""
     name = command if script or command == "plan" else f"{command}_plan"
@@ -150,7 +150,7 @@ def told(command: str, plan: File, *script: File, every: Iterable[str] = ()) -> 
 
 
 def judged(command: str, *texts: Text, every: Iterable[str] = ()) -> Verdict:
-    """What the program prints of these texts, as `told`."""
+    """What the program prints of these texts, as `output_of`."""
     options = [_settings(every), ""] if command == "response" else []
     return _judged(command, *texts, *options)
 
@@ -201,9 +201,9 @@ def response(plan: Text, script: Text, every: Optional[Mapping[str, int]] = None
     return _judged("response", plan, script, _settings(settings(every)), _settings(settings(within)))
 
 
-def settings(told: Optional[Mapping[str, int]]) -> List[str]:
+def settings(numbers: Optional[Mapping[str, int]]) -> List[str]:
     """The words that follow an option of `response`: NAME=CYCLES for each service."""
-    return [f"{service}={cycles}" for service, cycles in (told or {}).items()]
+    return [f"{service}={cycles}" for service, cycles in (numbers or {}).items()]
 
 
 def _settings(words: Iterable[str]) -> str:

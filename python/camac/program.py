@@ -32,7 +32,7 @@ def _find(command: str, program: Optional[File]) -> str:
         raise
 
 
-def _told(*words: File) -> library.Verdict:
+def _of_library(*words: File) -> library.Verdict:
     """The library's answer in the program's place. Before the files there may be the options `--every=NAME=CYCLES`, and "--"."""
     command, *files = words
     every = [it[len(EVERY) :] for it in itertools.takewhile(lambda it: it.startswith(EVERY), map(os.fsdecode, files))]
@@ -41,7 +41,7 @@ def _told(*words: File) -> library.Verdict:
         files = files[1:]
     if command not in library.COMMANDS:
         raise UsageFault(f"the library has no `{os.fsdecode(command)}`", USAGE)
-    return library.told(os.fsdecode(command), *files, every=every)
+    return library.output_of(os.fsdecode(command), *files, every=every)
 
 
 def output_of(*words: File, program: Optional[File] = None) -> str:
@@ -51,7 +51,7 @@ def output_of(*words: File, program: Optional[File] = None) -> str:
     status, and OSError if it cannot be started."""
     found = _find(os.fsdecode(words[0]), program)
     if found == IN_PROCESS:
-        verdict = _told(*words)
+        verdict = _of_library(*words)
         _judge(0 if verdict.accepted else REFUSED, verdict.text, "")
         return verdict.text
     import subprocess
@@ -69,7 +69,7 @@ def lines_of(*words: File, program: Optional[File] = None) -> Iterator[str]:
     Raises UsageFault, ProgramFault and OSError as `output_of`, behind the last line."""
     found = _find(os.fsdecode(words[0]), program)
     if found == IN_PROCESS:
-        yield from _told(*words).text.splitlines()
+        yield from _of_library(*words).text.splitlines()
         return
     import subprocess
     import tempfile

@@ -382,9 +382,9 @@ def _compare(collector: _Collector, path: File, services: List[Service]) -> Run:
         run.kept[Why.UNFINISHED, 0] = collector.open.kept(len(run.gl) + 1)
     said = run.end.events if run.end else None
     total = len(run.gl)
-    told = f"; the last line says {said:,}" if said is not None else ""
+    last = f"; the last line says {said:,}" if said is not None else ""
     run.checks = [
-        Check(f"events in the file: {count:,}; services in the listing: {total:,}{told}", count == total and said in (None, total)),
+        Check(f"events in the file: {count:,}; services in the listing: {total:,}{last}", count == total and said in (None, total)),
         Check(f"cycles of the listing are those of the event file, {alike:,} of {count:,}", alike == count),
         Check(f"cycles with X = 0 are those of the event file, {missed:,} of {count:,}", missed == count),
         Check(f"no service above its bound of cycles or words, {within:,} of {count:,}", within == count),

@@ -13,7 +13,7 @@ from camac.export import About, Given, learn
 from camac.follow import STEP, Counts, Follower
 from camac.pictures.bounds import draw_seen
 from camac.pictures.spectra import BOTH, channel_groups, seen_groups
-from camac.pictures.svg import Canvas, count, escape, number, share, ticks
+from camac.pictures.svg import Canvas, escape, number, share, ticks
 from camac.printed import read_responses
 from camac.program import knows_command
 from camac.record import Record, read_record

@@ -6,7 +6,7 @@ import math
 import os
 import re
 from dataclasses import replace
-from typing import Dict, List, NamedTuple, NoReturn, Optional, Sequence, Tuple, Union
+from typing import Dict, List, NamedTuple, NoReturn, Sequence, Tuple, Union
 
 from camac.drive import File
 from camac.events import GREATEST_COUNT, GREATEST_GL

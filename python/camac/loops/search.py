@@ -38,8 +38,8 @@ def propose(plan: File, script: bytes, program: Optional[File] = None, keeps_onl
 
     Raises ProgramFault and OSError as `camac.check`, and Refused if the plan is refused."""
     is_long = len(script) > MOST_BYTES
-    told = verdict(CHECK if is_long else BOUNDS, plan, script, program)
-    refusal = None if told.accepted else Refused(told.text)
+    answer = verdict(CHECK if is_long else BOUNDS, plan, script, program)
+    refusal = None if answer.accepted else Refused(answer.text)
     if refusal and refusal.line is None:
         raise refusal
     if is_long or refusal and refusal.code[0] == "S":
@@ -249,6 +249,6 @@ class _Search:
             self.lessen(CHECK, None)
             return
         self.found = found
-        told = self.trials.judged(BOUNDS, self.found.edits())
-        for it in least_headings(self.text, read_headings(told.text)):
+        answer = self.trials.judged(BOUNDS, self.found.edits())
+        for it in least_headings(self.text, read_headings(answer.text)):
             self.headings.append(Proposal(Kind.HEADING, it.line, it.heading, it.edits))

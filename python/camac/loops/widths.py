@@ -49,7 +49,7 @@ class Widths:
                 self.asked[key] = next((it.width or WORD for it in its if it.function == function and it.first <= sub <= it.last), None)
             else:
                 # The library does not list the commands of a plan, but it explains.
-                told = library.explain(plan_text(self.file), READ.format(crate, station, sub, function))
-                found = LEFT_SIDE.find(told.text)
+                answer = library.explain(plan_text(self.file), READ.format(crate, station, sub, function))
+                found = LEFT_SIDE.find(answer.text)
                 self.asked[key] = found["greatest"].bit_length() if found else None
         return self.asked[key]

@@ -70,8 +70,8 @@ def _number(judged: Judged, it: Refusal) -> Optional[Fix]:
 
 
 def _headings(judged: Judged, code: str) -> Iterator[Fix]:
-    told = judged.ask("bounds")
-    written = least_headings(judged.text.data, read_headings(told.text)) if told.accepted else []
+    verdict = judged.ask("bounds")
+    written = least_headings(judged.text.data, read_headings(verdict.text)) if verdict.accepted else []
     edits = tuple(edit for it in written for edit in it.edits)
     if edits:
         yield Fix("Write the least headings that are accepted (camac bounds)", edits, code)

@@ -5,7 +5,7 @@ from typing import Any, Callable, Dict, FrozenSet, Iterator, List, NamedTuple, S
 from camac import functions
 from camac.drive import Refused
 from camac.layout import DECLARATIONS, STATEMENTS
-from camac.lsp.hover import declared_at, function_text, types_at
+from camac.lsp.hover import declared_at, function_text
 from camac.lsp.known import addresses
 from camac.lsp.workspace import Judged
 from camac.names import WORDS, Kind
@@ -41,11 +41,11 @@ class Expected(NamedTuple):
 
 def expected(ask: Callable[[bytes], str], before: bytes) -> Expected:
     """What may be behind a text, as the checker says if the text ends there. `ask` gives what `camac explain` says of a script."""
-    told = ask(before)
-    found = read_expected(told)
+    printed = ask(before)
+    found = read_expected(printed)
     if found:
         return Expected({it for it in found if it[0] != "`"}, {it.strip("`") for it in found if it[0] == "`"})
-    if not is_refused(told) or Refused(told).code[0] in "LE":
+    if not is_refused(printed) or Refused(printed).code[0] in "LE":
         return Expected({"a declaration"}, set())
     # The text has an earlier fault.
     is_inside = before.count(b"{") > before.count(b"}")
@@ -123,11 +123,11 @@ def _parts_of_address(judged: Judged, words: List[str]) -> Iterator[Item]:
             yield from (_value(it.number, it.type + (f", bit {it.gl}" if it.gl else "")) for it in crate.stations)
     if len(numbers) == 3:
         address = Address((numbers[1], numbers[1]), (numbers[2], numbers[2]), (0, 15))
-        told: Dict[int, List[Declaration]] = {}
+        by_sub: Dict[int, List[Declaration]] = {}
         for it in declared_at(judged.plan, address):
             for sub in range(it.first, it.last + 1):
-                told.setdefault(sub, []).append(it)
-        for sub, its in sorted(told.items()):
+                by_sub.setdefault(sub, []).append(it)
+        for sub, its in sorted(by_sub.items()):
             yield _value(sub, " ".join(f"F{it.function}" for it in its if not it.is_probe) or "a probe")
 
 

@@ -40,15 +40,15 @@ def shown(code: str, text: str, severity: int, place: Range) -> Diagnostic:
 
 def of_refusals(judged: Judged) -> List[Diagnostic]:
     """Why a script is refused; of a plan that is refused, or of a fault, what it is, on the first line."""
-    told = judged.ask("explain")
-    if told.accepted:
+    verdict = judged.ask("explain")
+    if verdict.accepted:
         return []
     found = refusals(judged)
     if found:
         return [of_refusal(it, judged.text) for it in found]
-    of_its_plan = read_explanation(told.text)
+    of_its_plan = read_explanation(verdict.text)
     if of_its_plan is None:
-        return [of_fault(judged.text, told.text.rstrip("\n"))]
+        return [of_fault(judged.text, verdict.text.rstrip("\n"))]
     text = f"the plan is refused: {of_its_plan.refusal.rule}"
     return [shown(of_its_plan.refusal.code, "\n".join([text, *of_its_plan.lines]), ERROR, line_range(judged.text, 1))]
 
@@ -63,12 +63,12 @@ def of_fault(text: Text, why: str) -> Diagnostic:
 
 
 def of_plan(judge: Judge, text: Text) -> List[Diagnostic]:
-    told = judge.explained
-    if told.accepted:
+    verdict = judge.explained
+    if verdict.accepted:
         return []
-    its = read_explanation(told.text)
+    its = read_explanation(verdict.text)
     if its is None:
-        return [of_fault(text, told.text.partition("\n")[0])]
+        return [of_fault(text, verdict.text.partition("\n")[0])]
     place = place_of(text.text, its.sentence)
     start, end = (len(text.text[:it].encode("utf-8", "surrogatepass")) for it in place)
     message = "\n".join([f"{its.refusal.rule}. {its.sentence}".rstrip(), *its.advice])
@@ -77,11 +77,11 @@ def of_plan(judge: Judge, text: Text) -> List[Diagnostic]:
 
 def warned(judged: Judged) -> List[Warned]:
     """The warnings of a script; none if it is refused. This may take long."""
-    told = judged.ask("check")
-    if not told.accepted:
+    verdict = judged.ask("check")
+    if not verdict.accepted:
         return []
     bodies = parse_costs(judged.ask("costs").text) if looks_for_all(judged.judge.program) else []
-    return warnings_of(judged.judge.file, judged.text.data, read_services(told.text), bodies, judged.judge.program)
+    return warnings_of(judged.judge.file, judged.text.data, read_services(verdict.text), bodies, judged.judge.program)
 
 
 def of_warning(it: Warned, text: Text) -> Diagnostic:

@@ -39,15 +39,15 @@ def _tokens_around(data: bytes, block: Block, place: int) -> List[Token]:
 
 def row_of(judged: Judged, first: Token) -> Optional[Row]:
     """The row of `costs` of a statement, given by its first token; None if the script is refused."""
-    told, text = judged.ask("costs"), judged.text
-    if not told.accepted:
+    verdict, text = judged.ask("costs"), judged.text
+    if not verdict.accepted:
         return None
     line = text.line_at(first.start)
     tokens = tokens_of(text.line_of(line))
     before = first.start - text.line_starts[line - 1]
     # A row stands for each statement that begins on the line, and for each `else`.
     places = [it.start for it, is_first in zip(tokens, begins([it.text for it in tokens])) if _has_row(it.text, is_first)]
-    rows = rows_of_line(told.text, line)
+    rows = rows_of_line(verdict.text, line)
     number = bisect.bisect_left(places, before)
     return rows[number] if number < len(rows) else None
 
@@ -68,8 +68,8 @@ def _known(judged: Judged, first: Token) -> Dict[str, List[str]]:
     key = "known", first.start
     if key not in judged.kept:
         line = judged.text.line_at(first.start)
-        told = judged.judge.ask("explain", judged.text.data, (line, first.start - judged.text.line_starts[line - 1] + 1))
-        judged.kept[key] = read_known(told.text) if told.accepted else {}
+        verdict = judged.judge.ask("explain", judged.text.data, (line, first.start - judged.text.line_starts[line - 1] + 1))
+        judged.kept[key] = read_known(verdict.text) if verdict.accepted else {}
     its: Dict[str, List[str]] = judged.kept[key]
     return its
 
@@ -81,8 +81,8 @@ def addresses(judged: Judged, mention: Mention) -> List[Tuple[int, Address]]:
     if not rows:
         used = itertools.islice((it for it in judged.names.of(mention.symbol) if not it.declares), AROUND)
         rows = [row_of(judged, tokens[0]) for tokens in (statement_tokens(judged, it.start) for it in used) if tokens]
-    told = [(row.line, address) for row in rows if row for address in row.addresses()]
-    return told or [(line, address) for line, address in written_addresses(judged, mention)]
+    found = [(row.line, address) for row in rows if row for address in row.addresses()]
+    return found or [(line, address) for line, address in written_addresses(judged, mention)]
 
 
 def written_addresses(judged: Judged, mention: Mention) -> List[Tuple[int, Address]]:

@@ -40,9 +40,9 @@ def refusals(judged: Judged) -> List[Refusal]:
 
 
 def _refusals(judged: Judged) -> Iterator[Refusal]:
-    data, told = judged.text.data, judged.ask("explain")
+    data, verdict = judged.text.data, judged.ask("explain")
     for _ in range(MOST):
-        found = read_explanation(told.text)
+        found = read_explanation(verdict.text)
         if found is None:
             return
         code, line, rule = found.refusal
@@ -53,7 +53,7 @@ def _refusals(judged: Judged) -> Iterator[Refusal]:
         rest = _without_body(data, start) if code[0] == "E" else None
         if rest is None:
             return
-        data, told = rest, judged.judge.ask("explain", rest)
+        data, verdict = rest, judged.judge.ask("explain", rest)
 
 
 def _place(judged: Judged, data: bytes, code: str, line: int) -> Tuple[int, int]:

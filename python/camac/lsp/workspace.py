@@ -30,7 +30,7 @@ class Choice(NamedTuple):
     file: str
     why: str
 
-    def told(self) -> str:
+    def text(self) -> str:
         return f"{os.path.basename(self.file)} ({self.why})"
 
 
@@ -111,13 +111,13 @@ class Judged:
 
     def __init__(self, judge: Judge, text: Text) -> None:
         self.judge, self.text = judge, text
-        self.told: Dict[str, Verdict] = {}
+        self.verdicts: Dict[str, Verdict] = {}
         self.kept: Dict[Any, Any] = {}
 
     def ask(self, command: str) -> Verdict:
-        if command not in self.told:
-            self.told[command] = self.judge.ask(command, self.text.data)
-        return self.told[command]
+        if command not in self.verdicts:
+            self.verdicts[command] = self.judge.ask(command, self.text.data)
+        return self.verdicts[command]
 
     @cached_property
     def names(self) -> Names:

@@ -255,9 +255,9 @@ def _commands_table(facts: Facts) -> str:
         where = Cell(order, f"{crate} {station} {sub_address} F{function}")
         there = facts.plan.type_at(crate, station)
         words = sent.words
-        told = (words.least, words.mean(), words.greatest) if words.count else ("", "", "")
+        numbers = (words.least, words.mean(), words.greatest) if words.count else ("", "", "")
         name = there.name if there else "controller"
-        rows.append((where, name, functions.name(function), sent.count, sent.no_q, sent.no_x, sent.waits, *told))
+        rows.append((where, name, functions.name(function), sent.count, sent.no_q, sent.no_x, sent.waits, *numbers))
     texts = [Column(title, True) for title in ("crate station A F", "type", "meaning")]
     return table([*texts, *map(Column, "cycles,Q = 0,X = 0,waits,word least,mean,most".split(","))], rows)
 
