@@ -1,5 +1,6 @@
 """Mutants, and which of them share a round."""
 
+import re
 from pathlib import Path
 
 from rounds.repository import Stop
@@ -10,17 +11,11 @@ MOST = 12
 
 def read_edits(file):
     """Returns the mutants of a file by their names: of each its lines behind 'mutant: NAME', as pairs of a key and a text."""
-    found = {}
-    for line in Path(file).read_text("utf-8").split("\n"):
-        key, _, text = line.partition(":")
-        text = text.removeprefix(" ")
-        if key == "mutant" and text not in found:
-            found[text] = its = []
-        elif line and (key == "mutant" or not found):
-            raise Stop(f"{file}: a line 'mutant: NAME' begins each mutant, once for each name, not {line!r}")
-        elif line:
-            its.append((key, text))
-    return found
+    first, *parts = re.split(r"^mutant: (.*)\n", Path(file).read_text("utf-8"), flags=re.M)
+    edits = dict(zip(parts[::2], parts[1::2]))
+    if first or 2 * len(edits) < len(parts):
+        raise Stop(f"{file}: each mutant begins with a line 'mutant: NAME', and has a name of its own")
+    return {name: [(key, text.removeprefix(" ")) for key, _, text in (it.partition(":") for it in its.split("\n") if it)] for name, its in edits.items()}
 
 
 def changed(edit, folder):
