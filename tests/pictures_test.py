@@ -36,7 +36,7 @@ from camac.report import report
 from camac.runs import Asked, Inputs, Run
 from camac.simulate import FACTORS, Simulated, Simulation
 from camac.texts import source_lines
-from camac.values import Kind
+from camac.values import BodyKind
 
 KEPT = TOP / "tests/pictures"
 FIGURE = re.compile(r"<svg .*?</svg>", re.S)
@@ -267,7 +267,7 @@ class Costs(laboratory.BenchCase):
         """On each line `times` times `each` is `cycles`, and the lines add up to the bound; so do those of a call, with what its heading promises."""
         tried = calls = 0
         for body, its in self.bodies():
-            procedures = {it.name: it for it in its if it.kind is Kind.PROCEDURE}
+            procedures = {it.name: it for it in its if it.kind is BodyKind.PROCEDURE}
             self.assertEqual(self.cycles_of(body), body.most.cycles)
             self.assertEqual(sum(row.share.cycles for row in opened(body, procedures)), body.most.cycles)
             self.assertEqual(sum(row.waits for row in opened(body, procedures)), body.waits())

@@ -23,7 +23,7 @@ from camac.printed import read_headings, read_plan, read_services
 from camac.program import knows_command, lines_of, version
 from camac.tables import write_events, write_listing
 from camac.transfers import transfer_commands
-from camac.values import Command, Cost, Declaration, Kind, Station
+from camac.values import BodyKind, Command, Cost, Declaration, Station
 
 COMMANDS = """\
 buffer 4096
@@ -94,8 +94,8 @@ class Values(Case):
 
     def test_costs(self):
         read, adc = bodies.parse_costs(COSTS)
-        self.assertEqual((read.kind, read.name, read.line, read.most, read.annotated), (Kind.PROCEDURE, "read", 4, Cost(3, 1, 3), (4, 1, 8)))
-        self.assertEqual((adc.kind, adc.gl, adc.most, adc.annotated), (Kind.SERVICE, 3, Cost(20, 5, 50), (24, 5, None)))
+        self.assertEqual((read.kind, read.name, read.line, read.most, read.annotated), (BodyKind.PROCEDURE, "read", 4, Cost(3, 1, 3), (4, 1, 8)))
+        self.assertEqual((adc.kind, adc.gl, adc.most, adc.annotated), (BodyKind.SERVICE, 3, Cost(20, 5, 50), (24, 5, None)))
         self.assertEqual([row.word for row in adc.rows], ["for", "call", "lock", "cfmad", "if", "else"])
         self.assertEqual([row.about for row in adc.rows], ["turns 4", "proc read", "crate 1", "at 1 5 0 to 1 7 15", "", ""])
         # Two of the three cycles of the read may be waited for; a call costs 4 and needs 3; a lock is waited for; a scan of 3 costs 9.

@@ -4,7 +4,7 @@ import re
 from typing import Any, Callable, Dict, Generic, Iterable, Iterator, List, Optional, Tuple, TypeVar, Union
 
 from camac.functions import reads, writes
-from camac.values import Body, Command, Cost, Crate, Cycle, Declaration, Demand, Ending, Explanation, Heading, Item, Kind, Lock, ModuleType, Move, Near
+from camac.values import Body, BodyKind, Command, Cost, Crate, Cycle, Declaration, Demand, Ending, Explanation, Heading, Item, Lock, ModuleType, Move, Near
 from camac.values import Plan, Refusal, Request, Response, Row, RunEnd, Service, Station, Step, Unlock
 
 T = TypeVar("T")
@@ -26,7 +26,7 @@ PARTS: Dict[str, Tuple[str, Callable[[str], Any]]] = {
     "service": ("[A-Za-z][A-Za-z0-9_]{0,31}|-", lambda it: None if it == "-" else it),
     "how": ("(?:ended|short)(?= events)|overrun(?= [1-7] wait)", Ending),
     "code": (r"[A-Z]\d\d?", str),
-    "kind": ("service|proc", Kind),
+    "kind": ("service|proc", BodyKind),
     "head": ("service|proc", lambda it: it == "service"),
     "probe": ("(?: probe)?", bool),
     "each": (r"cycles \d+ words \d+ steps \d+", lambda it: Cost(*map(int, it.split()[1::2]))),
@@ -179,7 +179,7 @@ def rows_of_line(printed: str, line: int) -> List[Row]:
     return [_read(it, ROW) for it in re.findall(rf"(?m)^line {line} .*$", printed)]
 
 
-def line_of_body(printed: str, kind: Kind, name: str) -> Optional[str]:
+def line_of_body(printed: str, kind: BodyKind, name: str) -> Optional[str]:
     """The line of a body in what `camac costs` or `camac response` prints."""
     found = re.search(rf"(?m)^{kind.value} {name} .*$", printed)
     return found[0] if found else None

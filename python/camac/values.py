@@ -8,7 +8,7 @@ from typing import Any, Dict, List, NamedTuple, Optional, Tuple, Union
 Range = Tuple[int, int]
 
 
-class Kind(enum.Enum):
+class BodyKind(enum.Enum):
     """What a body belongs to."""
 
     SERVICE = "service"
@@ -145,7 +145,7 @@ class Body(NamedTuple):
     """A service or procedure: the name, the line of its heading, what it costs at most, the numbers of its heading (a service's steps are
     None there), and its statements in the order of the text. `gl` is the graded-L bit of a service."""
 
-    kind: Kind
+    kind: BodyKind
     name: str
     line: int
     most: Cost

@@ -4,7 +4,7 @@ from typing import Iterator, List, NamedTuple, Optional, Sequence, Tuple
 from camac.edits import Edit
 from camac.headings import least_headings
 from camac.loops.search import propose
-from camac.lsp.refusals import Refusal, refusals
+from camac.lsp.refusals import Placed, refusals
 from camac.lsp.workspace import Judged
 from camac.printed import NEAR, read_allowed, read_headings
 from camac.tokens import NAMES, tokens_of
@@ -37,7 +37,7 @@ def fixes(judged: Judged, lines: range, warned: Sequence[Warned]) -> Iterator[Fi
             yield Fix(TITLES[warning.code], warning.edits, warning.code.value)
 
 
-def _of_refusal(judged: Judged, it: Refusal) -> Iterator[Fix]:
+def _of_refusal(judged: Judged, it: Placed) -> Iterator[Fix]:
     near = NEAR.find(it.sentence)
     if near and near.earlier:
         wrong = [one for one in NAMES.finditer(judged.text.data[: it.start].decode("latin-1")) if one[1] == near.earlier]
@@ -54,7 +54,7 @@ def _of_refusal(judged: Judged, it: Refusal) -> Iterator[Fix]:
         yield from kept(judged)
 
 
-def _number(judged: Judged, it: Refusal) -> Optional[Fix]:
+def _number(judged: Judged, it: Placed) -> Optional[Fix]:
     """The number in a refusal, put after its word."""
     allowed = read_allowed(it.sentence)
     if allowed is None:

@@ -5,7 +5,7 @@ from typing import Any, Dict, List, Optional
 
 from camac.bodies import parse_costs
 from camac.lsp.documents import Range, Text
-from camac.lsp.refusals import Refusal, refusals
+from camac.lsp.refusals import Placed, refusals
 from camac.lsp.workspace import Judge, Judged
 from camac.printed import read_explanation, read_services
 from camac.toml_places import place_of
@@ -53,7 +53,7 @@ def of_refusals(judged: Judged) -> List[Diagnostic]:
     return [shown(of_its_plan.refusal.code, "\n".join([text, *of_its_plan.lines]), ERROR, line_range(judged.text, 1))]
 
 
-def of_refusal(it: Refusal, text: Text) -> Diagnostic:
+def of_refusal(it: Placed, text: Text) -> Diagnostic:
     return shown(it.code, it.message(), ERROR, text.range(it.start, it.end))
 
 

@@ -8,8 +8,7 @@ from camac.lsp.workspace import Choice, Judged
 from camac.names import Kind, Mention
 from camac.printed import line_of_body
 from camac.tokens import Token
-from camac.values import Address, Cost, Declaration, ModuleType, Plan, Range, Row
-from camac.values import Kind as BodyKind
+from camac.values import Address, BodyKind, Cost, Declaration, ModuleType, Plan, Range, Row
 
 GREATEST = 4_294_967_295
 OF_FUNCTIONS = ("cfsa", "cssa", "cfmad", "cfubc", "cfubr")

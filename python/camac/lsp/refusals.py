@@ -16,8 +16,8 @@ BLANK = bytes(it if it == ord("\n") else ord(" ") for it in range(256))
 BODY = re.compile(rb"#[^\n]*|\b(service|proc)\b|([{}])")
 
 
-class Refusal(NamedTuple):
-    """A rule that refuses, the line of the script, the place in bytes, the rule in words, what is said of the case, and the lines that follow."""
+class Placed(NamedTuple):
+    """A refusal with its place: the code, the line of the script, the place in bytes, the rule in words, what is said of the case, and the lines that follow."""
 
     code: str
     line: int
@@ -31,15 +31,15 @@ class Refusal(NamedTuple):
         return "\n".join([f"{self.text}. {self.sentence}".rstrip(), *self.advice])
 
 
-def refusals(judged: Judged) -> List[Refusal]:
+def refusals(judged: Judged) -> List[Placed]:
     """The first refusal, and the first of each other body of a script, where a rule of the checker refuses it."""
     if "refusals" not in judged.kept:
         judged.kept["refusals"] = list(_refusals(judged))
-    found: List[Refusal] = judged.kept["refusals"]
+    found: List[Placed] = judged.kept["refusals"]
     return found
 
 
-def _refusals(judged: Judged) -> Iterator[Refusal]:
+def _refusals(judged: Judged) -> Iterator[Placed]:
     data, verdict = judged.text.data, judged.ask("explain")
     for _ in range(MOST):
         found = read_explanation(verdict.text)
@@ -49,7 +49,7 @@ def _refusals(judged: Judged) -> Iterator[Refusal]:
         if line is None:
             return
         start, end = _place(judged, data, code, line)
-        yield Refusal(code, line, start, end, rule, found.sentence, found.advice)
+        yield Placed(code, line, start, end, rule, found.sentence, found.advice)
         rest = _without_body(data, start) if code[0] == "E" else None
         if rest is None:
             return
