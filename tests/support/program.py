@@ -71,19 +71,19 @@ class Room(unittest.TestCase):
 
     def call(self, *words, given=b"", **how):
         """Status, standard output and standard error of the program on these words."""
-        return self.ran([PROGRAM, *words], input=given, **how)
+        return self._run([PROGRAM, *words], input=given, **how)
 
     def shell(self, line):
         """The same of a line of bash, in which $camac is the program."""
-        return self.ran(["bash", "-c", line], stdin=subprocess.DEVNULL, env={**os.environ, "camac": PROGRAM})
+        return self._run(["bash", "-c", line], stdin=subprocess.DEVNULL, env={**os.environ, "camac": PROGRAM})
 
     def package(self, *words, given=b"", **environment):
         """The same of `python3 -m camac` over the program, as texts."""
         env = {**os.environ, "PYTHONPATH": str(TOP / "python"), "CAMAC_PROGRAM": PROGRAM, "PYTHONDONTWRITEBYTECODE": "1", **environment}
-        status, out, err = self.ran([sys.executable, "-m", "camac", *map(str, words)], input=given, env=env)
+        status, out, err = self._run([sys.executable, "-m", "camac", *map(str, words)], input=given, env=env)
         return status, out.decode(), err.decode()
 
-    def ran(self, words, **how):
+    def _run(self, words, **how):
         ran = subprocess.run(words, **{"stdout": subprocess.PIPE, "stderr": subprocess.PIPE, "cwd": self.room, "timeout": 60, **how})
         return ran.returncode, ran.stdout, ran.stderr
 
