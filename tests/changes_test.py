@@ -5,10 +5,9 @@ usage: tests/changes_test.py [-v] [TEST ..]     from any folder; takes about a m
 """
 import concurrent.futures
 import re
-import subprocess
 import unittest
 
-from support.program import PROGRAM, run_tests
+from support.program import called, run_tests
 from support.rows import FILE_ONE, FILE_TWO, SAMPLE, STRAIGHT_LINE
 
 # A refusal with a whole explanation: the line of a script, a sentence of the case, and the texts of the rule.
@@ -41,8 +40,7 @@ for v = 1 to 2 { put v % 3 * 2 }
 
 def answer(words, text):
     """Status, standard output and standard error of the program on this standard input."""
-    ran = subprocess.run([PROGRAM, *words.split()], input=text, stdout=subprocess.PIPE, stderr=subprocess.PIPE, timeout=60)
-    return ran.returncode, ran.stdout, ran.stderr
+    return called(*words.split(), given=text)
 
 
 def changed(text):

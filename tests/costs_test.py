@@ -8,11 +8,10 @@ The worked rows of tests/rows/costs.rows are played by tests/rows_test.py. The s
 import random
 import re
 import resource
-import subprocess
 import sys
 import unittest
 
-from support.live import PROGRAM, TOP, Case
+from support.live import TOP, Case
 from camac.bodies import services_of
 from camac.printed import HEADING, read_bodies, read_services
 
@@ -120,8 +119,8 @@ class Faults(Costs):
         for words in (*of_files, "@in @in", "@sample", "@sample good more"):
             told = []
             for command in ("costs", "check"):
-                ran = subprocess.run([PROGRAM, command, *words.split()], input=long, cwd=self.room, capture_output=True, timeout=60)
-                told.append((ran.returncode, ran.stdout, ran.stderr.replace(command.encode(), b"COMMAND")))
+                status, out, err = super().call(command, *words.split(), given=long)
+                told.append((status, out, err.replace(command.encode(), b"COMMAND")))
             self.assertEqual(*told, words)
             self.assertIn(told[0][0], (2, 3), words)
 

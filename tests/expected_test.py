@@ -11,10 +11,9 @@ import concurrent.futures
 import os
 import random
 import re
-import subprocess
 import unittest
 
-from support.program import PROGRAM, TOP, run_tests
+from support.program import TOP, called, run_tests
 
 DECLARATIONS = "table cdlam var proc service".split()
 STATEMENTS = "cdreg cfsa cssa cfmad cfubc cfubr put cccz cccc ctci ctcd ctgl ccci cccd cclm cclc ctlm if for while lock call".split()
@@ -67,8 +66,7 @@ service reg within 0 cycles event 0 words { }
 
 
 def call(command, text):
-    ran = subprocess.run([PROGRAM, command, "@sample", "@in"], input=text.encode(), capture_output=True, timeout=60)
-    return ran.stdout.decode()
+    return called(command, "@sample", "@in", given=text.encode())[1].decode()
 
 
 def changed(chance):

@@ -5,10 +5,9 @@ the benches in examples/benches have no others.
 usage: tests/modules_test.py [-v] [TEST ..]     from any folder; takes a second
 """
 import re
-import subprocess
 import unittest
 
-from support.program import PROGRAM, TOP, run_tests
+from support.program import TOP, called, run_tests
 
 FILES = sorted((TOP / "examples/modules").glob("*.toml"))
 PAGE = (TOP / "docs/PLANS.md").read_text()
@@ -49,9 +48,9 @@ def numbers(cell):
 class Modules(unittest.TestCase):
     def lines(self, *words, given=""):
         """What the program lists, where it takes the plan."""
-        ran = subprocess.run([PROGRAM, "plan", *words, "--commands"], input=given.encode(), stdout=subprocess.PIPE, stderr=subprocess.PIPE, timeout=60)
-        self.assertEqual((ran.returncode, ran.stderr), (0, b""), ran.stdout)
-        return ran.stdout.decode().splitlines()
+        status, out, err = called("plan", *words, "--commands", given=given.encode())
+        self.assertEqual((status, err), (0, b""), out)
+        return out.decode().splitlines()
 
     def test_each_file(self):
         self.assertGreaterEqual(len(KINDS), 19)

@@ -21,12 +21,10 @@ try:
 except ImportError:
     numpy = None
 
-from support.program import PROGRAM, TOP
-
-sys.path.insert(0, str(TOP / "python"))
-sys.dont_write_bytecode = True
-import camac  # noqa: E402
-from camac import Event, EventFileFault, event_arrays, read_events, whole, whole_size  # noqa: E402
+from support.live import TOP
+from support.program import called
+import camac
+from camac import Event, EventFileFault, event_arrays, read_events, whole, whole_size
 
 ONE = bytes.fromhex("43414d4143455631 ca4d 0003 00000001 0002 00000fff 00ffffff ca4d 0018 00000002 0000")
 TWO = bytes.fromhex("43414d4143455632 ca4d 0003 00000001 00000003 0000 0001 00000fff ca4d 0001 00000002 00010000 ffff 0000")
@@ -102,10 +100,9 @@ class EventFiles(unittest.TestCase):
         """Each cut and many changed bytes of both files, and what the program says of them."""
         files = [data for whole in (ONE, TWO) for data in self.changed(whole)]
         for data in files:
-            done = subprocess.run([PROGRAM, "events", "@in"], input=data, stdout=subprocess.PIPE, stderr=subprocess.PIPE, timeout=60)
+            _, out, err = called("events", "@in", given=data)
             with self.subTest(data=data.hex()):
-                self.assertEqual(done.stderr, b"")
-                self.assertEqual(listing(data), done.stdout.decode())
+                self.assertEqual((out.decode(), err), (listing(data), b""))
 
     @staticmethod
     def changed(file):

@@ -65,11 +65,10 @@ class Record(Case):
             data = file.read_bytes()
             self.assertEqual(told[word], {"name": str(file), "sha256": hashlib.sha256(data).hexdigest(), "text": data.decode()})
             self.assertEqual(getattr(record, word).data, data)
-        verdict = subprocess.run([PROGRAM, "check", PLAN_FILE, SCRIPT], capture_output=True, text=True, check=True).stdout
-        response = subprocess.run([PROGRAM, "response", PLAN_FILE, SCRIPT], capture_output=True, text=True, check=True).stdout
+        verdict, response = (self.call(it, PLAN_FILE, SCRIPT)[1].decode() for it in ("check", "response"))
         self.assertEqual(("\n".join(told["verdict"]) + "\n", "\n".join(told["response"]) + "\n"), (verdict, response))
         self.assertEqual(told["events"], {"name": str(self.events), "bytes": self.events.stat().st_size, "counts": {"adc": 4}})
-        self.assertEqual(told["versions"]["program"], subprocess.run([PROGRAM, "--version"], capture_output=True, text=True, check=True).stdout.strip())
+        self.assertEqual(told["versions"]["program"], self.call("--version")[1].decode().strip())
         begin, last = (time.strptime(told[it].partition(".")[0], "%Y-%m-%dT%H:%M:%S") for it in ("begin", "end"))
         self.assertLess(abs(time.mktime(begin) - time.timezone - before), 60)
         self.assertLessEqual(begin, last)

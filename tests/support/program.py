@@ -47,6 +47,16 @@ def unwritten(why, name="standard output"):
 FULL = unwritten(errno.ENOSPC)
 
 
+def called(*words, given=b"", **how):
+    """Status, standard output and standard error of the program on these words."""
+    return ran([PROGRAM, *words], input=given, **how)
+
+
+def ran(words, **how):
+    done = subprocess.run(words, **{"stdout": subprocess.PIPE, "stderr": subprocess.PIPE, "timeout": 60, **how})
+    return done.returncode, done.stdout, done.stderr
+
+
 def run_tests():
     """Runs the tests of the file that is called, if the program is there."""
     if not os.access(PROGRAM, os.X_OK):
@@ -70,22 +80,18 @@ class Room(unittest.TestCase):
         return (self.room / name).read_bytes()
 
     def call(self, *words, given=b"", **how):
-        """Status, standard output and standard error of the program on these words."""
-        return self._run([PROGRAM, *words], input=given, **how)
+        """The same as `called`, in this folder."""
+        return called(*words, given=given, cwd=self.room, **how)
 
     def shell(self, line):
         """The same of a line of bash, in which $camac is the program."""
-        return self._run(["bash", "-c", line], stdin=subprocess.DEVNULL, env={**os.environ, "camac": PROGRAM})
+        return ran(["bash", "-c", line], cwd=self.room, stdin=subprocess.DEVNULL, env={**os.environ, "camac": PROGRAM})
 
     def package(self, *words, given=b"", **environment):
         """The same of `python3 -m camac` over the program, as texts."""
         env = {**os.environ, "PYTHONPATH": str(TOP / "python"), "CAMAC_PROGRAM": PROGRAM, "PYTHONDONTWRITEBYTECODE": "1", **environment}
-        status, out, err = self._run([sys.executable, "-m", "camac", *map(str, words)], input=given, env=env)
+        status, out, err = ran([sys.executable, "-m", "camac", *map(str, words)], cwd=self.room, input=given, env=env)
         return status, out.decode(), err.decode()
-
-    def _run(self, words, **how):
-        ran = subprocess.run(words, **{"stdout": subprocess.PIPE, "stderr": subprocess.PIPE, "cwd": self.room, "timeout": 60, **how})
-        return ran.returncode, ran.stdout, ran.stderr
 
 
 class Case(Room):
