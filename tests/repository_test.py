@@ -154,6 +154,10 @@ class Crates(unittest.TestCase):
                     self.assertTrue(other not in door or other in doors or name.startswith(door[other]), "is a room of another door")
                     self.assertGreaterEqual(height.get(door[name], 0), height.get(door.get(other), -9), "is of a group above")
 
+    def test_no_mutant_is_outside_its_crates_file(self):
+        """It would not be tried."""
+        self.assertEqual([*(TOP / "crates").glob("*/mutants/*")], [])
+
 
 class Lemmas(unittest.TestCase):
     # Files of worked rows and of proofs that the prover asks for by their names.
