@@ -139,9 +139,14 @@ def shown(line: str) -> str:
     return repr(line if len(line) <= 80 else f"{line[:80]}..")
 
 
+def _first(line: str, forms: Iterable["Form[T]"]) -> Optional[T]:
+    """The value of a line by the first of the forms that it has; None if it has none."""
+    return next((it for it in (form.read(line) for form in forms) if it is not None), None)
+
+
 def _read(line: str, *forms: "Form[Any]") -> Any:
-    """The value of a line that has one of these forms."""
-    its = next((it for it in (form.read(line) for form in forms) if it is not None), None)
+    """The same of a line that has to have one."""
+    its = _first(line, forms)
     if its is None:
         raise ValueError(f"no line of this kind: {shown(line)}")
     return its
@@ -246,7 +251,7 @@ def _read_reply(text: str) -> Optional[Tuple[int, int, int]]:
 
 @functools.lru_cache(maxsize=4096)
 def _read_other(line: str) -> Optional[Item]:
-    return next((it for it in (form.read(line) for form in OTHERS) if it), None) or read_end(line)
+    return _first(line, OTHERS) or read_end(line)
 
 
 def read_end(line: str) -> Optional[RunEnd]:
@@ -257,7 +262,7 @@ def read_end(line: str) -> Optional[RunEnd]:
 @functools.lru_cache(maxsize=4096)
 def read_request(line: bytes) -> Optional[Request]:
     """A line of a live run that asks for an operation; None if it is none. A script asks for the same again and again, so they are kept."""
-    return next((it for it in (form.read(line.decode(errors="replace")) for form in REQUESTS) if it), None)
+    return _first(line.decode(errors="replace"), REQUESTS)
 
 
 def is_refused(printed: str) -> bool:
@@ -292,7 +297,7 @@ def read_place(sentence: str) -> Union[Tuple[int, int], List[Optional[Step]]]:
     at = PLACE.pattern.match(sentence)
     if at:
         return int(at["line"]), int(at["column"])
-    return [next((it for it in (form.read(step) for form in STEPS) if it), None) for step in sentence.partition(":")[0].split(", ")]
+    return [_first(step, STEPS) for step in sentence.partition(":")[0].split(", ")]
 
 
 def read_known(printed: str) -> Dict[str, List[str]]:
