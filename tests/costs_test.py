@@ -12,6 +12,7 @@ import sys
 import unittest
 
 from support.live import TOP, Case
+from support.program import called
 from camac.bodies import services_of
 from camac.printed import HEADING, read_bodies, read_services
 
@@ -119,7 +120,7 @@ class Faults(Costs):
         for words in (*of_files, "@in @in", "@sample", "@sample good more"):
             told = []
             for command in ("costs", "check"):
-                status, out, err = super().call(command, *words.split(), given=long)
+                status, out, err = called(command, *words.split(), given=long, cwd=self.room)
                 told.append((status, out, err.replace(command.encode(), b"COMMAND")))
             self.assertEqual(*told, words)
             self.assertIn(told[0][0], (2, 3), words)
