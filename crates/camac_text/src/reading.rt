@@ -7,11 +7,11 @@ ghost use Rattle.camac_text.specs.Parser.{script_of};
 use crate::declarations::declarations;
 use camac_lang::Script;
 use camac_text_cursor::{Choices, Parser};
-use camac_tokens::{TextFault, TokensLeft};
+use camac_tokens::{TextFault, TokensLeft, end_of};
 use std::alloc::Global;
 
-// A fault of a token comes before each fault of the grammar, wherever the two stand. So the tokens are cut twice, first for their faults alone, and
-// kept nowhere: a list of them took more memory than all else in a check.
+// A fault of a token comes before each fault of the grammar, wherever the two stand. Tokens are judged as they are read, and kept nowhere: a list of them
+// took more memory than all else in a check. So they are read once more, to the end, unless the grammar took all of them.
 
 /// The script that a text spells.
 ///
@@ -38,9 +38,11 @@ pub fn parse_expecting(
 ) -> Result<Script, TextFault>
     ensures { Answers result (script_of text.now) }
 {
-    let (tokens, end) = TokensLeft::with_end(text)?;
-    let mut parser = Parser::new(alloc, tokens, end);
+    let mut parser = Parser::new(alloc, TokensLeft::new(text));
     let read = declarations(&mut parser);
+    if read.is_err() || !parser.is_at_end() {
+        end_of(text)?;
+    }
     *expected = parser.missed();
     read?;
     Ok(parser.into_script())
