@@ -1,8 +1,12 @@
 // From the text of a script to its tree.
 
 ghost use Rattle.camac_tokens.specs.Fault.{Answers};
+ghost use Rattle.camac_tokens.specs.Left.{ahead_of};
+ghost use Rattle.camac_tokens.specs.Scanning.{tokens_of};
+ghost use Rattle.camac_text_cursor.specs.Parser.{Gives};
+ghost use Rattle.camac_text.specs.Declarations.{declarations_at};
 ghost use Rattle.camac_text.specs.Places.{HasFault, FaultIs};
-ghost use Rattle.camac_text.specs.Parser.{script_of};
+ghost use Rattle.camac_text.specs.Parser.{unread_in, judged, script_of};
 
 use crate::declarations::declarations;
 use camac_lang::Script;
@@ -40,10 +44,26 @@ pub fn parse_expecting(
 {
     let mut parser = Parser::new(alloc, TokensLeft::new(text));
     let read = declarations(&mut parser);
-    if read.is_err() || !parser.is_at_end() {
-        end_of(text)?;
-    }
+    judge_tokens(text, &read, &parser)?;
     *expected = parser.missed();
     read?;
     Ok(parser.into_script())
+}
+
+// Whether a text that was read so has no token fault, else its first one. What was read to the text's end has none.
+fn judge_tokens(
+    text: &[u8],
+    read: &Result<(), TextFault>,
+    parser: &Parser<'_>,
+) -> Result<(), TextFault>
+    requires { Gives (λ _. tt) read.now parser.now (declarations_at (unread_in (ahead_of text.now))) }
+    ensures { Answers result (judged (tokens_of text.now)) }
+{
+    match read {
+        Ok(()) if parser.is_at_end() => Ok(()),
+        _ => {
+            end_of(text)?;
+            Ok(())
+        }
+    }
 }

@@ -9,13 +9,13 @@ use Rattle.camac_tokens.specs.declared.fault.TextFault.TheVariants as fault
 use Rattle.camac_tokens.specs.Fault.{Fault}
 use Rattle.camac_tokens.specs.Scanning.{is_blank, start_of, wrong, line_number, line_after, tokens_from, tokens_of, last_line}
 
--- the tokens before the first token fault
+-- of what stands where so many bytes are left
 abbrev pub before_by : Start → ℕ → ℕ → (ℕ → List Token) → List Token
 before_by (start.Gap n) line left more = more (n - 1)
 before_by (start.Found k n) line left more = record { kind = k; line = line_number line; left = left } ∷ more (n - 1)
 before_by (start.Wrong case) line left more = []
 
--- the same after so many bytes that belong to the token before, from a line on
+-- The tokens before the first token fault, after so many bytes that belong to the one before, from a line on.
 unfoldable pub tokens_before : ℕ → ℕ → List ℕ → List Token
 tokens_before skip line [] = []
 tokens_before zero line (b ∷ bs) = before_by (start_of b (b ∷ bs)) line (length (b ∷ bs)) (λ skip. tokens_before skip (line_after line b) bs)
