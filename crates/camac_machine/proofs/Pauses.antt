@@ -1,5 +1,5 @@
 -- A machine that pauses.
-use Rattle.std.proofs.Common.{◌≡◌, ℕ, ◌≤◌, [], Bool, true, false, refl, sym, arith}
+use Rattle.std.proofs.Common.{◌≡◌, ℕ, ◌≤◌, [], Bool, true, false, refl, sym, ◌∙◌, arith}
 use Rattle.std.proofs.lemmas.Bool.{false≢true}
 use Rattle.std.specs.Prelude.{List, Option, Some, None, IfSome, if◌then◌else◌}
 use Rattle.camac_branch.specs.Branch.{Answer}
@@ -37,13 +37,16 @@ paused_is (Some (Transfer w)) e = absurd (false≢true e)
 paused_is (Some Pause) e = refl
 
 -- where an answer is wanted, it does not pause
-pub never_pauses : {V D C : ℕ} (h : Machine V D C) (o : Option Pending) → IfSome o (IsPending h) → is_paused_at o ≡ true → ⊥
-never_pauses h None p e = false≢true e
-never_pauses h (Some (Cycle k)) p e = false≢true e
-never_pauses h (Some (Read k x bits)) p e = false≢true e
-never_pauses h (Some (Lock k body)) p e = false≢true e
-never_pauses h (Some (Transfer w)) p e = false≢true e
-never_pauses h (Some Pause) p e = p.0
+pub never_pauses : {V D C : ℕ} (h : Machine V D C) (o : Option Pending) → IfSome o (IsPending h) → is_paused_at o ≡ false
+never_pauses h None p = refl
+never_pauses h (Some (Cycle k)) p = refl
+never_pauses h (Some (Read k x bits)) p = refl
+never_pauses h (Some (Lock k body)) p = refl
+never_pauses h (Some (Transfer w)) p = refl
+never_pauses h (Some Pause) p = absurd p.0
+
+pub pauses_never : {A : Type 0} (b : Bool) → b ≡ false → b ≡ true → A
+pauses_never b e f = absurd (false≢true (sym e ∙ f))
 
 module _ {V D C : ℕ} (h : Machine V D C) where
   -- what is left of a service that pauses is what is left of its blocks

@@ -11,7 +11,7 @@ ghost use Rattle.camac_model.specs.Fine.{most_turns};
 ghost use Rattle.camac_model.specs.Meaning.{effect};
 ghost use Rattle.camac_model.specs.State.{fresh, stepped};
 ghost use Rattle.camac_model.specs.Value.{value, truth};
-ghost use Rattle.camac_machine.specs.MachineState.{event_here, variables_here, registers_here, state_of, reach, holds, stands, free, IsFineHere, FineThen, HasRoom, wanted_if, Wants, Advances, Settles, PausesAfter, Serves};
+ghost use Rattle.camac_machine.specs.MachineState.{event_here, variables_here, registers_here, state_of, reach, holds, stands, free, IsFineHere, FineThen, HasRoom, wanted_if, Wants, Advances, Settles, PausesAfter, Serves, is_paused_at};
 ghost use Rattle.camac_lang.specs.Fits.{fits};
 ghost use Rattle.camac_machine.specs.Store.{registers_in, held_at};
 ghost use Rattle.camac_machine.specs.Within.{Refers, PartsRefer, StatementFits};
@@ -19,6 +19,7 @@ ghost use Rattle.camac_machine.specs.Within.{Refers, PartsRefer, StatementFits};
 mod actions;
 mod answers;
 mod blocks;
+mod pausing;
 mod transfers;
 
 use self::transfers::Most;
@@ -152,20 +153,12 @@ fn address_in(registers: &[Option<Address>], register: usize) -> Address
     }
 }
 
-// Says that nothing is wanted. It is no part of `settle`, which would lay out the room of what is wanted once more at each call.
+// Says that nothing is wanted. It is no part of its callers, which would lay out the room of what is wanted once more at each call.
 #[inline(never)]
-fn wait_for_none(pending: &mut Option<Pending<'_>>)
+pub(crate) fn wait_for_none(pending: &mut Option<Pending<'_>>)
     ensures { pending.new ≡ None }
 {
     *pending = None;
-}
-
-// Says that it pauses.
-#[inline(never)]
-fn pause(pending: &mut Option<Pending<'_>>)
-    ensures { pending.new ≡ Some Pending.Pause }
-{
-    *pending = Some(Pending::Pause);
 }
 
 impl<'a, const V: usize, const DEPTH: usize, const CAP: usize> Machine<'a, V, DEPTH, CAP> {
@@ -258,6 +251,7 @@ impl<'a, const V: usize, const DEPTH: usize, const CAP: usize> Machine<'a, V, DE
     }
 
     // Begins a statement, and answers whether it waits for an answer: `pending` then says for what.
+    #[inline(always)]
     pub(crate) fn begin(&mut self, statement: &'a Stmt, pending: &mut Option<Pending<'a>>) -> bool
         requires room { HasRoom self.old }
         requires fits { StatementFits (reach self.old) (free self.old) (statement_of statement.now) }
@@ -382,19 +376,15 @@ impl<'a, const V: usize, const DEPTH: usize, const CAP: usize> Machine<'a, V, DE
         }
     }
 
-    // Goes on until an answer is wanted, or the service is over. It pauses after more than so many steps.
-    pub(crate) fn settle(&mut self, pending: &mut Option<Pending<'a>>, most: u32)
+    // Goes on until an answer is wanted, or the service is over.
+    pub(crate) fn settle_at_once(&mut self, pending: &mut Option<Pending<'a>>)
         requires room { HasRoom self.old }
         requires quiet { self.old.unlocks.items ≡ [] }
         requires fine { (answers : List Answer) → IsFineHere self.old (stands None self.old answers) }
         ensures settles { Settles self.old (λ c. ends) pending.new self.new }
-        ensures pauses { PausesAfter self.old.steps most pending.new self.new }
+        ensures awake { is_paused_at pending.new ≡ false }
     {
-        let end = self.steps.saturating_add(most);
         while !self.frames.is_empty() {
-            if self.steps > end {
-                return pause(pending);
-            }
             if self.go_on(pending) {
                 return;
             }
@@ -404,6 +394,7 @@ impl<'a, const V: usize, const DEPTH: usize, const CAP: usize> Machine<'a, V, DE
 
     /// Begins the service of this number, and goes on until it wants an answer, or is over: then nothing is wanted. It pauses after more than `most`
     /// steps.
+    #[inline(always)]
     pub fn serve(&mut self, number: usize, pending: &mut Option<Pending<'a>>, most: u32)
         requires room { HasRoom self.old }
         requires quiet { self.old.unlocks.items ≡ [] }

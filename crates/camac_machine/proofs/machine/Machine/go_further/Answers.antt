@@ -6,7 +6,7 @@ use Rattle.camac_machine.specs.declared.machine.Machine.{Machine}
 use Rattle.camac_machine.specs.MachineState.{after_pending, asked}
 use Rattle.camac_machine.proofs.Courses.{mid_quiet, wants_settles, over_fine, over_settles}
 use Rattle.camac_machine.proofs.Standing.{stands_on}
-use Rattle.camac_machine.proofs.Pauses.{never_pauses}
+use Rattle.camac_machine.proofs.Pauses.{never_pauses, pauses_never}
 use Rattle.camac_machine.proofs.machine.Machine.go_further.Goals as goal
 
 pub settle-requires : goal.settle-requires
@@ -27,7 +27,7 @@ returns-then-not-follow_transfer-clause-pauses g c = λ yes.
 
 pub returns-else-not-follow_transfer-clause-pauses : goal.returns-else-not-follow_transfer-clause-pauses
 returns-else-not-follow_transfer-clause-pauses g c = λ yes.
-    let p = c.if-not-follow_transfer.ensures.cycle refl in absurd (never_pauses c.follow_transfer.new.self c.follow_transfer.new.pending p.1.awaits yes)
+    let p = c.if-not-follow_transfer.ensures.cycle refl in pauses_never _ (never_pauses c.follow_transfer.new.self c.follow_transfer.new.pending p.1.awaits) yes
 
 pub returns-else-not-follow_transfer-clause-settles : goal.returns-else-not-follow_transfer-clause-settles
 returns-else-not-follow_transfer-clause-settles g c =

@@ -8,8 +8,8 @@ use Rattle.camac_machine.specs.MachineState.{bounds_of, state_of, IsPending, Sta
 use Rattle.camac_machine.proofs.Fine.{keeps_rest, fine_says}
 use Rattle.camac_machine.proofs.Frames.{goes_further, fine_along, smaller}
 use Rattle.camac_machine.proofs.Lists.{some_of, none_of}
-use Rattle.camac_machine.proofs.Pauses.{asked_all, never_pauses, stands_paused, steps_fit}
-use Rattle.camac_machine.proofs.machine.Machine.settle.Goals as goal
+use Rattle.camac_machine.proofs.Pauses.{asked_all, never_pauses, pauses_never, stands_paused, steps_fit}
+use Rattle.camac_machine.proofs.machine.Machine.settle_within.Goals as goal
 
 -- nothing holds only where something is wanted
 none_if_some : {A : Type 0} (o : Option A) (P : Type 0) → IsSome o → IfNone o P
@@ -55,7 +55,7 @@ returns-then-go_on-clause-settles g c =
 
 pub returns-then-go_on-clause-pauses : goal.returns-then-go_on-clause-pauses
 returns-then-go_on-clause-pauses g c = λ yes.
-    let a = rw c.if-go_on.true at c.go_on.ensures.goes.advances in absurd (never_pauses c.go_on.new.self c.go_on.new.pending a.awaits yes)
+    let a = rw c.if-go_on.true at c.go_on.ensures.goes.advances in pauses_never _ (never_pauses c.go_on.new.self c.go_on.new.pending a.awaits) yes
 
 pub returns-then-self-end-clause-settles : goal.returns-then-self-end-clause-settles
 returns-then-self-end-clause-settles g c =

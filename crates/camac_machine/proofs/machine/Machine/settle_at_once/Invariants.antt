@@ -3,11 +3,11 @@ use Rattle.std.specs.Prelude.{None}
 use Rattle.camac_branch.specs.Branch.{Answer}
 use Rattle.camac_machine.specs.MachineState.{bounds_of, stands, HasRoom}
 use Rattle.camac_machine.specs.Rest.{says}
-use Rattle.camac_machine.proofs.machine.Machine.settle.Given as goal
+use Rattle.camac_machine.proofs.machine.Machine.settle_at_once.Given as goal
 
 -- what is left to run stays the same
-abbrev pub invariant-loop-pending : goal.invariant-loop-pending
-invariant-loop-pending g l = record {
+abbrev pub invariant-loop-self : goal.invariant-loop-self
+invariant-loop-self g l = record {
   room : HasRoom l.self;
   checked : l.self.checked ≡ l.initial.self.checked;
   service : l.self.service ≡ l.initial.self.service;
@@ -15,5 +15,5 @@ invariant-loop-pending g l = record {
 }
 
 -- a block more costs a step, and the steps are bounded
-abbrev pub decreases-loop-pending : goal.decreases-loop-pending
-decreases-loop-pending g l = 2 * ((bounds_of l.self).steps - l.self.steps) + length l.self.frames.items
+abbrev pub decreases-loop-self : goal.decreases-loop-self
+decreases-loop-self g l = 2 * ((bounds_of l.self).steps - l.self.steps) + length l.self.frames.items
