@@ -32,6 +32,8 @@ uint32_t camac_raw_service_name(void *run, uint32_t number, uint8_t *text, size_
 uint32_t camac_raw_service_numbers(void *run, uint32_t number, uint8_t *bytes, size_t room, size_t *size);
 uint32_t camac_raw_where(void *run, uint8_t *bytes, size_t room, size_t *size);
 uint32_t camac_raw_abandon(void *run, uint8_t *bytes, size_t room, size_t *size);
+uint32_t camac_raw_limit_steps(void *run, uint32_t most);
+uint32_t camac_raw_go_on(void *run, void *progress);
 uint32_t camac_raw_rewind(void *run);
 void camac_raw_file_header(uint8_t *bytes, size_t room, size_t *size);
 void camac_raw_close(void *run);
@@ -82,6 +84,7 @@ const char *camac_code_text(int code) {
     case CAMAC_RANGE: return "a number out of its range";
     case CAMAC_SPENT: return "all answers are spent";
     case CAMAC_LONG: return "a text too long";
+    case CAMAC_BUSY: return "the run pauses";
     default: return "no code of camac";
     }
 }
@@ -265,6 +268,17 @@ int camac_abandon(camac_session *s, uint32_t *unlocked, size_t room, size_t *cou
     if (!unlocked) unlocked = nowhere;
     if (room > CAMAC_CRATES) room = CAMAC_CRATES;
     return (int)camac_raw_abandon(run_of(s), (uint8_t *)unlocked, room * sizeof *unlocked, count);
+}
+
+int camac_limit_steps(camac_session *s, uint32_t most) {
+    return is_session(s) ? (int)camac_raw_limit_steps(run_of(s), most) : CAMAC_MISUSE;
+}
+
+int camac_go_on(camac_session *s, camac_progress *progress) {
+    if (!IS_KNOWN(progress)) return CAMAC_MISUSE;
+    if (!is_session(s)) return CLEAR(progress), CAMAC_MISUSE;
+    CLEAR_SPARE(progress);
+    return (int)camac_raw_go_on(run_of(s), &progress->kind);
 }
 
 int camac_rewind(camac_session *s) { return is_session(s) ? (int)camac_raw_rewind(run_of(s)) : CAMAC_MISUSE; }

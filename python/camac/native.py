@@ -12,10 +12,12 @@ from typing import Any, Dict, List, NamedTuple, Tuple
 NAME = "libcamac.so.0"
 # The version whose structs are here. A library fits whose first two numbers are the same.
 VERSION = 200
-OK, REFUSED, MISUSE, NO_MEMORY, OVERRUN, RANGE, SPENT, LONG = range(8)
+OK, REFUSED, MISUSE, NO_MEMORY, OVERRUN, RANGE, SPENT, LONG, BUSY = range(9)
 DEMAND, CYCLE, LOCK, STOPPED = range(1, 5)
 NO_DATA, READ, WRITE = range(3)
 EVENT_WORDS = 4096
+# More steps than any service makes.
+NO_LIMIT = 4_294_967_295
 
 
 class _Sized(ctypes.Structure):
@@ -106,6 +108,8 @@ _OF_SESSIONS: Dict[str, List[Any]] = {
     "wants": [_SESSION, POINTER(Want)],
     "next": [_SESSION, POINTER(AnswerStruct), POINTER(Progress)],
     "step": [_SESSION, POINTER(AnswerStruct), POINTER(Progress), POINTER(Want)],
+    "limit_steps": [_SESSION, c_uint32],
+    "go_on": [_SESSION, POINTER(Progress)],
     "words": [_SESSION, POINTER(c_uint32), c_size_t],
     "held": [_SESSION, POINTER(c_uint32), c_size_t],
     "item": [_SESSION, *_BUFFER],

@@ -77,6 +77,22 @@ static void abandon(camac_session *s, camac_want *want, uint32_t room) {
     if (want->kind != CAMAC_DEMAND) fail("no demand is wanted");
 }
 
+/* Goes on while the run pauses, and puts what it tells. */
+static int go_on(camac_session *s, int code, camac_want *want, FILE *listing, FILE *events, uint32_t *count) {
+    const camac_answer answer = CAMAC_ANSWER;
+    camac_progress did = CAMAC_PROGRESS;
+    if (code != CAMAC_BUSY) return code;
+    while (code == CAMAC_BUSY) {
+        EXPECT(CAMAC_BUSY, camac_wants(s, want));
+        EXPECT(CAMAC_BUSY, camac_step(s, &answer, &did, want));
+        code = camac_go_on(s, &did);
+        put(listing, item, s);
+        put(events, camac_record, s);
+        if (did.event) *count = did.event;
+    }
+    return code == CAMAC_OK ? camac_wants(s, want) : code;
+}
+
 static void take_back(FILE *file, long at) {
     if (fflush(file) || ftruncate(fileno(file), at) || fseek(file, at, SEEK_SET)) fail("a file cannot be written");
 }
@@ -102,9 +118,10 @@ static void play(camac_session *s, const char *folder, long k, const text *scrip
         code = camac_step(s, &answer, &did, &want);
         put(listing, item, s);
         put(events, camac_record, s);
-        if (code == CAMAC_OK && camac_answers_left(s) != before - i - 1) fail("%u answers are left", (unsigned)camac_answers_left(s));
+        if ((code == CAMAC_OK || code == CAMAC_BUSY) && camac_answers_left(s) != before - i - 1) fail("%u answers are left", (unsigned)camac_answers_left(s));
         if (did.event) count = did.event;
         if (did.kind == CAMAC_DEMAND) service = did.service;
+        code = go_on(s, code, &want, listing, events, &count);
         if (code != CAMAC_OK || want.kind == CAMAC_DEMAND || chance(&seed, 20)) continue;
         abandon(s, &want, chance(&seed, CAMAC_CRATES + 1));
         for (int n = 0; n < 3; n++) take_back(files[n], at[n]);
@@ -128,6 +145,7 @@ int main(int words_count, char **words) {
             if (camac_next(&s, &answer, &did) > CAMAC_OVERRUN) fail("an answer is not taken");
         }
         EXPECT(CAMAC_OK, camac_rewind(&s));
+        EXPECT(CAMAC_OK, camac_limit_steps(&s, chance(&seed, 2) ? CAMAC_NO_LIMIT : chance(&seed, 20)));
         play(&s, words[1], k, &script);
         camac_close(&s);
         free(plan.bytes), free(script.bytes);

@@ -43,6 +43,10 @@ static void none(void) {
     EXPECT(CAMAC_MISUSE, camac_where(NULL, NULL, NULL));
     if (service || line) fail("a none stands somewhere");
     EXPECT(CAMAC_MISUSE, camac_abandon(&s, NULL, 0, &size));
+    EXPECT(CAMAC_MISUSE, camac_limit_steps(&s, 1));
+    spoil(&did, sizeof did);
+    EXPECT(CAMAC_MISUSE, camac_go_on(&s, &did));
+    expect_zeros(&did, &no_progress, sizeof did, __LINE__);
     EXPECT(CAMAC_MISUSE, camac_rewind(&s));
     EXPECT(CAMAC_MISUSE, camac_rewind(NULL));
     if (camac_services(&s) || camac_answers_left(&s) || camac_held(&s, NULL, 0) || camac_held(NULL, NULL, 1)) fail("a none has something");
@@ -64,6 +68,8 @@ static void handed_in(camac_session *s) {
     EXPECT(CAMAC_MISUSE, camac_step(s, &no_answer, &did, &want));
     want.size++, did.size = 0;
     EXPECT(CAMAC_MISUSE, camac_step(s, &no_answer, &did, &want));
+    EXPECT(CAMAC_MISUSE, camac_go_on(s, &did));
+    EXPECT(CAMAC_MISUSE, camac_go_on(s, NULL));
     did.size = sizeof did, answer.spare[0] = 1;
     EXPECT(CAMAC_MISUSE, camac_step(s, &answer, &did, &want));
     EXPECT(CAMAC_MISUSE, camac_step(s, NULL, &did, &want));

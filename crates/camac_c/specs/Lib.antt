@@ -1,4 +1,5 @@
 pub mod Abandoned
+pub mod Paused
 pub mod Filled
 pub mod Held
 pub mod Last

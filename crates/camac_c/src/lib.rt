@@ -16,6 +16,7 @@ mod held;
 mod last;
 mod loose;
 mod opening;
+mod pausing;
 mod place;
 mod plain;
 mod response;

@@ -78,6 +78,10 @@ pub enum Ask {
     Name(u32),
     /// Its numbers.
     Numbers(u32),
+    /// To make no more than so many steps at once.
+    Limit(u32),
+    /// To go on after a pause.
+    GoOn,
     /// To leave the service in progress.
     Abandon,
     /// To begin anew.
@@ -117,6 +121,9 @@ pub const SPENT: u32 = 6;
 
 /// A text above its limit.
 pub const LONG: u32 = 7;
+
+/// The run pauses: it wants no answer, but to go on.
+pub const BUSY: u32 = 8;
 
 pub const DEMAND: u8 = 1;
 

@@ -1,24 +1,26 @@
 // A run in progress: what is asked of it, and what it tells.
 
 ghost use Rattle.std.specs.Prelude.{◌≡◌, ◌↔◌, length, IfOk, IfSome, IsSome};
+ghost use Rattle.camac_machine.specs.Rest.{is_paused};
 ghost use Rattle.camac_run.specs.Runner.{last_words_in};
 ghost use Rattle.camac_c.specs.Abandoned.{LeavesUnless};
 ghost use Rattle.camac_c.specs.Filled.{filled_words};
 ghost use Rattle.camac_c.specs.Last.{last_lines, last_record};
+ghost use Rattle.camac_c.specs.Paused.{GoesOnIf, Limits};
 ghost use Rattle.camac_c.specs.Plain.{only_code};
 ghost use Rattle.camac_c.specs.Service.{name_at, numbers_at};
-ghost use Rattle.camac_c.specs.Talk.{Lists, StartsOn, Steps, TellsNext, TellsIf, TellsPlace, TellsStep, TellsWant, TellsWords, answers_left};
-ghost use Rattle.camac_c.specs.Told.{InRange, answer_in, counted, crates_in, did, event_in, flag_in, item_in, movement_in, service_in, want_in, word_in, written_in};
+ghost use Rattle.camac_c.specs.Talk.{Begins, Lists, StartsOn, Steps, TellsNext, TellsIf, TellsPlace, TellsStep, TellsWant, TellsWords, answers_left};
+ghost use Rattle.camac_c.specs.Told.{InRange, answer_in, counted, crates_in, did, event_in, flag_in, item_in, movement_in, service_in, want_in, while_paused, word_in, written_in};
 
 use crate::abandon::write_crates;
 use crate::filling::give;
-use crate::held::{Held, keep_held, write_held};
-use crate::last::{give_lines, give_record};
+use crate::held::{Held, keep_held, release_held, write_held};
+use crate::last::{Last, give_lines, give_record};
 use crate::loose::Loose;
 use crate::place::numbers_of_place;
 use crate::plain::{
-    Ask, CYCLE, CamacAnswer, CamacProgress, CamacWant, DEMAND, LOCK, NO_PROGRESS, NO_WANT, OK,
-    OVERRUN, RANGE, SPENT, STOPPED, Told, only_code,
+    Ask, BUSY, CYCLE, CamacAnswer, CamacProgress, CamacWant, DEMAND, LOCK, NO_PROGRESS, NO_WANT,
+    OK, OVERRUN, RANGE, SPENT, STOPPED, Told, only_code,
 };
 use crate::service::{name_of, numbers_of, write_numbers};
 use byteorder::{ByteOrder, LittleEndian};
@@ -39,8 +41,8 @@ const MOST_ANSWERS: u32 = 4_294_967_295;
 pub struct Session<'a> {
     runner: FullRunner<'a>,
     checked: &'a Checked,
-    // what the last answer did
-    last: Option<Progress>,
+    // what the run did last
+    last: Last,
     held: Held,
 }
 
@@ -54,7 +56,7 @@ pub fn start<'a>(alloc: Global, checked: &'a Checked) -> Result<Loose<Session<'a
         Session {
             runner: FullRunner::start(checked),
             checked,
-            last: None,
+            last: Last::Nothing,
             held: Held::new(),
         },
     ) {
@@ -86,6 +88,8 @@ pub fn step<'a>(
         Ask::Services => counted(session.checked.services()),
         Ask::Name(number) => name(&session, number, bytes),
         Ask::Numbers(number) => numbers(&session, number, bytes),
+        Ask::Limit(most) => limit(&mut session, most),
+        Ask::GoOn => go_on(&mut session),
         Ask::Abandon => abandon(&mut session, bytes),
         Ask::Rewind => rewind(&mut session),
     };
@@ -107,7 +111,11 @@ fn wants(session: &Session) -> Told
     ensures { TellsWant session.now session.now result }
 {
     match session.runner.wants() {
-        None => only_code(OVERRUN),
+        None => only_code(if session.runner.is_paused() {
+            BUSY
+        } else {
+            OVERRUN
+        }),
         Some(wanted) => Told {
             want: want_of(wanted),
             ..only_code(OK)
@@ -172,6 +180,9 @@ fn written_of(mv: DataMove) -> u32
 fn next(session: &mut Session, answer: CamacAnswer) -> Told
     ensures { TellsNext answer session.old session.new result }
 {
+    if session.runner.is_paused() {
+        return only_code(BUSY);
+    }
     let Some(answer) = answer_of(answer) else {
         return only_code(RANGE);
     };
@@ -183,7 +194,19 @@ fn next(session: &mut Session, answer: CamacAnswer) -> Told
     if let Progress::Went { item, unlocks, .. } = &progress {
         keep_held(&mut session.held, item, unlocks.as_slice());
     }
-    session.last = Some(progress);
+    session.last = Last::Answer(progress);
+    while_paused(session, told)
+}
+
+// The code is `BUSY` while the run pauses.
+#[inline(always)]
+fn while_paused(session: &Session, told: Told) -> Told
+    ensures { result ≡ while_paused (is_paused session.now.runner.pending) told }
+{
+    let mut told = told;
+    if session.runner.is_paused() {
+        told.code = BUSY;
+    }
     told
 }
 
@@ -241,9 +264,10 @@ fn place(session: &Session, bytes: &mut [u8]) -> Told
 fn left(session: &Session) -> u32
     ensures { result ≡ answers_left session.now.runner }
 {
-    match session.runner.wants() {
-        Some(_) => MOST_ANSWERS - session.runner.fed(),
-        None => 0,
+    if session.runner.is_over() {
+        0
+    } else {
+        MOST_ANSWERS - session.runner.fed()
     }
 }
 
@@ -269,12 +293,47 @@ fn numbers(session: &Session, number: u32, bytes: &mut [u8]) -> Told
     }
 }
 
+// Sets how many steps the run makes at once.
+fn limit(session: &mut Session, most: u32) -> Told
+    ensures told { result ≡ only_code 0 }
+    ensures limits { Limits most session.old session.new }
+{
+    session.runner.limit_steps(most);
+    only_code(OK)
+}
+
+// Goes on after a pause.
+fn go_on(session: &mut Session) -> Told
+    ensures { GoesOnIf (is_paused session.old.runner.pending) session.old session.new result }
+{
+    if !session.runner.is_paused() {
+        return only_code(if session.runner.is_over() {
+            OVERRUN
+        } else {
+            OK
+        });
+    }
+    let (unlocks, event) = session.runner.go_on();
+    let told = CamacProgress {
+        unlocked: crates_of(unlocks.as_slice()),
+        ..NO_PROGRESS
+    };
+    let words = session.runner.last_words().len() as u32;
+    let told = Told {
+        progress: with_event(told, &event, words),
+        ..only_code(OK)
+    };
+    release_held(&mut session.held, unlocks.len());
+    session.last = Last::Pause(unlocks, event);
+    while_paused(session, told)
+}
+
 // Leaves the service in progress.
 #[tactic(auto, using(crate::proofs::Abandoned::stays_over, crate::proofs::Abandoned::leaves_first))]
 fn abandon(session: &mut Session, bytes: &mut [u8]) -> Told
     ensures { LeavesUnless session.old.runner.overrun session.old session.new bytes.old bytes.new result }
 {
-    if session.runner.wants().is_none() {
+    if session.runner.is_over() {
         return only_code(OVERRUN);
     }
     let unlocks = session.runner.abandon();
@@ -285,11 +344,14 @@ fn abandon(session: &mut Session, bytes: &mut [u8]) -> Told
 // Begins anew.
 fn rewind(session: &mut Session) -> Told
     ensures told { result ≡ only_code 0 }
-    ensures begins { StartsOn session.old.checked.now session.new }
+    ensures begins { Begins session.old.checked.now session.new }
+    ensures limit { session.new.runner.limit ≡ session.old.runner.limit }
 {
     session.checked.fits_greatest();
+    let kept = session.runner.limit();
     session.runner = FullRunner::start(session.checked);
-    session.last = None;
+    session.runner.limit_steps(kept);
+    session.last = Last::Nothing;
     session.held = Held::new();
     only_code(OK)
 }

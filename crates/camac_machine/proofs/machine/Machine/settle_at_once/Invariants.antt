@@ -3,7 +3,7 @@ use Rattle.std.specs.Prelude.{None}
 use Rattle.camac_branch.specs.Branch.{Answer}
 use Rattle.camac_machine.specs.MachineState.{bounds_of, stands, HasRoom}
 use Rattle.camac_machine.specs.Rest.{says}
-use Rattle.camac_machine.proofs.machine.Machine.settle.Given as goal
+use Rattle.camac_machine.proofs.machine.Machine.settle_at_once.Given as goal
 
 -- what is left to run stays the same
 abbrev pub invariant-loop-self : goal.invariant-loop-self

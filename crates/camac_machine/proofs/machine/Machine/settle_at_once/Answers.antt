@@ -3,11 +3,12 @@ use Rattle.std.specs.Prelude.{Option, Some, None, IsSome, IfNone}
 use Rattle.std.proofs.lemmas.Bool.{false≢true}
 use Rattle.arrayvec.specs.ArrayVec.{ArrayVec}
 use Rattle.camac_machine.specs.declared.machine.Frame.{Frame}
-use Rattle.camac_machine.specs.MachineState.{bounds_of, state_of}
+use Rattle.camac_machine.specs.MachineState.{bounds_of, state_of, IsPending, StandsIn}
 use Rattle.camac_machine.proofs.Fine.{keeps_rest, fine_says}
 use Rattle.camac_machine.proofs.Frames.{goes_further, fine_along, smaller}
 use Rattle.camac_machine.proofs.Lists.{some_of, none_of}
-use Rattle.camac_machine.proofs.machine.Machine.settle.Goals as goal
+use Rattle.camac_machine.proofs.Pauses.{asked_all, never_pauses}
+use Rattle.camac_machine.proofs.machine.Machine.settle_at_once.Goals as goal
 
 -- nothing holds only where something is wanted
 none_if_some : {A : Type 0} (o : Option A) (P : Type 0) → IsSome o → IfNone o P
@@ -32,8 +33,8 @@ go_on-requires g c =
       ),
     )
 
-pub returns-then-go_on : goal.returns-then-go_on
-returns-then-go_on g c =
+pub returns-then-go_on-clause-settles : goal.returns-then-go_on-clause-settles
+returns-then-go_on-clause-settles g c =
     let h = c.loop-self.self in
     let v = c.loop-self.invariant in
     let e = c.go_on.ensures.goes in
@@ -45,11 +46,15 @@ returns-then-go_on g c =
       room = a.room;
       checked = a.checked ∙ v.checked;
       service = a.service ∙ v.service;
-      awaits = a.awaits;
-      begun = c.go_on.ensures.begun c.if-go_on.true;
+      awaits = asked_all w (IsPending new) a.awaits;
+      begun = asked_all w (StandsIn new) (c.go_on.ensures.begun c.if-go_on.true);
       over = none_if_some w _ (c.go_on.ensures.some c.if-go_on.true);
       goes = λ answers. goes_further h new e.last before e.was a.released a.unlocks w answers (a.goes answers) ∙ v.goes answers;
     }
+
+pub returns-then-go_on-clause-awake : goal.returns-then-go_on-clause-awake
+returns-then-go_on-clause-awake g c =
+    let a = rw c.if-go_on.true at c.go_on.ensures.goes.advances in never_pauses c.go_on.new.self c.go_on.new.pending a.awaits
 
 pub loop-self-smaller : goal.loop-self-smaller
 loop-self-smaller g c =
@@ -79,8 +84,11 @@ loop-self-preserved g c =
       goes = λ answers. goes_further h new e.last before e.was a.released a.unlocks None answers (a.goes answers) ∙ v.goes answers;
     }
 
-pub returns : goal.returns
-returns g c =
+pub returns-clause-awake : goal.returns-clause-awake
+returns-clause-awake g c = rw c.wait_for_none.ensures refl
+
+pub returns-clause-settles : goal.returns-clause-settles
+returns-clause-settles g c =
     let h = c.loop-self.self in
     let v = c.loop-self.invariant in
     rw c.wait_for_none.ensures (record { room = v.room; checked = v.checked; service = v.service; awaits = tt; begun = tt; over = none_of h.frames.items c.loop-self-test.ensures; goes = v.goes })
