@@ -2,17 +2,20 @@
 
 ghost use Rattle.std.specs.Prelude.{◌≡◌, ◌+◌, ◌<◌, ◌≤◌, List, [], length, true, Some, None, false, is_some, IsSome, IfSome, IfNone, OnSome, if◌then◌else◌};
 ghost use Rattle.camac_branch.specs.Branch.{Answer};
-ghost use Rattle.camac_machine.specs.MachineState.{bounds_at};
+ghost use Rattle.camac_machine.specs.MachineState.{bounds_at, pending_of};
 ghost use Rattle.camac_lang.specs.Fits.{fits};
 ghost use Rattle.camac_model.specs.Behaviour.{stops, short, ends};
 ghost use Rattle.camac_model.specs.Run.{the_run};
 ghost use Rattle.camac_run.specs.Runner.{state_in, rest, last_words_in, event_in, Progresses, steps_of, words_of};
 ghost use Rattle.camac_run.specs.Abandoned.{Abandons};
+ghost use Rattle.camac_run.specs.Ahead.{IsAhead};
 ghost use Rattle.camac_run.specs.Holds.{HoldsAfter};
 ghost use Rattle.camac_run.specs.Operation.{IsWaiting, Wants, operation};
 ghost use Rattle.camac_run.specs.Place.{IsPlace};
 ghost use Rattle.camac_run.specs.Requested.{IsSafeRequest, held_in};
+ghost use Rattle.camac_run.specs.Sure.{cycle_of};
 
+use crate::ahead::{Ahead, add_following};
 use crate::leaving::leave_service;
 use crate::place::Place;
 use crate::progress::{Progress, Wanted};
@@ -231,6 +234,26 @@ impl<'a, const V: usize, const DEPTH: usize, const CAP: usize> Runner<'a, V, DEP
         }
     }
 
+    /// The operations that come next, whatever is answered: what the run wants now, and the cycles that surely follow it, `AHEAD` at most. None after
+    /// a wait that was not permitted.
+    pub fn ahead(&self) -> Ahead
+        ensures { IsAhead self.now result.items }
+    {
+        let mut ahead = Ahead::new();
+        let Some(first) = self.wants() else {
+            return ahead;
+        };
+        ahead.push(first);
+        let Some(pending) = &self.pending else {
+            return ahead;
+        };
+        if !is_one_cycle(pending) {
+            return ahead;
+        }
+        add_following(&self.machine, pending, &mut ahead);
+        ahead
+    }
+
     /// The law that a run whose waits were all permitted wants an answer.
     pub fn is_waiting(&self)
         requires { self.now.overrun ≡ None }
@@ -324,6 +347,18 @@ fn operation(pending: &Pending) -> Wanted
         Pending::Read { command, .. } => Wanted::Cycle(*command),
         Pending::Lock { crate_no, .. } => Wanted::Lock(*crate_no),
         Pending::Transfer(transfer) => Wanted::Cycle(transfer.command),
+    }
+}
+
+// Whether a single cycle is waited for.
+fn is_one_cycle(pending: &Pending) -> bool
+    ensures { result ≡ is_some (cycle_of (pending_of pending.now)) }
+{
+    match pending {
+        Pending::Cycle(_) => true,
+        Pending::Read { .. } => true,
+        Pending::Lock { .. } => false,
+        Pending::Transfer(_) => false,
     }
 }
 
