@@ -7,10 +7,11 @@ ghost use Rattle.camac_c.specs.Filled.{filled_words};
 ghost use Rattle.camac_c.specs.Last.{last_lines, last_record};
 ghost use Rattle.camac_c.specs.Plain.{only_code};
 ghost use Rattle.camac_c.specs.Service.{name_at, numbers_at};
-ghost use Rattle.camac_c.specs.Talk.{Lists, StartsOn, Steps, TellsNext, TellsIf, TellsPlace, TellsStep, TellsWant, TellsWords, answers_left};
+ghost use Rattle.camac_c.specs.Talk.{Lists, StartsOn, Steps, TellsAhead, TellsNext, TellsIf, TellsPlace, TellsStep, TellsWant, TellsWords, answers_left};
 ghost use Rattle.camac_c.specs.Told.{InRange, answer_in, counted, crates_in, did, event_in, flag_in, item_in, movement_in, service_in, want_in, word_in, written_in};
 
 use crate::abandon::write_crates;
+use crate::ahead::numbers_ahead;
 use crate::filling::give;
 use crate::held::{Held, keep_held, write_held};
 use crate::last::{give_lines, give_record};
@@ -75,6 +76,7 @@ pub fn step<'a>(
     let mut session = run.into_box();
     let told = match ask {
         Ask::Wants => wants(&session),
+        Ask::Ahead => ahead(&session, bytes),
         Ask::Next(answer) => next(&mut session, answer),
         Ask::Step(answer) => next_and_wants(&mut session, answer),
         Ask::Words => counted(write_words(session.runner.last_words(), bytes)),
@@ -116,7 +118,7 @@ fn wants(session: &Session) -> Told
 }
 
 #[inline(always)]
-fn want_of(wanted: Wanted) -> CamacWant
+pub fn want_of(wanted: Wanted) -> CamacWant
     ensures { result ≡ want_in wanted }
 {
     match wanted {
@@ -202,6 +204,14 @@ fn next_and_wants(session: &mut Session, answer: CamacAnswer) -> Told
     } else {
         told
     }
+}
+
+fn ahead(session: &Session, bytes: &mut [u8]) -> Told
+    ensures { TellsAhead session.now.runner bytes.old bytes.new result }
+{
+    let ahead = session.runner.ahead();
+    let numbers = numbers_ahead(ahead.as_slice());
+    counted(write_numbers(numbers.as_slice(), bytes))
 }
 
 // So many there are.
