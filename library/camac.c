@@ -20,6 +20,7 @@ uint32_t camac_raw_run(const uint8_t *plan, size_t plan_size, const uint8_t *scr
 uint32_t camac_raw_open(void *run, const uint8_t *plan, size_t plan_size, const uint8_t *script, size_t script_size, uint8_t *out, size_t room,
                         size_t *size);
 uint32_t camac_raw_wants(void *run, void *want);
+size_t camac_raw_ahead(void *run, uint8_t *bytes, size_t room);
 uint32_t camac_raw_next(void *run, const void *answer, void *progress);
 uint32_t camac_raw_step(void *run, const void *answer, void *progress, void *want);
 size_t camac_raw_words(void *run, uint8_t *bytes, size_t room);
@@ -189,11 +190,50 @@ int camac_wants(const camac_session *s, camac_want *want) {
     return (int)camac_raw_wants(run_of(s), &want->kind);
 }
 
+/* The struct behind this one in a list, which gets the same size. */
+#define NEXT(its, bytes) ((its) = (void *)((char *)(its) + (bytes)), (its)->size = (bytes))
+
+size_t camac_ahead(const camac_session *s, camac_want *want, size_t room) {
+    uint32_t numbers[7 * CAMAC_AHEAD];
+    if (!is_session(s) || !room || !IS_KNOWN(want)) return 0;
+    const uint32_t size = want->size;
+    const size_t all = camac_raw_ahead(run_of(s), (uint8_t *)numbers, sizeof numbers) / 7, count = all < room ? all : room;
+    for (size_t i = 0; i < count; i++) {
+        const uint32_t *const its = numbers + 7 * i;
+        if (i) NEXT(want, size);
+        CLEAR(want);
+        want->kind = (uint8_t)its[0];
+        want->c = (uint8_t)its[1];
+        want->n = (uint8_t)its[2];
+        want->a = (uint8_t)its[3];
+        want->f = (uint8_t)its[4];
+        want->data = (uint8_t)its[5];
+        want->word = its[6];
+    }
+    return count;
+}
+
 int camac_next(camac_session *s, const camac_answer *answer, camac_progress *progress) {
     if (!IS_KNOWN(progress)) return CAMAC_MISUSE;
     if (!is_session(s) || !IS_KNOWN(answer) || !is_known(answer)) return CLEAR(progress), CAMAC_MISUSE;
     CLEAR_SPARE(progress);
     return (int)camac_raw_next(run_of(s), &answer->word, &progress->kind);
+}
+
+int camac_next_many(camac_session *s, const camac_answer *answer, camac_progress *progress, size_t count, size_t *taken) {
+    size_t unasked;
+    taken = told(taken, &unasked);
+    if (count ? !IS_KNOWN(progress) : !is_session(s)) return CAMAC_MISUSE;
+    const uint32_t size = count ? progress->size : 0;
+    int code = CAMAC_OK;
+    for (size_t i = 0; i < count; i++) {
+        if (i) NEXT(progress, size), answer = (const void *)((const char *)answer + answer->size);
+        code = camac_next(s, answer, progress);
+        if (code != CAMAC_OK) break;
+        ++*taken;
+        if (progress->event) break;
+    }
+    return code;
 }
 
 int camac_step(camac_session *s, const camac_answer *answer, camac_progress *progress, camac_want *want) {

@@ -63,6 +63,7 @@ extern "C" {
 #define CAMAC_FILE_BYTES 16777216u
 #define CAMAC_EVENT_WORDS 4096u
 #define CAMAC_CRATES 7u
+#define CAMAC_AHEAD 64u
 #define CAMAC_NO_LIMIT 0xffffffffu /* more steps than any service makes */
 
 enum camac_code {
@@ -209,6 +210,17 @@ CAMAC_CALL camac_wants(const camac_session *s, camac_want *want);
  * tells what the answer did up to the pause. At any other code that is not CAMAC_OK, and at CAMAC_BUSY of a run that paused already, the run stays
  * as it was, and *progress is zeros. */
 CAMAC_CALL camac_next(camac_session *s, const camac_answer *answer, camac_progress *progress);
+
+/* The operations that come next, whatever is answered: a controller that makes lists of commands makes them in one transfer. Writes as many as there
+ * is room for, and answers how many: one at least where the run goes on, and CAMAC_AHEAD at most. 0 where the run is over or the session is none. The
+ * first is that of camac_wants. Until the answer of the last one is taken, no lockout is to be released and no event left. A wait that is not
+ * permitted ends the run before the rest. The size of want[0] counts for all, and is written into the others. */
+size_t camac_ahead(const camac_session *s, camac_want *want, size_t room);
+
+/* camac_next of one answer after the other, up to one that is not taken, whose code it gives, or that leaves an event: its words and its record can
+ * be read then. *taken is how many were taken, and progress[*taken] tells of the one that was not. The size of progress[0] counts for all, and is
+ * written into the others; each answer has its own. */
+CAMAC_CALL camac_next_many(camac_session *s, const camac_answer *answer, camac_progress *progress, size_t count, size_t *taken);
 
 /* camac_next, and where that is CAMAC_OK, camac_wants after it, at one crossing. At any other code *want is zeros. */
 CAMAC_CALL camac_step(camac_session *s, const camac_answer *answer, camac_progress *progress, camac_want *want);

@@ -190,12 +190,31 @@ public:
         return want;
     }
 
+    // The operations that come next, whatever is answered, as many as `room` at most. None where the run is over.
+    [[nodiscard]] std::vector<camac_want> ahead(std::size_t room = CAMAC_AHEAD) const {
+        std::vector<camac_want> wants(std::min<std::size_t>(room, CAMAC_AHEAD), camac_want CAMAC_WANT);
+        wants.resize(camac_ahead(&its, wants.data(), wants.size()));
+        return wants;
+    }
+
     // Takes an answer, and tells what it did. Throws overrun, or fault at any other code, which leaves the run as it was. Where the run pauses after
     // the answer, is_busy tells so; an answer to a run that pauses is fault (CAMAC_BUSY).
     camac_progress next(const camac_answer &answer) {
         camac_progress progress = CAMAC_PROGRESS;
         taken(camac_next(&its, &answer, &progress), progress);
         return progress;
+    }
+
+    // The same of one answer after the other, up to one that leaves an event: what each did that was taken. Throws where the first is not taken; a
+    // later one ends the list.
+    std::vector<camac_progress> next(const std::vector<camac_answer> &answers) {
+        std::vector<camac_progress> did(answers.size(), camac_progress CAMAC_PROGRESS);
+        std::size_t taken = 0;
+        const int code = camac_next_many(&its, answers.data(), did.data(), answers.size(), &taken);
+        if (code == CAMAC_OVERRUN) its_last = did[taken];
+        if (code != CAMAC_OK && !taken) fail(code);
+        did.resize(taken);
+        return did;
     }
 
     // The same, and what the next answer is for, at one crossing.

@@ -272,6 +272,29 @@ class Session:
             raise _fault(code)
         return self._want
 
+    def ahead(self, room: int = native.AHEAD) -> List[Want]:
+        """The operations that come next, whatever is answered, as many as `room` at most: what a controller that makes lists of commands makes in one
+        transfer. The first is that of `wants`. None if the run is over, by an overrun."""
+        room = max(0, min(room, native.AHEAD))
+        wants = (Want * max(room, 1))()
+        wants[0].size = ctypes.sizeof(Want)
+        return list(wants[: self._calls.camac_ahead(self._at, wants, room)])
+
+    def next_many(self, answers: Iterable[Answer]) -> List[Progress]:
+        """`next` of one answer after the other, up to one that leaves an event, ends the run by an overrun or is not taken. Returns what each did, the
+        overrun too. Raises what `next` raises if the first is not taken."""
+        given = list(answers)
+        size, taken = ctypes.sizeof(native.AnswerStruct), c_size_t()
+        its, did = (native.AnswerStruct * len(given))(), (Progress * max(len(given), 1))()
+        did[0].size = ctypes.sizeof(Progress)
+        for i, (x, q, word, wait, gl) in enumerate(given):
+            its[i].size = size
+            native.write_answer(its, i * size + native.BEHIND_SIZE, word, gl, x, q, wait)
+        code = self._calls.camac_next_many(self._at, its, did, len(given), byref(taken))
+        if not taken.value:
+            _check_taken(code)
+        return list(did[: taken.value + (code == OVERRUN)])
+
     def next(self, answer: Answer) -> Progress:
         """Takes an answer, and returns what it did. The next call fills the same object again. Raises OverflowError if the run has used
         4,294,967,295 answers, and UsageFault while it pauses."""

@@ -18,6 +18,8 @@ NO_DATA, READ, WRITE = range(3)
 EVENT_WORDS = 4096
 # More steps than any service makes.
 NO_LIMIT = 4_294_967_295
+# The most operations that are told ahead.
+AHEAD = 64
 
 
 class _Sized(ctypes.Structure):
@@ -106,7 +108,9 @@ _OF_TEXTS: Dict[str, List[Any]] = {
 }
 _OF_SESSIONS: Dict[str, List[Any]] = {
     "wants": [_SESSION, POINTER(Want)],
+    "ahead": [_SESSION, POINTER(Want), c_size_t],
     "next": [_SESSION, POINTER(AnswerStruct), POINTER(Progress)],
+    "next_many": [_SESSION, POINTER(AnswerStruct), POINTER(Progress), c_size_t, POINTER(c_size_t)],
     "step": [_SESSION, POINTER(AnswerStruct), POINTER(Progress), POINTER(Want)],
     "limit_steps": [_SESSION, c_uint32],
     "go_on": [_SESSION, POINTER(Progress)],
@@ -125,7 +129,7 @@ _OF_SESSIONS: Dict[str, List[Any]] = {
 }
 # What is called at each answer. Their arguments are made once, as C has them, and ctypes takes half of the time where it need not look at them.
 _OFTEN = frozenset(("wants", "next", "step", "item", "record"))
-_RESULTS = {"words": c_size_t, "held": c_size_t, "file_header": c_size_t, "answers_left": c_uint32, "services": c_size_t, "close": None}
+_RESULTS = {"ahead": c_size_t, "words": c_size_t, "held": c_size_t, "file_header": c_size_t, "answers_left": c_uint32, "services": c_size_t, "close": None}
 
 
 def find_library() -> str:

@@ -1,4 +1,5 @@
 pub mod Abandoned
+pub mod Ahead
 pub mod Paused
 pub mod Filled
 pub mod Held

@@ -4,6 +4,7 @@ use Rattle.camac_branch.specs.Branch.{Answer as BranchAnswer}
 use Rattle.camac_branch.specs.declared.answer.Overrun.{Overrun}
 use Rattle.camac_checked.specs.Checked.{CheckedScript}
 use Rattle.camac_model.specs.Run.{the_run}
+use Rattle.camac_run.specs.Ahead.{IsAhead}
 use Rattle.camac_run.specs.Holds.{HoldsAfter}
 use Rattle.camac_run.specs.Operation.{Wants}
 use Rattle.camac_run.specs.Requested.{IsSafeRequest, held_in}
@@ -13,6 +14,7 @@ use Rattle.camac_run.specs.declared.progress.Progress.{Progress}
 use Rattle.camac_run.specs.declared.progress.Wanted.{Wanted}
 use Rattle.camac_machine.specs.Rest.{is_paused}
 use Rattle.camac_c.specs.Abandoned.{LeavesUnless}
+use Rattle.camac_c.specs.Ahead.{numbers_ahead}
 use Rattle.camac_c.specs.Filled.{filled, filled_words}
 use Rattle.camac_c.specs.Held.{held_then}
 use Rattle.camac_c.specs.Last.{last_lines, last_record}
@@ -94,6 +96,10 @@ TellsWords words old new told = (new ≡ filled_words words old) × (told ≡ co
 abbrev pub TellsPlace : RunnerState → (old new : List ℕ) → Told → Type 0
 TellsPlace h old new told = (place : Option Place) × IsAt h place × TellsWords (numbers_of_place place) old new told
 
+-- what comes next, whatever is answered
+abbrev pub TellsAhead : RunnerState → (old new : List ℕ) → Told → Type 0
+TellsAhead h old new told = (os : List Wanted) × IsAhead h os × TellsWords (numbers_ahead os) old new told
+
 -- a text, as far as there is room
 abbrev pub Lists : List ℕ → (old new : List ℕ) → Told → Type 0
 Lists text old new told = (new ≡ filled text old) × (told ≡ counted (length text))
@@ -114,6 +120,7 @@ answers_left h = left_from h.overrun h.fed
 -- where bytes are asked for, they are written, and nothing changes
 abbrev pub Steps : Session → Ask → Session → (old new : List ℕ) → Told → Type 0
 Steps s ask.Wants after old new told = (new ≡ old) × TellsWant s after told
+Steps s ask.Ahead after old new told = (after ≡ s) × TellsAhead s.runner old new told
 Steps s (ask.Next a) after old new told = (new ≡ old) × TellsNext a s after told
 Steps s (ask.Step a) after old new told = (new ≡ old) × TellsStep a s after told
 Steps s ask.Words after old new told = (after ≡ s) × TellsWords (last_words_in s.runner) old new told

@@ -10,6 +10,7 @@ ghost use Rattle.camac_c.specs.Talk.{AnswersBytes, AnswersCode, AnswersCount, An
 ghost use Rattle.camac_c.specs.declared.plain.Ask.TheVariants as ask;
 
 mod abandon;
+mod ahead;
 mod filling;
 mod handle;
 mod held;

@@ -56,6 +56,8 @@ pub struct CamacProgress {
 pub enum Ask {
     /// What the next answer is for.
     Wants,
+    /// The operations that come next, whatever is answered.
+    Ahead,
     /// To take an answer.
     Next(CamacAnswer),
     /// To take an answer, and then what the next one is for.

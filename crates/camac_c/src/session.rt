@@ -9,10 +9,11 @@ ghost use Rattle.camac_c.specs.Last.{last_lines, last_record};
 ghost use Rattle.camac_c.specs.Paused.{GoesOnIf, Limits};
 ghost use Rattle.camac_c.specs.Plain.{only_code};
 ghost use Rattle.camac_c.specs.Service.{name_at, numbers_at};
-ghost use Rattle.camac_c.specs.Talk.{Begins, Lists, StartsOn, Steps, TellsNext, TellsIf, TellsPlace, TellsStep, TellsWant, TellsWords, answers_left};
+ghost use Rattle.camac_c.specs.Talk.{Begins, Lists, StartsOn, Steps, TellsAhead, TellsNext, TellsIf, TellsPlace, TellsStep, TellsWant, TellsWords, answers_left};
 ghost use Rattle.camac_c.specs.Told.{InRange, answer_in, counted, crates_in, did, event_in, flag_in, item_in, movement_in, service_in, want_in, while_paused, word_in, written_in};
 
 use crate::abandon::write_crates;
+use crate::ahead::numbers_ahead;
 use crate::filling::give;
 use crate::held::{Held, keep_held, release_held, write_held};
 use crate::last::{Last, give_lines, give_record};
@@ -77,6 +78,7 @@ pub fn step<'a>(
     let mut session = run.into_box();
     let told = match ask {
         Ask::Wants => wants(&session),
+        Ask::Ahead => ahead(&session, bytes),
         Ask::Next(answer) => next(&mut session, answer),
         Ask::Step(answer) => next_and_wants(&mut session, answer),
         Ask::Words => counted(write_words(session.runner.last_words(), bytes)),
@@ -124,7 +126,7 @@ fn wants(session: &Session) -> Told
 }
 
 #[inline(always)]
-fn want_of(wanted: Wanted) -> CamacWant
+pub fn want_of(wanted: Wanted) -> CamacWant
     ensures { result ≡ want_in wanted }
 {
     match wanted {
@@ -225,6 +227,14 @@ fn next_and_wants(session: &mut Session, answer: CamacAnswer) -> Told
     } else {
         told
     }
+}
+
+fn ahead(session: &Session, bytes: &mut [u8]) -> Told
+    ensures { TellsAhead session.now.runner bytes.old bytes.new result }
+{
+    let ahead = session.runner.ahead();
+    let numbers = numbers_ahead(ahead.as_slice());
+    counted(write_numbers(numbers.as_slice(), bytes))
 }
 
 // So many there are.

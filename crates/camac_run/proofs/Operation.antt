@@ -40,7 +40,7 @@ use Rattle.camac_machine.proofs.Taken.{lock_goes, lock_halts}
 use Rattle.camac_machine.proofs.Transfers.{transfer_goes}
 
 -- no wait is always permitted
-some_wait : (l : Bool) (waits w : ℕ) → permitted l waits w ≡ false → 0 < w
+pub some_wait : (l : Bool) (waits w : ℕ) → permitted l waits w ≡ false → 0 < w
 some_wait l waits zero h = absurd (false≢true (sym h))
 some_wait l waits (suc n) h = omega arith
 

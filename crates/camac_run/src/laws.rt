@@ -1,6 +1,7 @@
 // Laws of every checked script: the headline, and what a runner holds and wants.
 
 ghost use Rattle.camac_run.specs.Abandoned.{AbandoningHolds};
+ghost use Rattle.camac_run.specs.Ahead.{AheadIsMade, BeginningsAreAhead};
 ghost use Rattle.camac_run.specs.Holds.{AllIsTold, GoingOnHolds, ResumingHolds, WantsAreWanted};
 ghost use Rattle.camac_run.specs.Headline.{RunsAlways, RunsByHeadline, LeavesFewEvents};
 ghost use Rattle.camac_run.specs.Requested.{RequestsAreSafe};
@@ -40,4 +41,11 @@ pub fn runner_holds_the_rest()
 /// What is left after a service was abandoned is what the run had left at the demand that called it.
 pub fn abandoning_holds()
     ensures { AbandoningHolds }
+{}
+
+/// The run makes the operations that were told ahead, one for each answer, in their order, and no others; it wants each of them before its
+/// answer, and until the last answer no lockout is released and no event left. A caller may ask for fewer: any beginning of them is ahead, too.
+pub fn ahead_is_made()
+    ensures made { AheadIsMade }
+    ensures beginnings { BeginningsAreAhead }
 {}

@@ -9,11 +9,14 @@ ghost use Rattle.camac_model.specs.Behaviour.{stops, short, ends};
 ghost use Rattle.camac_model.specs.Run.{the_run};
 ghost use Rattle.camac_run.specs.Runner.{state_in, rest, last_words_in, event_in, KeepsLimit, NeverPauses, Progresses, Resumes, steps_of, words_of};
 ghost use Rattle.camac_run.specs.Abandoned.{Abandons};
+ghost use Rattle.camac_run.specs.Ahead.{IsAhead};
 ghost use Rattle.camac_run.specs.Holds.{HoldsAfter};
 ghost use Rattle.camac_run.specs.Operation.{IsWaiting, Wants, operation};
 ghost use Rattle.camac_run.specs.Place.{IsPlace};
 ghost use Rattle.camac_run.specs.Requested.{IsSafeRequest, held_in};
+ghost use Rattle.camac_run.specs.Sure.{cycle_of};
 
+use crate::ahead::{Ahead, add_following};
 use crate::leaving::leave_service;
 use crate::place::Place;
 use crate::progress::{Progress, Wanted};
@@ -274,6 +277,26 @@ impl<'a, const V: usize, const DEPTH: usize, const CAP: usize> Runner<'a, V, DEP
         }
     }
 
+    /// The operations that come next, whatever is answered: what the run wants now, and the cycles that surely follow it, `AHEAD` at most. None after
+    /// a wait that was not permitted, and while the run pauses.
+    pub fn ahead(&self) -> Ahead
+        ensures { IsAhead self.now result.items }
+    {
+        let mut ahead = Ahead::new();
+        let Some(first) = self.wants() else {
+            return ahead;
+        };
+        ahead.push(first);
+        let Some(pending) = &self.pending else {
+            return ahead;
+        };
+        if !is_one_cycle(pending) {
+            return ahead;
+        }
+        add_following(&self.machine, pending, &mut ahead);
+        ahead
+    }
+
     /// The law that a run whose waits were all permitted wants an answer, unless it pauses.
     pub fn is_waiting(&self)
         requires first { self.now.overrun ≡ None }
@@ -411,6 +434,19 @@ fn is_pause(pending: &Pending) -> bool
         Pending::Lock { .. } => false,
         Pending::Transfer(_) => false,
         Pending::Pause => true,
+    }
+}
+
+// Whether a single cycle is waited for.
+fn is_one_cycle(pending: &Pending) -> bool
+    ensures { result ≡ is_some (cycle_of (pending_of pending.now)) }
+{
+    match pending {
+        Pending::Cycle(_) => true,
+        Pending::Read { .. } => true,
+        Pending::Lock { .. } => false,
+        Pending::Transfer(_) => false,
+        Pending::Pause => false,
     }
 }
 
