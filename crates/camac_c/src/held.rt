@@ -21,7 +21,10 @@ pub fn keep_held(held: &mut Held, item: &Item, unlocks: &[CrateNo])
             held.push(*c);
         }
     }
-    held.truncate(held.len() - unlocks.len().min(held.len()));
+    // most answers release none
+    if !unlocks.is_empty() {
+        held.truncate(held.len() - unlocks.len().min(held.len()));
+    }
 }
 
 /// Writes the crates, the last first, as many as there is room for, the least byte of each number first. Returns the number of all.
