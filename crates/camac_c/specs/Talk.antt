@@ -23,7 +23,8 @@ use Rattle.camac_c.specs.Place.{IsAt, numbers_of_place}
 use Rattle.camac_c.specs.Plain.{only_code}
 use Rattle.camac_c.specs.Service.{name_at, numbers_at}
 use Rattle.camac_c.specs.Told.{InRange, answer_in, asked, counted, did, while_paused}
-use Rattle.camac_c.specs.declared.last.Last.TheVariants.{Nothing, Answer}
+use Rattle.camac_c.specs.declared.last.Last.{Last}
+use Rattle.camac_c.specs.declared.last.Last.TheVariants.{Nothing, Answer, Pause}
 use Rattle.camac_c.specs.declared.plain.Ask.{Ask}
 use Rattle.camac_c.specs.declared.plain.Ask.TheVariants as ask
 use Rattle.camac_c.specs.declared.plain.CamacAnswer.{CamacAnswer}
@@ -59,6 +60,12 @@ TellsWant s after told =
 -- an answer is not taken, and nothing changes
 abbrev pub Declines : ℕ → Session → Session → Told → Type 0
 Declines code s after told = (after ≡ s) × (told ≡ only_code code)
+
+-- where the last was an answer
+abbrev pub IfAnswer : Last → (Progress → Type 0) → Type 0
+IfAnswer (Answer progress) P = P progress
+IfAnswer Nothing P = Unit {0}
+IfAnswer (Pause unlocks event) P = Unit {0}
 
 -- it is taken, and told and kept is what it did
 pub record Takes (a : CamacAnswer) (s after : Session) (told : Told) : Type 0 where

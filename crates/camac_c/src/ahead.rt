@@ -6,8 +6,8 @@ ghost use Rattle.camac_c.specs.Talk.{AnswersBytes};
 ghost use Rattle.camac_c.specs.declared.plain.Ask.TheVariants as ask;
 
 use crate::handle::Handle;
-use crate::plain::{Ask, CamacWant};
-use crate::session::want_of;
+use crate::plain::{Ask, CamacWant, NO_WANT};
+use crate::session::tell_operation;
 use arrayvec::ArrayVec;
 use camac_run::Wanted;
 use std::alloc::Global;
@@ -35,9 +35,9 @@ pub fn numbers_ahead(ahead: &[Wanted]) -> ArrayVec<u32, { NUMBERS }>
 {
     let mut numbers = ArrayVec::new();
     'ahead: for wanted in ahead {
-        numbers
-            .try_extend_from_slice(&fields_of(want_of(*wanted)))
-            .unwrap();
+        let mut want = NO_WANT;
+        tell_operation(*wanted, &mut want);
+        numbers.try_extend_from_slice(&fields_of(want)).unwrap();
     }
     numbers
 }

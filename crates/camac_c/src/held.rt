@@ -21,7 +21,10 @@ pub fn keep_held(held: &mut Held, item: &Item, unlocks: &[CrateNo])
             held.push(*c);
         }
     }
-    release_held(held, unlocks.len());
+    // most answers release none
+    if !unlocks.is_empty() {
+        release_held(held, unlocks.len());
+    }
 }
 
 /// Leaves so many lockouts, the last first.

@@ -52,6 +52,7 @@ After (makes k) before after = after ≡ before
 After (reads k x bits) before after = (v : ℕ) × (after ≡ set_at x v before)
 After (locks k body) before after = ⊥
 After (transfers course f table x) before after = ⊥
+After pauses before after = ⊥
 
 -- with these answers to come
 abbrev pub on : List Answer → State → State
