@@ -1,19 +1,17 @@
 -- An explanation of what was judged is one of what the text says.
-use Rattle.std.proofs.Common.{◌≡◌, ℕ, List, [], Option, sym, subst}
+use Rattle.std.proofs.Common.{◌≡◌, ℕ, List, Option, sym, subst}
 use Rattle.std.specs.Prelude.{Result, Ok, Err}
 use Rattle.camac_branch.specs.Plan.{Layout}
 use Rattle.camac_engines.specs.Accepted.{Accepted, Accepts, accepted}
 use Rattle.camac_engines.specs.Reading.{WasRead}
 use Rattle.camac_engines.specs.declared.reading.TheConstants.{TEXT_LIMIT}
 use Rattle.camac_plan.specs.declared.fault.PlanRule.{PlanRule}
-use Rattle.camac_lines.specs.Codes.{plan_code}
 use Rattle.camac_lines.specs.declared.refusal.Refusal.TheVariants as refusal
-use Rattle.camac_explain.specs.Advice.{plan_told}
-use Rattle.camac_explain.specs.Explanation.{IsExplanation}
+use Rattle.camac_explain.specs.Explanation.{IsPlanExplanation, explanation_of}
 use Rattle.camac_explain.specs.Finding.{refusal_of}
 use Rattle.camac_explain.specs.declared.finding.Finding.{Finding}
 use Rattle.camac_engines.specs.Engine.{Judges, Shows}
-use Rattle.camac_engines.specs.Explain.{Explained, ExplainedBy, ExplainedIf, ExplainsOn, PlanExplained, ShowsMore}
+use Rattle.camac_engines.specs.Explain.{ExplainedBy, ExplainedIf, ExplainsOn, PlanExplained, ShowsMore}
 use Rattle.camac_engines.specs.Report.{Report, refused_and, report, report_of, report_plan}
 use Rattle.camac_engines.specs.declared.fault.ToolFault.{ToolFault}
 use Rattle.camac_engines.specs.declared.fault.ToolFault.TheVariants as fault
@@ -39,15 +37,15 @@ explained text plan (judged.Refused f) a told o p r same is h =
     (subst (λ (b : Accepted). ShowsMore (ExplainedIf text b) (report_of (judged.Refused f)) o p r) (sym is) h)
 
 -- a refusal with the lines that explain it
-pub refusal_explained : (text more : List ℕ) (f : Finding) (o p : Option (List ℕ)) (r : Result Outcome ToolFault) → Explained text f more
+pub refusal_explained : (text more : List ℕ) (of_text : Option (List ℕ)) (f : Finding) (o p : Option (List ℕ)) (r : Result Outcome ToolFault) → more ≡ explanation_of text f of_text
     → Shows (refused_and (refusal_of f) more) o p r → ShowsMore (ExplainedBy text (judged.Refused f)) (report_of (judged.Refused f)) o p r
-refusal_explained text more f o p (Ok outcome) is h = (h.0, (more, is, h.1))
-refusal_explained text more f o p (Err fault.Write) is h = (more, is, h)
-refusal_explained text more f o p (Err fault.Memory) is h = absurd h
-refusal_explained text more f o p (Err fault.Read) is h = absurd h
-refusal_explained text more f o p (Err fault.TooLong) is h = absurd h
+refusal_explained text more of_text f o p (Ok outcome) is h = (h.0, (more, (of_text, is), h.1))
+refusal_explained text more of_text f o p (Err fault.Write) is h = (more, (of_text, is), h)
+refusal_explained text more of_text f o p (Err fault.Memory) is h = absurd h
+refusal_explained text more of_text f o p (Err fault.Read) is h = absurd h
+refusal_explained text more of_text f o p (Err fault.TooLong) is h = absurd h
 
-pub plan_explained : (more : List ℕ) (rule : PlanRule) (o p : Option (List ℕ)) (r : Result Outcome ToolFault) → IsExplanation [] (plan_told rule) (plan_code rule).0 more
+pub plan_explained : (more : List ℕ) (rule : PlanRule) (o p : Option (List ℕ)) (r : Result Outcome ToolFault) → IsPlanExplanation rule more
     → Shows (refused_and (refusal.Plan rule) more) o p r → ShowsMore (PlanExplained (Err rule)) (report_plan (Err rule)) o p r
 plan_explained more rule o p (Ok outcome) is h = (h.0, (more, is, h.1))
 plan_explained more rule o p (Err fault.Write) is h = (more, is, h)

@@ -1,15 +1,10 @@
 -- What `camac explain` takes from its readers, writes and answers.
-use Rattle.std.specs.Prelude.{◌≡◌, ◌⊎◌, ℕ, ◌+◌, List, [], ◌++◌, Option, Some, Result, Ok, Err}
+use Rattle.std.specs.Prelude.{◌≡◌, ◌⊎◌, ℕ, ◌+◌, List, ◌++◌, Option, Some, Result, Ok, Err}
 use Rattle.std.specs.Io.KnownBytes.{Appends, Keeps}
 use Rattle.camac_word.specs.Writing.{AppendsPrefix}
 use Rattle.camac_branch.specs.Plan.{Layout}
 use Rattle.camac_plan.specs.declared.fault.PlanRule.{PlanRule}
-use Rattle.camac_lines.specs.Codes.{plan_code}
-use Rattle.camac_lines.specs.Refusal.{code_of}
-use Rattle.camac_explain.specs.Advice.{plan_told}
-use Rattle.camac_explain.specs.Explanation.{IsExplanation, told_of}
-use Rattle.camac_explain.specs.Finding.{refusal_of}
-use Rattle.camac_explain.specs.Source.{source_of}
+use Rattle.camac_explain.specs.Explanation.{IsPlanExplanation, explanation_of}
 use Rattle.camac_explain.specs.declared.finding.Finding.{Finding}
 use Rattle.camac_engines.specs.Accepted.{Accepted, accepted}
 use Rattle.camac_engines.specs.Engine.{Tells}
@@ -25,9 +20,9 @@ use Rattle.camac_engines.specs.declared.outcome.Outcome.TheVariants.{Good, Refus
 use Rattle.camac_engines.specs.declared.plan.PlanSource.{PlanSource}
 use Rattle.camac_engines.specs.declared.reading.TheConstants.{TEXT_LIMIT}
 
--- the lines that explain what was found in a script's text
+-- the lines that explain what was found in a script's text, with some sentence or none of a rule of the text itself
 abbrev pub Explained : List ℕ → Finding → List ℕ → Type 0
-Explained text f more = IsExplanation (source_of text f) (told_of f) (code_of (refusal_of f)).0 more
+Explained text f more = (of_text : Option (List ℕ)) × (more ≡ explanation_of text f of_text)
 
 abbrev pub ExplainedIf : List ℕ → Accepted → List ℕ → Type 0
 ExplainedIf text (Some (Err f)) more = Explained text f more
@@ -39,7 +34,7 @@ ExplainedBy text (judged.Accepted c) more = ⊥
 
 -- those that explain a plan's refusal
 abbrev pub PlanExplained : Result Layout PlanRule → List ℕ → Type 0
-PlanExplained (Err rule) more = IsExplanation [] (plan_told rule) (plan_code rule).0 more
+PlanExplained (Err rule) more = IsPlanExplanation rule more
 PlanExplained (Ok plan) more = ⊥
 
 -- the text was written, and after that of a refusal what follows it
