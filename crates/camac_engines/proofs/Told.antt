@@ -1,7 +1,6 @@
 -- What is told of what was read.
 use Rattle.std.proofs.Common.{◌≡◌, ℕ, List, Option, Some, None, sym, ap, subst, ◌∙◌}
 use Rattle.std.specs.Prelude.{Result, Ok, Err}
-use Rattle.std.specs.Io.KnownBytes.{Keeps}
 use Rattle.camac_branch.specs.Plan.{Layout}
 use Rattle.camac_engines.specs.Accepted.{Accepts, accepted}
 use Rattle.camac_engines.specs.Costs.{costs_found, costs_report, costs_report_of, costs_shown}
@@ -22,6 +21,10 @@ written (Some t) o p (Err fault.Write) h = (t.0, t.1, (λ i. Some t), h)
 written told o p (Err fault.Memory) h = absurd h
 written told o p (Err fault.Read) h = absurd h
 written told o p (Err fault.TooLong) h = absurd h
+
+-- a report that is another was written
+pub reported : (told shown : Report) (o p : Option (List ℕ)) (r : Result Outcome ToolFault) → told ≡ shown → Shows shown o p r → IsWritten (Reports told) o p r
+reported told shown o p r is h = subst (λ (q : Report). IsWritten (Reports q) o p r) (sym is) (written shown o p r h)
 
 -- one text as another
 pub written_as : (P Q : Outcome → List ℕ → Type 0) (o p : Option (List ℕ)) (r : Result Outcome ToolFault) → ((outcome : Outcome) (text : List ℕ) → P outcome text → Q outcome text) → IsWritten P o p r → IsWritten Q o p r

@@ -149,11 +149,13 @@ fn list_plan<W: Write>(
 {
     match ask {
         PlanAsk::Commands => write_plan_with_commands(out, plan)?,
-        PlanAsk::Lines | PlanAsk::Explain => write_plan(out, plan)?,
+        PlanAsk::Lines => write_plan(out, plan)?,
+        PlanAsk::Explain => write_plan(out, plan)?,
     }
     Ok(Outcome::Good)
 }
 
+#[tactic(auto, using(crate::proofs::Told::written))]
 fn tell_refusal<W: Write>(
     alloc: Global,
     ask: PlanAsk,
@@ -166,7 +168,8 @@ fn tell_refusal<W: Write>(
 {
     match ask {
         PlanAsk::Explain => explain_refusal(alloc, text, refusal, out),
-        PlanAsk::Lines | PlanAsk::Commands => refuse(out, Refusal::Plan(refusal.rule)),
+        PlanAsk::Lines => refuse(out, Refusal::Plan(refusal.rule)),
+        PlanAsk::Commands => refuse(out, Refusal::Plan(refusal.rule)),
     }
 }
 

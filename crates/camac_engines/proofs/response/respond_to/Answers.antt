@@ -1,8 +1,8 @@
-use Rattle.std.proofs.Common.{◌≡◌, None, subst}
+use Rattle.std.proofs.Common.{subst}
 use Rattle.std.proofs.lemmas.Result.{err_from_is_err_and}
 use Rattle.camac_response.specs.Checked.{AreTold, IsNoService}
 use Rattle.camac_response.specs.Kept.{AreKept}
-use Rattle.camac_engines.specs.Response.{IsResponse, SaysKept}
+use Rattle.camac_engines.specs.Response.{SaysKept}
 use Rattle.camac_engines.proofs.Responses.{response_of}
 use Rattle.camac_engines.proofs.response.respond_to.Goals as goal
 
