@@ -73,7 +73,7 @@ pub fn unread_status<R: Runtime>(rt: &R, fault: ArgumentsFault) -> u8
 fn serve<'a, R: Runtime + AllocGlobal>(rt: &R, failure: &Failure<'a>, job: Job<'a>) -> u8
     ensures { EndsJob job.entry result }
 {
-    finished(rt, failure, done(rt, failure, job))
+    finished(rt, failure, do_job(rt, failure, job))
 }
 
 /// What became of a job.
@@ -86,7 +86,7 @@ pub enum Done<'a> {
     NoCode(&'a str),
 }
 
-fn done<'a, R: Runtime + AllocGlobal>(
+fn do_job<'a, R: Runtime + AllocGlobal>(
     rt: &R,
     failure: &Failure<'a>,
     job: Job<'a>,
