@@ -5,10 +5,9 @@ usage: tests/bounds_test.py [-v] [TEST ..]     from any folder; takes a few seco
 """
 import random
 import re
-import subprocess
 import unittest
 
-from support.program import PROGRAM, TOP
+from support.program import TOP, called
 
 HEADING = re.compile(r"\b(?:proc\s+\w+\s*\([^)]*\)|service\s+\w+)\s+within\s+\d+\s+cycles\s+event\s+\d+\s+words(?:\s+steps\s+\d+)?")
 BLOCK = re.compile(r"^```camac accepted[^\n]*\n(.*?)^```$", re.M | re.S)
@@ -21,8 +20,8 @@ NAMES = ["a", "b", "t", "i0", "i1", "i2", "k"]
 
 def camac(command, plan, script):
     """Returns what a command prints of a script, and its status."""
-    ran = subprocess.run([PROGRAM, command, plan, "@in"], input=script.encode(), stdout=subprocess.PIPE, timeout=60)
-    return ran.stdout.decode(), ran.returncode
+    status, out, _ = called(command, plan, "@in", given=script.encode())
+    return out.decode(), status
 
 
 def with_headings(script, headings):

@@ -4,13 +4,10 @@
 usage: tests/changes_test.py [-v] [TEST ..]     from any folder; takes about a minute
 """
 import concurrent.futures
-import os
 import re
-import subprocess
-import sys
 import unittest
 
-from support.program import PROGRAM
+from support.program import called, run_tests
 from support.rows import FILE_ONE, FILE_TWO, SAMPLE, STRAIGHT_LINE
 
 # A refusal with a whole explanation: the line of a script, a sentence of the case, and the texts of the rule.
@@ -43,8 +40,7 @@ for v = 1 to 2 { put v % 3 * 2 }
 
 def answer(words, text):
     """Status, standard output and standard error of the program on this standard input."""
-    ran = subprocess.run([PROGRAM, *words.split()], input=text, stdout=subprocess.PIPE, stderr=subprocess.PIPE, timeout=60)
-    return ran.returncode, ran.stdout, ran.stderr
+    return called(*words.split(), given=text)
 
 
 def changed(text):
@@ -96,6 +92,4 @@ class Changes(unittest.TestCase):
 
 
 if __name__ == "__main__":
-    if not os.access(PROGRAM, os.X_OK):
-        sys.exit(f"{PROGRAM} is not there: cd crates/camac && rt run makes it, or CAMAC_PROGRAM names another")
-    unittest.main()
+    run_tests()

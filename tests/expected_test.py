@@ -11,11 +11,9 @@ import concurrent.futures
 import os
 import random
 import re
-import subprocess
-import sys
 import unittest
 
-from support.program import PROGRAM, TOP
+from support.program import TOP, called, run_tests
 
 DECLARATIONS = "table cdlam var proc service".split()
 STATEMENTS = "cdreg cfsa cssa cfmad cfubc cfubr put cccz cccc ctci ctcd ctgl ccci cccd cclm cclc ctlm if for while lock call".split()
@@ -68,8 +66,7 @@ service reg within 0 cycles event 0 words { }
 
 
 def call(command, text):
-    ran = subprocess.run([PROGRAM, command, "@sample", "@in"], input=text.encode(), capture_output=True, timeout=60)
-    return ran.stdout.decode()
+    return called(command, "@sample", "@in", given=text.encode())[1].decode()
 
 
 def changed(chance):
@@ -143,6 +140,4 @@ class Expected(unittest.TestCase):
 
 
 if __name__ == "__main__":
-    if not os.access(PROGRAM, os.X_OK):
-        sys.exit(f"{PROGRAM} is not there: cd crates/camac && rt run makes it, or CAMAC_PROGRAM names another")
-    unittest.main()
+    run_tests()

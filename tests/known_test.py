@@ -2,20 +2,12 @@
 """Tests that a place of a script is that of the statement which the parser reads there: `camac explain --at` beside the rows of `camac costs`.
 
 usage: tests/known_test.py [-v] [TEST ..]     from any folder; takes some seconds
-
-The program is crates/camac/out/camac (cd crates/camac && rt run makes it), or what the environment variable CAMAC_PROGRAM names.
 """
-import os
-import pathlib
 import re
-import subprocess
-import sys
 import unittest
 
-TOP = pathlib.Path(__file__).resolve().parent.parent
-PROGRAM = os.path.abspath(os.environ.get("CAMAC_PROGRAM") or TOP / "crates/camac/out/camac")
-sys.path.insert(0, str(TOP / "python"))
-
+from support.live import TOP
+from support.program import called
 from camac.layout import begins
 from camac.tokens import tokens_of
 
@@ -23,8 +15,8 @@ HEADS = ("{", "}", "service", "proc", "cdlam", "var", "table", "else")
 
 
 def call(*words):
-    ran = subprocess.run([PROGRAM, *map(str, words)], capture_output=True, timeout=60, check=False)
-    return ran.returncode, ran.stdout.decode()
+    status, out, _ = called(*words)
+    return status, out.decode()
 
 
 class Places(unittest.TestCase):

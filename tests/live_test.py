@@ -8,9 +8,8 @@ import os
 import signal
 import subprocess
 import sys
-import unittest
 
-from support.live import LOCKOUT, OPENING, PATIENCE, PROGRAM, STRAIGHT_LINE, TOP, Broken, Case, Listed, Pipes, script
+from support.live import LOCKOUT, OPENING, PATIENCE, PROGRAM, STRAIGHT_LINE, TOP, Broken, Case, Listed, Pipes, run_tests, script
 import camac
 from camac import Answer, Ending, RunEnd
 from camac.mock import Adc, Auxiliary, MockBranch, Recorder, Register
@@ -81,8 +80,7 @@ class Rows(Case):
         self.expect_events("run.events", events)
         given = "".join(f"{line}\n" for line in answers).encode()
         for given in (given, given[:-1]):
-            done = subprocess.run([PROGRAM, "drive", "@sample", "script", "at.once"], input=given, capture_output=True, cwd=self.room)
-            self.assertEqual((done.stdout, done.returncode, done.stderr), (wanted, status, b""))
+            self.assertEqual(self.call("drive", "@sample", "script", "at.once", given=given), (status, wanted, b""))
             self.expect_events("at.once", events)
 
     def expect_events(self, name, events):
@@ -118,8 +116,7 @@ class Rows(Case):
         self.talk(text, [DEMAND, DEMAND])
         self.assertEqual(self.talk(text, [DEMAND, DEMAND])[0].splitlines()[1], b"cycle 1 30 11 27 none")
         self.write("answers", f"{DEMAND}\n{DEMAND}\n")
-        words = [PROGRAM, "run", "@sample", "script", "answers", "e"]
-        listed = subprocess.run(words, stdout=subprocess.PIPE, cwd=self.room).stdout.splitlines()
+        listed = self.call("run", "@sample", "script", "answers", "e")[1].splitlines()
         self.assertEqual(listed[1], b"cycle 1 30 11 27 none x1 q1 wait 0")
         text = script(["cdreg r 1 1 6 0", "cfsa 16 r <- 255"])
         self.assertEqual(self.talk(text, [DEMAND])[0].splitlines()[1], b"cycle 1 6 0 16 out 0000ff")
@@ -137,48 +134,41 @@ class Rows(Case):
         self.expect_events("run.events", None)
         self.write("script", refused)
         (self.room / "night").write_bytes(EVENT_FILE)
-        done = subprocess.run([PROGRAM, "drive", "@sample", "script", "night"], input=b"", capture_output=True, cwd=self.room)
-        self.assertEqual((done.returncode, done.stdout, done.stderr), (1, f"{line}\n".encode(), b""))
+        self.assertEqual(self.call("drive", "@sample", "script", "night"), (1, f"{line}\n".encode(), b""))
         self.assertEqual(self.file("night"), EVENT_FILE)
 
     def test_events_that_hold_bytes(self):
         """A live run cannot be made again: no byte is lost, and nothing is asked for. An empty file is taken, and what is no file."""
         self.write("script", STRAIGHT_LINE)
-        words, given = [PROGRAM, "drive", "@sample", "script"], f"{DEMAND}\n{CYCLE}\n".encode()
+        words, given = ["drive", "@sample", "script"], f"{DEMAND}\n{CYCLE}\n".encode()
         for there in (b"\n", EVENT_FILE):
             (self.room / "night").write_bytes(there)
-            done = subprocess.run([*words, "night"], input=given, capture_output=True, cwd=self.room)
-            self.assertEqual((done.returncode, done.stdout, done.stderr), (3, b"", HOLDS_BYTES))
+            self.assertEqual(self.call(*words, "night", given=given), (3, b"", HOLDS_BYTES))
             self.assertEqual(self.file("night"), there)
         (self.room / "night").write_bytes(b"")
-        self.assertEqual(subprocess.run([*words, "night"], input=given, capture_output=True, cwd=self.room).returncode, 0)
+        self.assertEqual(self.call(*words, "night", given=given)[0], 0)
         self.assertEqual(self.file("night"), EVENT_FILE)
         os.mkfifo(self.room / "pipe")
         with subprocess.Popen(["cat", "pipe"], stdout=subprocess.PIPE, cwd=self.room) as reader:
-            self.assertEqual(subprocess.run([*words, "pipe"], input=given, capture_output=True, cwd=self.room).returncode, 0)
+            self.assertEqual(self.call(*words, "pipe", given=given)[0], 0)
             self.assertEqual(reader.communicate(timeout=PATIENCE)[0], EVENT_FILE)
-        self.assertEqual(subprocess.run([*words, "/dev/null"], input=given, capture_output=True, cwd=self.room).returncode, 0)
+        self.assertEqual(self.call(*words, "/dev/null", given=given)[0], 0)
 
     def test_words(self):
         self.write("script", STRAIGHT_LINE)
         for words in (["@in", "script", "e"], ["@sample", "@in", "e"]):
-            done = subprocess.run([PROGRAM, "drive", *words], input=b"", capture_output=True, cwd=self.room)
-            self.assertEqual((done.returncode, done.stdout, done.stderr), (2, b"", b"fault @in twice\n"))
+            self.assertEqual(self.call("drive", *words), (2, b"", b"fault @in twice\n"))
         self.assertEqual(self.talk(STRAIGHT_LINE, [DEMAND, CYCLE], events="@in")[1], 0)
         self.assertEqual(self.file("@in"), EVENT_FILE)
 
     def test_faults(self):
         self.write("script", STRAIGHT_LINE)
-        how = {"stdout": subprocess.PIPE, "stderr": subprocess.PIPE, "cwd": self.room}
-        done = subprocess.run([PROGRAM, "drive", "none.toml", "script", "e"], input=b"", **how)
-        self.assertEqual((done.returncode, done.stdout, done.stderr), (3, b"", b"fault read\n  none.toml: No such file or directory\n"))
-        done = subprocess.run([PROGRAM, "drive", "@sample", "script", "script"], input=b"", **how)
-        self.assertEqual((done.returncode, done.stdout, done.stderr), (3, b"", b"fault write\n  script: it is an input\n"))
+        self.assertEqual(self.call("drive", "none.toml", "script", "e"), (3, b"", b"fault read\n  none.toml: No such file or directory\n"))
+        self.assertEqual(self.call("drive", "@sample", "script", "script"), (3, b"", b"fault write\n  script: it is an input\n"))
         self.assertEqual(self.file("script"), STRAIGHT_LINE.encode())
         folder = os.open(self.room, os.O_RDONLY)
         self.addCleanup(os.close, folder)
-        done = subprocess.run([PROGRAM, "drive", "@sample", "script", "e"], stdin=folder, **how)
-        self.assertEqual((done.returncode, done.stdout, done.stderr), (3, b"demand\n", CLOSED))
+        self.assertEqual(self.call("drive", "@sample", "script", "e", given=None, stdin=folder), (3, b"demand\n", CLOSED))
         self.assertEqual(self.file("e"), HEADER)
 
     def test_streams_that_are_closed_or_full(self):
@@ -235,8 +225,8 @@ class Rows(Case):
     def test_more_answers_than_an_answer_file_may_have(self):
         self.write("script", STRAIGHT_LINE)
         given = f"{WAIT_0}\n".encode() * 1_000_001
-        done = subprocess.run([PROGRAM, "drive", "@sample", "script", "e"], input=given, capture_output=True, cwd=self.room)
-        self.assertEqual((done.stdout == b"demand\n" * 1_000_002 + b"ended events 0\n", done.returncode, done.stderr), (True, 0, b""))
+        status, out, err = self.call("drive", "@sample", "script", "e", given=given)
+        self.assertEqual((out == b"demand\n" * 1_000_002 + b"ended events 0\n", status, err), (True, 0, b""))
 
 
 class Driver(Case):
@@ -473,6 +463,4 @@ class Calls(Case):
 
 
 if __name__ == "__main__":
-    if not os.access(PROGRAM, os.X_OK):
-        sys.exit(f"{PROGRAM} is not there: cd crates/camac && rt run makes it, or CAMAC_PROGRAM names another")
-    unittest.main()
+    run_tests()

@@ -4,13 +4,10 @@ the benches in examples/benches have no others.
 
 usage: tests/modules_test.py [-v] [TEST ..]     from any folder; takes a second
 """
-import os
 import re
-import subprocess
-import sys
 import unittest
 
-from support.program import PROGRAM, TOP
+from support.program import TOP, called, run_tests
 
 FILES = sorted((TOP / "examples/modules").glob("*.toml"))
 PAGE = (TOP / "docs/PLANS.md").read_text()
@@ -51,9 +48,9 @@ def numbers(cell):
 class Modules(unittest.TestCase):
     def lines(self, *words, given=""):
         """What the program lists, where it takes the plan."""
-        ran = subprocess.run([PROGRAM, "plan", *words, "--commands"], input=given.encode(), stdout=subprocess.PIPE, stderr=subprocess.PIPE, timeout=60)
-        self.assertEqual((ran.returncode, ran.stderr), (0, b""), ran.stdout)
-        return ran.stdout.decode().splitlines()
+        status, out, err = called("plan", *words, "--commands", given=given.encode())
+        self.assertEqual((status, err), (0, b""), out)
+        return out.decode().splitlines()
 
     def test_each_file(self):
         self.assertGreaterEqual(len(KINDS), 19)
@@ -103,6 +100,4 @@ class Modules(unittest.TestCase):
 
 
 if __name__ == "__main__":
-    if not os.access(PROGRAM, os.X_OK):
-        sys.exit(f"{PROGRAM} is not there: cd crates/camac && rt run makes it, or CAMAC_PROGRAM names another")
-    unittest.main()
+    run_tests()

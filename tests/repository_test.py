@@ -6,16 +6,14 @@ usage: tests/repository_test.py [-v] [TEST ..]     from any folder; takes a few 
 """
 import collections
 import json
-import pathlib
 import re
 import shutil
 import subprocess
 import sys
-import tempfile
 import unittest
 
 from support import plans
-from support.program import TOP, keywords
+from support.program import TOP, Room, keywords
 from support.rows import ROWS, SAMPLE
 
 SCHEMA = json.loads((TOP / "editors/plan.schema.json").read_text())
@@ -145,12 +143,20 @@ class Crates(unittest.TestCase):
         doors = re.findall(r"(?m)^# (camac\w*):", page("crates.txt"))
         lines = re.findall(r"(?m)^(camac\w*)(?: staticlib)?:(.*)", page("crates.txt"))
         door = {name: max((it for it in doors if f"{name}_".startswith(f"{it}_")), key=len, default="") for name, _ in lines}
+        groups = re.findall(r"(?m)^\| [a-z ]+ \| ((?:`camac\w*`(?:, )?)+) \|$", page("docs/inside/ARCHITECTURE.md"))
+        height = {name: -place for place, names in enumerate(groups) for name in re.findall(r"camac\w*", names)}
+        self.assertEqual({*doors} - {*height}, {"camac_laws"})
         for name, below in lines:
             texts = " ".join(it.read_text() for it in (TOP / "crates" / name).rglob("*") if it.suffix in (".antt", ".rt") and "out" not in it.parts)
             for other in {*below.split()} - {"core", "std_alloc"}:
                 with self.subTest(crate=name, uses=other):
                     self.assertRegex(texts, rf"\b{other}\b")
                     self.assertTrue(other not in door or other in doors or name.startswith(door[other]), "is a room of another door")
+                    self.assertGreaterEqual(height.get(door[name], 0), height.get(door.get(other), -9), "is of a group above")
+
+    def test_no_mutant_is_outside_its_crates_file(self):
+        """It would not be tried."""
+        self.assertEqual([*(TOP / "crates").glob("*/mutants/*")], [])
 
 
 class Lemmas(unittest.TestCase):
@@ -192,15 +198,13 @@ class Citation(unittest.TestCase):
         self.assertEqual((keys["cff-version"], keys["version"], keys["date-released"]), ("1.2.0", version, f'"{date}"'))
 
 
-class Editors(unittest.TestCase):
+class Editors(Room):
     """Without a blank at its begin, each script of the examples is indented as it is there. What camac-check says is a list of places."""
 
     said = "a.script:4:3: refused E12: more cycles than annotated\na.script:5: warning W4: this kept bound is not needed\nb.script: fault: No such file or directory\n"
 
     def setUp(self):
-        room = tempfile.TemporaryDirectory(prefix="camac-editors-")
-        self.addCleanup(room.cleanup)
-        self.room = pathlib.Path(room.name)
+        super().setUp()
         for number, it in enumerate(SCRIPTS):
             (self.room / f"{number}.script").write_text(re.sub(r"(?m)^ +", "", it.read_text()))
         (self.room / "said").write_text(self.said)

@@ -1,11 +1,11 @@
 """`camac-check`: many scripts on one plan, each place as FILE:LINE or FILE:LINE:COLUMN, with warnings about what is accepted."""
-import re
 from typing import TYPE_CHECKING, Callable, Dict, List, NamedTuple, Optional, Sequence, Tuple
 
 from camac.drive import File, ProgramFault, Refused, UsageFault, one_line
+from camac.printed import read_explanation
 from camac.program import lines_of, output_of
-from camac.scripts import Service
 from camac.texts import TextFile
+from camac.values import Service
 from camac.warn import look, looks_for_all
 
 if TYPE_CHECKING:
@@ -16,8 +16,6 @@ FORMATS = ("text", "json", "github", "sarif")
 LEVELS = {"refused": "error", "fault": "error", "warning": "warning", "written": "notice", "proposed": "notice", "remaining": "error"}
 # The characters that GitHub wants escaped in a message, and in a property.
 MESSAGE, PROPERTY = "%\r\n", "%\r\n:,"
-# The sign for the part of a line that is left out.
-CUT = ".."
 
 
 class Found(NamedTuple):
@@ -138,10 +136,10 @@ def _faults(call: Callable[[], List[Found]], files: List[TextFile], program: Opt
     try:
         return call()
     except Refused as refusal:
-        first, *explanation = lines_of("explain", "--", *files, program=program)
-        # The headings as they are may be refused before what no heading mends.
-        told = explanation if first == str(refusal) else []
-        return [Found("refused", refusal.line, refusal.code, str(refusal).partition(": ")[2], tuple(told), _column(told))]
+        its = read_explanation("\n".join(lines_of("explain", "--", *files, program=program)))
+        # The headings as they are may be refused before what no heading fixes.
+        lines, column = (its.lines, its.column) if its and its.refusal == (refusal.code, refusal.line, refusal.rule) else ((), None)
+        return [Found("refused", refusal.line, refusal.code, refusal.rule, lines, column)]
     except UsageFault:
         raise
     except ProgramFault as fault:
@@ -152,15 +150,7 @@ def _faults(call: Callable[[], List[Found]], files: List[TextFile], program: Opt
         return [Found("fault", None, None, str(fault.strerror or fault))]
 
 
-def _column(explanation: Sequence[str]) -> Optional[int]:
-    """Where the mark of an explanation is in its line. Of a line that is shown in part it is not known."""
-    if len(explanation) < 2 or not re.fullmatch(r" +\| \s*\^", explanation[1]):
-        return None
-    shown, mark = explanation[0].partition(" | ")[2], explanation[1].partition(" | ")[2]
-    return None if shown.startswith(CUT) else len(mark)
-
-
-def told(judged: Sequence[Judged], form: str) -> str:
+def text_of(judged: Sequence[Judged], form: str) -> str:
     """The output on all files, in one of `FORMATS`."""
     if form == "json":
         import json

@@ -4,9 +4,9 @@ import html.parser
 import os
 import random
 import re
-import subprocess
 
 from support.live import PROGRAM, Case
+from support.program import called
 import camac
 from camac.mock import Adc, Auxiliary, MockBranch, Recorder, Register, Reply, Scaler
 from camac.runs import Inputs
@@ -166,7 +166,7 @@ def largest_script():
 
 def call(*words):
     """What the program prints."""
-    return subprocess.run([PROGRAM, *map(str, words)], stdout=subprocess.PIPE, stderr=subprocess.PIPE, timeout=120).stdout.decode()
+    return called(*words, timeout=120)[1].decode()
 
 
 class Service:

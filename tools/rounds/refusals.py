@@ -7,7 +7,6 @@ import hashlib
 import os
 import shutil
 import subprocess
-import tempfile
 from pathlib import Path
 
 from rounds.repository import doc
@@ -23,7 +22,7 @@ class Refusals:
     def sums(self, crate, bodies):
         """Returns for each body the sum of all that decides its verdict."""
         shared = [toolchain(), crate.sum()]
-        return {it: hashlib.sha256(repr([*shared, it.label, Path(it.file).read_bytes()]).encode()).hexdigest() for it in bodies}
+        return {it: hashlib.sha256(repr([*shared, it.label, it.edit]).encode()).hexdigest() for it in bodies}
 
     def why(self, total):
         """Returns why the body with this sum was refused, or None if no whole file says so."""
@@ -33,12 +32,10 @@ class Refusals:
         return None
 
     def keep(self, total, why):
-        """Writes the file whole, or not at all."""
+        """A file that is not written to its end is none."""
         first = why.partition("\n")[0]
-        with contextlib.suppress(OSError), tempfile.NamedTemporaryFile("w", dir=self.folder, encoding="utf-8", delete=False) as it:
-            it.write(f"{first}\n{total}\n")
-            it.flush()
-            os.replace(it.name, f"{self.folder}/{total}")
+        with contextlib.suppress(OSError):
+            Path(f"{self.folder}/{total}").write_text(f"{first}\n{total}\n", "utf-8")
 
 
 @functools.lru_cache(None)
