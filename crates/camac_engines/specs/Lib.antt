@@ -12,3 +12,4 @@ pub mod Spot
 pub mod Known
 pub mod Costs
 pub mod Response
+pub mod Ask
