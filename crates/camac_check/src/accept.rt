@@ -70,8 +70,8 @@ fn accept_items(
     }
 }
 
-// What may be referred to after so many procedures.
-fn before<'a>(whole: &Context<'a>, done: usize) -> Context<'a>
+/// What may be referred to after so many procedures.
+pub fn before<'a>(whole: &Context<'a>, done: usize) -> Context<'a>
     requires { done ≤ length whole.now.procedures.now }
     ensures { by_rules result ≡ rules_before whole.now done }
 {
@@ -83,8 +83,8 @@ fn before<'a>(whole: &Context<'a>, done: usize) -> Context<'a>
     }
 }
 
-// What a procedure can cost.
-fn accept_procedure(
+/// What a procedure can cost.
+pub fn accept_procedure(
     alloc: Global,
     context: &Context,
     procedure: &Procedure,
@@ -141,8 +141,12 @@ fn procedure_in_64_bits(
     within(body, most, found.costs, procedure.line)
 }
 
-// What a service can cost.
-fn accept_service(alloc: Global, context: &Context, service: &Service) -> Result<Bounds, CheckFault>
+/// What a service can cost.
+pub fn accept_service(
+    alloc: Global,
+    context: &Context,
+    service: &Service,
+) -> Result<Bounds, CheckFault>
     ensures { Gives (λ b. b) result (accept_service (by_rules context.now) (service_of service.now)) }
 {
     accept_in_64_bits(alloc, context, service, service.cycles, service.words)

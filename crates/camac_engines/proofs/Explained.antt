@@ -29,23 +29,23 @@ same_accepted c F G o p (Err fault.Memory) h = h
 same_accepted c F G o p (Err fault.Read) h = absurd h
 same_accepted c F G o p (Err fault.TooLong) h = absurd h
 
-pub explained : (text : List ℕ) (plan : Layout) (j : Judged) (a : Accepted) (told : Report) (o p : Option (List ℕ)) (r : Result Outcome ToolFault)
-    → Judges (Ok j) told → Accepts (Ok j) plan a → ShowsMore (ExplainedBy text j) (report_of j) o p r → ShowsMore (ExplainedIf text a) told o p r
-explained text plan (judged.Accepted c) a told o p r same is h =
-    subst (λ (q : Report). ShowsMore (ExplainedIf text a) q o p r) (sym same)
-    (same_accepted c (ExplainedBy text (judged.Accepted c)) (ExplainedIf text a) o p r h)
-explained text plan (judged.Refused f) a told o p r same is h =
-    subst (λ (q : Report). ShowsMore (ExplainedIf text a) q o p r) (sym same)
-    (subst (λ (b : Accepted). ShowsMore (ExplainedIf text b) (report_of (judged.Refused f)) o p r) (sym is) h)
+pub explained : (plan : Layout) (text : List ℕ) (j : Judged) (a : Accepted) (told : Report) (o p : Option (List ℕ)) (r : Result Outcome ToolFault)
+    → Judges (Ok j) told → Accepts (Ok j) plan a → ShowsMore (ExplainedBy plan text j) (report_of j) o p r → ShowsMore (ExplainedIf plan text a) told o p r
+explained plan text (judged.Accepted c) a told o p r same is h =
+    subst (λ (q : Report). ShowsMore (ExplainedIf plan text a) q o p r) (sym same)
+    (same_accepted c (ExplainedBy plan text (judged.Accepted c)) (ExplainedIf plan text a) o p r h)
+explained plan text (judged.Refused f) a told o p r same is h =
+    subst (λ (q : Report). ShowsMore (ExplainedIf plan text a) q o p r) (sym same)
+    (subst (λ (b : Accepted). ShowsMore (ExplainedIf plan text b) (report_of (judged.Refused f)) o p r) (sym is) h)
 
 -- a refusal with the lines that explain it
-pub refusal_explained : (text more : List ℕ) (f : Finding) (o p : Option (List ℕ)) (r : Result Outcome ToolFault) → Explained text f more
-    → Shows (refused_and (refusal_of f) more) o p r → ShowsMore (ExplainedBy text (judged.Refused f)) (report_of (judged.Refused f)) o p r
-refusal_explained text more f o p (Ok outcome) is h = (h.0, (more, is, h.1))
-refusal_explained text more f o p (Err fault.Write) is h = (more, is, h)
-refusal_explained text more f o p (Err fault.Memory) is h = absurd h
-refusal_explained text more f o p (Err fault.Read) is h = absurd h
-refusal_explained text more f o p (Err fault.TooLong) is h = absurd h
+pub refusal_explained : (plan : Layout) (text more : List ℕ) (f : Finding) (o p : Option (List ℕ)) (r : Result Outcome ToolFault) → Explained plan text f more
+    → Shows (refused_and (refusal_of f) more) o p r → ShowsMore (ExplainedBy plan text (judged.Refused f)) (report_of (judged.Refused f)) o p r
+refusal_explained plan text more f o p (Ok outcome) is h = (h.0, (more, is, h.1))
+refusal_explained plan text more f o p (Err fault.Write) is h = (more, is, h)
+refusal_explained plan text more f o p (Err fault.Memory) is h = absurd h
+refusal_explained plan text more f o p (Err fault.Read) is h = absurd h
+refusal_explained plan text more f o p (Err fault.TooLong) is h = absurd h
 
 pub plan_explained : (more : List ℕ) (rule : PlanRule) (o p : Option (List ℕ)) (r : Result Outcome ToolFault) → IsExplanation [] (plan_told rule) (plan_code rule).0 more
     → Shows (refused_and (refusal.Plan rule) more) o p r → ShowsMore (PlanExplained (Err rule)) (report_plan (Err rule)) o p r
@@ -57,9 +57,9 @@ plan_explained more rule o p (Err fault.TooLong) is h = absurd h
 
 -- what was read of a script and judged is explained
 pub explained_on : (plan : Layout) (a b o p : Option (List ℕ)) (text : List ℕ) (j : Judged) (r : Result Outcome ToolFault) → WasRead TEXT_LIMIT a b text
-    → Judges (Ok j) (report plan text) → Accepts (Ok j) plan (accepted plan text) → ShowsMore (ExplainedBy text j) (report_of j) o p r → ExplainsOn plan a b o p r
-explained_on plan a b o p text j (Ok outcome) read same is h = (text, read, explained text plan j (accepted plan text) (report plan text) o p (Ok outcome) same is h)
-explained_on plan a b o p text j (Err fault.Write) read same is h = (text, read, explained text plan j (accepted plan text) (report plan text) o p (Err fault.Write) same is h)
-explained_on plan a b o p text j (Err fault.Memory) read same is h = explained text plan j (accepted plan text) (report plan text) o p (Err fault.Memory) same is h
-explained_on plan a b o p text j (Err fault.Read) read same is h = absurd (explained text plan j (accepted plan text) (report plan text) o p (Err fault.Read) same is h)
-explained_on plan a b o p text j (Err fault.TooLong) read same is h = absurd (explained text plan j (accepted plan text) (report plan text) o p (Err fault.TooLong) same is h)
+    → Judges (Ok j) (report plan text) → Accepts (Ok j) plan (accepted plan text) → ShowsMore (ExplainedBy plan text j) (report_of j) o p r → ExplainsOn plan a b o p r
+explained_on plan a b o p text j (Ok outcome) read same is h = (text, read, explained plan text j (accepted plan text) (report plan text) o p (Ok outcome) same is h)
+explained_on plan a b o p text j (Err fault.Write) read same is h = (text, read, explained plan text j (accepted plan text) (report plan text) o p (Err fault.Write) same is h)
+explained_on plan a b o p text j (Err fault.Memory) read same is h = explained plan text j (accepted plan text) (report plan text) o p (Err fault.Memory) same is h
+explained_on plan a b o p text j (Err fault.Read) read same is h = absurd (explained plan text j (accepted plan text) (report plan text) o p (Err fault.Read) same is h)
+explained_on plan a b o p text j (Err fault.TooLong) read same is h = absurd (explained plan text j (accepted plan text) (report plan text) o p (Err fault.TooLong) same is h)

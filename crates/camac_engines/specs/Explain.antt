@@ -15,6 +15,7 @@ use Rattle.camac_engines.specs.Accepted.{Accepted, accepted}
 use Rattle.camac_engines.specs.Engine.{Tells}
 use Rattle.camac_engines.specs.Plan.{Says, IsPlanTooLong}
 use Rattle.camac_engines.specs.Reading.{ConsumesSome, WasRead}
+use Rattle.camac_engines.specs.Refusals.{all_refusals, also_text}
 use Rattle.camac_engines.specs.Report.{Report, report, report_plan}
 use Rattle.camac_engines.specs.declared.fault.ToolFault.{ToolFault}
 use Rattle.camac_engines.specs.declared.fault.ToolFault.TheVariants as fault
@@ -25,17 +26,18 @@ use Rattle.camac_engines.specs.declared.outcome.Outcome.TheVariants.{Good, Refus
 use Rattle.camac_engines.specs.declared.plan.PlanSource.{PlanSource}
 use Rattle.camac_engines.specs.declared.reading.TheConstants.{TEXT_LIMIT}
 
--- the lines that explain what was found in a script's text
-abbrev pub Explained : List ℕ → Finding → List ℕ → Type 0
-Explained text f more = IsExplanation (source_of text f) (told_of f) (code_of (refusal_of f)).0 more
+-- the lines that explain what was found in a script's text, and one for each further refusal
+abbrev pub Explained : Layout → List ℕ → Finding → List ℕ → Type 0
+Explained plan text f more =
+    (lines : List ℕ) × IsExplanation (source_of text f) (told_of f) (code_of (refusal_of f)).0 lines × (more ≡ lines ++ also_text (all_refusals plan text))
 
-abbrev pub ExplainedIf : List ℕ → Accepted → List ℕ → Type 0
-ExplainedIf text (Some (Err f)) more = Explained text f more
-ExplainedIf text _ more = ⊥
+abbrev pub ExplainedIf : Layout → List ℕ → Accepted → List ℕ → Type 0
+ExplainedIf plan text (Some (Err f)) more = Explained plan text f more
+ExplainedIf plan text _ more = ⊥
 
-abbrev pub ExplainedBy : List ℕ → Judged → List ℕ → Type 0
-ExplainedBy text (judged.Refused f) more = Explained text f more
-ExplainedBy text (judged.Accepted c) more = ⊥
+abbrev pub ExplainedBy : Layout → List ℕ → Judged → List ℕ → Type 0
+ExplainedBy plan text (judged.Refused f) more = Explained plan text f more
+ExplainedBy plan text (judged.Accepted c) more = ⊥
 
 -- those that explain a plan's refusal
 abbrev pub PlanExplained : Result Layout PlanRule → List ℕ → Type 0
@@ -62,8 +64,8 @@ ShowsMore Follows r o p (Err _) = ⊥
 
 -- What was read of a script for a plan, and written: the report on the text, and nothing after a fault before it.
 abbrev pub ExplainsOn : Layout → (a b : Option (List ℕ)) → (o p : Option (List ℕ)) → Result Outcome ToolFault → Type 0
-ExplainsOn plan a b o p (Ok outcome) = (text : List ℕ) × WasRead TEXT_LIMIT a b text × ShowsMore (ExplainedIf text (accepted plan text)) (report plan text) o p (Ok outcome)
-ExplainsOn plan a b o p (Err fault.Write) = (text : List ℕ) × WasRead TEXT_LIMIT a b text × ShowsMore (ExplainedIf text (accepted plan text)) (report plan text) o p (Err fault.Write)
+ExplainsOn plan a b o p (Ok outcome) = (text : List ℕ) × WasRead TEXT_LIMIT a b text × ShowsMore (ExplainedIf plan text (accepted plan text)) (report plan text) o p (Ok outcome)
+ExplainsOn plan a b o p (Err fault.Write) = (text : List ℕ) × WasRead TEXT_LIMIT a b text × ShowsMore (ExplainedIf plan text (accepted plan text)) (report plan text) o p (Err fault.Write)
 ExplainsOn plan a b o p (Err fault.Read) = Keeps o p
 ExplainsOn plan a b o p (Err fault.Memory) = Keeps o p
 ExplainsOn plan a b o p (Err fault.TooLong) = ConsumesSome a b (TEXT_LIMIT + 1) × Keeps o p

@@ -15,6 +15,7 @@ use crate::judging::{Judged, judge};
 use crate::outcome::Outcome;
 use crate::plan::{PlanRead, PlanRefusal, PlanSource, read_plan_text};
 use crate::reading::{TEXT_LIMIT, read_whole};
+use crate::refusals::push_also;
 use camac_branch::Plan;
 use camac_explain::{Finding, explain_plan, explain_script};
 use camac_explain_text::text_sentence;
@@ -24,7 +25,8 @@ use std::alloc::{AllocError, Global};
 use std::io::{Read, Write};
 
 /// Checks a script against a plan, and explains a refusal: what `engine_check` writes is written to `out`, and after the line of a refusal
-/// the lines of its explanation. Nothing is written before a fault but one of the writer, which leaves a prefix of the text.
+/// the lines of its explanation, and a line for each further refusal: of linking, or else of the checker, which judges each procedure and service by
+/// itself. Nothing is written before a fault but one of the writer, which leaves a prefix of the text.
 pub fn engine_explain<P: Read, S: Read, W: Write>(
     alloc: Global,
     plan: &mut PlanSource<P>,
@@ -91,17 +93,18 @@ fn explain_on<S: Read, W: Write>(
 {
     let text = read_whole(alloc, script, TEXT_LIMIT)?;
     let judged = judge(alloc, plan, &text)?;
-    explain_judged(alloc, &text, &judged, out)
+    explain_judged(alloc, plan, &text, &judged, out)
 }
 
 #[tactic(auto, using(crate::proofs::Explained::refusal_explained))]
 fn explain_judged<W: Write>(
     alloc: Global,
+    plan: &Plan,
     text: &[u8],
     judged: &Judged,
     out: &mut Watched<W>,
 ) -> Result<Outcome, ToolFault>
-    ensures shows { ShowsMore (ExplainedBy text.now judged.now) (report_of judged.now) (W.contents (inner_of out.old)) (W.contents (inner_of out.new)) result }
+    ensures shows { ShowsMore (ExplainedBy plan.now text.now judged.now) (report_of judged.now) (W.contents (inner_of out.old)) (W.contents (inner_of out.new)) result }
     ensures failed { has_failed out.new ≡ (has_failed out.old || is_write_fault result) }
 {
     match judged {
@@ -111,7 +114,8 @@ fn explain_judged<W: Write>(
         }
         Judged::Refused(finding) => {
             let sentence = sentence_of_text(alloc, text, *finding)?;
-            let more = explain_script(alloc, text, *finding, sentence)?;
+            let mut more = explain_script(alloc, text, *finding, sentence)?;
+            push_also(alloc, &mut more, text, plan)?;
             refuse_and(out, finding.refusal(), &more)
         }
     }
