@@ -16,6 +16,8 @@ FORMATS = ("text", "json", "github", "sarif")
 LEVELS = {"refused": "error", "fault": "error", "warning": "warning", "written": "notice", "proposed": "notice", "remaining": "error"}
 # The characters that GitHub wants escaped in a message, and in a property.
 MESSAGE, PROPERTY = "%\r\n", "%\r\n:,"
+# A refusal after the first.
+ALSO = re.compile(r"also refused (\w+) line (\d+): (.*)")
 # The sign for the part of a line that is left out.
 CUT = ".."
 
@@ -138,10 +140,15 @@ def _faults(call: Callable[[], List[Found]], files: List[TextFile], program: Opt
     try:
         return call()
     except Refused as refusal:
-        first, *explanation = lines_of("explain", "--", *files, program=program)
+        first, *lines = lines_of("explain", "--", *files, program=program)
         # The headings as they are may be refused before what no heading mends.
-        told = explanation if first == str(refusal) else []
-        return [Found("refused", refusal.line, refusal.code, str(refusal).partition(": ")[2], tuple(told), _column(told))]
+        its = lines if first == str(refusal) else []
+        told = [it for it in its if not ALSO.match(it)]
+        further = (found for found in map(ALSO.match, its) if found)
+        return [
+            Found("refused", refusal.line, refusal.code, str(refusal).partition(": ")[2], tuple(told), _column(told)),
+            *(Found("refused", int(it[2]), it[1], it[3]) for it in further),
+        ]
     except UsageFault:
         raise
     except ProgramFault as fault:

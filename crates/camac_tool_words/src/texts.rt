@@ -99,8 +99,9 @@ Examples:
 pub const AFTER_EXPLAIN: &str =
     "Prints what check prints; without a script what plan prints. After a refusal it
 goes on with the line of the script or the place in the plan, what is wrong
-there, why the rule is there, and how to fix it. Status as check. At most one of
-the two can be @in.
+there, why the rule is there, and how to fix it. Then it prints a line 'also
+refused' for each further fault of linking, or else for each further procedure and
+service that is refused. Status as check. At most one of the two can be @in.
 
 Given the code of a refusal, it prints why the rule is there, each way to fix it,
 and an example. It reads no file. A lone word of a capital letter and digits is a

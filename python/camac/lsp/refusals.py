@@ -58,7 +58,7 @@ def _refusals(judged: Judged) -> Iterator[Refusal]:
 
 def _explanation(told: str) -> Tuple[str, Tuple[str, ...]]:
     """What is said of a case, and the lines that follow, behind the line of the script and the mark below it."""
-    its = [it for it in told.split("\n")[2:] if it and not MARK.fullmatch(it)]
+    its = [it for it in told.split("\n")[2:] if it and not MARK.fullmatch(it) and not it.startswith("also ")]
     has_sentence = bool(its) and not its[0].startswith("Why: ")
     return (its[0], tuple(its[1:])) if has_sentence else ("", tuple(its))
 
