@@ -7,4 +7,4 @@ pub mod Heading
 pub mod Relinked
 pub mod Found
 pub mod Rows
-mod Refusals
+mod FirstRefusal

@@ -1,5 +1,5 @@
 -- All that is refused of a linked script: the first broken rule of each procedure and service.
-use Rattle.std.specs.Prelude.{◌≡◌, List, [], ◌∷◌, ◌++◌, Option, Some, Result, Ok, Err, slice_get}
+use Rattle.std.specs.Prelude.{◌≡◌, List, [], ◌∷◌, Result, Ok, Err, slice_get}
 use Rattle.std.specs.Result.{result_err}
 use Rattle.camac_lang.specs.Tree.{Script}
 use Rattle.camac_branch.specs.Plan.{Layout}

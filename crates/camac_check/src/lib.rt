@@ -7,7 +7,7 @@ mod headings;
 mod judge;
 pub mod laws;
 mod procedure;
-mod refusals;
+mod refused;
 mod statement;
 
 pub use camac_check_known::CheckFault;
@@ -18,5 +18,5 @@ pub use fault::LeastFault;
 pub use headings::least;
 pub use judge::check;
 pub use procedure::at_entry;
-pub use refusals::refusals;
+pub use refused::refusals;
 pub use statement::{accept_block, accept_next};

@@ -20,8 +20,8 @@ use Rattle.camac_engines.specs.declared.outcome.Outcome.TheVariants.{Good}
 -- of the script with its least headings
 abbrev pub headings_found : Result Script LeastFault → Report
 headings_found (Ok script) = Some (Good, headings_text script)
-headings_found (Err (least_fault.Link rule line)) = refused (refusal.Link rule line)
-headings_found (Err (least_fault.Check rule line)) = refused (refusal.Check rule line)
+headings_found (Err (least_fault.Link rule line case)) = refused (refusal.Link rule line)
+headings_found (Err (least_fault.Check rule line case)) = refused (refusal.Check rule line)
 headings_found (Err least_fault.OutOfMemory) = None
 
 -- of what reading the text gives

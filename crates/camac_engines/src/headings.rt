@@ -98,8 +98,11 @@ fn find_headings(alloc: Global, plan: &Plan, script: Script) -> Result<Headings,
     match least(alloc, script, plan) {
         Ok(checked) => Ok(Headings::Least(checked)),
         Err(LeastFault::OutOfMemory) => Err(ToolFault::Memory),
-        Err(LeastFault::Link { rule, line }) => Ok(Headings::Refused(Refusal::Link { rule, line })),
-        Err(LeastFault::Check { rule, line }) => {
+        Err(LeastFault::Link { rule, line, .. }) => Ok(Headings::Refused(Refusal::Link {
+            rule,
+            line,
+        })),
+        Err(LeastFault::Check { rule, line, .. }) => {
             Ok(Headings::Refused(Refusal::Check { rule, line }))
         }
     }

@@ -46,7 +46,7 @@ fn all_refusals(alloc: Global, text: &[u8], plan: &Plan) -> Result<Vec<Refusal>,
         Err(TextFault::OutOfMemory) => Err(AllocError),
         Err(TextFault::Broken { case, line, .. }) => {
             let rule = case.rule();
-            vec![in alloc; Refusal::Text { rule, line }]
+            Ok(vec![in alloc; Refusal::Text { rule, line }]?)
         }
     }
 }

@@ -1,4 +1,4 @@
-use Rattle.camac_check.proofs.Refusals.{first_is_refusal}
+use Rattle.camac_check.proofs.FirstRefusal.{first_is_refusal}
 use Rattle.camac_check.proofs.laws.first_is_refusal.Goals as goal
 
 pub returns : goal.returns
