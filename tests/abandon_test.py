@@ -9,10 +9,9 @@ makes it), or what the environment variable CAMAC_PROGRAM names.
 """
 import os
 import sys
-import unittest
 
 from support import of_c
-from support.live import PROGRAM, STRAIGHT_LINE, TOP, Case
+from support.live import PROGRAM, STRAIGHT_LINE, TOP, Case, run_tests
 from camac import Answer, UsageFault, library
 
 SAMPLE = (TOP / "examples/sample_plan.toml").read_bytes()
@@ -108,9 +107,7 @@ class Abandoned(Case):
 
 
 if __name__ == "__main__":
-    if not os.access(PROGRAM, os.X_OK):
-        sys.exit(f"{PROGRAM} is not there: cd crates/camac && rt run makes it, or CAMAC_PROGRAM names another")
     if of_c.lacking():
         print(f"left out: {of_c.lacking()}")
         sys.exit()
-    unittest.main()
+    run_tests()

@@ -14,7 +14,7 @@ from support.live import Case
 from camac import arrays
 from camac.events import NEW_FILE, Event, EventFileFault, record
 from camac.runs import Asked, _read_event_file
-from camac.scripts import Service
+from camac.values import Service
 from camac.words import Column, Field, Words
 
 SERVICES = [Service("adc", 3, 20, 20, 6, 6, 9), Service("reg", 5, 9, 9, 2, 2, 3)]

@@ -4,13 +4,11 @@
 usage: tests/changes_test.py [-v] [TEST ..]     from any folder; takes about a minute
 """
 import concurrent.futures
-import os
 import re
 import subprocess
-import sys
 import unittest
 
-from support.program import PROGRAM
+from support.program import PROGRAM, run_tests
 from support.rows import FILE_ONE, FILE_TWO, SAMPLE, STRAIGHT_LINE
 
 # A refusal with a whole explanation: the line of a script, a sentence of the case, and the texts of the rule.
@@ -96,6 +94,4 @@ class Changes(unittest.TestCase):
 
 
 if __name__ == "__main__":
-    if not os.access(PROGRAM, os.X_OK):
-        sys.exit(f"{PROGRAM} is not there: cd crates/camac && rt run makes it, or CAMAC_PROGRAM names another")
-    unittest.main()
+    run_tests()

@@ -10,7 +10,7 @@ import signal
 import unittest
 from unittest import mock
 
-from support.live import PATIENCE, TOP, Broken, Case, Listed
+from support.live import PATIENCE, TOP, Broken, Case, Interrupted, Listed
 import camac
 from camac import Answer, Ending, RunEnd
 from camac.mock import Adc, Auxiliary, Memory, MockBranch, Module, Register, Reply, Scaler
@@ -225,18 +225,10 @@ class Client(Case):
 
     def test_an_interrupt_inside_an_unlock_of_the_script(self):
         """It may not have been released, so it is released again."""
-        branch = Listed(*[Answer(gl=4)] * 4)
-        asked = []
-
-        def unlock(crate):
-            asked.append(crate)
-            if len(asked) == 1:
-                raise KeyboardInterrupt
-
-        branch.unlock = unlock
+        branch = Interrupted(*[Answer(gl=4)] * 4)
         with self.assertRaises(KeyboardInterrupt):
             self.drive(branch, "demand", "lock 1", "lock 2", "unlock 2", "demand", at_end="ended events 1")
-        self.assertEqual(asked, [2, 2, 1])
+        self.assertEqual([it[1] for it in branch.asked if it[0] == "unlock"], [2, 2, 1])
 
     def test_an_interrupt_inside_a_lock(self):
         """It may have been taken, so it is released."""

@@ -8,24 +8,14 @@ The text has each line after '$ camac', then what the program writes to standard
 where a line has '@in' for a script, and else empty.
 """
 import os
-import pathlib
 import re
 import shutil
-import subprocess
-import tempfile
 import unittest
 
-from support.program import PROGRAM, TOP
+from support.live import STRAIGHT_LINE
+from support.program import TOP, Room
 
 EXAMPLES = [*(TOP / "examples").glob("*.toml"), TOP / "examples/three_modules.script", TOP / "examples/three_modules.answers"]
-STRAIGHT_LINE = """cdlam adc 1 1 5 12
-var v
-service adc within 3 cycles event 1 words {
-  cdreg r 1 1 5 0
-  cfsa 0 r -> v
-  put v
-}
-"""
 FILES = {
     "straight.script": STRAIGHT_LINE,
     # with a cycle less than it can take
@@ -42,11 +32,9 @@ FILES = {
 }
 
 
-class CommandLines(unittest.TestCase):
+class CommandLines(Room):
     def setUp(self):
-        room = tempfile.TemporaryDirectory(prefix="camac-test-")
-        self.addCleanup(room.cleanup)
-        self.room = pathlib.Path(room.name)
+        super().setUp()
         for path in EXAMPLES:
             shutil.copy(path, self.room)
         for name, text in FILES.items():
@@ -55,8 +43,8 @@ class CommandLines(unittest.TestCase):
 
     def played(self, line):
         given = STRAIGHT_LINE if line.split().count("@in") == 1 else ""
-        ran = subprocess.run([PROGRAM, *line.split()], input=given, stdout=subprocess.PIPE, stderr=subprocess.DEVNULL, cwd=self.room, text=True, timeout=60)
-        return f"$ camac {line}\n{ran.stdout}status {ran.returncode}\n"
+        status, out, _ = self.call(*line.split(), given=given, text=True)
+        return f"$ camac {line}\n{out}status {status}\n"
 
     def test_each(self):
         text = (TOP / "tests/command_lines.text").read_text()

@@ -5,17 +5,16 @@ usage: tests/costs_test.py [-v] [TEST ..]     from any folder; takes half a minu
 
 The worked rows of tests/rows/costs.rows are played by tests/rows_test.py. The scripts are made by tools/oracle, which also has each row.
 """
-import os
-import pathlib
 import random
 import re
 import resource
 import subprocess
 import sys
-import tempfile
 import unittest
 
-from support.program import PROGRAM, TOP
+from support.live import PROGRAM, TOP, Case
+from camac.bodies import services_of
+from camac.printed import HEADING, read_bodies, read_services
 
 sys.path.insert(0, str(TOP / "tools"))
 sys.dont_write_bytecode = True
@@ -27,29 +26,17 @@ from oracle.reader.plan import read_plan, sample_plan
 from oracle.reader.refusals import Refused
 
 ACCEPTED = 1000
-HEAD = re.compile(
-    r"(?:service (?P<service>\w+) line \d+ gl (?P<gl>\d+) at \d+ \d+ \d+|proc \w+ line \d+) "
-    r"cycles (?P<cycles>\d+) of (?P<of_cycles>\d+) words (?P<words>\d+) of (?P<of_words>\d+) steps (?P<steps>\d+)(?: of \d+)?"
-)
-VERDICT = "service {service} gl {gl} cycles {cycles} of {of_cycles} words {words} of {of_words} steps {steps}"
-ROW = re.compile(r"line \d+ depth (\d+) (\S+) times (\d+) cycles (\d+) words (\d+) steps (\d+) share (\d+) (\d+) (\d+)(?: (?:at|turns|crate|proc) .*)?")
 GREATEST = 2**32 - 1
 
 
-class Costs(unittest.TestCase):
-    def setUp(self):
-        room = tempfile.TemporaryDirectory(prefix="camac-costs-")
-        self.addCleanup(room.cleanup)
-        self.room = pathlib.Path(room.name)
-
+class Costs(Case):
     def call(self, command, inputs, given=b""):
         """Status, standard output and standard error."""
         (self.room / "script").write_bytes(inputs.script)
         if inputs.plan is not None:
             (self.room / "plan").write_bytes(inputs.plan)
-        words = [PROGRAM, command, "@sample" if inputs.plan is None else "plan", "script"]
-        ran = subprocess.run(words, input=given, cwd=self.room, capture_output=True, timeout=60)
-        return ran.returncode, ran.stdout.decode(), ran.stderr
+        status, out, err = super().call(command, "@sample" if inputs.plan is None else "plan", "script", given=given)
+        return status, out.decode(), err
 
 
 def made_scripts():
@@ -66,20 +53,6 @@ def made_scripts():
     return accepted, refused
 
 
-def bodies(printed):
-    """Each body's line, and the numbers of its rows: depth, word, times, what one time costs, and the share."""
-    found = []
-    for line in printed.splitlines():
-        row = ROW.fullmatch(line)
-        if row:
-            depth, word, *numbers = row.groups()
-            numbers = [int(it) for it in numbers]
-            found[-1][1].append((int(depth), word, numbers[0], tuple(numbers[1:4]), tuple(numbers[4:])))
-        else:
-            found.append((HEAD.fullmatch(line), []))
-    return found
-
-
 class Made(Costs):
     """What holds of each script that is made by chance."""
 
@@ -93,26 +66,23 @@ class Made(Costs):
             status, printed, said = self.call("costs", inputs)
             wanted = tell("costs", inputs)
             self.assertEqual((status, printed, said), (0, wanted.out.decode(), b""), number)
-            services = []
-            for head, rows in bodies(printed):
-                self.add_up(head, rows)
-                seen.update(word for _, word, *_ in rows)
-                if head["service"]:
-                    services.append(VERDICT.format(**head.groupdict()))
-            self.assertEqual(self.call("check", inputs)[1].splitlines()[1:], services, number)
+            its = read_bodies(printed)
+            for body in its:
+                self.add_up(body)
+                seen.update(row.word for row in body.rows)
+            self.assertEqual(read_services(self.call("check", inputs)[1]), services_of(its), number)
         words = "= cdreg put cfsa cssa cfmad cfubc cfubr cccz cccc ctci ctcd ctgl ccci cccd cclm cclc ctlm if else for while lock call"
         self.assertEqual(seen, set(words.split()))
 
-    def add_up(self, head, rows):
+    def add_up(self, body):
         """Shares add up to the bounds. A statement's times fit its body's steps, and what is never reached costs nothing."""
-        bounds = [int(head[it]) for it in ("cycles", "words", "steps")]
-        self.assertEqual([sum(share[it] for *_, share in rows) for it in range(3)], bounds, head[0])
-        for _, word, times, each, share in rows:
-            self.assertLessEqual(times, min(bounds[2], GREATEST))
-            self.assertTrue(times or each == share == (0, 0, 0))
-            if word != "else":
-                self.assertTrue(not times or each[2] >= 1)
-                self.assertTrue(all(part <= times * one for part, one in zip(share, each)), (word, times, each, share))
+        self.assertEqual([sum(row.share[it] for row in body.rows) for it in range(3)], [*body.most], body.name)
+        for row in body.rows:
+            self.assertLessEqual(row.times, min(body.most.steps, GREATEST))
+            self.assertTrue(row.times or row.each == row.share == (0, 0, 0))
+            if row.word != "else":
+                self.assertTrue(not row.times or row.each.steps >= 1)
+                self.assertTrue(all(part <= row.times * one for part, one in zip(row.share, row.each)), row)
 
     def test_numbers_of_bounds(self):
         """With the headings that `bounds` prints, these have the numbers of the bodies."""
@@ -127,9 +97,8 @@ class Made(Costs):
             tried += 1
             status, printed, _ = self.call("costs", inputs._replace(script=script))
             self.assertEqual(status, 0, number)
-            least = [[int(it) for it in re.findall(r"\b\d+\b", it[it.index("within") :])] for it in headings]
-            found = [[int(head[it]) for it in ("cycles", "words", "steps")] for head, _ in bodies(printed)]
-            self.assertEqual([one[: len(other)] for one, other in zip(found, least)], least, number)
+            least = [(it.cycles, it.words) if it.is_service else (it.cycles, it.words, it.steps) for it in map(HEADING.read, headings)]
+            self.assertEqual([body.most[: len(other)] for body, other in zip(read_bodies(printed), least)], least, number)
         self.assertGreater(tried, 50)
 
     def test_refusals(self):
@@ -159,11 +128,6 @@ class Faults(Costs):
 
 class Streams(Costs):
     """Outputs through pipes, and outputs that fail."""
-
-    def shell(self, line):
-        how = {"stdin": subprocess.DEVNULL, "capture_output": True, "cwd": self.room, "timeout": 60}
-        ran = subprocess.run(["bash", "-c", line], env={**os.environ, "camac": PROGRAM}, **how)
-        return ran.returncode, ran.stdout, ran.stderr
 
     def test_pipes(self):
         inputs = Inputs(None, (TOP / "examples/procedure.script").read_bytes())

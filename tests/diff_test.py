@@ -4,13 +4,10 @@
 usage: tests/diff_test.py [-v] [TEST ..]     from any folder; takes some seconds
 """
 import json
-import os
-import subprocess
-import sys
 import unittest
 from urllib.parse import unquote
 
-from support.live import PROGRAM, TOP, Case
+from support.live import Case
 from camac.diff import Bounds, Change, command_lines
 
 PLAN = """\
@@ -45,21 +42,16 @@ REQUIRED = {
 }
 
 
-class Room(Case):
+class Plans(Case):
     def setUp(self):
         super().setUp()
         self.write("plan.toml", PLAN)
         self.write("old.script", SCRIPT)
 
-    def run_camac(self, *words):
-        env = {**os.environ, "PYTHONPATH": str(TOP / "python"), "CAMAC_PROGRAM": PROGRAM}
-        ran = subprocess.run([sys.executable, "-m", "camac", *words], capture_output=True, text=True, cwd=self.room, env=env)
-        return ran.returncode, ran.stdout, ran.stderr
 
-
-class Diff(Room):
+class Diff(Plans):
     def diff(self, *words):
-        return self.run_camac("diff", *words)
+        return self.package("diff", *words)
 
     def test_nothing_changed(self):
         same = "= service one cycles 4 words 1 steps 4 start 2 end 6\n= service two cycles 2 words 0 steps 1 start 4 end 6\n"
@@ -115,7 +107,7 @@ class Diff(Room):
         self.assertEqual([*command_lines({(1, 2, "T", 9, 3, None)}, {(1, 2, "T", 9, it, None) for it in (3, 5, 6, 8)})], ["+ command 1 2 5..6,8 9 T"])
 
 
-class Sarif(Room):
+class Sarif(Plans):
     def expect_keys(self, what, its, more=()):
         self.assertLessEqual({*REQUIRED[what][: 2 if what in ("log", "run") else 1], *more}, {*its}, what)
         self.assertLessEqual({*its}, {*REQUIRED[what]}, what)
@@ -124,7 +116,7 @@ class Sarif(Room):
         name = "a b%c.script"
         self.write(name, SCRIPT.replace("within 9", "within 3", 1))
         self.write("warned.script", SCRIPT.replace("  cfsa 0 r -> v\n", "").replace("  cclc one\n", ""))
-        status, out, said = self.run_camac("check", "--format", "sarif", "plan.toml", name, "warned.script", "none.script")
+        status, out, said = self.package("check", "--format", "sarif", "plan.toml", name, "warned.script", "none.script")
         self.assertEqual((status, said), (3, ""))
         log = json.loads(out)
         self.expect_keys("log", log)
@@ -153,11 +145,11 @@ class Sarif(Room):
     def test_column(self):
         """A fault of the text has a column, in characters from 1."""
         self.write("fault.script", SCRIPT.replace("  put v\n", "  puts v\n"))
-        (run,) = json.loads(self.run_camac("check", "--format", "sarif", "plan.toml", "fault.script")[1])["runs"]
+        (run,) = json.loads(self.package("check", "--format", "sarif", "plan.toml", "fault.script")[1])["runs"]
         self.assertEqual(run["results"][0]["locations"][0]["physicalLocation"]["region"], {"startLine": 7, "startColumn": 3})
 
     def test_nothing_found(self):
-        log = json.loads(self.run_camac("check", "--format", "sarif", "plan.toml", "old.script")[1])
+        log = json.loads(self.package("check", "--format", "sarif", "plan.toml", "old.script")[1])
         self.assertEqual((log["runs"][0]["results"], log["runs"][0]["tool"]["driver"]["rules"]), ([], []))
 
 

@@ -30,17 +30,15 @@ The commands of a page run in a folder of its own with the examples, where ./cam
 rt run makes it), or what the environment variable CAMAC_PROGRAM names.
 """
 import os
-import pathlib
 import re
 import shutil
 import subprocess
 import sys
-import tempfile
 import unittest
 
 from support import of_c
 
-from support.program import PROGRAM, TOP
+from support.program import PROGRAM, TOP, Room, run_tests
 
 if "CAMAC_PROGRAM" in os.environ:
     os.environ["CAMAC_PROGRAM"] = PROGRAM  # commands of pages run it from other folders, too
@@ -231,15 +229,10 @@ def lost_links(page):
     return lost
 
 
-class Documents(unittest.TestCase):
+class Documents(Room):
     def setUp(self):
-        self.enter_room()
-
-    def enter_room(self):
         """Makes a new folder with the program and the examples."""
-        room = tempfile.TemporaryDirectory(prefix="camac-pages-")
-        self.addCleanup(room.cleanup)
-        self.room = pathlib.Path(room.name)
+        super().setUp()
         (self.room / "camac").symlink_to(PROGRAM)
         for name in ("camac-check", "camac-fmt"):
             shutil.copy(TOP / "python/camac-report", self.room / name)
@@ -248,7 +241,7 @@ class Documents(unittest.TestCase):
     def test_pages(self):
         tried = 0
         for page in PAGES:
-            self.enter_room()
+            self.setUp()
             with self.subTest(page=page.name):
                 try:
                     tried += try_page(page.read_text(), self.room)
@@ -284,7 +277,7 @@ class Documents(unittest.TestCase):
 
     def test_manual_pages(self):
         for page in (TOP / "man/camac.1", *sorted((TOP / "man").glob("*.5"))):
-            self.enter_room()
+            self.setUp()
             shutil.copy(self.room / "examples/straight_line.script", self.room / "readout.script")
             examples = page.read_text().partition(".Sh EXAMPLES\n")[2].partition("\n.Sh ")[0]
             self.assertNotIn(".Dl", examples)
@@ -364,7 +357,7 @@ def keep():
     """Writes the files that the pages of KEPT make into their folders anew, whatever the pages show."""
     for name, (folder, place) in KEPT.items():
         case = Documents()
-        case.enter_room()
+        case.setUp()
         for words, body in BLOCK.findall((TOP / "docs" / name).read_text()):
             file = FILE.fullmatch(words)
             if file:
@@ -379,8 +372,6 @@ def keep():
 
 
 if __name__ == "__main__":
-    if not os.access(PROGRAM, os.X_OK):
-        sys.exit(f"{PROGRAM} is not there: cd crates/camac && rt run makes it, or CAMAC_PROGRAM names another")
     if sys.argv[1:] == ["--keep"]:
         sys.exit(keep())
-    unittest.main()
+    run_tests()

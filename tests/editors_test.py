@@ -1,6 +1,6 @@
 #!/usr/bin/env python3
-"""Tries the language server (camac-lsp) in the editors that are here, as the files for editors set it up: a script is opened and a wrong one judged, its fault is
-mended by a fix, and nothing is shown then; hover texts; and a name gets another one.
+"""Tries the language server (camac-lsp) in the editors that are here, as the files for editors set it up: a script is opened and a wrong one judged, whose fault is
+gone after its fix, and nothing is shown then; hover texts; and a name gets another one.
 
 usage: tests/editors_test.py [-v] [TEST ..]     from any folder; takes some seconds
 
@@ -25,7 +25,7 @@ from support.lsp import SCRIPT
 ALE = pathlib.Path("/usr/share/vim-scripts/ale"), pathlib.Path("/usr/share/vim/vimfiles/pack/dist-bundle/opt/ale"), pathlib.Path("/usr/share/vim/vimfiles/pack/dist-bundle/start/ale")
 WRONG = SCRIPT.replace("within 6", "within 5")
 # What each editor has to say, in this order.
-STEPS = ["opened E12 8 1", "mended service adc within 6 cycles event 2 words {", "left 0", "told parameter `s`: 0..11", "renamed   put channel"]
+STEPS = ["opened E12 8 1", "fixed service adc within 6 cycles event 2 words {", "left 0", "told parameter `s`: 0..11", "renamed   put channel"]
 PATIENCE = 120
 
 NVIM = """
@@ -41,7 +41,7 @@ wait(1)
 for _, it in ipairs(vim.diagnostic.get(0)) do print('opened', it.code, it.lnum + 1, it.col + 1) end
 local fixes = ask('textDocument/codeAction', { range = { start = { line = 7, character = 0 }, ['end'] = { line = 7, character = 0 } }, context = { diagnostics = {} } })
 vim.lsp.util.apply_workspace_edit(fixes[1].edit, 'utf-16')
-print('mended', vim.api.nvim_buf_get_lines(0, 7, 8, false)[1])
+print('fixed', vim.api.nvim_buf_get_lines(0, 7, 8, false)[1])
 wait(0)
 print('left', #vim.diagnostic.get(0))
 print('told', ask('textDocument/hover', { position = { line = 2, character = 9 } }).contents.value)
@@ -77,7 +77,7 @@ EMACS = """
        (fixes (jsonrpc-request (eglot--current-server-or-lose) :textDocument/codeAction
                 (list :textDocument (eglot--TextDocumentIdentifier) :range (list :start place :end place) :context (list :diagnostics [])))))
   (eglot--apply-workspace-edit (plist-get (elt fixes 0) :edit)))
-(tell "mended" (line 8))
+(tell "fixed" (line 8))
 (eglot--signal-textDocument/didChange)
 (wait-for 0)
 (tell "left" (length (flymake-diagnostics)))
@@ -179,7 +179,7 @@ const until = async (count) => { while (!shown.has(document.uri.text) || found()
   const where = new Range(new Position(7, 0), new Position(7, 0));
   const fixes = await given.CodeActions.provideCodeActions(document, where);
   apply(fixes[0].edit.changes.get(document.uri.text));
-  console.log('mended', document.lines[7]);
+  console.log('fixed', document.lines[7]);
   await until(0);
   console.log('left', found().length);
   console.log('told', (await given.Hover.provideHover(document, new Position(2, 9))).its[0].its[0]);
@@ -206,7 +206,7 @@ class Editors(Case):
 
     def said(self, text):
         """The lines of what an editor said that are of a step."""
-        return [it.rstrip("\r") for it in text.splitlines() if re.match("opened|mended|left|told|renamed", it)]
+        return [it.rstrip("\r") for it in text.splitlines() if re.match("opened|fixed|left|told|renamed", it)]
 
     @unittest.skipUnless(shutil.which("nvim"), "nvim is not here")
     def test_neovim(self):

@@ -12,10 +12,9 @@ import os
 import random
 import re
 import subprocess
-import sys
 import unittest
 
-from support.program import PROGRAM, TOP
+from support.program import PROGRAM, TOP, run_tests
 
 DECLARATIONS = "table cdlam var proc service".split()
 STATEMENTS = "cdreg cfsa cssa cfmad cfubc cfubr put cccz cccc ctci ctcd ctgl ccci cccd cclm cclc ctlm if for while lock call".split()
@@ -143,6 +142,4 @@ class Expected(unittest.TestCase):
 
 
 if __name__ == "__main__":
-    if not os.access(PROGRAM, os.X_OK):
-        sys.exit(f"{PROGRAM} is not there: cd crates/camac && rt run makes it, or CAMAC_PROGRAM names another")
-    unittest.main()
+    run_tests()

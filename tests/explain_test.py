@@ -6,17 +6,12 @@ usage: tests/explain_test.py [-v] [TEST ..]     from any folder; takes about hal
 CAMAC_CASES is how many random scripts two of the tests try, 300 if it is not set. SEED begins them, 1 if it is not set.
 """
 import os
-import pathlib
 import random
 import re
-import subprocess
-import sys
-import tempfile
-import unittest
 from typing import NamedTuple
 
 from support import plans
-from support.program import PROGRAM, TOP
+from support.program import TOP, Room, run_tests
 from support.rows import ROWS
 
 PAGE = (TOP / "docs/REFUSALS.md").read_text()
@@ -210,8 +205,8 @@ MISTAKES = [
 ]
 
 
-# A case whose mend is one of several, the script, the mend's begin, the script with the mend.
-MENDS = [
+# A case whose fix is one of several, the script, the fix's begin, the script with the fix.
+FIXES = [
     ("a read without an arrow", service("cdreg r 1 1 5 0", "cfsa 0 r"), "with a function that reads, ", service("cdreg r 1 1 5 0", "cfsa 0 r -> v")),
     ("a read with a table", service("cdreg r 1 1 5 0", "cfubc 0 r table g max 1 tally t", more=" table g = 1"), "with a function that reads, ", service("cdreg r 1 1 5 0", "cfubc 0 r max 1 tally t")),
     ("a write with the other arrow", service("cdreg r 1 1 6 0", "cfsa 16 r -> v"), "with a function that writes, ", service("cdreg r 1 1 6 0", "cfsa 16 r <- v")),
@@ -266,7 +261,7 @@ def part_of(rule):
 
 
 def told(rule):
-    """The texts of a rule on the page: why it is there, and each mend."""
+    """The texts of a rule on the page: why it is there, and each fix."""
     (why,) = re.findall(r"(?m)^- \*\*Why:\*\* (.*)$", part_of(rule))
     return why, re.findall(r"(?m)^- \*\*Fix(?:, [^*]*)?:\*\* (.*)$", part_of(rule))
 
@@ -297,17 +292,12 @@ def chances(name):
     return (Chance(f"{name} {seed} {i}") for i in range(int(os.environ.get("CAMAC_CASES", "300"))))
 
 
-class Explain(unittest.TestCase):
-    def setUp(self):
-        room = tempfile.TemporaryDirectory(prefix="camac-explain-")
-        self.addCleanup(room.cleanup)
-        self.room = pathlib.Path(room.name)
-
+class Explain(Room):
     def call(self, *words, given=""):
         """Status and standard output of the program, which has nothing to say on standard error."""
-        ran = subprocess.run([PROGRAM, *words], input=given.encode("latin-1"), cwd=self.room, capture_output=True, timeout=60)
-        self.assertEqual(ran.stderr, b"")
-        return ran.returncode, ran.stdout.decode("latin-1")
+        status, out, err = super().call(*words, given=given.encode("latin-1"))
+        self.assertEqual(err, b"")
+        return status, out.decode("latin-1")
 
     def explain(self, script):
         """The lines of an explanation, which begins with what `check` prints."""
@@ -324,10 +314,10 @@ class Explain(unittest.TestCase):
         if found:
             self.assertTrue(source[mark.index("^") :].startswith(found[1]), (source, mark, said))
 
-    def assert_told(self, rule, why, mend, more):
+    def assert_told(self, rule, why, fix, more):
         """The last lines of an explanation have the texts of the page."""
         self.assertEqual(why, f"Why: {told(rule)[0]}")
-        self.assertIn(mend.removeprefix("Fix: "), told(rule)[1])
+        self.assertIn(fix.removeprefix("Fix: "), told(rule)[1])
         self.assertEqual(more, f"More: docs/REFUSALS.md, {rule}")
 
     def test_explanations(self):
@@ -428,17 +418,17 @@ class Explain(unittest.TestCase):
         status, text = self.call("plan", plan)
         return status, text.rstrip("\n")
 
-    def test_mends(self):
+    def test_fixes(self):
         """Of several fixes of a rule the one that helps in this case is shown."""
         found = set()
-        for what, script, mend, mended in MENDS:
+        for what, script, fix, fixed in FIXES:
             with self.subTest(what=what):
                 lines = self.explain(script)
-                self.assertEqual(lines[-2][: len(f"Fix: {mend}")], f"Fix: {mend}")
-                self.assertEqual(self.explain(mended)[0], "accepted")
+                self.assertEqual(lines[-2][: len(f"Fix: {fix}")], f"Fix: {fix}")
+                self.assertEqual(self.explain(fixed)[0], "accepted")
                 found.add(lines[-2].removeprefix("Fix: "))
         several = [told(rule)[1] for rule in RULES if len(told(rule)[1]) > 1]
-        self.assertEqual(found, {mend for mends in several for mend in mends})
+        self.assertEqual(found, {fix for fixes in several for fix in fixes})
 
     def test_page(self):
         """Each rule has its place on the page, with an example whose explanation has the texts of the page."""
@@ -453,9 +443,9 @@ class Explain(unittest.TestCase):
                     status, text = self.call("explain", "plan.toml")
                 else:
                     status, text = self.call("explain", "@sample", "@in", given=example)
-                first, *_, why, mend, more = text.splitlines()
+                first, *_, why, fix, more = text.splitlines()
                 self.assertEqual(status, 1)
-                self.assert_told(rule, why, mend, more)
+                self.assert_told(rule, why, fix, more)
                 self.assertRegex(first, rf"^refused {rule}(?: line \d+)?: {re.escape(meaning)}$")
 
     def test_conditions(self):
@@ -489,7 +479,7 @@ class Explain(unittest.TestCase):
                 self.assertGreater(int(told[1]), old)
                 turns, words, cycles = (int(told[1]) if told[2] == it else now for it, now in (("turns", turns), ("event words", words), ("dataway cycles", cycles)))
             else:
-                self.fail(f"after three mends: {first}")
+                self.fail(f"after three fixes: {first}")
         self.assertGreater(tried, 100)
 
     def test_words(self):
@@ -540,6 +530,4 @@ class Explain(unittest.TestCase):
 
 
 if __name__ == "__main__":
-    if not os.access(PROGRAM, os.X_OK):
-        sys.exit(f"{PROGRAM} is not there: cd crates/camac && rt run makes it, or CAMAC_PROGRAM names another")
-    unittest.main()
+    run_tests()

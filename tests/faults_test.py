@@ -8,11 +8,10 @@ import collections
 import os
 import shutil
 import subprocess
-import sys
 import tempfile
 import unittest
 
-from support.program import ANSWERS, DEMAND, EVENT_FILE, LISTING, PROGRAM, REQUESTS, STRAIGHT_LINE, TWICE, Case, fault, lacks, unwritten
+from support.program import ANSWERS, DEMAND, EVENT_FILE, LISTING, PROGRAM, REQUESTS, STRAIGHT_LINE, TWICE, Case, fault, lacks, run_tests, unwritten
 
 # FAILING_TURN is the number of the call that fails, and FAILING_ERROR its error, 0 for a write that takes nothing, or SHORT for a read or
 # write that moves one byte. With FAILING_LATER each later call of this name on this file fails too. PIECE is how many bytes a read or a
@@ -462,6 +461,4 @@ class Told(Logged):
 
 
 if __name__ == "__main__":
-    if not os.access(PROGRAM, os.X_OK):
-        sys.exit(f"{PROGRAM} is not there: cd crates/camac && rt run makes it, or CAMAC_PROGRAM names another")
-    unittest.main()
+    run_tests()

@@ -10,7 +10,6 @@ judges, else what needs it is left out.
 import os
 import random
 import re
-import subprocess
 import sys
 import unittest
 
@@ -97,28 +96,24 @@ class Layout(unittest.TestCase):
 
 
 class Command(Case):
-    def run_fmt(self, *words, given=b""):
-        ran = subprocess.run([sys.executable, "-m", "camac", "fmt", *words], input=given, capture_output=True, cwd=self.room, env={**os.environ, "PYTHONPATH": str(TOP / "python")})
-        return ran.returncode, ran.stdout.decode(), ran.stderr.decode()
-
     def test_files(self):
         bad = self.write("bad.script", "var a  var b")
         self.write("good.script", "var a\n")
         self.write("none.script", "var }")
         said = "camac: none.script:1: this `}` closes nothing\n"
-        self.assertEqual(self.run_fmt("--check", "bad.script", "good.script", "none.script"), (1, "bad.script: its layout is another one\n", said))
+        self.assertEqual(self.package("fmt", "--check", "bad.script", "good.script", "none.script"), (1, "bad.script: its layout is another one\n", said))
         self.assertEqual(bad.read_text(), "var a  var b")
         bad.chmod(0o640)
-        self.assertEqual(self.run_fmt("bad.script", "good.script"), (0, "", ""))
+        self.assertEqual(self.package("fmt", "bad.script", "good.script"), (0, "", ""))
         self.assertEqual((bad.read_text(), bad.stat().st_mode & 0o777), ("var a\nvar b\n", 0o640))
-        self.assertEqual(self.run_fmt("none.script"), (1, "", said))
+        self.assertEqual(self.package("fmt", "none.script"), (1, "", said))
         self.assertEqual(self.file("none.script"), b"var }")
-        self.assertEqual(self.run_fmt("lost.script"), (3, "", "camac: No such file or directory: lost.script\n"))
-        self.assertEqual(self.run_fmt(), (2, "", self.run_fmt()[2]))
+        self.assertEqual(self.package("fmt", "lost.script"), (3, "", "camac: No such file or directory: lost.script\n"))
+        self.assertEqual(self.package("fmt"), (2, "", self.package("fmt")[2]))
 
     def test_standard_input(self):
-        self.assertEqual(self.run_fmt("-", given=b"var a var b"), (0, "var a\nvar b\n", ""))
-        self.assertEqual(self.run_fmt("-", given=b"var {"), (1, "", "camac: -:1: this `{` is not closed\n"))
+        self.assertEqual(self.package("fmt", "-", given=b"var a var b"), (0, "var a\nvar b\n", ""))
+        self.assertEqual(self.package("fmt", "-", given=b"var {"), (1, "", "camac: -:1: this `{` is not closed\n"))
 
 
 @unittest.skipIf(of_c.lacking(), of_c.lacking() or "it is here")

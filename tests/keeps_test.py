@@ -14,7 +14,6 @@ import os
 import pathlib
 import random
 import re
-import subprocess
 import sys
 import time
 import unittest
@@ -420,11 +419,9 @@ class Proposed(Case):
 
 class Command(Case):
     def command(self, *words):
-        env = {**os.environ, "PYTHONPATH": str(TOP / "python"), "CAMAC_PROGRAM": PROGRAM, "PYTHONDONTWRITEBYTECODE": "1"}
-        words = [sys.executable, "-m", "camac", "check", *map(str, words)]
-        ran = subprocess.run(words, cwd=self.room, env=env, stdout=subprocess.PIPE, stderr=subprocess.PIPE, text=True, timeout=60)
-        self.assertEqual(ran.stderr, "")
-        return ran.returncode, ran.stdout
+        status, out, err = self.package("check", *words)
+        self.assertEqual(err, "")
+        return status, out
 
     def test_keeps(self):
         self.write("a", SUM)

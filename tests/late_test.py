@@ -8,24 +8,23 @@ import io
 import os
 import random
 import re
-import sys
 import unittest
 import xml.etree.ElementTree as ElementTree
 from unittest import mock
 
-from support.live import PROGRAM, TOP
+from support.live import PROGRAM, TOP, run_tests
 from support import laboratory
 import camac
-from support import told
+from support import two_crates
 from camac import Response
 from camac import __main__ as commands
 from camac import pictures
 from camac.late import Broken
 from camac.pictures.response import NO_NUMBER, pieces_of
+from camac.printed import read_responses
 from camac.report import report
-from camac.scripts import parse_response
 
-VETO, STRIP, SPILL, SLOW = parse_response(told.RESPONSE)
+VETO, STRIP, SPILL, SLOW = read_responses(two_crates.RESPONSE)
 
 
 class Service:
@@ -91,13 +90,13 @@ class Lines(unittest.TestCase):
         self.assertEqual(VETO, Response("veto", 1, 5, 15, 7, 12, 12))
         self.assertEqual(SLOW, Response("slow", 12, 7, 60, None, None, None))
         within = "service reg gl 7 cycles 6 once start 3 end 9 of 10 longest 12\nservice adc gl 3 cycles 3 every 3 start - end - of 10 longest -\n"
-        self.assertEqual(parse_response(within), [Response("reg", 7, 6, None, 3, 9, 12), Response("adc", 3, 3, 3, None, None, None)])
-        self.assertEqual(parse_response(""), [])
+        self.assertEqual(read_responses(within), [Response("reg", 7, 6, None, 3, 9, 12), Response("adc", 3, 3, 3, None, None, None)])
+        self.assertEqual(read_responses(""), [])
         for line in ("service adc gl 3 cycles 3 start 3 end 9 longest 12", "refused E12 line 3: more cycles than annotated"):
             with self.assertRaises(ValueError):
-                parse_response(line)
+                read_responses(line)
         self.assertEqual([VETO.calls(it) for it in (0, 14, 15, 30)], [1, 1, 2, 3])
-        self.assertEqual(parse_response(within)[0].calls(1_000), 1)
+        self.assertEqual(read_responses(within)[0].calls(1_000), 1)
 
     def test_program(self):
         """A service alone begins at once; and faults of the rates."""
@@ -158,7 +157,7 @@ class Watched(unittest.TestCase):
             # Strip calls again after 3 cycles. A stretch of veto knows nothing of it, one of spill does.
             ([(4, 3), (4, 3), (1, 5), (9, 7)], {1: (1, 8, 0), 4: (1, 3, 1), 9: (0, 0, 1)}),
         ]:
-            run = told.run_of(its, operations)
+            run = two_crates.run_of(its, operations)
             self.assertEqual({gl: (it.count, it.most, it.left_out) for gl, it in run.late.items()}, seen)
             self.assertTrue(run.agrees())
         self.assertEqual([run.late[gl].broken for gl in (1, 4, 9)], [None, Broken("strip", 2, 3, 2), Broken("strip", 2, 3, 2)])
@@ -167,7 +166,7 @@ class Watched(unittest.TestCase):
         """A service that did not come to its end is none."""
         lines = ["demand 000001 veto", "cycle 1 5 0 9 none x1 q1 wait 0", "demand 000008 strip", "cycle 1 5 0 9 none x1 q1 wait 0", "short events 1"]
         verdict = "accepted\nservice veto gl 1 cycles 5 of 9 words 0 of 0 steps 9\nservice strip gl 4 cycles 3 of 9 words 0 of 0 steps 9\n"
-        run = told.collected(told.PLAN, verdict, lines, [camac.Event(1, 1, 1, 0, ())], (VETO, STRIP))
+        run = two_crates.collected(two_crates.PLAN, verdict, lines, [camac.Event(1, 1, 1, 0, ())], (VETO, STRIP))
         self.assertEqual([(run.late[gl].count, run.late[gl].most) for gl in (1, 4)], [(1, 1), (0, 0)])
 
     def test_random_runs(self):
@@ -177,7 +176,7 @@ class Watched(unittest.TestCase):
             its = chosen(chance)
             bounds = {0: 0, **{it.gl: it.cycles for it in its}}
             operations = [(gl, bounds[gl] if chance.random() < 0.8 else chance.randint(0, bounds[gl])) for gl in chance.choices(list(bounds), k=25)]
-            run = told.run_of(its, operations)
+            run = two_crates.run_of(its, operations)
             for it in its:
                 ends, broken = ends_of(its, operations)[it.gl]
                 kept, late = [end for end in ends if end is not None], run.late[it.gl]
@@ -190,7 +189,7 @@ class Watched(unittest.TestCase):
         self.assertGreater(reached, 20)
 
     def test_above_the_bound(self):
-        run = told.run_of((VETO._replace(start=0, end=4),), [(1, 5)])
+        run = two_crates.run_of((VETO._replace(start=0, end=4),), [(1, 5)])
         self.assertFalse(run.agrees())
         self.assertIn("no service ended later", run.checks[-1].text)
 
@@ -323,6 +322,4 @@ class Shown(laboratory.BenchCase):
 
 
 if __name__ == "__main__":
-    if not os.access(PROGRAM, os.X_OK):
-        sys.exit(f"{PROGRAM} is not there: cd crates/camac && rt run makes it, or CAMAC_PROGRAM names another")
-    unittest.main()
+    run_tests()

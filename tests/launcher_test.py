@@ -403,7 +403,7 @@ class Install(Case):
         self.assertEqual(call(COPY / "install", "--remove", place)[0], 1)
 
     def test_what_is_told(self):
-        """The pages that explanations name; and where Python does not look, the line that mends it."""
+        """The pages that explanations name; and where Python does not look, the line that fixes it."""
         place = self.folder() / "of a user"
         lines = call(COPY / "install", place)[1].splitlines()
         self.assertIn(f"install: the pages that explanations name (More: docs/..) are in {place}/share/doc/camac", lines)

@@ -21,7 +21,7 @@ import zipfile
 from random import Random
 
 from support import of_c
-from support.live import LOCKOUT, PROGRAM, STRAIGHT_LINE, TOP, Broken, Case, Listed
+from support.live import LOCKOUT, PROGRAM, STRAIGHT_LINE, TOP, Broken, Case, Interrupted, Listed, run_tests
 import camac
 from camac import Answer, Ending, ProgramFault, Refused, UsageFault, judge, library
 from camac.mock import Adc, Auxiliary, MockBranch, Recorder, Register
@@ -381,7 +381,7 @@ class Python(Case):
             judged = [judge.judge(plan, [str(its)], program) for program in (PROGRAM, "@library")]
             for form in judge.FORMATS:
                 with self.subTest(script=its, form=form):
-                    self.assertEqual(*(judge.told(it, form) for it in judged))
+                    self.assertEqual(*(judge.text_of(it, form) for it in judged))
 
     def test_response(self):
         its = self.sample(), (EXAMPLES / "straight_line.script").read_text()
@@ -539,18 +539,10 @@ class Python(Case):
 
     def test_an_interrupt_inside_an_unlock(self):
         """Ctrl-C where the script releases the lockout: it is released again."""
-        branch = Listed(DEMAND, Answer(), *[CYCLE] * 4)
-        asked = []
-
-        def unlock(crate):
-            asked.append(crate)
-            if len(asked) == 1:
-                raise KeyboardInterrupt
-
-        branch.unlock = unlock
+        branch = Interrupted(DEMAND, Answer(), *[CYCLE] * 4)
         with self.assertRaises(KeyboardInterrupt):
             camac.play("@sample", self.write("its.script", LOCKOUT), branch)
-        self.assertEqual(asked, [1, 1])
+        self.assertEqual([it for it in branch.asked if it[0] == "unlock"], [("unlock", 1)] * 2)
 
     def test_sessions(self):
         with library.Session(self.sample(), STRAIGHT_LINE) as session:
@@ -678,9 +670,7 @@ class Package(Case):
 
 
 if __name__ == "__main__":
-    if not os.access(PROGRAM, os.X_OK):
-        sys.exit(f"{PROGRAM} is not there: cd crates/camac && rt run makes it, or CAMAC_PROGRAM names another")
     if of_c.lacking():
         print(f"left out: {of_c.lacking()}")
         sys.exit()
-    unittest.main()
+    run_tests()

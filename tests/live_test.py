@@ -8,9 +8,8 @@ import os
 import signal
 import subprocess
 import sys
-import unittest
 
-from support.live import LOCKOUT, OPENING, PATIENCE, PROGRAM, STRAIGHT_LINE, TOP, Broken, Case, Listed, Pipes, script
+from support.live import LOCKOUT, OPENING, PATIENCE, PROGRAM, STRAIGHT_LINE, TOP, Broken, Case, Listed, Pipes, run_tests, script
 import camac
 from camac import Answer, Ending, RunEnd
 from camac.mock import Adc, Auxiliary, MockBranch, Recorder, Register
@@ -473,6 +472,4 @@ class Calls(Case):
 
 
 if __name__ == "__main__":
-    if not os.access(PROGRAM, os.X_OK):
-        sys.exit(f"{PROGRAM} is not there: cd crates/camac && rt run makes it, or CAMAC_PROGRAM names another")
-    unittest.main()
+    run_tests()

@@ -23,7 +23,7 @@ from camac.layout import begins
 from camac.lsp.documents import Text
 from camac.lsp.workspace import choose, is_plan_text
 from camac.names import WORDS
-from camac.plans import parse_plan
+from camac.printed import read_plan
 from camac.program import lines_of, output_of
 from camac.toml_places import declarations, place_of
 
@@ -181,7 +181,7 @@ class Documents(unittest.TestCase):
         """They are those that `camac plan --commands` lists."""
         for it in sorted((TOP / "examples").rglob("*.toml")):
             try:
-                listed = parse_plan(output_of("plan", "--commands", "--", it, program=PROGRAM)).types
+                listed = read_plan(output_of("plan", "--commands", "--", it, program=PROGRAM)).types
             except Exception:
                 continue
             commands = {(name, one.function, sub, one.is_probe) for name, its in listed.items() for one in its.declarations for sub in range(one.first, one.last + 1)}
@@ -288,7 +288,7 @@ class Plans(Served):
 
 class Shown(Served):
     def test_refusals(self):
-        """Each is at its statement or word, the first of each body, and goes with its mend."""
+        """Each is at its statement or word, the first of each body, and goes with its fix."""
         for text, wanted in [
             (SCRIPT, []),
             (SCRIPT.replace("put s", "puts s"), [(5, 2, 6, "S5")]),

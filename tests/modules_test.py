@@ -4,13 +4,11 @@ the benches in examples/benches have no others.
 
 usage: tests/modules_test.py [-v] [TEST ..]     from any folder; takes a second
 """
-import os
 import re
 import subprocess
-import sys
 import unittest
 
-from support.program import PROGRAM, TOP
+from support.program import PROGRAM, TOP, run_tests
 
 FILES = sorted((TOP / "examples/modules").glob("*.toml"))
 PAGE = (TOP / "docs/PLANS.md").read_text()
@@ -103,6 +101,4 @@ class Modules(unittest.TestCase):
 
 
 if __name__ == "__main__":
-    if not os.access(PROGRAM, os.X_OK):
-        sys.exit(f"{PROGRAM} is not there: cd crates/camac && rt run makes it, or CAMAC_PROGRAM names another")
-    unittest.main()
+    run_tests()

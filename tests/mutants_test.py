@@ -114,8 +114,10 @@ class Tool(unittest.TestCase):
         files = {"sample/src/lib.rt": SOURCE, "sample/proofs/sum/Answers.antt": SUM, "above/src/lib.rt": ABOVE}
         files |= {"sample/proofs/+count/Invariants.antt": MEASURES, "sample/proofs/+count/Answers.antt": FURTHER}
         for name, (_, *pairs) in MUTANTS.items():
+            crate, _, name = name.partition("/")
             lines = "".join(f"old: {old}\nnew: {new}\n" for old, new in pairs)
-            files[name.replace("/", "/mutants/") + ".edit"] = f"file: src/lib.rt\n{lines}"
+            file = f"{crate}/mutants.edits"
+            files[file] = files.get(file, "") + f"mutant: {name}\nfile: src/lib.rt\n{lines}\n"
         for name, text in {f"crates/{name}": text for name, text in files.items()}.items() | {("crates.txt", "sample: # one crate\nabove: sample\n")}:
             (cls.room / name).parent.mkdir(parents=True, exist_ok=True)
             (cls.room / name).write_text(text, "utf-8")
@@ -210,16 +212,16 @@ class Kept(Tool):
 
     def test_what_another_text_makes_another_sum(self):
         names = ("sample/weak_is_half", "sample/half_is_a_third", "above/same_is_all")
-        for file, changed in (
+        for file, changed, *pair in (
             ("crates/sample/src/lib.rt", names),
             ("crates/sample/proofs/sum/Answers.antt", names),
             ("crates/sample/src/new.rt", names),
             ("crates/above/src/lib.rt", names[2:]),
-            ("crates/sample/mutants/half_is_a_third.edit", names[1:2]),
+            ("crates/sample/mutants.edits", names[1:2], "n / 3", "n / 4"),
         ):
             before, path = [*map(self.total, names)], self.room / file
             text = path.read_text("utf-8") if path.exists() else ""
-            path.write_text(f"{text}\n", "utf-8")
+            path.write_text(text.replace(*(pair or ("", "\n")), 1), "utf-8")
             self.assertEqual(tuple(it for it, was in zip(names, before) if self.total(it) != was), changed)
             path.write_text(text, "utf-8") if text else path.unlink()
         before = self.total(names[0])

@@ -6,7 +6,6 @@ usage: tests/pictures_test.py [-v] [TEST ..]     from any folder; takes about a 
 Tests in Chromium are left out if it is not installed. The pictures that are kept in tests/pictures are compared byte by byte; `tests/pictures_test.py
 --keep` writes them anew, to be looked at before they are committed.
 """
-import os
 import re
 import shutil
 import statistics
@@ -16,27 +15,28 @@ import unittest
 import xml.etree.ElementTree as ElementTree
 from unittest import mock
 
-from support.live import PROGRAM, TOP
+from support.live import PROGRAM, TOP, run_tests
 from support import laboratory
 import camac
-from support import told
+from support import two_crates
 from support.browser import CHROMIUM, Browser
 from support.rows import ROWS
 from camac import __main__ as commands
-from camac import pictures, scripts
-from camac.bodies import Kind, calls_of, opened, parse_costs
+from camac import pictures
+from camac.bodies import calls_of, opened, parse_costs
 from camac.columns import Naming
 from camac.events import read_events
 from camac.pictures import svg
 from camac.pictures.costs import nodes_of
 from camac.pictures.lines import line_of
 from camac.pictures.spectra import LOGARITHMIC
-from camac.plans import parse_plan
+from camac.printed import read_plan, read_responses, read_services
 from camac.program import knows_option, output_of
 from camac.report import report
 from camac.runs import Asked, Inputs, Run
-from camac.scripts import parse_response, parse_verdict
 from camac.simulate import FACTORS, Simulated, Simulation
+from camac.texts import source_lines
+from camac.values import BodyKind
 
 KEPT = TOP / "tests/pictures"
 FIGURE = re.compile(r"<svg .*?</svg>", re.S)
@@ -239,7 +239,7 @@ class Costs(laboratory.BenchCase):
         """The texts of which the kept pictures are drawn are those that the program prints."""
         plan, script, _ = self.files
         printed = [output_of(*words) for words in (("plan", plan, "--commands"), ("check", plan, script), ("costs", plan, script))]
-        self.assertEqual(printed, [told.PLAN, told.VERDICT, told.COSTS])
+        self.assertEqual(printed, [two_crates.PLAN, two_crates.VERDICT, two_crates.COSTS])
 
     def test_shares(self):
         bodies = camac.costs(*self.files[:2])
@@ -259,7 +259,7 @@ class Costs(laboratory.BenchCase):
     def bodies(self):
         """The bodies of the bench and of all worked rows of costs, each with all of its script."""
         worked = [one.printed.decode() for case in ROWS["costs"].values() for one in case]
-        for printed in (told.COSTS, *(it for it in worked if it.startswith(("service", "proc")))):
+        for printed in (two_crates.COSTS, *(it for it in worked if it.startswith(("service", "proc")))):
             its = parse_costs(printed)
             yield from ((body, its) for body in its)
 
@@ -267,7 +267,7 @@ class Costs(laboratory.BenchCase):
         """On each line `times` times `each` is `cycles`, and the lines add up to the bound; so do those of a call, with what its heading promises."""
         tried = calls = 0
         for body, its in self.bodies():
-            procedures = {it.name: it for it in its if it.kind is Kind.PROCEDURE}
+            procedures = {it.name: it for it in its if it.kind is BodyKind.PROCEDURE}
             self.assertEqual(self.cycles_of(body), body.most.cycles)
             self.assertEqual(sum(row.share.cycles for row in opened(body, procedures)), body.most.cycles)
             self.assertEqual(sum(row.waits for row in opened(body, procedures)), body.waits())
@@ -394,7 +394,7 @@ class Texts(laboratory.BenchCase):
     def test_lines_are_counted_by_lf_alone(self):
         script = self.write("a.script", "")
         script.write_bytes(b"a\r\nb\rc\x0bd\xe2\x80\xa8e\nf")
-        self.assertEqual(scripts.source_lines(script), ["a", "b\rc\x0bd\u2028e", "f"])
+        self.assertEqual(source_lines(script), ["a", "b\rc\x0bd\u2028e", "f"])
 
     def test_numbers_as_text(self):
         self.assertEqual([svg.count(it, "cycle") for it in (0, 1, 2, 12_345)], ["0 cycles", "1 cycle", "2 cycles", "12,345 cycles"])
@@ -461,7 +461,7 @@ def small_run():
     """A run of two services with all that a strip can show, and of a third one without an end."""
     lines = [*SERVED, *SERVED[:-2], SERVED[-2].replace("15", "0"), *SERVED[:3], "short events 2"]
     events = [camac.Event(1, 3, 22, 1, (0x123, 0xFF)), camac.Event(2, 3, 7, 1, (0x123, 0xFF, 5))]
-    return told.collected(LISTED_PLAN, VERDICT, lines, events)
+    return two_crates.collected(LISTED_PLAN, VERDICT, lines, events)
 
 
 def rates_at(factor):
@@ -474,22 +474,22 @@ def rates_at(factor):
 
 def kept_pictures():
     """The pictures that are kept, by name, drawn without the program."""
-    rate = [next(it for it in told.WORDS.columns(5) if it.name == name) for name in ("rate[1]", "rate[2]")]
-    asked = Asked(told.WORDS, (rate[0], rate[1]))
-    plan, services, bodies, run = parse_plan(told.PLAN), parse_verdict(told.VERDICT), parse_costs(told.COSTS), told.told_run(200, asked)
+    rate = [next(it for it in two_crates.WORDS.columns(5) if it.name == name) for name in ("rate[1]", "rate[2]")]
+    asked = Asked(two_crates.WORDS, (rate[0], rate[1]))
+    plan, services, bodies, run = read_plan(two_crates.PLAN), read_services(two_crates.VERDICT), parse_costs(two_crates.COSTS), two_crates.long_run(200, asked)
     calls = parse_costs(COSTS.printed.decode())
-    source, seen, responses = laboratory.SCRIPT.split("\n"), run.seen, parse_response(told.RESPONSE)
+    source, seen, responses = laboratory.SCRIPT.split("\n"), run.seen, read_responses(two_crates.RESPONSE)
     drawn = {
         "plan": pictures.draw_plan(plan, services, run),
-        "plan-alone": pictures.draw_plan(parse_plan(LISTED_PLAN)),
+        "plan-alone": pictures.draw_plan(read_plan(LISTED_PLAN)),
         "bounds": pictures.draw_bounds(services, run),
-        "response": pictures.draw_response(responses, told.run_of(responses, [(9, 7), (4, 3), (1, 5), (4, 3), (0, 0), (4, 3), (1, 5), (1, 5), (9, 7)])),
+        "response": pictures.draw_response(responses, two_crates.run_of(responses, [(9, 7), (4, 3), (1, 5), (4, 3), (0, 0), (4, 3), (1, 5), (1, 5), (9, 7)])),
         "costs-scaler": pictures.draw_costs(bodies[0], source),
         "costs-adc": pictures.draw_costs(bodies[1], source, seen[3].cycles),
         "costs-tick": pictures.draw_costs(bodies[2], source, seen[5].cycles, bodies),
         "costs-call": pictures.draw_costs(calls[1], COSTS.inputs["SCRIPT"].decode().split("\n"), None, calls),
         "run": pictures.draw_run(run, services),
-        "run-long": pictures.draw_run(told.told_run(270), services),
+        "run-long": pictures.draw_run(two_crates.long_run(270), services),
         "events": pictures.draw_groups("Cycles and words of an event", pictures.event_groups(run, services)),
         "words": pictures.draw_groups("Words by channel", pictures.command_groups(run, plan)),
         "words-log": pictures.draw_groups("Words by channel", pictures.command_groups(run, plan, LOGARITHMIC)[:1]),
@@ -528,7 +528,7 @@ class Kept(unittest.TestCase):
         self.assertEqual((list(run.no_q), list(run.no_x), list(run.locked)), ([2, 2], [1, 1], [2, 2]))
         self.assertEqual(list(run.of_transfers), [0, 0])
         self.assertEqual([it.agrees for it in run.checks], [True, True, True, False])  # 22 cycles are above the bound of 20
-        plan = pictures.draw_plan(parse_plan(LISTED_PLAN), parse_verdict(VERDICT), run).picture()
+        plan = pictures.draw_plan(read_plan(LISTED_PLAN), read_services(VERDICT), run).picture()
         for text in ("F0 A0 to A11: read group 1, 12 bits", "F0 A12 to A15: probe: no register", "F10 A12: clear LAM", "graded-L bit 24: no service"):
             self.assertIn(text, plan)
         costs = (KEPT / "costs-call.svg").read_text()
@@ -545,7 +545,7 @@ class Kept(unittest.TestCase):
                 its.append(5)
             for its in (run.waits, run.no_q, run.of_transfers, run.no_x, run.locked):
                 its.append(at % 2)
-        drawn = pictures.draw_run(run, parse_verdict(VERDICT)).picture()
+        drawn = pictures.draw_run(run, read_services(VERDICT)).picture()
         bars = re.findall(r"M(\S+) \S+v\S+h(\d+)V", re.search(r'<path d="([^"]*)" class="ours crisp"', drawn)[1])
         edges = [(int(x), int(x) + int(wide)) for x, wide in bars]
         self.assertEqual(len(edges), 250)
@@ -690,6 +690,4 @@ def keep():
 if __name__ == "__main__":
     if sys.argv[1:] == ["--keep"]:
         sys.exit(keep())
-    if not os.access(PROGRAM, os.X_OK):
-        sys.exit(f"{PROGRAM} is not there: cd crates/camac && rt run makes it, or CAMAC_PROGRAM names another")
-    unittest.main()
+    run_tests()

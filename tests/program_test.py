@@ -5,15 +5,12 @@ usage: tests/program_test.py [-v] [TEST ..]     from any folder; takes a few sec
 """
 import errno
 import json
-import os
 import re
 import select
 import subprocess
-import sys
 import time
-import unittest
 
-from support.program import ANSWERS, CLOSED, DEMAND, EVENT_FILE, EVENT_FILE_ONE, FULL, LISTING, PROGRAM, STRAIGHT_LINE, TOO_LONG, TOP, TWICE, VERDICT, Case, fault, keywords, lacks, unwritten
+from support.program import ANSWERS, CLOSED, DEMAND, EVENT_FILE, EVENT_FILE_ONE, FULL, LISTING, PROGRAM, STRAIGHT_LINE, TOO_LONG, TOP, TWICE, VERDICT, Case, fault, keywords, lacks, run_tests, unwritten
 
 WORDS = {"plan": ["PLAN"], "check": ["PLAN", "SCRIPT"], "explain": ["PLAN|CODE", "[SCRIPT]"], "bounds": ["PLAN", "SCRIPT"], "costs": ["PLAN", "SCRIPT"], "response": ["PLAN", "SCRIPT"], "run": ["PLAN", "SCRIPT", "ANSWERS", "EVENTS"], "drive": ["PLAN", "SCRIPT", "EVENTS"], "events": ["FILE"]}
 # The options of a command but those of help, with the values that they take.
@@ -533,6 +530,4 @@ class Pages(Case):
 
 
 if __name__ == "__main__":
-    if not os.access(PROGRAM, os.X_OK):
-        sys.exit(f"{PROGRAM} is not there: cd crates/camac && rt run makes it, or CAMAC_PROGRAM names another")
-    unittest.main()
+    run_tests()

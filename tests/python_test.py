@@ -229,11 +229,11 @@ class Package(unittest.TestCase):
         told = self.run_python(code)
         self.assertEqual([it for it in told if it.split(":")[0] != it.split(":")[1]], [])
         stub = (TOP / "python/camac/__init__.pyi").read_text()
-        self.assertEqual([it.split(":")[0] for it in told], sorted(re.findall(r'^    "(\w+)",$', stub, re.M)))
+        self.assertEqual([it.split(":")[0] for it in told], sorted(re.findall(r'"(\w+)"', stub)))
 
     def test_modules(self):
         """A module is there as if it had been loaded, and no name of one hides a function."""
-        self.assertEqual(self.run_python("import camac; print(camac.plans.parse_plan.__name__)"), ["parse_plan"])
+        self.assertEqual(self.run_python("import camac; print(camac.printed.read_plan.__name__)"), ["read_plan"])
         modules = {it.stem for it in (TOP / "python/camac").iterdir()} & set(camac.__all__)
         loaded = self.run_python(f"import camac; print(*(it for it in {sorted(modules)} if callable(vars(camac)[it])))")
         self.assertEqual(loaded, sorted(modules))

@@ -183,21 +183,19 @@ camac.drive("@sample", {str(SCRIPT)!r}, Killed(), "run.events", program={PROGRAM
     def test_report(self):
         """It writes a record without times, writes over its own alone, and refuses before any work."""
         self.drive(branch(3))
-        call = [sys.executable, "-m", "camac", "report", PLAN_FILE, SCRIPT, self.events, "-o", "page.html", "--record", "run.json"]
-        environment = {**os.environ, "PYTHONPATH": str(TOP / "python"), "CAMAC_PROGRAM": PROGRAM}
+        call = ["report", PLAN_FILE, SCRIPT, self.events, "-o", "page.html", "--record", "run.json"]
         for _ in range(2):
-            subprocess.run(call, cwd=self.room, env=environment, check=True)
+            self.assertEqual(self.package(*call)[0], 0)
             told = self.told()
             self.assertEqual((told["begin"], told["measured_seconds"], told["events"]["counts"]), (None, None, {"adc": 3}))
         (self.room / "page.html").unlink()
         self.record.write_text("mine")
-        ran = subprocess.run(call, cwd=self.room, env=environment, capture_output=True, text=True, check=False)
-        self.assertEqual((ran.returncode, ran.stderr), (3, "camac: fault write: run.json: it holds bytes; a run needs a record of its own\n"))
+        self.assertEqual(self.package(*call)[::2], (3, "camac: fault write: run.json: it holds bytes; a run needs a record of its own\n"))
         self.assertEqual((self.record.read_text(), (self.room / "page.html").exists()), ("mine", False))
         call[-1] = self.events.name
-        ran = subprocess.run([*call, "--overwrite"], cwd=self.room, env=environment, capture_output=True, text=True, check=False)
-        self.assertEqual((ran.returncode, len([*camac.read_events(self.events)])), (2, 3))
-        self.assertIn("run.events is an input: it would be lost", ran.stderr)
+        status, _, err = self.package(*call, "--overwrite")
+        self.assertEqual((status, len([*camac.read_events(self.events)])), (2, 3))
+        self.assertIn("run.events is an input: it would be lost", err)
 
 
 class Again(Case):

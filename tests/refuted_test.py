@@ -4,8 +4,8 @@ program, unproved. Each changes what another test looks at, so that a failure sa
 
 usage: tests/refuted_test.py [-v] [TEST ..]     from any folder; takes about two minutes
 
-A mutant is a file tests/refuted/NAME.edit: a line 'file: crates/NAME/src/FILE' and pairs of lines 'old: TEXT' and 'new: TEXT', as in
-the files that tools/mutants reads. Then 'test: FILE.CLASS.TEST', the test that has to fail, and 'says: TEXT', a text of that failure.
+A mutant of tests/refuted.edits is as those that tools/mutants reads, but its file is below the top of the repository. Then come
+'test: FILE.CLASS.TEST', the test that has to fail, and 'says: TEXT', a text of that failure.
 """
 import importlib.machinery
 import importlib.util
@@ -19,26 +19,11 @@ import unittest
 
 from support.program import TOP
 
-EDITS = sorted((TOP / "tests/refuted").glob("*.edit"))
+sys.path.insert(0, f"{TOP}/tools")
 
+from rounds.bodies import changed, read_edits
 
-def read_edit(path):
-    """The lines of an edit, each as its key and its text."""
-    lines = [line.partition(": ") for line in path.read_text().splitlines()]
-    return [(key.rstrip(":"), text) for key, _, text in lines]
-
-
-def apply(path, top):
-    """Changes the sources of a copy of the repository."""
-    edit = read_edit(path)
-    file = top / dict(edit)["file"]
-    text = file.read_text()
-    pairs = [it for it in edit if it[0] in ("old", "new")]
-    for (_, old), (_, new) in zip(pairs[::2], pairs[1::2]):
-        if text.count(old) != 1:
-            raise ValueError(f"{path.name}: its old text stands {text.count(old)} times in {file.name}, and not once")
-        text = text.replace(old, new)
-    file.write_text(text)
+EDITS = read_edits(TOP / "tests/refuted.edits")
 
 
 def build(top, room):
@@ -62,21 +47,22 @@ class Refuted(unittest.TestCase):
             shutil.copytree(TOP / name, top / name, ignore=shutil.ignore_patterns("out"), symlinks=True)
         for name in ("crates.txt", "HANDLES"):
             shutil.copy(TOP / name, top)
-        for path in EDITS:
-            apply(path, top)
+        for edit in EDITS.values():
+            for file, text in changed(edit, top).items():
+                (top / file).write_text(text)
         (top / "room").mkdir()
         cls.program = build(top, f"{top}/room")
 
     def test_each(self):
         self.assertGreater(len(EDITS), 0)
-        for path in EDITS:
-            with self.subTest(path.stem):
-                edit = dict(read_edit(path))
-                file, _, test = edit["test"].partition(".")
+        for name, edit in EDITS.items():
+            with self.subTest(name):
+                its = dict(edit)
+                file, _, test = its["test"].partition(".")
                 command = [sys.executable, TOP / f"tests/{file}.py", test]
                 ran = subprocess.run(command, env={**os.environ, "CAMAC_PROGRAM": self.program}, capture_output=True, text=True)
                 self.assertEqual(ran.returncode, 1, "no test failed")
-                self.assertTrue(edit["says"] in ran.stderr, f"no failure says {edit['says']}")
+                self.assertTrue(its["says"] in ran.stderr, f"no failure says {its['says']}")
 
 
 if __name__ == "__main__":

@@ -14,11 +14,11 @@ import unittest
 import xml.etree.ElementTree as ElementTree
 from unittest import mock
 
-from support.live import PROGRAM, TOP
+from support.live import TOP, run_tests
 from support import laboratory
 import camac
 from camac import __main__ as commands
-from camac import pictures, plans
+from camac import pictures
 from camac.pictures import svg
 from camac.report import report
 from camac.runs import Inputs
@@ -159,7 +159,7 @@ class Ends(laboratory.BenchCase):
         text, page = self.report(plan, laboratory.largest_script(), answers)
         self.assertLess(len(text), 2_300_000)
         self.assertEqual([row[0] for row in page.parts["Checks of this page"]["tables"][0]][:4], ["agrees"] * 4)
-        drawn = pictures.draw_plan(plans.plan(plan)).picture()
+        drawn = pictures.draw_plan(camac.plan(plan)).picture()
         self.assertLess(len(drawn), 130_000)
         self.assertEqual(ElementTree.fromstring(drawn).get("height"), "1624")
 
@@ -370,6 +370,4 @@ class Pages(unittest.TestCase):
 
 
 if __name__ == "__main__":
-    if not os.access(PROGRAM, os.X_OK):
-        sys.exit(f"{PROGRAM} is not there: cd crates/camac && rt run makes it, or CAMAC_PROGRAM names another")
-    unittest.main()
+    run_tests()

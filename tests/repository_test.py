@@ -6,16 +6,14 @@ usage: tests/repository_test.py [-v] [TEST ..]     from any folder; takes a few 
 """
 import collections
 import json
-import pathlib
 import re
 import shutil
 import subprocess
 import sys
-import tempfile
 import unittest
 
 from support import plans
-from support.program import TOP, keywords
+from support.program import TOP, Room, keywords
 from support.rows import ROWS, SAMPLE
 
 SCHEMA = json.loads((TOP / "editors/plan.schema.json").read_text())
@@ -196,15 +194,13 @@ class Citation(unittest.TestCase):
         self.assertEqual((keys["cff-version"], keys["version"], keys["date-released"]), ("1.2.0", version, f'"{date}"'))
 
 
-class Editors(unittest.TestCase):
+class Editors(Room):
     """Without a blank at its begin, each script of the examples is indented as it is there. What camac-check says is a list of places."""
 
     said = "a.script:4:3: refused E12: more cycles than annotated\na.script:5: warning W4: this kept bound is not needed\nb.script: fault: No such file or directory\n"
 
     def setUp(self):
-        room = tempfile.TemporaryDirectory(prefix="camac-editors-")
-        self.addCleanup(room.cleanup)
-        self.room = pathlib.Path(room.name)
+        super().setUp()
         for number, it in enumerate(SCRIPTS):
             (self.room / f"{number}.script").write_text(re.sub(r"(?m)^ +", "", it.read_text()))
         (self.room / "said").write_text(self.said)

@@ -3,28 +3,20 @@
 
 usage: tests/rows_test.py [-v] [TEST ..]     from any folder; takes a few seconds
 """
-import pathlib
 import struct
-import subprocess
-import tempfile
 import unittest
 
 from support import plans
-from support.program import PROGRAM
+from support.program import Room
 from support.rows import FILE_ONE, FILE_TWO, NOT_MADE, NO_EVENTS, ROWS, SAMPLE, STRAIGHT_LINE, Wrong, event_file, read_rows
 
 
-class Playing(unittest.TestCase):
-    def setUp(self):
-        room = tempfile.TemporaryDirectory(prefix="camac-rows-")
-        self.addCleanup(room.cleanup)
-        self.room = pathlib.Path(room.name)
-
+class Playing(Room):
     def call(self, *words, given=b""):
         """Status and standard output of the program, which has nothing to say on standard error."""
-        ran = subprocess.run([PROGRAM, *words], input=given, cwd=self.room, capture_output=True, timeout=60)
-        self.assertEqual(ran.stderr, b"")
-        return ran.returncode, ran.stdout
+        status, out, err = super().call(*words, given=given)
+        self.assertEqual(err, b"")
+        return status, out
 
     def play(self, command, inputs):
         """Status, standard output, and the event file."""

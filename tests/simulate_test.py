@@ -8,16 +8,15 @@ import io
 import math
 import os
 import re
-import sys
 import unittest
 import unittest.mock
 import xml.etree.ElementTree as ElementTree
 
-from support.live import PROGRAM, Case
+from support.live import PROGRAM, Case, run_tests
 import camac
 from camac import __main__ as commands
 from camac import mock
-from camac.plans import parse_plan
+from camac.printed import read_plan
 from camac.simulate import Setting, simulate
 
 PLAN = """\
@@ -184,7 +183,7 @@ class Simulations(Case):
 
 class Modules(unittest.TestCase):
     def test_declared(self):
-        adc = parse_plan(LISTED).types["ADC"]
+        adc = read_plan(LISTED).types["ADC"]
         its = mock.Declared(adc.declarations, seed=3)
         its.trigger()
         self.assertTrue(its.calls())
@@ -209,6 +208,4 @@ station 5 ADC gl 3
 
 
 if __name__ == "__main__":
-    if not os.access(PROGRAM, os.X_OK):
-        sys.exit(f"{PROGRAM} is not there: cd crates/camac && rt run makes it, or CAMAC_PROGRAM names another")
-    unittest.main()
+    run_tests()

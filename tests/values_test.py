@@ -8,22 +8,22 @@ import csv
 import io
 import os
 import random
+import re
 import statistics
-import sys
 import unittest
 
-from support.live import PROGRAM, TOP, Case
+from support.live import PROGRAM, TOP, Case, run_tests
 import camac
-from support import told
-from camac import Cycle, Demand, Ending, Lock, Move, RunEnd, Unlock, bodies, plans, scripts
+from support import two_crates
+from support.rows import ROWS
+from camac import Cycle, Demand, Ending, Lock, Move, RunEnd, Unlock, bodies, printed, program
 from camac.annotate import annotate
-from camac.bodies import Cost, Kind
 from camac.histograms import Bins, Pairs, Series, Spectrum
-from camac.listings import Command
-from camac.plans import Declaration, Station
+from camac.printed import read_headings, read_plan, read_services
 from camac.program import knows_command, lines_of, version
 from camac.tables import write_events, write_listing
 from camac.transfers import transfer_commands
+from camac.values import BodyKind, Command, Cost, Declaration, Station
 
 COMMANDS = """\
 buffer 4096
@@ -65,16 +65,16 @@ def setUpModule():
 
 class Values(Case):
     def test_plan(self):
-        plan = plans.parse_plan(COMMANDS)
+        plan = read_plan(COMMANDS)
         self.assertEqual((plan.buffer, [crate.number for crate in plan.crates], plan.crates[0].waits), (4096, [1, 7], 2))
         self.assertEqual(plan.crates[0].stations, (Station(5, "ADC", 3), Station(6, "REG", None)))
         wanted = (Declaration(0, 0, 11, 12, False), Declaration(0, 12, 15, None, True), Declaration(8, 12, 12, None, False))
         self.assertEqual(plan.types["ADC"].declarations, wanted)
         self.assertEqual([plan.width(*at) for at in ((1, 5, 11, 0), (1, 5, 12, 0), (1, 6, 0, 0), (2, 5, 0, 0))], [12, 24, 24, 24])
         self.assertEqual([(gl, crate.number, it.number) for gl, crate, it in plan.demands()], [(3, 1, 5)])
-        plain = plans.parse_plan("".join(line for line in COMMANDS.splitlines(True) if not line.startswith("command")))
+        plain = read_plan("".join(line for line in COMMANDS.splitlines(True) if not line.startswith("command")))
         self.assertEqual((plain.types["ADC"].commands, plain.types["ADC"].probes, plain.types["ADC"].declarations), (20, 4, ()))
-        self.assertEqual(plans.parse_plan("buffer 4096\n").crates, ())
+        self.assertEqual(read_plan("buffer 4096\n").crates, ())
 
     def test_sample_plan(self):
         self.assertEqual((TOP / "python/camac/sample_plan.toml").read_text(), (TOP / "examples/sample_plan.toml").read_text())
@@ -84,18 +84,18 @@ class Values(Case):
 
     def test_verdict_and_bounds(self):
         services = camac.check("@sample", TOP / "examples/straight_line.script")
-        self.assertEqual(services, [scripts.Service("adc", 3, 3, 3, 1, 1, 3)])
-        self.assertEqual(scripts.parse_verdict("accepted\n"), [])
+        self.assertEqual(services, [camac.Service("adc", 3, 3, 3, 1, 1, 3)])
+        self.assertEqual(read_services("accepted\n"), [])
         headings = camac.bounds("@sample", TOP / "examples/too_few_cycles.script")
         line = "service adc within 3 cycles event 1 words"
-        self.assertEqual(headings, [scripts.Heading("adc", True, 3, 1, None, line)])
+        self.assertEqual(headings, [camac.Heading("adc", True, 3, 1, None, line)])
         line = "proc read(channel in 0..15, b in 1..2) within 3 cycles event 1 words steps 3"
-        self.assertEqual(scripts.parse_bounds(line + "\n"), [scripts.Heading("read", False, 3, 1, 3, line)])
+        self.assertEqual(read_headings(line + "\n"), [camac.Heading("read", False, 3, 1, 3, line)])
 
     def test_costs(self):
         read, adc = bodies.parse_costs(COSTS)
-        self.assertEqual((read.kind, read.name, read.line, read.most, read.annotated), (Kind.PROCEDURE, "read", 4, Cost(3, 1, 3), (4, 1, 8)))
-        self.assertEqual((adc.kind, adc.gl, adc.most, adc.annotated), (Kind.SERVICE, 3, Cost(20, 5, 50), (24, 5, None)))
+        self.assertEqual((read.kind, read.name, read.line, read.most, read.annotated), (BodyKind.PROCEDURE, "read", 4, Cost(3, 1, 3), (4, 1, 8)))
+        self.assertEqual((adc.kind, adc.gl, adc.most, adc.annotated), (BodyKind.SERVICE, 3, Cost(20, 5, 50), (24, 5, None)))
         self.assertEqual([row.word for row in adc.rows], ["for", "call", "lock", "cfmad", "if", "else"])
         self.assertEqual([row.about for row in adc.rows], ["turns 4", "proc read", "crate 1", "at 1 5 0 to 1 7 15", "", ""])
         # Two of the three cycles of the read may be waited for; a call costs 4 and needs 3; a lock is waited for; a scan of 3 costs 9.
@@ -173,6 +173,53 @@ class Values(Case):
             camac.plan("@sample", program=self.room / "none")
         self.assertRegex(version(), r"^camac \d+\.\d+\.\d+$")
         self.assertEqual([knows_command(it) for it in ("check", "events", "Commands", "chec")], [True, True, False, False])
+
+
+class Printed(Case):
+    """The reader against the program's own text: what it prints in the worked rows, and its sentences."""
+
+    def test_each_line_of_the_rows(self):
+        readers = {"plan": printed.read_plan, "check": read_services, "bounds": read_headings, "costs": bodies.parse_costs, "response": printed.read_responses}
+        known, read = re.compile(r"(not )?reached(\n\w+( \d+(\.\.\d+)?){1,3}|\nlock \d)*\n"), collections.Counter()
+        for its in (case for rows in ROWS.values() for cases in rows.values() for case in cases):
+            text, command = its.printed.decode(), its.command.partition(" ")[0]
+            lines = text.splitlines()
+            if printed.is_refused(text):
+                (code, line, rule), sentence, advice, column, rest = printed.read_explanation(text)
+                self.assertEqual(lines, [f"refused {code}: {rule}" if line is None else f"refused {code} line {line}: {rule}", *rest])
+                told = [*[sentence] * bool(sentence), *advice]
+                shown = rest[: len(rest) - len(told)]
+                self.assertEqual((len(advice), rest), (3 if its.command == "explain" else 0, (*shown, *told)))
+                self.assertEqual((len(shown), column is None), (0 if "P" in code or not told else 1 if code[0] in "LE" else 2, code[0] != "S" or not told))
+                command = "refused"
+            elif command == "run":
+                self.assertEqual(len(list(camac.parse_listing(lines))), len(lines))
+            elif command == "drive":
+                self.assertEqual([it for it in lines if not printed.read_request(it.encode())], lines[-1:])
+                self.assertTrue(printed.read_end(lines[-1]))
+            elif "--at" in its.command:
+                self.assertEqual(printed.is_known(text), not its.status)
+                self.assertTrue(its.status or known.fullmatch(text), text)
+            elif command != "explain":
+                readers[command](text)
+            read[command] += 1
+        self.assertEqual({*readers, "refused", "run", "drive", "explain"}, {*read})
+
+    def test_each_sentence(self):
+        head = "cdlam adc 1 1 5 12\nvar v w\n"
+        begun = head + "service adc within 3 cycles event 1 words {\n"
+        for script, read, wanted in (
+            ("cdlam adc 1 1 5 12\nservcie adc within 3 cycles event 1 words { }", printed.NEAR.find, printed.Near("service", None)),
+            (head + "servcie acd within 3 cycles", printed.NEAR.find, printed.Near("service", "servcie")),
+            (begun + "v = w", printed.read_expected, ["a statement", "an operator", "`}`"]),
+            (begun + "put u", printed.NOT_DECLARED.find, {"kind": "variable"}),
+            (begun + "put 1 put 2\n}\n", printed.read_allowed, ("event", 2)),
+            (begun + "while v > 0 turns 70000 by v { v = v - 1 }\n}\n", printed.read_allowed, ("turns", 65_535)),
+            (begun + "v = 9 while v > 0 turns 3 by v { v = v - 1 }\n}\n", printed.read_allowed, ("turns", 9)),
+            (begun + "cdreg r 1 1 5 0 cfsa 0 r -> v put v - 4294967295\n}\n", printed.LEFT_SIDE.find, {"greatest": 4095}),
+        ):
+            told = program.verdict("explain", "@sample", script.encode())
+            self.assertEqual(read(told.text), wanted, told.text)
 
 
 class Histograms(unittest.TestCase):
@@ -254,7 +301,7 @@ class Columns(unittest.TestCase):
         """What `numbers` gives of many events is what `values` gives of each."""
         chance = random.Random(3)
         events = [camac.Event(at, chance.choice((3, 5, 9)), 9, 0, tuple(chance.getrandbits(24) for _ in range(chance.randint(0, 14)))) for at in range(1, 400)]
-        for names in (told.WORDS, camac.Words([camac.Field("a", 3, places=(2, 3)), camac.Field("b", 3, bits=(3, 7), count=4), camac.Field("c", 9, of="place", places=(1, 4))])):
+        for names in (two_crates.WORDS, camac.Words([camac.Field("a", 3, places=(2, 3)), camac.Field("b", 3, bits=(3, 7), count=4), camac.Field("c", 9, of="place", places=(1, 4))])):
             wanted = collections.defaultdict(collections.Counter)
             for event in events:
                 for value in names.values(event):
@@ -299,7 +346,7 @@ class Tables(Case):
         lines = ["0 0 000000 0 000004", "0 0 000000 2 000000", "1 1 123fff 0 000000", "0 0 000000 0 000000"]
         answers = self.write("answers", "\n".join(lines) + "\n")
         self.assertEqual(
-            list(annotate("@sample", script, answers)),
+            [line for line, _ in annotate("@sample", script, answers)],
             [
                 "      1  0 0 000000 0 000004  demand 000004 adc   (service 1)",
                 "      2  0 0 000000 2 000000    lock 1 wait 2",
@@ -311,12 +358,12 @@ class Tables(Case):
         )
         overrun = self.write("overrun", "0 0 000000 0 000004\n0 0 000000 3 000000\n\n\n")
         self.assertEqual(
-            list(annotate("@sample", script, overrun))[1:],
+            [line for line, _ in annotate("@sample", script, overrun)][1:],
             ["      2  0 0 000000 3 000000  overrun 1 wait 3 events 0", "         2 answer lines were not used; the next is line 3"],
         )
         bad = self.write("bad", "0 0 000000 0 000004\n1 1\n1 1 000000 0 000000\n")
         self.assertEqual(
-            list(annotate("@sample", script, bad))[1:],
+            [line for line, _ in annotate("@sample", script, bad)][1:],
             ["      2  1 1                  refused A1 line 2: line shape", "         1 answer line was not used; the next is line 3"],
         )
         with self.assertRaises(camac.Refused):
@@ -324,6 +371,4 @@ class Tables(Case):
 
 
 if __name__ == "__main__":
-    if not os.access(PROGRAM, os.X_OK):
-        sys.exit(f"{PROGRAM} is not there: cd crates/camac && rt run makes it, or CAMAC_PROGRAM names another")
-    unittest.main()
+    run_tests()

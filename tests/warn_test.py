@@ -6,13 +6,10 @@ usage: tests/warn_test.py [-v] [TEST ..]     from any folder; takes a few second
 import json
 import os
 import re
-import subprocess
-import sys
 import time
-import unittest
 from unittest import mock
 
-from support.live import PROGRAM, TOP, Case, script
+from support.live import PROGRAM, TOP, Case, run_tests, script
 import camac
 from camac.warn import Code
 
@@ -214,18 +211,14 @@ class Warnings(Case):
 
 class Command(Case):
     def command(self, *words):
-        env = {**os.environ, "PYTHONPATH": str(TOP / "python"), "CAMAC_PROGRAM": PROGRAM, "PYTHONDONTWRITEBYTECODE": "1"}
-        words = [sys.executable, "-m", "camac", "check", *map(str, words)]
-        ran = subprocess.run(words, cwd=self.room, env=env, stdout=subprocess.PIPE, stderr=subprocess.PIPE, text=True, timeout=60)
-        self.assertEqual(ran.stderr if ran.returncode != 2 else "", "")
-        return ran.returncode, ran.stdout
+        status, out, err = self.package("check", *words)
+        self.assertEqual(err if status != 2 else "", "")
+        return status, out
 
     def test_no_program(self):
         """A program that is not there is no fault of the plan."""
-        words = [sys.executable, "-m", "camac", "check", "@sample", str(self.write("a.script", script(["cclc adc"])))]
-        env = {**os.environ, "PYTHONPATH": str(TOP / "python"), "CAMAC_PROGRAM": str(self.room / "nowhere")}
-        ran = subprocess.run(words, env=env, stdout=subprocess.PIPE, stderr=subprocess.PIPE, text=True, timeout=60)
-        self.assertEqual((ran.returncode, ran.stdout, ran.stderr), (3, "", f"camac: No such file or directory: {self.room}/nowhere\n"))
+        ran = self.package("check", "@sample", self.write("a.script", script(["cclc adc"])), CAMAC_PROGRAM=str(self.room / "nowhere"))
+        self.assertEqual(ran, (3, "", f"camac: No such file or directory: {self.room}/nowhere\n"))
 
     def test_statuses(self):
         self.write("good", script(["cclc adc"]))
@@ -288,7 +281,7 @@ class Command(Case):
         self.assertEqual(sorted(it.name for it in self.room.iterdir()), ["a.script", "link"])
 
     def test_refused_headings(self):
-        """A refusal that no heading mends is shown, and the file is as it was. If `explain` names a heading first, that is left out."""
+        """A refusal that no heading fixes is shown, and the file is as it was. If `explain` names a heading first, that is left out."""
         wide = DRAFT.replace(b"event 001", b"event 0").replace(b"call read(11)", b"put 16777216")
         for text, wanted, begins in (
             (wide, "refused E16: word above 24 bits", []),
@@ -316,6 +309,4 @@ class Command(Case):
 
 
 if __name__ == "__main__":
-    if not os.access(PROGRAM, os.X_OK):
-        sys.exit(f"{PROGRAM} is not there: cd crates/camac && rt run makes it, or CAMAC_PROGRAM names another")
-    unittest.main()
+    run_tests()

@@ -20,21 +20,21 @@ import threading
 import time
 import unittest
 
-from support.live import PROGRAM, TOP, Case
+from support.live import PROGRAM, TOP, Case, run_tests
 from support import laboratory
 import camac
 import camac.mock
-from support import told
+from support import two_crates
 from support.browser import CHROMIUM, Browser
 from camac.events import NEW_FILE, Event, record
 from camac.export import Given
 from camac.follow import Counts, Follower
+from camac.printed import read_services
 from camac.record import Recording
-from camac.scripts import parse_verdict
 from camac.watch import Server, Watch
 from camac.words import Words
 
-SERVICES = parse_verdict(told.VERDICT)
+SERVICES = read_services(two_crates.VERDICT)
 
 
 def events(count, first=1):
@@ -64,7 +64,7 @@ class Following(Case):
     def setUp(self):
         super().setUp()
         self.file, self.clock = self.room / "run.events", Clock()
-        self.follower = Follower(self.file, lambda: Counts(SERVICES, told.WORDS), self.clock)
+        self.follower = Follower(self.file, lambda: Counts(SERVICES, two_crates.WORDS), self.clock)
 
     def add(self, data):
         with open(self.file, "ab") as out:
@@ -180,7 +180,7 @@ class Following(Case):
         for make in (os.mkdir, os.mkfifo):
             self.file = self.room / make.__name__
             make(self.file)
-            self.follower = Follower(self.file, lambda: Counts(SERVICES, told.WORDS), self.clock)
+            self.follower = Follower(self.file, lambda: Counts(SERVICES, two_crates.WORDS), self.clock)
             self.assertEqual((self.poll(), self.follower.state), (0, (f"this is no file: {self.file}", True)))
 
     def test_version_one_and_unknown_services(self):
@@ -378,6 +378,4 @@ class InChromium(ServedCase):
 
 
 if __name__ == "__main__":
-    if not os.access(PROGRAM, os.X_OK):
-        sys.exit(f"{PROGRAM} is not there: cd crates/camac && rt run makes it, or CAMAC_PROGRAM names another")
-    unittest.main()
+    run_tests()

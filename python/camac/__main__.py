@@ -3,30 +3,29 @@ import argparse
 import contextlib
 import errno
 import os
-import re
 import sys
 from typing import Any, Callable, Dict, List, Mapping, Optional, Sequence, TextIO, Tuple
 
 from camac import pictures, tables
 from camac.annotate import FIRST_LINE, annotate
-from camac.bodies import costs
 from camac.columns import Naming, ask
 from camac.commands import check as check_command
 from camac.commands import diff, export, fmt, lsp, simulate, watch
-from camac.commands.rates import add_every, read_every
+from camac.commands.options import add_every, add_overwrite, add_words, naming, read_every
 from camac.commands.running import DONE, FAULT, REFUSED, STATUS, refuse_pipes
 from camac.commands.running import main as run_command
-from camac.commands.words import add_overwrite, add_words, naming
+from camac.drive import STATUS as STATUS_OF
 from camac.drive import ProgramFault, Refused
 from camac.events import EventFileFault
 from camac.output import is_one_of, output, refuse_loss, write_made
 from camac.pictures import Canvas, spectra
-from camac.plans import plan
 from camac.program import knows_command
 from camac.record import refuse_foreign, write_played
 from camac.report import report
 from camac.runs import Inputs, Run, collect
-from camac.scripts import Response, check, response, source_lines
+from camac.subcommands import check, costs, plan, response
+from camac.texts import source_lines
+from camac.values import Response, RunEnd
 
 # The words of a command line that name one file to read.
 INPUTS = ("plan", "script", "source", "answers", "file", "old", "new")
@@ -36,8 +35,6 @@ Judges scripts, lays them out and compares what they may take, serves editors, d
 
 A picture is an SVG file, a report one HTML file; both open in a browser. docs/DATA.md shows them. The program is camac in PATH, or the one that the environment
 variable CAMAC_PROGRAM names."""
-# A line of an annotated run that stopped.
-STOPPED = re.compile(r"  (overrun \d wait \d+ events \d+|refused A\d line \d+: [a-z ]+)$")
 DRAW = """\
   plan      PLAN [SCRIPT [ANSWERS]]           crates, stations, graded-L bits; with a run the cycles at each station
   bounds    PLAN SCRIPT [ANSWERS|EVENTS]      what each service may take, of its heading's numbers
@@ -168,8 +165,8 @@ def make_annotated(args: argparse.Namespace) -> int:
     status = DONE
     refuse_loss(args.out, FIRST_LINE, args.overwrite)
     with output(args.out) as out:
-        for line in annotate(args.plan, args.script, args.answers):
-            status = REFUSED if STOPPED.search(line) else status
+        for line, it in annotate(args.plan, args.script, args.answers):
+            status = REFUSED if isinstance(it, RunEnd) and STATUS_OF[it.how] else status
             out.write(line + "\n")
     return status
 

@@ -5,7 +5,7 @@ from typing import Any, Dict, Sequence, Tuple
 from camac.arrays import Array, EventArrays
 from camac.histograms import Pairs, Series, Spectrum
 from camac.runs import Channel, Run
-from camac.scripts import Service
+from camac.values import Service
 
 # The squares of this number of words of 24 bits add up to less than 2^64.
 MOST_SQUARES = 1 << 15

@@ -1,95 +1,11 @@
 """What the bound of a body consists of: the rows of `camac costs`, and which part of them is auxiliary controllers' or not needed."""
-import enum
-import re
 from typing import Dict, List, Mapping, NamedTuple, Optional, Sequence, Tuple
 
-from camac.drive import File
-from camac.program import output_of, shown
-from camac.scripts import Service
+from camac.printed import read_bodies
+from camac.values import Body, Cost, Row, Service
 
-
-class Kind(enum.Enum):
-    """What a body belongs to."""
-
-    SERVICE = "service"
-    PROCEDURE = "proc"
-
-
-class Cost(NamedTuple):
-    """Dataway cycles (with those of auxiliary controllers), event words, and steps."""
-
-    cycles: int
-    words: int
-    steps: int
-
-
-class Row(NamedTuple):
-    """A statement, or an `else`.
-
-    line, depth   of its first token; 1 in the body itself, 1 more in each block
-    word          the statement's word: "cfsa", "if", "=" ..
-    times         the most times that one service or call makes it
-    each          what one time costs at most, with its block
-    share         its part of the body's bound, without its block
-    about         what the program says of its place: "at 1 5 0..15", "at 1 5 0 to 1 6 3", "turns 4", "crate 1", "proc NAME", or ""
-    waits, slack  of the cycles of its share: those that auxiliary controllers may take, and those that the headings of procedures promise
-                  and their bodies do not need"""
-
-    line: int
-    depth: int
-    word: str
-    times: int
-    each: Cost
-    share: Cost
-    about: str
-    waits: int = 0
-    slack: int = 0
-
-    def own(self) -> int:
-        """The cycles of one time without its block: of a `lock` the waits for it."""
-        return self.each.cycles if self.word not in BLOCKS else self.share.cycles // self.times if self.times else 0
-
-    def counted(self) -> int:
-        """How many times are counted in the bound: as often as it is made at most, and never in the arm of an `if` that costs less."""
-        return self.times if self.share.cycles else 0
-
-
-class Body(NamedTuple):
-    """A service or procedure: the name, the line of its heading, what it costs at most, the numbers of its heading (a service's steps are
-    None there), and its statements in the order of the text. `gl` is the graded-L bit of a service."""
-
-    kind: Kind
-    name: str
-    line: int
-    most: Cost
-    annotated: Tuple[int, int, Optional[int]]
-    rows: Tuple[Row, ...]
-    gl: Optional[int] = None
-
-    def waits(self) -> int:
-        return sum(row.waits for row in self.rows)
-
-    def slack(self) -> int:
-        return sum(row.slack for row in self.rows)
-
-
-SERVICE = re.compile(r"service (\w+) line (\d+) gl (\d+) at \d+ \d+ \d+ cycles (\d+) of (\d+) words (\d+) of (\d+) steps (\d+)")
-PROCEDURE = re.compile(r"proc (\w+) line (\d+) cycles (\d+) of (\d+) words (\d+) of (\d+) steps (\d+) of (\d+)")
-ROW = re.compile(
-    r"line (\d+) depth (\d+) (\S+) times (\d+) cycles (\d+) words (\d+) steps (\d+) share (\d+) (\d+) (\d+)"
-    r"(?: (at \S+ \S+ \S+(?: to \S+ \S+ \S+)?|turns \d+|crate \S+|proc \w+))?"
-)
 CYCLES = frozenset("cfsa cssa cccz cccc ctci ctcd ctgl ccci cccd cclm cclc ctlm".split())
 TRANSFERS = frozenset("cfmad cfubc cfubr".split())
-BLOCKS = frozenset(("if", "else", "for", "while", "lock"))
-
-
-def costs(plan: File, script: File, program: Optional[File] = None) -> List[Body]:
-    """Returns the bodies of an accepted script, in the order of the text, with what each statement has of the bound.
-
-    Raises Refused if plan or script is refused, UsageFault if the program has no `costs`, ProgramFault if a file cannot be
-    read, and OSError if there is no program."""
-    return parse_costs(output_of("costs", "--", plan, script, program=program))
 
 
 def services_of(bodies: Sequence[Body]) -> List[Service]:
@@ -100,48 +16,11 @@ def services_of(bodies: Sequence[Body]) -> List[Service]:
 
 
 def parse_costs(printed: str) -> List[Body]:
-    """Reads what `camac costs` prints."""
-    bodies: List[Body] = []
-    rows: List[Row] = []
+    """Reads what `camac costs` prints, with the waits and the slack of each row."""
     procedures: Dict[str, Body] = {}
-
-    def close() -> None:
-        if bodies:
-            bodies[-1] = bodies[-1]._replace(rows=tuple(_with_parts(row, procedures) for row in rows))
-            procedures[bodies[-1].name] = bodies[-1]
-            rows.clear()
-
-    for line in printed.splitlines():
-        found = ROW.fullmatch(line)
-        if found:
-            rows.append(_read_row(found))
-        else:
-            close()
-            bodies.append(_read_head(line))
-    close()
-    return bodies
-
-
-def rows_of_line(printed: str, line: int) -> List[Row]:
-    """The rows of a line of the script, in their order, in what `camac costs` prints. Waits and slack are not in it."""
-    found = re.findall(rf"(?m)^line {line} .*$", printed)
-    return [_read_row(it) for it in map(ROW.fullmatch, found) if it]
-
-
-def _read_row(found: "re.Match[str]") -> Row:
-    line, depth, times, *numbers = map(int, found.group(1, 2, 4, 5, 6, 7, 8, 9, 10))
-    return Row(line, depth, found[3], times, Cost(*numbers[:3]), Cost(*numbers[3:]), found[11] or "")
-
-
-def _read_head(line: str) -> Body:
-    service, procedure = SERVICE.fullmatch(line), PROCEDURE.fullmatch(line)
-    if service:
-        at, gl, cycles, of_cycles, words, of_words, steps = map(int, service.groups()[1:])
-        return Body(Kind.SERVICE, service[1], at, Cost(cycles, words, steps), (of_cycles, of_words, None), (), gl)
-    if procedure:
-        at, cycles, of_cycles, words, of_words, steps, of_steps = map(int, procedure.groups()[1:])
-        return Body(Kind.PROCEDURE, procedure[1], at, Cost(cycles, words, steps), (of_cycles, of_words, of_steps), ())
-    raise ValueError(f"no line of costs: {shown(line)}")
+    for body in read_bodies(printed):
+        procedures[body.name] = body._replace(rows=tuple(_with_parts(row, procedures) for row in body.rows))
+    return list(procedures.values())
 
 
 def _with_parts(row: Row, procedures: Dict[str, Body]) -> Row:
@@ -157,7 +36,7 @@ def _with_parts(row: Row, procedures: Dict[str, Body]) -> Row:
     if row.word in TRANSFERS:
         return row._replace(waits=share * (each - (row.each.steps - 1)) // each)
     if row.word == "call":
-        body = procedures[row.about[len("proc ") :]]
+        body = procedures[row.called()]
         return row._replace(waits=share * body.waits() // each, slack=share * (body.slack() + each - body.most.cycles) // each)
     return row
 
@@ -187,7 +66,7 @@ def _open(rows: Sequence[Row], at: Tuple[int, int], procedures: Mapping[str, Bod
 
 def called(row: Row, procedures: Mapping[str, Body]) -> Optional[Body]:
     """The procedure that a row calls."""
-    return procedures.get(row.about[len("proc ") :]) if row.word == "call" else None
+    return procedures.get(row.called()) if row.word == "call" else None
 
 
 def _times(row: Row, times: int) -> Row:

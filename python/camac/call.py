@@ -1,8 +1,9 @@
 """One call of one service: the start of a cold crate, or a stop, by a checked script of its own."""
 from typing import Optional
 
-from camac.drive import Answer, Branch, File, RunEnd, drive
-from camac.scripts import check
+from camac.drive import Answer, Branch, File, drive
+from camac.subcommands import check
+from camac.values import RunEnd
 
 
 def call(

@@ -3,9 +3,8 @@ from dataclasses import dataclass
 from typing import List, Optional, Tuple
 
 from camac.drive import File, UsageFault
-from camac.plans import Plan
 from camac.runs import Asked, Inputs, is_event_file
-from camac.scripts import Service
+from camac.values import Plan, Service
 from camac.word_file import read_words
 from camac.word_sources import words_of_script
 from camac.words import Column, Words

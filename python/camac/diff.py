@@ -3,10 +3,10 @@ from typing import Dict, Iterator, List, Mapping, NamedTuple, Optional, Sequence
 
 from camac import functions
 from camac.drive import File
-from camac.plans import plan as read_plan
-from camac.scripts import Response, Service, check, response
+from camac.subcommands import check, plan as read_plan, response
 from camac.texts import plan_text
 from camac.toml_places import with_commands
+from camac.values import Response, Service
 
 # The quantities that are compared of a service, in the order in which they are printed.
 QUANTITIES = ("cycles", "words", "steps", "start", "end")
@@ -38,12 +38,12 @@ class Change(NamedTuple):
     def line(self) -> str:
         if self.before is None or self.after is None:
             its = self.after or self.before
-            told = " ".join(f"{name} {_shown(value)}" for name, value in zip(QUANTITIES, its or ()))
-            return f"{'+' if self.after else '-'} service {self.name} {told}"
+            numbers = " ".join(f"{name} {_shown(value)}" for name, value in zip(QUANTITIES, its or ()))
+            return f"{'+' if self.after else '-'} service {self.name} {numbers}"
         pairs = zip(QUANTITIES, self.before, self.after)
-        told = " ".join(f"{name} {_shown(old)}" + ("" if old == new else f" -> {_shown(new)}") for name, old, new in pairs)
+        numbers = " ".join(f"{name} {_shown(old)}" + ("" if old == new else f" -> {_shown(new)}") for name, old, new in pairs)
         grown = self.grown()
-        return f"{'=' if self.before == self.after else '~'} service {self.name} {told}" + (f"  grown: {' '.join(grown)}" if grown else "")
+        return f"{'=' if self.before == self.after else '~'} service {self.name} {numbers}" + (f"  grown: {' '.join(grown)}" if grown else "")
 
 
 def _shown(value: Optional[int]) -> str:

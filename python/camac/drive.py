@@ -2,12 +2,13 @@
 
 `drive` starts the program as `camac drive PLAN SCRIPT EVENTS`, reads its requests, has the branch make each of them, and hands on the
 answer. docs/LIVE.md describes the requests, and what a driver has to keep."""
-import enum
 import operator
 import os
-import re
 import select
-from typing import TYPE_CHECKING, Dict, List, NamedTuple, NoReturn, Optional, Protocol, Tuple, Union
+from typing import TYPE_CHECKING, List, NamedTuple, NoReturn, Optional, Protocol, Union
+
+from camac.printed import REFUSAL, read_end, read_request
+from camac.values import Ending, Refusal, Request, RunEnd
 
 if TYPE_CHECKING:
     import subprocess
@@ -16,23 +17,13 @@ if TYPE_CHECKING:
 
 File = Union[str, bytes, "os.PathLike[str]", "os.PathLike[bytes]"]
 GREATEST_LINE = 4096
-# The requested cycles that are kept as they were read.
-MOST_CYCLES = 4096
 GREATEST = {"x": 1, "q": 1, "word": 0xFF_FFFF, "wait": 15, "gl": 0xFF_FFFF}
 # The most seconds that a wait of the system takes.
 GREATEST_TIMEOUT = 2_147_483
 # After a failure the program has this many seconds for its end, before it is killed.
 PATIENCE = 60.0
-DEMAND = re.compile(rb"demand")
-CYCLE = re.compile(rb"cycle ([1-7]) (\d\d?) (\d\d?) (\d\d?) (?:in|none|out ([0-9a-f]{6}))")
-LOCK = re.compile(rb"lock ([1-7])")
-UNLOCK = re.compile(rb"unlock ([1-7])")
-WAIT = "(1[0-5]|[0-9])"
 LINE = "%d %d %06x %x %06x"
 BYTES = LINE.encode() + b"\n"
-END = re.compile(f"(ended|short|overrun ([1-7]) wait {WAIT}) events (0|[1-9][0-9]*)")
-REFUSAL = re.compile("refused ([A-Z][0-9][0-9]?)(?: line ([1-9][0-9]*))?: (.+)")
-
 
 class _Numbers(NamedTuple):
     x: int
@@ -102,31 +93,6 @@ class Branch(Protocol):
         """Releases the lockout of crate c."""
 
 
-class Ending(enum.Enum):
-    """How a run ended."""
-
-    ENDED = "ended"
-    SHORT = "short"
-    OVERRUN = "overrun"
-    REFUSED = "refused"
-
-
-class RunEnd(NamedTuple):
-    """The end of a run.
-
-    how           ENDED at a demand; SHORT inside a service, which left no event; OVERRUN at a wait that is not permitted; REFUSED at an
-                  answer that the program could not take
-    line          the program's last line
-    events        how many events were written; None if the program does not say it (REFUSED)
-    crate, wait   of an OVERRUN, else None"""
-
-    how: Ending
-    line: str
-    events: Optional[int] = None
-    crate: Optional[int] = None
-    wait: Optional[int] = None
-
-
 STATUS = {Ending.ENDED: 0, Ending.SHORT: 0, Ending.OVERRUN: 1, Ending.REFUSED: 1}
 
 
@@ -135,13 +101,13 @@ class DriveFault(Exception):
 
 
 class Refused(DriveFault):
-    """Plan or script was refused before the first request: the code of the rule, the line (None for a plan), and the program's text."""
+    """Plan or script was refused before the first request: the code of the rule, the line (None for a plan), and the rule in
+    words."""
 
-    def __init__(self, line: str) -> None:
+    def __init__(self, printed: str) -> None:
+        line = printed.partition("\n")[0]
         super().__init__(line)
-        found = REFUSAL.fullmatch(line)
-        self.code = found[1] if found else ""
-        self.line = int(found[2]) if found and found[2] else None
+        self.code, self.line, self.rule = REFUSAL.read(line) or Refusal("", None, line)
 
 
 class ProgramFault(DriveFault):
@@ -287,46 +253,37 @@ class _Run:
     def __init__(self, program: "_Program", branch: Branch) -> None:
         self.program, self.branch, self.lockouts = program, branch, Lockouts(branch)
         self.is_open = True
-        # The cycles that were requested, by their lines: a script makes the same ones again and again.
-        self.cycles: Dict[bytes, Tuple[int, int, int, int, Optional[int]]] = {}
 
     def serve(self) -> Optional[RunEnd]:
         """Has the branch make all that is requested, and returns the end by the last line, or None if there is no last line."""
         while (line := self.program.read_line()) is not None:
-            if line in self.cycles and self.is_open:
-                self.hand_on(line, self.branch.cycle(*self.cycles[line]))
-            elif requested := CYCLE.fullmatch(line) or DEMAND.fullmatch(line) or LOCK.fullmatch(line):
-                self.answer(requested)
-            elif found := UNLOCK.fullmatch(line):
-                self.lockouts.unlock(int(found[1]))
-            elif end := read_end(line):
+            if request := read_request(line):
+                self.answer(line, request)
+            elif end := read_end(_text(line)):
                 return end
             else:
                 raise ProtocolFault(f"camac wrote what is no request: {line!r}")
         return None
 
-    def answer(self, requested: "re.Match[bytes]") -> None:
+    def answer(self, line: bytes, request: Request) -> None:
         """Has the branch answer a request. If it has no more answers to give, the input is ended."""
+        answer: Optional[Answer]
+        if request.kind == "unlock":
+            self.lockouts.unlock(*request.at)
+            return
         if not self.is_open:
-            raise ProtocolFault(f"camac wrote a request after the end of its input: {requested[0]!r}")
-        answer = self.make(requested)
-        if answer is None and requested.re is DEMAND:
-            self.is_open = False
-            self.program.end_input()
+            raise ProtocolFault(f"camac wrote a request after the end of its input: {line!r}")
+        if request.kind == "cycle":
+            answer = self.branch.cycle(*request.at)
+        elif request.kind == "lock":
+            answer = self.lockouts.lock(*request.at)
         else:
-            self.hand_on(requested[0], answer)
-
-    def make(self, requested: "re.Match[bytes]") -> Optional[Answer]:
-        """Has the branch make an operation."""
-        if requested.re is DEMAND:
-            return self.branch.demand()
-        if requested.re is LOCK:
-            return self.lockouts.lock(int(requested[1]))
-        c, n, a, f = map(int, requested.group(1, 2, 3, 4))
-        its = c, n, a, f, int(requested[5], 16) if requested[5] else None
-        if len(self.cycles) < MOST_CYCLES:
-            self.cycles[requested[0]] = its
-        return self.branch.cycle(*its)
+            answer = self.branch.demand()
+            if answer is None:
+                self.is_open = False
+                self.program.end_input()
+                return
+        self.hand_on(line, answer)
 
     def hand_on(self, request: bytes, answer: Optional[Answer]) -> None:
         """Hands an answer on to the program. Only a demand may be without one."""
@@ -404,7 +361,7 @@ class _Program:
         self.timeout = PATIENCE if self.timeout is None else self.timeout
         end = None
         while (line := self.read_line()) is not None:
-            end = read_end(line)
+            end = read_end(_text(line))
         return end
 
     def write(self, line: bytes) -> None:
@@ -430,7 +387,7 @@ class _Program:
         except subprocess.TimeoutExpired:
             raise TimeFault(f"camac did not end in {self.timeout} seconds") from None
         self.errors.seek(0)
-        return _judge(end, status, self.errors.read().decode(errors="replace").rstrip("\n"))
+        return _judge(end, status, _text(self.errors.read()).rstrip("\n"))
 
     def kill(self) -> None:
         if self.process.poll() is None:
@@ -448,23 +405,13 @@ def _judge(end: Optional[RunEnd], status: int, errors: str) -> RunEnd:
         raise ProtocolFault("camac ended without a last line")
     if status != STATUS[end.how]:
         raise ProtocolFault(f"camac ended with status {status} after {end.line!r}")
-    if end.how is Ending.REFUSED and not end.line.startswith("refused A"):
+    if end.is_refused_script():
         raise Refused(end.line)
     return end
 
 
-def read_end(last: bytes) -> Optional[RunEnd]:
-    """Reads the last line of a run; None if it is none."""
-    line = last.decode(errors="replace")
-    if REFUSAL.fullmatch(line):
-        return RunEnd(Ending.REFUSED, line)
-    found = END.fullmatch(line)
-    if not found:
-        return None
-    how = Ending(found[1].partition(" ")[0])
-    if how is Ending.OVERRUN:
-        return RunEnd(how, line, int(found[4]), int(found[2]), int(found[3]))
-    return RunEnd(how, line, int(found[4]))
+def _text(data: bytes) -> str:
+    return data.decode(errors="replace")
 
 
 def add_note(error: BaseException, note: str) -> None:

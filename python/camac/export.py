@@ -17,10 +17,10 @@ from camac.arrays import Array, EventArrays, event_arrays
 from camac.drive import File, ProgramFault
 from camac.events import GREATEST_COUNT, GREATEST_GL, EventFileFault, whole_size
 from camac.output import bytes_output, holds_bytes, output
-from camac.plans import plan as read_plan
 from camac.record import Record, Source, read_record
-from camac.scripts import Service, check
+from camac.subcommands import check, plan as read_plan
 from camac.texts import plan_text, script_text
+from camac.values import Service
 from camac.word_file import parse_words
 from camac.word_sources import words_of_script
 from camac.words import Words
@@ -48,12 +48,12 @@ class About:
         """The names that the script gives to words, behind the empty one of all others."""
         return ["", *(it.name for it in self.sources.fields)]
 
-    def told(self) -> Dict[str, Any]:
+    def value(self) -> Dict[str, Any]:
         """As JSON has it."""
         texts = {"plan": self.plan, "script": self.script, "words": self.words_text}
-        told = {name: its.told() for name, its in texts.items() if its}
+        values = {name: its.value() for name, its in texts.items() if its}
         record = {"record": json.loads(self.record.text())} if self.record else {}
-        return {"form": FORM, "events": self.events, "services": {str(it.gl): it.name for it in self.services}, **told, **record}
+        return {"form": FORM, "events": self.events, "services": {str(it.gl): it.name for it in self.services}, **values, **record}
 
 
 class Given(NamedTuple):
@@ -223,7 +223,7 @@ def _write_csv(given: Given, about: About, files: List[str]) -> Optional[EventFi
                 export_csv.write_series([it for it in series if it.table == table], file)
     units = {name: fields[0].unit for name, fields in about.words.by_name().items()}
     with output(files[2]) as out:
-        json.dump({**about.told(), "units": units}, out, indent=1)
+        json.dump({**about.value(), "units": units}, out, indent=1)
         out.write("\n")
     return fault
 
@@ -233,9 +233,9 @@ def _write_npz(given: Given, about: About, files: List[str]) -> Optional[EventFi
     events, fault = read_all(given.events)
     series = tables(events, about)
     arrays = {f"{it.table}/{it.name}": it.values for it in series}
-    told = {**about.told(), "columns": {f"{it.table}/{it.name}": _told(it) for it in series}, "sources": about.source_names()}
+    values = {**about.value(), "columns": {f"{it.table}/{it.name}": _about(it) for it in series}, "sources": about.source_names()}
     with bytes_output(files[0]) as out:
-        numpy.savez(out, about=numpy.array(json.dumps(told)), **arrays)
+        numpy.savez(out, about=numpy.array(json.dumps(values)), **arrays)
     return fault
 
 
@@ -245,13 +245,13 @@ def _write_h5(given: Given, about: About, files: List[str]) -> Optional[EventFil
     with h5py.File("export", "w", driver="core", backing_store=False) as file:
         for it in tables(events, about):
             data = file.create_dataset(f"{it.table}/{it.name}", data=it.values, compression="gzip", compression_opts=1, shuffle=True)
-            data.attrs.update(_told(it))
+            data.attrs.update(_about(it))
         file["sources"] = about.source_names()
-        for name, told in about.told().items():
-            if "sha256" in told:
-                its = {name: told.get("text", told.get("base64")), f"{name}_name": told["name"], f"{name}_sha256": told["sha256"]}
+        for name, values in about.value().items():
+            if "sha256" in values:
+                its = {name: values.get("text", values.get("base64")), f"{name}_name": values["name"], f"{name}_sha256": values["sha256"]}
             else:
-                its = {name: told if isinstance(told, str) else json.dumps(told)}
+                its = {name: values if isinstance(values, str) else json.dumps(values)}
             # A name of a file may hold bytes that are no text.
             file.attrs.update({name: text.encode("utf-8", "replace").decode() for name, text in its.items()})
         file.flush()
@@ -261,7 +261,7 @@ def _write_h5(given: Given, about: About, files: List[str]) -> Optional[EventFil
     return fault
 
 
-def _told(its: Series) -> Dict[str, str]:
+def _about(its: Series) -> Dict[str, str]:
     return {"name": its.title or its.name, "unit": its.unit, "meaning": its.meaning}
 
 

@@ -8,9 +8,9 @@ from typing import Callable, Deque, Dict, List, NamedTuple, Optional, Sequence, 
 from camac.drive import File
 from camac.events import FORMS, HEADER, Event, EventFileFault, Form, read_further, record_size
 from camac.histograms import Spectrum
-from camac.runs import Channel, Seen, SeenOfBit
-from camac.scripts import Service
-from camac.words import Column, Words
+from camac.runs import Channel, Channels, Seen, SeenOfBit
+from camac.values import Service
+from camac.words import Words
 
 # The bytes of one read, the events that are shown, and the seconds of the rate.
 MOST_BYTES, SHOWN_EVENTS, WINDOW = 8 << 20, 12, 10.0
@@ -45,31 +45,24 @@ class Counts:
         if services:
             self.ends = max(it.cycles for it in services) + 1, max(it.words for it in services) + 1
         self.bits: Dict[int, _Bit] = {it.gl: _Bit(self.ends) for it in services}
-        self.channels: Dict[Column, Channel] = {}
+        self.channels = Channels()
         self.last: Deque[Event] = collections.deque(maxlen=SHOWN_EVENTS)
 
     def take(self, events: Sequence[Event]) -> None:
         self.events += len(events)
         self.last.extend(events[-SHOWN_EVENTS:])
-        by_bit: Dict[int, List[Event]] = {}
-        for it in events:
-            by_bit.setdefault(it.gl, []).append(it)
-        for gl, its in by_bit.items():
+        for gl in {it.gl for it in events}:
             if gl not in self.bits:
                 self.bits[gl] = _Bit(self.ends)
-            self.bits[gl].take(its)
-        for column, numbers, values in self.names.numbers(events):
-            if column not in self.channels:
-                self.channels[column] = Channel(column)
-            self.channels[column].add_all(numbers, values)
+            self.bits[gl].take([it for it in events if it.gl == gl])
+        self.channels.take(self.names, events)
 
     def seen(self) -> Dict[int, SeenOfBit]:
         """By bit, the counts of its services."""
         return {gl: SeenOfBit(_seen(it.cycles), _seen(it.words), 0, 0, 0, it.missed) for gl, it in sorted(self.bits.items()) if it.count}
 
     def list_channels(self) -> List[Channel]:
-        columns = [column for gl in sorted(self.bits) for column in self.names.columns(gl)]
-        return [self.channels[it] for it in columns if it in self.channels]
+        return self.channels.listed(self.names, self.bits)
 
 
 def _seen(its: Spectrum) -> Seen:

@@ -5,7 +5,8 @@ from camac.drive import File
 from camac.edits import Edit, edited
 from camac.output import bytes_output
 from camac.reader import read_headings
-from camac.scripts import Heading, bounds
+from camac.subcommands import bounds
+from camac.values import Heading
 
 
 class Written(NamedTuple):

@@ -1,11 +1,11 @@
 """`camac-check`: many scripts on one plan, each place as FILE:LINE or FILE:LINE:COLUMN, with warnings about what is accepted."""
-import re
 from typing import TYPE_CHECKING, Callable, Dict, List, NamedTuple, Optional, Sequence, Tuple
 
 from camac.drive import File, ProgramFault, Refused, UsageFault, one_line
+from camac.printed import read_explanation
 from camac.program import lines_of, output_of
-from camac.scripts import Service
 from camac.texts import TextFile
+from camac.values import Service
 from camac.warn import look, looks_for_all
 
 if TYPE_CHECKING:
@@ -16,10 +16,6 @@ FORMATS = ("text", "json", "github", "sarif")
 LEVELS = {"refused": "error", "fault": "error", "warning": "warning", "written": "notice", "proposed": "notice", "remaining": "error"}
 # The characters that GitHub wants escaped in a message, and in a property.
 MESSAGE, PROPERTY = "%\r\n", "%\r\n:,"
-# A refusal after the first.
-ALSO = re.compile(r"also refused (\w+) line (\d+): (.*)")
-# The sign for the part of a line that is left out.
-CUT = ".."
 
 
 class Found(NamedTuple):
@@ -140,15 +136,12 @@ def _faults(call: Callable[[], List[Found]], files: List[TextFile], program: Opt
     try:
         return call()
     except Refused as refusal:
-        first, *lines = lines_of("explain", "--", *files, program=program)
-        # The headings as they are may be refused before what no heading mends.
-        its = lines if first == str(refusal) else []
-        told = [it for it in its if not ALSO.match(it)]
-        further = (found for found in map(ALSO.match, its) if found)
-        return [
-            Found("refused", refusal.line, refusal.code, str(refusal).partition(": ")[2], tuple(told), _column(told)),
-            *(Found("refused", int(it[2]), it[1], it[3]) for it in further),
-        ]
+        its = read_explanation("\n".join(lines_of("explain", "--", *files, program=program)))
+        # The headings as they are may be refused before what no heading fixes.
+        if its is None or its.refusal != (refusal.code, refusal.line, refusal.rule):
+            return [Found("refused", refusal.line, refusal.code, refusal.rule)]
+        first = Found("refused", refusal.line, refusal.code, refusal.rule, its.lines, its.column)
+        return [first, *(Found("refused", it.line, it.code, it.rule) for it in its.also)]
     except UsageFault:
         raise
     except ProgramFault as fault:
@@ -159,15 +152,7 @@ def _faults(call: Callable[[], List[Found]], files: List[TextFile], program: Opt
         return [Found("fault", None, None, str(fault.strerror or fault))]
 
 
-def _column(explanation: Sequence[str]) -> Optional[int]:
-    """Where the mark of an explanation is in its line. Of a line that is shown in part it is not known."""
-    if len(explanation) < 2 or not re.fullmatch(r" +\| \s*\^", explanation[1]):
-        return None
-    shown, mark = explanation[0].partition(" | ")[2], explanation[1].partition(" | ")[2]
-    return None if shown.startswith(CUT) else len(mark)
-
-
-def told(judged: Sequence[Judged], form: str) -> str:
+def text_of(judged: Sequence[Judged], form: str) -> str:
     """The output on all files, in one of `FORMATS`."""
     if form == "json":
         import json

@@ -4,7 +4,7 @@ A stretch of a bit is graded-L operations, one after another, that each call a s
 answered in a stretch came after the operation before it: so the cycles since then count."""
 from typing import Dict, NamedTuple, Optional, Sequence
 
-from camac.scripts import Response
+from camac.values import Response
 
 
 class Broken(NamedTuple):

@@ -12,8 +12,9 @@ from io import FileIO
 from typing import TYPE_CHECKING, Any, Callable, Iterable, Iterator, List, Mapping, NamedTuple, Optional, Tuple, Union
 
 from camac import native
-from camac.drive import Answer, Branch, Ending, File, Lockouts, ProgramFault, Refused, RunEnd, UsageFault, file_fault
+from camac.drive import Answer, Branch, File, Lockouts, ProgramFault, Refused, UsageFault, file_fault
 from camac.events import NEW_FILE
+from camac.values import Ending, RunEnd
 from camac.native import (
     CYCLE as CYCLE,
     DEMAND as DEMAND,
@@ -141,7 +142,7 @@ def _judged(name: str, *texts: Text) -> Verdict:
     return Verdict(code == OK, text.decode("utf-8", "replace"))
 
 
-def told(command: str, plan: File, *script: File, every: Iterable[str] = ()) -> Verdict:
+def output_of(command: str, plan: File, *script: File, every: Iterable[str] = ()) -> Verdict:
     """The output of the program when it is called with one of `COMMANDS` and these files. `every` has the words that follow this option of
     `response`, as NAME=CYCLES. Raises as the program fails: ProgramFault, UsageFault."""
     name = command if script or command == "plan" else f"{command}_plan"
@@ -149,7 +150,7 @@ def told(command: str, plan: File, *script: File, every: Iterable[str] = ()) -> 
 
 
 def judged(command: str, *texts: Text, every: Iterable[str] = ()) -> Verdict:
-    """What the program prints of these texts, as `told`."""
+    """What the program prints of these texts, as `output_of`."""
     options = [_settings(every), ""] if command == "response" else []
     return _judged(command, *texts, *options)
 
@@ -200,9 +201,9 @@ def response(plan: Text, script: Text, every: Optional[Mapping[str, int]] = None
     return _judged("response", plan, script, _settings(settings(every)), _settings(settings(within)))
 
 
-def settings(told: Optional[Mapping[str, int]]) -> List[str]:
+def settings(numbers: Optional[Mapping[str, int]]) -> List[str]:
     """The words that follow an option of `response`: NAME=CYCLES for each service."""
-    return [f"{service}={cycles}" for service, cycles in (told or {}).items()]
+    return [f"{service}={cycles}" for service, cycles in (numbers or {}).items()]
 
 
 def _settings(words: Iterable[str]) -> str:
@@ -251,7 +252,7 @@ class Session:
         buffer = _Buffer()
         code = calls.texts.camac_open(self._at, *_given(plan, script), *buffer.words())
         if code == REFUSED:
-            raise Refused(buffer.text().decode().partition("\n")[0])
+            raise Refused(buffer.text().decode())
         if code != OK:
             raise _fault(code)
 

@@ -23,9 +23,9 @@ import re
 from typing import Dict, Iterable, Iterator, List, Mapping, NamedTuple, Optional, Set, TextIO, Tuple, Union
 
 from camac.drive import Answer, Branch, File
-from camac.plans import Declaration, Plan
-from camac.plans import plan as read_plan
-from camac.program import shown
+from camac.printed import shown
+from camac.subcommands import plan as read_plan
+from camac.values import Declaration, Plan
 
 Place = Tuple[int, int]
 GREATEST_WORD = 0xFF_FFFF

@@ -5,12 +5,12 @@ named as the program. What calls another process is loaded when it is called: it
 import functools
 import itertools
 import os
-import re
 from typing import Iterator, Optional, Tuple
 
 from camac import library
 from camac.drive import File, ProgramFault, Refused, UsageFault, find_program
 from camac.library import IN_PROCESS as IN_PROCESS
+from camac.printed import is_known, is_refused
 from camac.texts import plan_text
 
 REFUSED, USAGE = 1, 2
@@ -32,7 +32,7 @@ def _find(command: str, program: Optional[File]) -> str:
         raise
 
 
-def _told(*words: File) -> library.Verdict:
+def _of_library(*words: File) -> library.Verdict:
     """The library's answer in the program's place. Before the files there may be the options `--every=NAME=CYCLES`, and "--"."""
     command, *files = words
     every = [it[len(EVERY) :] for it in itertools.takewhile(lambda it: it.startswith(EVERY), map(os.fsdecode, files))]
@@ -41,7 +41,7 @@ def _told(*words: File) -> library.Verdict:
         files = files[1:]
     if command not in library.COMMANDS:
         raise UsageFault(f"the library has no `{os.fsdecode(command)}`", USAGE)
-    return library.told(os.fsdecode(command), *files, every=every)
+    return library.output_of(os.fsdecode(command), *files, every=every)
 
 
 def output_of(*words: File, program: Optional[File] = None) -> str:
@@ -51,7 +51,7 @@ def output_of(*words: File, program: Optional[File] = None) -> str:
     status, and OSError if it cannot be started."""
     found = _find(os.fsdecode(words[0]), program)
     if found == IN_PROCESS:
-        verdict = _told(*words)
+        verdict = _of_library(*words)
         _judge(0 if verdict.accepted else REFUSED, verdict.text, "")
         return verdict.text
     import subprocess
@@ -69,7 +69,7 @@ def lines_of(*words: File, program: Optional[File] = None) -> Iterator[str]:
     Raises UsageFault, ProgramFault and OSError as `output_of`, behind the last line."""
     found = _find(os.fsdecode(words[0]), program)
     if found == IN_PROCESS:
-        yield from _told(*words).text.splitlines()
+        yield from _of_library(*words).text.splitlines()
         return
     import subprocess
     import tempfile
@@ -95,16 +95,11 @@ def _text(data: bytes) -> str:
 
 def _judge(status: int, printed: str, errors: str) -> None:
     if status == REFUSED and printed:
-        raise Refused(printed.partition("\n")[0])
+        raise Refused(printed)
     if status == USAGE:
         raise UsageFault(errors.rstrip("\n"), status)
     if status:
         raise ProgramFault(errors.rstrip("\n"), status)
-
-
-def shown(line: str) -> str:
-    """A line for a fault: it may be of any length, and hold anything."""
-    return repr(line if len(line) <= 80 else f"{line[:80]}..")
 
 
 def version(program: Optional[File] = None) -> str:
@@ -114,40 +109,27 @@ def version(program: Optional[File] = None) -> str:
     return output_of("--version", program=program).rstrip("\n")
 
 
-def verdict(command: str, plan: File, script: bytes, program: Optional[File] = None) -> library.Verdict:
-    """The program's answer on a script that is given as its text. `command` judges: "check", "bounds", "costs", "response" or "explain".
+def verdict(command: str, plan: File, script: bytes, program: Optional[File] = None, at: Optional[Tuple[int, int]] = None) -> library.Verdict:
+    """The program's answer on a script that is given as its text. `command` judges: "check", "bounds", "costs", "response" or "explain", which says
+    with line and column what is known there.
 
     Raises ProgramFault and OSError as `output_of`."""
     if _find(command, program) == IN_PROCESS:
-        return library.judged(command, plan_text(plan), script)
+        return library.explain_at(plan_text(plan), script, *at) if at else library.judged(command, plan_text(plan), script)
     import tempfile
 
     with tempfile.TemporaryDirectory(prefix="camac-") as room:
         file = os.path.join(room, "script")
         with open(file, "wb") as out:
             out.write(script)
-        text = "".join(f"{it}\n" for it in lines_of(command, "--", plan, file, program=program))
-        return library.Verdict(not text.startswith("refused "), text)
-
-
-def known_at(plan: File, script: bytes, line: int, column: int, program: Optional[File] = None) -> library.Verdict:
-    """What `camac explain --at` prints of a script that is given as its text. Raises ProgramFault and OSError as `output_of`."""
-    if _find("explain", program) == IN_PROCESS:
-        return library.explain_at(plan_text(plan), script, line, column)
-    import tempfile
-
-    with tempfile.TemporaryDirectory(prefix="camac-") as room:
-        file = os.path.join(room, "script")
-        with open(file, "wb") as out:
-            out.write(script)
-        text = "".join(f"{it}\n" for it in lines_of("explain", "--at", f"{line}:{column}", "--", plan, file, program=program))
-        return library.Verdict(text.endswith("reached\n") or text.startswith("reached\n"), text)
+        text = "".join(f"{it}\n" for it in lines_of(command, *(["--at", "{}:{}".format(*at)] if at else []), "--", plan, file, program=program))
+    return library.Verdict(is_known(text) if at else not is_refused(text), text)
 
 
 def explain_plan(plan: File, program: Optional[File] = None) -> library.Verdict:
     """The output of `camac explain` on a plan alone. Raises ProgramFault and OSError as `output_of`."""
     text = "".join(f"{it}\n" for it in lines_of("explain", "--", plan, program=program))
-    return library.Verdict(not text.startswith("refused "), text)
+    return library.Verdict(not is_refused(text), text)
 
 
 def accepts(plan: File, script: bytes, program: Optional[File] = None) -> bool:
@@ -163,7 +145,7 @@ def _help(program: str, words: Tuple[str, ...]) -> str:
 def knows_command(command: str, program: Optional[File] = None) -> bool:
     """Whether the program has this subcommand. Its help is asked once."""
     found = _find(command, program)
-    return command in library.COMMANDS if found == IN_PROCESS else re.search(rf"^  {command}\b", _help(found, ("--help",)), re.M) is not None
+    return command in library.COMMANDS if found == IN_PROCESS else f"\n  {command} " in _help(found, ("--help",))
 
 
 def knows_option(command: str, option: str, program: Optional[File] = None) -> bool:

@@ -16,14 +16,15 @@ from dataclasses import dataclass
 from typing import Any, Callable, Dict, List, NamedTuple, Optional, Set, Tuple, Union
 
 from camac import native
-from camac.drive import Answer, Branch, File, ProgramFault, RunEnd, UsageFault, add_note, file_fault, one_line
+from camac.drive import Answer, Branch, File, ProgramFault, UsageFault, add_note, file_fault, one_line
 from camac.events import EventFileFault, read_events
 from camac.output import holds_bytes, output
-from camac.plans import plan
+from camac.printed import read_services
 from camac.program import output_of, version
 from camac.runs import Inputs, collect, is_event_file
-from camac.scripts import Service, parse_verdict
+from camac.subcommands import plan
 from camac.texts import plan_text, script_text
+from camac.values import RunEnd, Service
 
 FORM = "camac record 1"
 # The seconds between two writings of a record while a run goes on.
@@ -67,7 +68,7 @@ class Source:
     def sha256(self) -> str:
         return hashlib.sha256(self.data).hexdigest()
 
-    def told(self) -> Dict[str, str]:
+    def value(self) -> Dict[str, str]:
         """As the record has it: the text; of what is no UTF-8, or has a NUL, as may be in comments, the bytes in base 64."""
         try:
             text = {"text": self.data.decode()}
@@ -78,10 +79,10 @@ class Source:
         return {"name": self.name, "sha256": self.sha256, **text}
 
     @classmethod
-    def read(cls, told: Any) -> "Source":
-        data = base64.b64decode(told["base64"]) if "base64" in told else told["text"].encode()
-        its = cls(told["name"], data)
-        if its.sha256 != told["sha256"]:
+    def read(cls, fields: Any) -> "Source":
+        data = base64.b64decode(fields["base64"]) if "base64" in fields else fields["text"].encode()
+        its = cls(fields["name"], data)
+        if its.sha256 != fields["sha256"]:
             raise ValueError(f"the text of {its.name} is not the one of its SHA-256")
         return its
 
@@ -120,23 +121,23 @@ class Record:
 
     def list_services(self) -> List[Service]:
         """The services of the script with their bounds."""
-        return parse_verdict("\n".join(self.verdict))
+        return read_services("\n".join(self.verdict))
 
     def text(self) -> str:
         """The record as JSON."""
         measured = None if self.demands is None else {"demands": round(self.demands, 6), "services": round(self.services or 0.0, 6)}
-        told = {
+        fields = {
             "form": FORM,
             **{name: getattr(self, name) for name in ("number", "title", "begin", "end", "told", "how", "line")},
             "events": {"name": self.events, "bytes": self.size, "counts": self.counts},
             "measured_seconds": measured,
             "verdict": self.verdict,
             "response": self.response,
-            "plan": self.plan.told(),
-            "script": self.script.told(),
+            "plan": self.plan.value(),
+            "script": self.script.value(),
             "versions": self.versions,
         }
-        return json.dumps(told, indent=1) + "\n"
+        return json.dumps(fields, indent=1) + "\n"
 
 
 def read_record(file: File) -> Record:
@@ -151,24 +152,24 @@ def read_record(file: File) -> Record:
 
 def parse_record(data: bytes) -> Record:
     """Reads the text of a record. Raises ValueError, KeyError, TypeError or AttributeError if it is none."""
-    told = json.loads(data)
-    if not isinstance(told, dict) or told.get("form") != FORM:
+    fields = json.loads(data)
+    if not isinstance(fields, dict) or fields.get("form") != FORM:
         raise ValueError(f"its `form` is not {FORM!r}")
-    events, measured = told["events"], told["measured_seconds"] or {}
-    if not all(isinstance(it, str) for it in (told["title"], *told["verdict"], *told["response"], *told["versions"].values())):
+    events, measured = fields["events"], fields["measured_seconds"] or {}
+    if not all(isinstance(it, str) for it in (fields["title"], *fields["verdict"], *fields["response"], *fields["versions"].values())):
         raise TypeError
     return Record(
-        **{name: told[name] for name in ("number", "title", "begin", "end", "told", "how", "line")},
-        plan=Source.read(told["plan"]),
-        script=Source.read(told["script"]),
-        verdict=tuple(told["verdict"]),
-        response=tuple(told["response"]),
+        **{name: fields[name] for name in ("number", "title", "begin", "end", "told", "how", "line")},
+        plan=Source.read(fields["plan"]),
+        script=Source.read(fields["script"]),
+        verdict=tuple(fields["verdict"]),
+        response=tuple(fields["response"]),
         events=events["name"],
         size=events["bytes"],
         counts=events["counts"],
         demands=measured.get("demands"),
         services=measured.get("services"),
-        versions=told["versions"],
+        versions=fields["versions"],
     )
 
 

@@ -7,17 +7,15 @@ from array import array
 from typing import Dict, FrozenSet, Iterable, Iterator, List, NamedTuple, Optional, Sequence, Tuple, Union
 
 from camac.arrays import BATCH, EventArrays, batches, event_pieces
-from camac.drive import Ending, File, RunEnd
+from camac.drive import File
 from camac.events import Event, EventFileFault, read_events
-from camac.bodies import costs
 from camac.histograms import Pairs, Series, Spectrum
 from camac.late import Late, Watch
-from camac.listings import Command, Cycle, Demand, Item, Lock, Move, Unlock, run
-from camac.plans import Plan
 from camac.program import knows_command
-from camac.scripts import Response, Service
+from camac.subcommands import costs, run
 from camac.texts import script_text
 from camac.transfers import transfer_commands
+from camac.values import Command, Cycle, Demand, Ending, Item, Lock, Move, Plan, Response, RunEnd, Service, Unlock
 from camac.words import Column, Words
 
 Operation = Union[Cycle, Lock, Unlock]
@@ -140,6 +138,20 @@ class Channel:
             self.series.add_all([event for event, _ in order], [value for _, value in order])
 
 
+class Channels(Dict[Column, Channel]):
+    """The channels of a run, by their columns."""
+
+    def take(self, names: Words, events: Sequence[Event]) -> None:
+        for column, numbers, values in names.numbers(events):
+            if column not in self:
+                self[column] = Channel(column)
+            self[column].add_all(numbers, values)
+
+    def listed(self, names: Words, bits: Iterable[int]) -> List[Channel]:
+        """Those that have a number, in the order of the columns of these bits."""
+        return [self[it] for gl in sorted(bits) for it in names.columns(gl) if it in self]
+
+
 class InProgress:
     """A service whose operations are being read."""
 
@@ -178,7 +190,7 @@ class Run:
         self.by_place: Dict[Tuple[int, int], Spectrum] = {}
         self.asked = asked or Asked()
         self.pairs = Pairs(*(None if it.greatest == SCALER else it.greatest + 1 for it in self.asked.pair)) if self.asked.pair else None
-        self.channels: Dict[Column, Channel] = {}
+        self.channels = Channels()
         self.seen: Dict[int, SeenOfBit] = {}
         self.late: Dict[int, Late] = {}
         self.checks: List[Check] = []
@@ -199,17 +211,11 @@ class Run:
     def take_words(self, events: Sequence[Event]) -> None:
         """Takes the words of events, which follow those that were taken before."""
         self.words.extend(len(it.words) for it in events)
-        by_bit: Dict[int, List[Event]] = {}
-        for it in events:
-            by_bit.setdefault(it.gl, []).append(it)
-        for gl, its in by_bit.items():
-            for at, words in enumerate(itertools.zip_longest(*(it.words for it in its))):
+        for gl in {it.gl for it in events}:
+            for at, words in enumerate(itertools.zip_longest(*(it.words for it in events if it.gl == gl))):
                 spectrum = self.by_place.setdefault((gl, at), Spectrum())
                 spectrum.add_all([word for word in words if word is not None])
-        for column, numbers, values in self.asked.names.numbers(events):
-            if column not in self.channels:
-                self.channels[column] = Channel(column)
-            self.channels[column].add_all(numbers, values)
+        self.channels.take(self.asked.names, events)
         if self.asked.pair and self.pairs:
             for it in events:
                 first = {value.column: value.number for value in reversed(list(self.asked.names.values(it)))}
@@ -217,9 +223,7 @@ class Run:
                     self.pairs.add(*(first[column] for column in self.asked.pair))
 
     def list_channels(self) -> List[Channel]:
-        """The channels that have a number, in the order of their columns."""
-        columns = [column for gl in sorted({*self.gl}) for column in self.asked.names.columns(gl)]
-        return [self.channels[it] for it in columns if it in self.channels]
+        return self.channels.listed(self.asked.names, {*self.gl})
 
 
 def is_event_file(file: File) -> bool:
@@ -378,9 +382,9 @@ def _compare(collector: _Collector, path: File, services: List[Service]) -> Run:
         run.kept[Why.UNFINISHED, 0] = collector.open.kept(len(run.gl) + 1)
     said = run.end.events if run.end else None
     total = len(run.gl)
-    told = f"; the last line says {said:,}" if said is not None else ""
+    last = f"; the last line says {said:,}" if said is not None else ""
     run.checks = [
-        Check(f"events in the file: {count:,}; services in the listing: {total:,}{told}", count == total and said in (None, total)),
+        Check(f"events in the file: {count:,}; services in the listing: {total:,}{last}", count == total and said in (None, total)),
         Check(f"cycles of the listing are those of the event file, {alike:,} of {count:,}", alike == count),
         Check(f"cycles with X = 0 are those of the event file, {missed:,} of {count:,}", missed == count),
         Check(f"no service above its bound of cycles or words, {within:,} of {count:,}", within == count),

@@ -1,7 +1,6 @@
 """What `camac-check` found, in SARIF 2.1.0 (OASIS), as code scanning of forges reads it."""
 import json
 import pathlib
-import re
 from typing import Any, Dict, List, Sequence
 from urllib.parse import quote
 
@@ -16,10 +15,7 @@ def sarif(judged: Sequence[Judged], version: str) -> str:
     """One run of `camac-check` over files. `version` is that of the program."""
     found = [(it, one) for it in judged for one in it.found]
     rules = sorted({_rule(one) for _, one in found})
-    driver: Dict[str, Any] = {"name": "camac-check", "rules": [{"id": it} for it in rules]}
-    numbers = re.search(r"\d+\.\d+\.\d+", version)
-    if numbers:
-        driver["semanticVersion"] = numbers[0]
+    driver = {"name": "camac-check", "rules": [{"id": it} for it in rules], "semanticVersion": version.partition(" ")[2]}
     faults = [it for it in judged if any(one.kind == "fault" for one in it.found)]
     run = {
         "tool": {"driver": driver},

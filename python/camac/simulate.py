@@ -8,15 +8,14 @@ import heapq
 import math
 import random
 import tempfile
-from typing import Callable, Dict, List, Mapping, NamedTuple, Optional, Sequence, Tuple
+from typing import Callable, Dict, List, Mapping, NamedTuple, Optional, Sequence
 
 from camac import library
-from camac.drive import Answer, File, RunEnd, UsageFault, drive
+from camac.drive import Answer, File, UsageFault, drive
 from camac.mock import Declared, MockBranch, Module, Place
-from camac.plans import Plan
-from camac.plans import plan as read_plan
 from camac.program import quickest
-from camac.scripts import Response, response
+from camac.subcommands import plan as read_plan, response
+from camac.values import Plan, RunEnd
 
 # After this number of triggers that call nobody all crates are silent, and the run ends.
 PATIENCE = 1000
@@ -189,10 +188,10 @@ def simulate(
     its = read_plan(plan)
     every = {name: _period(rate, setting) for name, rate in setting.rates.items()} if setting.is_regular else {}
     responses = response(plan, script, {**every, **setting.every})
-    told = {it.name: it for it in responses}
+    by_name = {it.name: it for it in responses}
     for name in setting.rates:
-        if name not in told:
-            raise UsageFault(f"a rate of {name}: the script has no such service, but {', '.join(told) or 'none'}", 2)
+        if name not in by_name:
+            raise UsageFault(f"a rate of {name}: the script has no such service, but {', '.join(by_name) or 'none'}", 2)
     simulated = [Simulated(it.name, it.gl, setting.rates[it.name], it.end) for it in responses if it.name in setting.rates]
     places = {gl: (crate.number, station.number) for gl, crate, station in its.demands()}
     sources = [

@@ -1,10 +1,11 @@
 """Events and listings as tables of comma-separated values (RFC 4180, with LF): for spreadsheets and for programs that read them."""
 import csv
-from typing import Iterable, Iterator, List, TextIO
+from typing import Dict, Iterable, Iterator, List, TextIO
 
-from camac.drive import File, RunEnd
+from camac.drive import File
 from camac.events import read_events
-from camac.listings import Cycle, Demand, Item, Lock, Unlock, parse_listing
+from camac.printed import parse_listing
+from camac.values import Cycle, Demand, Item, Move, RunEnd
 
 # The columns of both tables; events have one for each word, too.
 EVENTS = "number,gl,cycles,missed,count".split(",")
@@ -46,22 +47,11 @@ def write_listing(lines: Iterable[str], out: TextIO) -> None:
 
 def _rows(items: Iterator[Item]) -> Iterator[List[object]]:
     service = None
-    number = 0
-    for it in items:
-        if isinstance(it, RunEnd):
-            continue
-        number += 1
-        row = dict.fromkeys(LISTING)
-        row.update(number=number, operation=type(it).__name__.lower())
+    for number, it in enumerate((it for it in items if not isinstance(it, RunEnd)), 1):
+        its: Dict[str, object] = it._asdict()
         if isinstance(it, Demand):
             service = it.service
-            row.update(pattern=it.pattern)
         elif isinstance(it, Cycle):
-            row.update(it.command._asdict(), move=it.move.value, x=it.x, q=it.q, wait=it.wait)
-            row.update(word=None if it.move.value == "none" else it.word)
-        elif isinstance(it, Lock):
-            row.update(crate=it.crate, wait=it.wait)
-        elif isinstance(it, Unlock):
-            row.update(crate=it.crate)
-        row.update(service=service)
-        yield list(row.values())
+            its.update(it.command._asdict(), move=it.move.value, word=None if it.move is Move.NONE else it.word)
+        its.update(number=number, operation=type(it).__name__.lower(), service=service)
+        yield [its.get(name) for name in LISTING]

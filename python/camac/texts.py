@@ -1,6 +1,6 @@
 """Plans and scripts by the names that the program knows: files, and `@sample`, the built-in plan. `@in`, standard input, is none here."""
 import os
-from typing import Optional, Sequence
+from typing import List, Optional, Sequence
 
 from camac.drive import File, ProgramFault, UsageFault, file_fault
 
@@ -62,3 +62,11 @@ def _read(file: File) -> bytes:
     if len(text) > GREATEST_TEXT:
         raise ProgramFault("fault input too long", 3)
     return text
+
+
+def source_lines(script: File) -> List[str]:
+    """The lines of a script as the program counts them: by LF alone. A comment may hold any byte; what is no UTF-8 is shown as U+FFFD.
+
+    Raises OSError if it cannot be read."""
+    with open(script, "rb") as file:
+        return [line.decode("utf-8", "replace").rstrip("\r") for line in file.read().split(b"\n")]

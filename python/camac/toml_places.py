@@ -2,7 +2,9 @@
 import re
 from dataclasses import dataclass
 from typing import Any, Dict, Iterator, List, NamedTuple, Optional, Tuple, Union
-from camac.plans import Declaration, Plan
+
+from camac.printed import read_place
+from camac.values import Declaration, Plan, Step
 
 TOKEN = re.compile(
     r"(?P<skip>#[^\n]*|[ \t\r]+)|(?P<line>\n)|\"\"\"(?P<long>.*?)\"\"\"|\"(?P<text>(?:[^\"\\\n]|\\.)*)\"|'(?P<plain>[^'\n]*)'"
@@ -195,27 +197,22 @@ def number(of: Table, key: str) -> Optional[int]:
     return its.value.value if its and type(its.value.value) is int else None
 
 
-# How a sentence names a table: by what it is known by, or by its place among others.
-BY_VALUE = re.compile(r"(type|crate|station) (?:`([^`]*)`|(\d+))")
-BY_PLACE = re.compile(r"(?:(\w+) )?(command|entry|type|crate|station)(?: number (\d+))?(?: of `(\w+)`)?")
-BY_KEY = re.compile(r"`?(\w+)`?")
-ORDINALS = ("first", "second", "third", "fourth", "fifth", "sixth", "seventh", "eighth", "ninth", "tenth")
+# By array its key, and the key that its tables are known by.
 ARRAYS = {"type": ("type", "name"), "command": ("commands", "f"), "crate": ("crate", "number"), "station": ("station", "n")}
-AT = re.compile(r"Line (\d+), column (\d+)")
 
 
 def place_of(text: str, sentence: str) -> Place:
     """The place that a fault of a plan names: "crate 1, station 5, gl: the value is 25", or "Line 8, column 8: ..". The first line if it is
     not found."""
-    at = AT.match(sentence)
-    if at:
+    said = read_place(sentence)
+    if isinstance(said, tuple):
         starts = [0, *(it.end() for it in re.finditer("\n", text))]
-        start = min(len(text), starts[min(int(at[1]), len(starts)) - 1] + int(at[2]) - 1)
+        start = min(len(text), starts[min(said[0], len(starts)) - 1] + said[1] - 1)
         return Place(start, min(len(text), start + 1))
     table = read_places(text)
     place = Place(0, text.find("\n") if "\n" in text else len(text))
-    for step in sentence.partition(":")[0].split(", "):
-        found = _stepped(table, step)
+    for step in said:
+        found = _stepped(table, step) if step else None
         if found is None:
             break
         place, below = found
@@ -225,21 +222,18 @@ def place_of(text: str, sentence: str) -> Place:
     return place
 
 
-def _stepped(table: Table, step: str) -> Optional[Tuple[Place, Optional[Value]]]:
-    """The place of a step of such a sentence below a table, and the value there."""
-    fitting: List[Table] = []
-    value, place = BY_VALUE.fullmatch(step), BY_PLACE.fullmatch(step)
-    if value:
-        array, name = ARRAYS[value[1]]
-        # The second of two that are known by the same is the one that is refused.
-        fitting = [it for it in tables(table, array) if name in it.value and str(it.value[name].value.value) == (value[2] or value[3])]
-    elif place and (place[1] in ORDINALS or place[3]):
-        number = int(place[3]) if place[3] else ORDINALS.index(place[1]) + 1
-        fitting = tables(table, ARRAYS[place[4] or place[2]][0])[number - 1 : number] if (place[4] or place[2]) in ARRAYS else []
-    else:
-        key = BY_KEY.fullmatch(step)
-        found = table.value.get(key[1]) if key else None
+def _stepped(table: Table, step: Step) -> Optional[Tuple[Place, Optional[Value]]]:
+    """The place of a step below a table, and the value there."""
+    if not step.array:
+        found = table.value.get(step.name)
         return (Place(found.place.start, found.value.place.end), found.value) if found else None
+    array, name = ARRAYS.get(step.array, ("", ""))
+    fitting = tables(table, array)
+    if step.place:
+        fitting = fitting[step.place - 1 : step.place]
+    else:
+        # The second of two that are known by the same is the one that is refused.
+        fitting = [it for it in fitting if name in it.value and str(it.value[name].value.value) == step.name]
     return (fitting[-1].place, fitting[-1]) if fitting else None
 
 

@@ -1,14 +1,12 @@
 """Which commands of a script are those of transfers alone: a Q = 0 of such a command ends a scan or a block, or has it sent again, as is meant."""
 import itertools
-import re
 from typing import Dict, FrozenSet, Iterator, List, Sequence, Set, Tuple
 
-from camac.bodies import TRANSFERS, Body, Row
-from camac.listings import Command
+from camac.bodies import TRANSFERS
 from camac.reader import read_script
 from camac.tree import Cycle, Transfer, all_in
+from camac.values import Body, Command, Row
 
-ADDRESS = re.compile(r"(\d+)(?:\.\.(\d+))? (\d+)(?:\.\.(\d+))? (\d+)(?:\.\.(\d+))?")
 SINGLE = ("cfsa", "cssa")
 SUB_ADDRESSES = 16
 
@@ -36,7 +34,7 @@ def _functions(script: bytes) -> Dict[Tuple[int, bool], Set[int]]:
 
 def _places(row: Row) -> Iterator[Tuple[int, int, int]]:
     """The crates, stations and sub-addresses that a row names: of a scan all from its first register to its last."""
-    spans = [[range(int(low), int(high or low) + 1) for low, high in zip(it[0::2], it[1::2])] for it in ADDRESS.findall(row.about)]
+    spans = [[range(low, high + 1) for low, high in it] for it in row.addresses()]
     if len(spans) < 2:
         for span in spans:
             yield from itertools.product(*span)

@@ -3,8 +3,7 @@
 Statements compare by identity, so that each can be a key. (No dataclasses: they would take a call of camac-check 20 ms.)"""
 from typing import Dict, FrozenSet, Iterator, List, NamedTuple, Optional, Sequence, Tuple, Union
 
-# The numbers from the first to the second one.
-Range = Tuple[int, int]
+from camac.values import Range as Range
 
 
 class Number(NamedTuple):

@@ -2,16 +2,17 @@
 import enum
 from typing import Dict, Iterator, List, NamedTuple, Optional, Set, Tuple
 
-from camac.bodies import Body, costs, services_of
+from camac.bodies import services_of
 from camac.drive import File
 from camac.edits import Edit
 from camac.loops.loose import Split, splits, wide_keeps
 from camac.loops.ranges import constant
 from camac.program import knows_command
 from camac.reader import read_script
-from camac.scripts import Service, check
+from camac.subcommands import check, costs
 from camac.texts import TextFile
 from camac.tree import Cycle, Plain, Script, SetRegister, Statement, Transfer, all_in
+from camac.values import Body, Service
 
 
 class Code(enum.Enum):
@@ -28,7 +29,7 @@ class Code(enum.Enum):
 
 
 class Warned(NamedTuple):
-    """A warning: the line of the script, from 1, what it is about, a sentence, and the edits that mend it, if they are known."""
+    """A warning: the line of the script, from 1, what it is about, a sentence, and the edits that fix it, if they are known."""
 
     line: int
     code: Code

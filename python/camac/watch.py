@@ -13,11 +13,13 @@ from camac.export import About, Given, learn
 from camac.follow import STEP, Counts, Follower
 from camac.pictures.bounds import draw_seen
 from camac.pictures.spectra import BOTH, channel_groups, seen_groups
-from camac.pictures.svg import Canvas, count, escape, number, share, ticks
+from camac.pictures.svg import Canvas, escape, number, share, ticks
+from camac.printed import read_responses
 from camac.program import knows_command
 from camac.record import Record, read_record
 from camac.report.page import Column, Row, figure, header, page, panels, table
-from camac.scripts import Response, parse_response, response
+from camac.subcommands import response
+from camac.values import Response
 from camac.words import Words
 
 HOST = "127.0.0.1"
@@ -67,7 +69,7 @@ class Watch:
             given = given._replace(record=None, words=given.words if given.plan is not None else None)
         about = learn(given)
         if about.record:
-            return Known(about, tuple(parse_response("\n".join(about.record.response))))
+            return Known(about, tuple(read_responses("\n".join(about.record.response))))
         if given.plan is not None and given.script is not None and knows_command("response"):
             return Known(about, tuple(response(given.plan, given.script)))
         return Known(about, ())

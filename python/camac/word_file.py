@@ -6,12 +6,12 @@ import math
 import os
 import re
 from dataclasses import replace
-from typing import Dict, List, NamedTuple, NoReturn, Optional, Sequence, Tuple, Union
+from typing import Dict, List, NamedTuple, NoReturn, Sequence, Tuple, Union
 
 from camac.drive import File
 from camac.events import GREATEST_COUNT, GREATEST_GL
-from camac.scripts import Service
 from camac.texts import script_text
+from camac.values import Service
 from camac.words import ANYWHERE, PLACE, WHOLE, Amount, Field, Range, Words
 
 TomlValue = Union[str, int, float]

@@ -11,10 +11,9 @@ from typing import Dict, List, Mapping, Optional, Sequence, Tuple, Union
 from camac.drive import File
 from camac.events import GREATEST_COUNT
 from camac.functions import reads
-from camac.plans import Plan
 from camac.reader import read_script
-from camac.scripts import Service
 from camac.texts import script_text
+from camac.values import Plan, Service
 from camac.tree import (
     Assign, Body, Cycle, Expression, For, If, Lock, Loop, Name, Number, Plain, Script, SetRegister, Statement, Transfer, all_in, written_by,
 )

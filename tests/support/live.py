@@ -1,19 +1,17 @@
 """Shared by tests of live runs: a folder for each test, a branch that answers from a list, and the program's Python package."""
-import pathlib
 import select
 import subprocess
 import sys
-import tempfile
-import unittest
 
-from support.program import PROGRAM as PROGRAM, TOP as TOP
+from support import program
+from support.program import PROGRAM as PROGRAM, TOP as TOP, Room as Case, run_tests as run_tests
 
 sys.path.insert(0, str(TOP / "python"))
 sys.dont_write_bytecode = True
 
 OPENING = "cdlam adc 1 1 5 12\nvar v k i t\nservice adc within {} cycles event {} words {{\n"
 PATIENCE = 60
-STRAIGHT_LINE = "cdlam adc 1 1 5 12\nvar v\nservice adc within 3 cycles event 1 words {\n  cdreg r 1 1 5 0\n  cfsa 0 r -> v\n  put v\n}\n"
+STRAIGHT_LINE = program.STRAIGHT_LINE.decode()
 LOCKOUT = OPENING.format(6, 100) + "cdreg r 1 1 5 0\nlock 1 {\n" + "  cfsa 0 r -> v\n" * 4 + "}\n}\n"
 REQUESTS = (b"demand", b"cycle", b"lock")
 
@@ -21,20 +19,6 @@ REQUESTS = (b"demand", b"cycle", b"lock")
 def script(body, cycles=100, words=100):
     """A script of the standard opening with this body, each statement on a line."""
     return OPENING.format(cycles, words) + "".join(f"{line}\n" for line in body) + "}\n"
-
-
-class Case(unittest.TestCase):
-    def setUp(self):
-        room = tempfile.TemporaryDirectory(prefix="camac-live-")
-        self.addCleanup(room.cleanup)
-        self.room = pathlib.Path(room.name)
-
-    def write(self, name, text):
-        (self.room / name).write_text(text)
-        return self.room / name
-
-    def file(self, name):
-        return (self.room / name).read_bytes()
 
 
 class Listed:
@@ -62,6 +46,15 @@ class Listed:
 
     def unlock(self, c):
         self.asked.append(("unlock", c))
+
+
+class Interrupted(Listed):
+    """A branch to whose first release of a lockout Ctrl-C comes."""
+
+    def unlock(self, crate):
+        super().unlock(crate)
+        if [it[0] for it in self.asked].count("unlock") == 1:
+            raise KeyboardInterrupt
 
 
 class Broken(Exception):

@@ -6,6 +6,7 @@ import os
 import pathlib
 import re
 import subprocess
+import sys
 import tempfile
 import unittest
 
@@ -46,31 +47,55 @@ def unwritten(why, name="standard output"):
 FULL = unwritten(errno.ENOSPC)
 
 
-class Case(unittest.TestCase):
-    """A test in a folder of its own, which has the straight-line script, its answers and a plan."""
+def run_tests():
+    """Runs the tests of the file that is called, if the program is there."""
+    if not os.access(PROGRAM, os.X_OK):
+        sys.exit(f"{PROGRAM} is not there: cd crates/camac && rt run makes it, or CAMAC_PROGRAM names another")
+    unittest.main()
+
+
+class Room(unittest.TestCase):
+    """A test in a folder of its own."""
 
     def setUp(self):
         room = tempfile.TemporaryDirectory(prefix="camac-test-")
         self.addCleanup(room.cleanup)
         self.room = pathlib.Path(room.name)
-        (self.room / "straight.script").write_bytes(STRAIGHT_LINE)
-        (self.room / "answers").write_bytes(ANSWERS)
-        (self.room / "plan.toml").write_bytes((TOP / "examples/sample_plan.toml").read_bytes())
 
-    def call(self, *words, given=b"", **how):
-        """Status, standard output and standard error of the program on these words."""
-        how = {"stdout": subprocess.PIPE, "stderr": subprocess.PIPE, "cwd": self.room, "timeout": 60, **how}
-        ran = subprocess.run([PROGRAM, *words], input=given, **how)
-        return ran.returncode, ran.stdout, ran.stderr
-
-    def shell(self, line):
-        """The same of a line of bash, in which $camac is the program."""
-        how = {"stdin": subprocess.DEVNULL, "capture_output": True, "cwd": self.room, "timeout": 60}
-        ran = subprocess.run(["bash", "-c", line], env={**os.environ, "camac": PROGRAM}, **how)
-        return ran.returncode, ran.stdout, ran.stderr
+    def write(self, name, text):
+        (self.room / name).write_text(text)
+        return self.room / name
 
     def file(self, name):
         return (self.room / name).read_bytes()
+
+    def call(self, *words, given=b"", **how):
+        """Status, standard output and standard error of the program on these words."""
+        return self._run([PROGRAM, *words], input=given, **how)
+
+    def shell(self, line):
+        """The same of a line of bash, in which $camac is the program."""
+        return self._run(["bash", "-c", line], stdin=subprocess.DEVNULL, env={**os.environ, "camac": PROGRAM})
+
+    def package(self, *words, given=b"", **environment):
+        """The same of `python3 -m camac` over the program, as texts."""
+        env = {**os.environ, "PYTHONPATH": str(TOP / "python"), "CAMAC_PROGRAM": PROGRAM, "PYTHONDONTWRITEBYTECODE": "1", **environment}
+        status, out, err = self._run([sys.executable, "-m", "camac", *map(str, words)], input=given, env=env)
+        return status, out.decode(), err.decode()
+
+    def _run(self, words, **how):
+        ran = subprocess.run(words, **{"stdout": subprocess.PIPE, "stderr": subprocess.PIPE, "cwd": self.room, "timeout": 60, **how})
+        return ran.returncode, ran.stdout, ran.stderr
+
+
+class Case(Room):
+    """A test whose folder has the straight-line script, its answers and a plan."""
+
+    def setUp(self):
+        super().setUp()
+        (self.room / "straight.script").write_bytes(STRAIGHT_LINE)
+        (self.room / "answers").write_bytes(ANSWERS)
+        (self.room / "plan.toml").write_bytes((TOP / "examples/sample_plan.toml").read_bytes())
 
 
 def keywords():

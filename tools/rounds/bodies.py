@@ -1,18 +1,48 @@
 """Mutants, and which of them share a round."""
 
-import os
+import re
 from pathlib import Path
+
+from rounds.repository import Stop
 
 # A crate's rounds run side by side, so none has more bodies.
 MOST = 12
 
 
+def read_edits(file):
+    """Returns the mutants of a file by their names: of each its lines behind 'mutant: NAME', as pairs of a key and a text."""
+    first, *parts = re.split(r"^mutant: (.*)\n", Path(file).read_text("utf-8"), flags=re.M)
+    edits = dict(zip(parts[::2], parts[1::2]))
+    if first or 2 * len(edits) < len(parts):
+        raise Stop(f"{file}: each mutant begins with a line 'mutant: NAME', and has a name of its own")
+    return {name: [(key, text.removeprefix(" ")) for key, _, text in (it.partition(":") for it in its.split("\n") if it)] for name, its in edits.items()}
+
+
+def changed(edit, folder):
+    """Returns the texts that an edit makes of files below a folder, by their names. Raises ValueError if it does not apply."""
+    path, old, texts = "", None, {}
+    for key, text in edit:
+        if key == "file":
+            path = text
+        elif key == "old":
+            old = text
+        elif key == "new":
+            if not path or not old:
+                raise ValueError("a line 'new:' comes before any 'file:' or 'old:'")
+            before = texts.get(path) or Path(f"{folder}/{path}").read_text("utf-8")
+            if before.count(old) != 1:
+                raise ValueError(f"a text 'old:' is in {path} {before.count(old)} times, not once")
+            texts[path], old = before.replace(old, text), None
+    if not texts:
+        raise ValueError("it has no pair of lines 'old:' and 'new:'")
+    return texts
+
+
 class Body:
     """A mutant: by file the lines that it changes, and the functions that it changes. If a line is in no function, the mutant is wide."""
 
-    def __init__(self, crate, file):
-        self.crate, self.file = crate, file
-        self.label = f"{crate.name}/{os.path.basename(file).removesuffix('.edit')}"
+    def __init__(self, crate, name, edit):
+        self.crate, self.edit, self.label = crate, edit, f"{crate.name}/{name}"
         self.fault, self.is_wide, self.lines, self.functions = None, False, {}, []
         try:
             self.apply()
@@ -20,25 +50,9 @@ class Body:
             self.fault = f"BAD EDIT: {why}"
 
     def apply(self):
-        path, old, texts = "", None, {}
-        for line in Path(self.file).read_text("utf-8").split("\n"):
-            if line.startswith("file: "):
-                path = line.removeprefix("file: ").strip()
-                if not path.startswith("src/"):
-                    raise ValueError("a mutant is one of src/: a changed definition or proof shows nothing")
-            elif line.startswith("old: "):
-                old = line.removeprefix("old: ")
-            elif line.startswith("new:"):
-                if not path or not old:
-                    raise ValueError("a line 'new:' comes before any 'file:' or 'old:'")
-                text = texts.get(path) or Path(f"{self.crate.folder}/{path}").read_text("utf-8")
-                if text.count(old) != 1:
-                    raise ValueError(f"a text 'old:' is in {path} {text.count(old)} times, not once")
-                texts[path] = text.replace(old, line.removeprefix("new:").removeprefix(" "))
-                old = None
-        if not texts:
-            raise ValueError("it has no pair of lines 'old:' and 'new:'")
-        for path, text in texts.items():
+        for path, text in changed(self.edit, self.crate.folder).items():
+            if not path.startswith("src/"):
+                raise ValueError("a mutant is one of src/: a changed definition or proof shows nothing")
             before, after = Path(f"{self.crate.folder}/{path}").read_text("utf-8").split("\n"), text.split("\n")
             self.lines[path] = {at: line for at, line in enumerate(after) if line != before[at]}
             for at in self.lines[path]:
@@ -53,8 +67,8 @@ class Body:
 
 def bodies_of(crate):
     """Returns the mutants of a crate, by their names."""
-    folder = f"{crate.folder}/mutants"
-    return [Body(crate, f"{folder}/{it}") for it in sorted(os.listdir(folder)) if it.endswith(".edit")] if os.path.isdir(folder) else []
+    file = Path(f"{crate.folder}/mutants.edits")
+    return [Body(crate, *it) for it in sorted(read_edits(file).items())] if file.exists() else []
 
 
 def unchanged(bodies):

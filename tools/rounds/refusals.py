@@ -23,7 +23,7 @@ class Refusals:
     def sums(self, crate, bodies):
         """Returns for each body the sum of all that decides its verdict."""
         shared = [toolchain(), crate.sum()]
-        return {it: hashlib.sha256(repr([*shared, it.label, Path(it.file).read_bytes()]).encode()).hexdigest() for it in bodies}
+        return {it: hashlib.sha256(repr([*shared, it.label, it.edit]).encode()).hexdigest() for it in bodies}
 
     def why(self, total):
         """Returns why the body with this sum was refused, or None if no whole file says so."""

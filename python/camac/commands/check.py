@@ -30,16 +30,16 @@ def _fill(it: argparse.ArgumentParser) -> None:
 def do(args: argparse.Namespace) -> int:
     program = quickest()
     judged = judge.judge(args.plan, args.scripts, program, args.write, args.keeps)
-    say(_told(judged, args.format, program))
+    say(_text(judged, args.format, program))
     note = judge.note(program)
     if note and args.format not in ("json", "sarif"):
         print(f"camac: {note}", file=sys.stderr)
     return judge.status(judged, args.strict)
 
 
-def _told(judged: List[judge.Judged], form: str, program: Optional[File]) -> str:
+def _text(judged: List[judge.Judged], form: str, program: Optional[File]) -> str:
     if form != "sarif":
-        return judge.told(judged, form)
+        return judge.text_of(judged, form)
     from camac.sarif import sarif
 
     return sarif(judged, version(program))

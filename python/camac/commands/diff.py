@@ -3,7 +3,7 @@ import argparse
 from typing import Any
 
 from camac import diff
-from camac.commands.rates import add_every
+from camac.commands.options import add_every
 from camac.commands.running import DONE, REFUSED
 from camac.drive import Refused
 from camac.output import say
@@ -40,7 +40,7 @@ def do(args: argparse.Namespace) -> int:
             bounds.append(diff.bounds_of(plan, script, args.every))
         except Refused as refusal:
             place = plan if refusal.line is None else f"{script}:{refusal.line}"
-            say(f"{place}: {str(refusal).replace(f' line {refusal.line}', '')}\n")
+            say(f"{place}: refused {refusal.code}: {refusal.rule}\n")
             return REFUSED
     found = diff.changes(*bounds)
     lines = [it.line() for it in found]

@@ -53,12 +53,12 @@ def main(parse: Parse, words: Optional[List[str]] = None) -> int:
 
 def _run(parse: Parse, words: List[str]) -> int:
     """Runs a command, and returns its status. Help is written as all that is printed."""
-    told = io.StringIO()
+    help_text = io.StringIO()
     try:
-        with contextlib.redirect_stdout(told):
+        with contextlib.redirect_stdout(help_text):
             args = parse(words)
     except SystemExit as stop:
-        say(told.getvalue())
+        say(help_text.getvalue())
         return int(stop.code or DONE)
     try:
         return int(args.do(args))

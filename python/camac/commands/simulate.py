@@ -4,15 +4,14 @@ import runpy
 import traceback
 from typing import Any, Dict, Iterator, List, Mapping, Optional, Sequence
 
-from camac.commands.rates import add_every, read_every
-from camac.commands.words import add_overwrite
-from camac.drive import Ending, UsageFault
+from camac.commands.options import add_every, add_overwrite, read_every
+from camac.drive import UsageFault
 from camac.mock import Module, Place
 from camac.output import say, write_made
 from camac.pictures import draw_rates
 from camac.pictures.svg import share
-from camac.scripts import check
 from camac.simulate import GREATEST_RATE, PATIENCE, Setting, Simulated, Simulation, curve, simulate
+from camac.values import Ending
 
 GREATEST_CYCLE, GREATEST_SERVICES = 1e6, 10_000_000
 # The most services that are simulated for each rate of a curve.
@@ -57,7 +56,7 @@ def do(args: argparse.Namespace) -> int:
         its.error(f"--services is 1 to {GREATEST_SERVICES:,}")
     setting = Setting(_read_rates(args.rate, its), args.cycle_us / 1e6, args.regular, read_every(args.every, its), args.services, args.seed)
     made = simulate(args.plan, args.script, setting, _modules(args.modules), args.events)
-    say("".join(f"{line}\n" for line in _told(made, setting)))
+    say("".join(f"{line}\n" for line in _lines(made, setting)))
     if args.out:
         less = setting._replace(services=min(setting.services, OF_A_CURVE))
         drawn = draw_rates(curve(args.plan, args.script, less, lambda: _modules(args.modules)), made, setting.cycle)
@@ -97,7 +96,7 @@ def _modules(file: Optional[str]) -> Optional[Mapping[Place, Module]]:
     return found
 
 
-def _told(made: Simulation, setting: Setting) -> Iterator[str]:
+def _lines(made: Simulation, setting: Setting) -> Iterator[str]:
     for it in made.services:
         yield f"service {it.name} gl {it.gl} rate {it.rate:g} came {it.came} lost {it.lost} live {it.live():.4f} reckoned {it.reckoned(setting.cycle):.4f}"
         quantiles = ", ".join(f"{label} {it.quantile(part):.1f}" for part, label in SHARES)

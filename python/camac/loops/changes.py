@@ -2,7 +2,7 @@
 than 0, a comparison in the place of a difference, a value as two words."""
 import enum
 import re
-from typing import Iterator, List, NamedTuple, Optional, Sequence, Tuple
+from typing import Iterator, NamedTuple, Optional, Tuple
 
 from camac.edits import Edit
 from camac.loops.heads import Known

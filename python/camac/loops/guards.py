@@ -6,7 +6,7 @@ from camac.loops.changes import Change, Kind, changed, one_line
 from camac.loops.heads import Known, TooMuch, Turns
 from camac.loops.ranges import MOST, State, value_of
 from camac.tree import (
-    Assign, Body, Expression, For, If, Lock, Loop, Name, Operation, Statement, all_in, blocks_of, expressions_of, names_in, written_by,
+    Assign, Body, Expression, For, Lock, Loop, Name, Operation, Statement, all_in, blocks_of, expressions_of, names_in, written_by,
 )
 
 ALWAYS, BUT_THE_LAST = "always true", "true but for the last time, and nothing looks at that"

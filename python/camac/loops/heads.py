@@ -1,6 +1,6 @@
 """Three ways through loops: with the least ranges that hold for all turns, with the ranges that are kept, and turn by turn."""
 import bisect
-from typing import Dict, Iterable, List, Mapping, Optional, Sequence, Set, Tuple
+from typing import Dict, Iterable, List, Mapping, Optional, Set, Tuple
 
 from camac.loops.flow import Flow, Headed, Replaced, entry_of, forget_registers
 from camac.loops.ranges import MOST, NO_CAUSE, State, Value, constant, join, value_of, where

@@ -7,15 +7,15 @@ from camac.edits import Edit, edited
 from camac.loops.heads import Least
 from camac.loops.ranges import TURNED, constant
 from camac.loops.widths import Widths
+from camac.printed import read_headings
 from camac.program import accepts, verdict
-from camac.scripts import Heading, parse_bounds
-from camac.tree import Body, Expression, For, If, Keep, Loop, Name, Range, all_in, names_in
+from camac.tree import Body, For, If, Keep, Loop, Name, Range, all_in
 
 Bounds = Tuple[int, int]
 
 
 class Wide(NamedTuple):
-    """A variable that a loop keeps, on a line, in a range; the least range, or None if it need not be kept at all; and the edits that mend it."""
+    """A variable that a loop keeps, on a line, in a range; the least range, or None if it need not be kept at all; and the edits that fix it."""
 
     line: int
     name: str
@@ -104,8 +104,8 @@ def splits(plan: File, text: bytes, bodies: Sequence[Body], program: Optional[Fi
 
 def _bounds(plan: File, text: bytes, program: Optional[File]) -> List[Bounds]:
     """The least cycles and words of each service and procedure; nothing if the text is refused."""
-    told = verdict("bounds", plan, text, program)
-    return [(it.cycles, it.words) for it in parse_bounds(told.text)] if told.accepted else []
+    answer = verdict("bounds", plan, text, program)
+    return [(it.cycles, it.words) for it in read_headings(answer.text)] if answer.accepted else []
 
 
 def _is_less(one: Bounds, other: Bounds) -> bool:

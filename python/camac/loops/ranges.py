@@ -4,7 +4,7 @@ A range has causes, too: the loops because of which it is no narrower, each with
 from typing import Dict, FrozenSet, Optional, Tuple
 
 from camac.reader import OPPOSITE
-from camac.tree import Expression, Loop, Name, Number, Part, Range, names_in
+from camac.tree import Expression, Loop, Name, Number, Part, names_in
 
 MOST = 4_294_967_295
 TURNED = {"<": ">", ">": "<", "<=": ">=", ">=": "<=", "==": "==", "!=": "!="}

@@ -15,9 +15,9 @@ from camac.loops.ranges import MOST, Cause, State
 from camac.loops.trials import Stopped, Trials
 from camac.loops.widths import Widths
 from camac.output import bytes_output
+from camac.printed import read_headings
 from camac.program import verdict
 from camac.reader import read_script
-from camac.scripts import parse_bounds
 from camac.texts import GREATEST_TEXT
 from camac.tree import Assign, Body, Loop, Range, Statement, all_in
 
@@ -34,12 +34,12 @@ CHECK, BOUNDS = "check", "bounds"
 def propose(plan: File, script: bytes, program: Optional[File] = None, keeps_only: bool = False) -> Proposals:
     """Returns what the loops of a script have to keep, so that the checker accepts it, or that its first refusal comes later: the fewest ranges,
     and the least. If no range can be kept, statements get another form, but for `keeps_only`. Nothing is proposed for a script that is accepted,
-    or is refused for what no range mends. If its headings are too small, and else it would be accepted, the least ones are proposed, too.
+    or is refused for what no range fixes. If its headings are too small, and else it would be accepted, the least ones are proposed, too.
 
     Raises ProgramFault and OSError as `camac.check`, and Refused if the plan is refused."""
     is_long = len(script) > MOST_BYTES
-    told = verdict(CHECK if is_long else BOUNDS, plan, script, program)
-    refusal = None if told.accepted else Refused(told.text.partition("\n")[0])
+    answer = verdict(CHECK if is_long else BOUNDS, plan, script, program)
+    refusal = None if answer.accepted else Refused(answer.text)
     if refusal and refusal.line is None:
         raise refusal
     if is_long or refusal and refusal.code[0] == "S":
@@ -51,7 +51,7 @@ def propose(plan: File, script: bytes, program: Optional[File] = None, keeps_onl
 
 
 def _remaining(refusal: Refused, line: Optional[int]) -> Remaining:
-    return Remaining(refusal.code, line, str(refusal).partition(": ")[2])
+    return Remaining(refusal.code, line, refusal.rule)
 
 
 def write_keeps(plan: File, script: str, program: Optional[File] = None) -> List[Proposal]:
@@ -249,6 +249,6 @@ class _Search:
             self.lessen(CHECK, None)
             return
         self.found = found
-        told = self.trials.judged(BOUNDS, self.found.edits())
-        for it in least_headings(self.text, parse_bounds(told.text)):
+        answer = self.trials.judged(BOUNDS, self.found.edits())
+        for it in least_headings(self.text, read_headings(answer.text)):
             self.headings.append(Proposal(Kind.HEADING, it.line, it.heading, it.edits))

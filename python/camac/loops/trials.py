@@ -51,8 +51,8 @@ class Trials:
 
     def stopped(self, command: str, edits: Sequence[Edit]) -> Optional[Stopped]:
         """What refuses the script with these changes; None if it is accepted."""
-        told = self.judged(command, edits)
-        return None if told.accepted else self.read(Refused(told.text.partition("\n")[0]))
+        answer = self.judged(command, edits)
+        return None if answer.accepted else self.read(Refused(answer.text))
 
     def read(self, refusal: Refused) -> Stopped:
         about = self.at.get(refusal.line or 0)

@@ -1,17 +1,16 @@
 """How many bits the registers of a plan have."""
-import re
 from typing import Dict, Optional, Tuple
 
 from camac import library
 from camac.drive import File
 from camac.loops.ranges import Address
-from camac.plans import plan as read_plan
+from camac.printed import LEFT_SIDE
+from camac.subcommands import plan as read_plan
 from camac.texts import plan_text
 
 WORD = 24
 # `explain` says which numbers a read of it may give.
 READ = "proc p(v in 0..0) within 0 cycles event 0 words steps 0 {{ cdreg r 1 {} {} {} cfsa {} r -> v v = v - 4294967295 }}"
-MAY_STAND = re.compile(r"^The left of `-` may be 0 to (\d+), ", re.M)
 Key = Tuple[int, int, int, int, int, int, int]
 
 
@@ -50,7 +49,7 @@ class Widths:
                 self.asked[key] = next((it.width or WORD for it in its if it.function == function and it.first <= sub <= it.last), None)
             else:
                 # The library does not list the commands of a plan, but it explains.
-                told = library.explain(plan_text(self.file), READ.format(crate, station, sub, function))
-                found = MAY_STAND.search(told.text)
-                self.asked[key] = int(found[1]).bit_length() if found else None
+                answer = library.explain(plan_text(self.file), READ.format(crate, station, sub, function))
+                found = LEFT_SIDE.find(answer.text)
+                self.asked[key] = found["greatest"].bit_length() if found else None
         return self.asked[key]

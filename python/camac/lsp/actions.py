@@ -1,22 +1,15 @@
 """Fixes of faults: changes of a text, each with its title."""
-import re
 from typing import Iterator, List, NamedTuple, Optional, Sequence, Tuple
 
 from camac.edits import Edit
 from camac.headings import least_headings
 from camac.loops.search import propose
-from camac.lsp.refusals import Refusal, refusals
+from camac.lsp.refusals import Placed, refusals
 from camac.lsp.workspace import Judged
-from camac.scripts import parse_bounds
+from camac.printed import NEAR, read_allowed, read_headings
 from camac.tokens import NAMES, tokens_of
 from camac.warn import Code, Warned
 
-NEAR = re.compile(r"Did you mean `([^`]+)`\?")
-TO_BE = re.compile(r"Did you mean `([^`]+)` instead of `([^`]+)`\?")
-TURNS = re.compile(r"The loop may take (\d+) turns, and (\d+) are allowed")
-ANNOTATED = re.compile(r"The number after `turns` is \d+, and no loop may take more than (\d+) turns")
-HEADING = re.compile(r"may (?:take|keep) (\d+) (dataway cycles|event words|steps), its heading allows (\d+)")
-WORD_BEFORE = {"dataway cycles": "within", "event words": "event", "steps": "steps"}
 MOST_TURNS = 65_535
 OF_HEADINGS = frozenset(("E11", "E12", "E18"))
 # Rules of the checker that a loop breaks when it forgets a variable.
@@ -27,7 +20,7 @@ TITLES = {Code.UNUSED_KEEP: "Remove what is kept for nothing", Code.WIDE_KEEP: "
 
 
 class Fix(NamedTuple):
-    """A change that mends something: its title, the edits, and the code of what it mends."""
+    """A change that fixes something: its title, the edits, and the code of what it fixes."""
 
     title: str
     edits: Tuple[Edit, ...]
@@ -44,14 +37,14 @@ def fixes(judged: Judged, lines: range, warned: Sequence[Warned]) -> Iterator[Fi
             yield Fix(TITLES[warning.code], warning.edits, warning.code.value)
 
 
-def _of_refusal(judged: Judged, it: Refusal) -> Iterator[Fix]:
-    near, to_be = NEAR.search(it.sentence), TO_BE.search(it.sentence)
-    if to_be:
-        wrong = [one for one in NAMES.finditer(judged.text.data[: it.start].decode("latin-1")) if one[1] == to_be[2]]
+def _of_refusal(judged: Judged, it: Placed) -> Iterator[Fix]:
+    near = NEAR.find(it.sentence)
+    if near and near.earlier:
+        wrong = [one for one in NAMES.finditer(judged.text.data[: it.start].decode("latin-1")) if one[1] == near.earlier]
         if wrong:
-            yield Fix(f"Write `{to_be[1]}` in place of `{to_be[2]}`", (Edit(*wrong[-1].span(), to_be[1]),), it.code)
+            yield Fix(f"Write `{near.word}` in place of `{near.earlier}`", (Edit(*wrong[-1].span(), near.word),), it.code)
     elif near:
-        yield Fix(f"Write `{near[1]}`", (Edit(it.start, it.end, near[1]),), it.code)
+        yield Fix(f"Write `{near.word}`", (Edit(it.start, it.end, near.word),), it.code)
     number = _number(judged, it)
     if number:
         yield number
@@ -61,27 +54,24 @@ def _of_refusal(judged: Judged, it: Refusal) -> Iterator[Fix]:
         yield from kept(judged)
 
 
-def _number(judged: Judged, it: Refusal) -> Optional[Fix]:
+def _number(judged: Judged, it: Placed) -> Optional[Fix]:
     """The number in a refusal, put after its word."""
-    turns, annotated, heading = TURNS.search(it.sentence), ANNOTATED.search(it.sentence), HEADING.search(it.sentence)
-    if heading:
-        word, number = WORD_BEFORE[heading[2]], heading[1]
-    elif turns or annotated:
-        word, number = "turns", turns[1] if turns else (annotated or ["", ""])[1]
-    else:
+    allowed = read_allowed(it.sentence)
+    if allowed is None:
         return None
+    word, number = allowed
     # A heading or the head of a loop ends with its `{`.
     end = judged.text.data.find(b"{", it.start)
     tokens = tokens_of(judged.text.data, it.start, end if end > 0 else it.end)
     old = next((after for token, after in zip(tokens, tokens[1:]) if token.text == word and after.text.isdigit()), None)
-    if old is None or int(number) > (MOST_TURNS if word == "turns" else 4_294_967_295):
+    if old is None or number > (MOST_TURNS if word == "turns" else 4_294_967_295):
         return None
-    return Fix(f"Write {number} after `{word}`", (Edit(old.start, old.end, number),), it.code)
+    return Fix(f"Write {number} after `{word}`", (Edit(old.start, old.end, str(number)),), it.code)
 
 
 def _headings(judged: Judged, code: str) -> Iterator[Fix]:
-    told = judged.ask("bounds")
-    written = least_headings(judged.text.data, parse_bounds(told.text)) if told.accepted else []
+    verdict = judged.ask("bounds")
+    written = least_headings(judged.text.data, read_headings(verdict.text)) if verdict.accepted else []
     edits = tuple(edit for it in written for edit in it.edits)
     if edits:
         yield Fix("Write the least headings that are accepted (camac bounds)", edits, code)

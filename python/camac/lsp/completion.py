@@ -3,21 +3,21 @@ import re
 from typing import Any, Callable, Dict, FrozenSet, Iterator, List, NamedTuple, Set
 
 from camac import functions
+from camac.drive import Refused
 from camac.layout import DECLARATIONS, STATEMENTS
-from camac.lsp.hover import declared_at, function_text, types_at
-from camac.lsp.known import Address, addresses
+from camac.lsp.hover import declared_at, function_text
+from camac.lsp.known import addresses
 from camac.lsp.workspace import Judged
 from camac.names import WORDS, Kind
-from camac.plans import Declaration
+from camac.printed import NOT_DECLARED, is_refused, read_expected
 from camac.tokens import tokens_of
+from camac.values import Address, Declaration
 
 # Kinds of items, as the protocol numbers them.
 VARIABLE, FUNCTION, KEYWORD, CONSTANT, EVENT, REFERENCE, VALUE, OPERATOR = 6, 3, 14, 21, 23, 18, 12, 24
 ITEM_OF = {
     Kind.LAM: EVENT, Kind.TABLE: CONSTANT, Kind.VARIABLE: VARIABLE, Kind.PARAMETER: VARIABLE, Kind.REGISTER: REFERENCE, Kind.PROCEDURE: FUNCTION,
 }
-MAY_STAND = re.compile(r"^Found the end of the script; expected (.*?)\.(?: |$)", re.M)
-NOT_DECLARED = re.compile(r"is not declared above as an? (LAM|table|variable|register|procedure)\b")
 # A name that no script has, as long as a name may be.
 NO_NAME = "no_name_that_anybody_would_choose"[:32]
 TYPED = re.compile(rb"[A-Za-z0-9_]*$")
@@ -40,15 +40,12 @@ class Expected(NamedTuple):
 
 
 def expected(ask: Callable[[bytes], str], before: bytes) -> Expected:
-    """What may be behind a text, as the checker says if the text ends there. `ask` gives what `camac explain` says of a script. Only this
-    knows the form of that sentence."""
-    told = ask(before)
-    found = MAY_STAND.search(told)
+    """What may be behind a text, as the checker says if the text ends there. `ask` gives what `camac explain` says of a script."""
+    printed = ask(before)
+    found = read_expected(printed)
     if found:
-        groups = {it for it in GROUPS if re.search(rf"\b{it}\b", found[1])}
-        groups.update(it for it in ("a name", "a number", "an expression") if it in found[1])
-        return Expected(groups, set(re.findall(r"`([^`]+)`", found[1])))
-    if told.startswith(("accepted", "refused L", "refused E")):
+        return Expected({it for it in found if it[0] != "`"}, {it.strip("`") for it in found if it[0] == "`"})
+    if not is_refused(printed) or Refused(printed).code[0] in "LE":
         return Expected({"a declaration"}, set())
     # The text has an earlier fault.
     is_inside = before.count(b"{") > before.count(b"}")
@@ -57,8 +54,8 @@ def expected(ask: Callable[[bytes], str], before: bytes) -> Expected:
 
 def kind_of_name(ask: Callable[[bytes], str], before: bytes) -> Set[Kind]:
     """What a name behind a text has to be; nothing if it is a new one."""
-    found = NOT_DECLARED.search(ask(before + b" " + NO_NAME.encode()))
-    return {it for it in Kind if found and it.value == found[1]} | ({Kind.PARAMETER} if found and found[1] == "variable" else set())
+    found = NOT_DECLARED.find(ask(before + b" " + NO_NAME.encode()))
+    return {it for it in Kind if found and it.value == found["kind"]} | ({Kind.PARAMETER} if found and found["kind"] == "variable" else set())
 
 
 def complete(judged: Judged, place: int) -> List[Item]:
@@ -126,11 +123,11 @@ def _parts_of_address(judged: Judged, words: List[str]) -> Iterator[Item]:
             yield from (_value(it.number, it.type + (f", bit {it.gl}" if it.gl else "")) for it in crate.stations)
     if len(numbers) == 3:
         address = Address((numbers[1], numbers[1]), (numbers[2], numbers[2]), (0, 15))
-        told: Dict[int, List[Declaration]] = {}
+        by_sub: Dict[int, List[Declaration]] = {}
         for it in declared_at(judged.plan, address):
             for sub in range(it.first, it.last + 1):
-                told.setdefault(sub, []).append(it)
-        for sub, its in sorted(told.items()):
+                by_sub.setdefault(sub, []).append(it)
+        for sub, its in sorted(by_sub.items()):
             yield _value(sub, " ".join(f"F{it.function}" for it in its if not it.is_probe) or "a probe")
 
 

@@ -5,9 +5,9 @@ from typing import Any, Dict, List, Optional
 
 from camac.bodies import parse_costs
 from camac.lsp.documents import Range, Text
-from camac.lsp.refusals import Refusal, refusals
+from camac.lsp.refusals import Placed, refusals
 from camac.lsp.workspace import Judge, Judged
-from camac.scripts import parse_verdict
+from camac.printed import read_explanation, read_services
 from camac.toml_places import place_of
 from camac.warn import Code, Warned, looks_for_all, warnings_of
 
@@ -40,19 +40,20 @@ def shown(code: str, text: str, severity: int, place: Range) -> Diagnostic:
 
 def of_refusals(judged: Judged) -> List[Diagnostic]:
     """Why a script is refused; of a plan that is refused, or of a fault, what it is, on the first line."""
-    told = judged.ask("explain")
-    if told.accepted:
+    verdict = judged.ask("explain")
+    if verdict.accepted:
         return []
     found = refusals(judged)
     if found:
         return [of_refusal(it, judged.text) for it in found]
-    first, *rest = told.text.rstrip("\n").split("\n")
-    code = first.split()[1].rstrip(":") if first.startswith("refused ") else ""
-    text = f"the plan is refused: {first.partition(': ')[2]}" if code else first
-    return [shown(code, "\n".join([text, *rest]), ERROR, line_range(judged.text, 1))]
+    of_its_plan = read_explanation(verdict.text)
+    if of_its_plan is None:
+        return [of_fault(judged.text, verdict.text.rstrip("\n"))]
+    text = f"the plan is refused: {of_its_plan.refusal.rule}"
+    return [shown(of_its_plan.refusal.code, "\n".join([text, *of_its_plan.lines]), ERROR, line_range(judged.text, 1))]
 
 
-def of_refusal(it: Refusal, text: Text) -> Diagnostic:
+def of_refusal(it: Placed, text: Text) -> Diagnostic:
     return shown(it.code, it.message(), ERROR, text.range(it.start, it.end))
 
 
@@ -62,25 +63,25 @@ def of_fault(text: Text, why: str) -> Diagnostic:
 
 
 def of_plan(judge: Judge, text: Text) -> List[Diagnostic]:
-    told = judge.explained
-    if told.accepted:
+    verdict = judge.explained
+    if verdict.accepted:
         return []
-    first, *rest = told.text.rstrip("\n").split("\n")
-    if not first.startswith("refused "):
-        return [of_fault(text, first)]
-    code, _, rule = first[len("refused ") :].partition(": ")
-    place = place_of(text.text, rest[0] if rest else "")
+    its = read_explanation(verdict.text)
+    if its is None:
+        return [of_fault(text, verdict.text.partition("\n")[0])]
+    place = place_of(text.text, its.sentence)
     start, end = (len(text.text[:it].encode("utf-8", "surrogatepass")) for it in place)
-    return [shown(code, "\n".join([f"{rule}. {rest[0]}" if rest else rule, *rest[1:]]), ERROR, text.range(start, end))]
+    message = "\n".join([f"{its.refusal.rule}. {its.sentence}".rstrip(), *its.advice])
+    return [shown(its.refusal.code, message, ERROR, text.range(start, end))]
 
 
 def warned(judged: Judged) -> List[Warned]:
     """The warnings of a script; none if it is refused. This may take long."""
-    told = judged.ask("check")
-    if not told.accepted:
+    verdict = judged.ask("check")
+    if not verdict.accepted:
         return []
     bodies = parse_costs(judged.ask("costs").text) if looks_for_all(judged.judge.program) else []
-    return warnings_of(judged.judge.file, judged.text.data, parse_verdict(told.text), bodies, judged.judge.program)
+    return warnings_of(judged.judge.file, judged.text.data, read_services(verdict.text), bodies, judged.judge.program)
 
 
 def of_warning(it: Warned, text: Text) -> Diagnostic:

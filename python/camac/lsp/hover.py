@@ -3,19 +3,18 @@ import re
 from typing import Iterator, List, NamedTuple, Optional
 
 from camac import functions
-from camac.bodies import Cost, Row
-from camac.lsp.known import Address, addresses, range_at, row_of, statement_tokens
+from camac.lsp.known import addresses, range_at, row_of, statement_tokens
 from camac.lsp.workspace import Choice, Judged
 from camac.names import Kind, Mention
-from camac.plans import Declaration, ModuleType, Plan
+from camac.printed import line_of_body
 from camac.tokens import Token
-from camac.tree import Range
+from camac.values import Address, BodyKind, Cost, Declaration, ModuleType, Plan, Range, Row
 
 GREATEST = 4_294_967_295
 OF_FUNCTIONS = ("cfsa", "cssa", "cfmad", "cfubc", "cfubr")
 
 
-class Told(NamedTuple):
+class HoverText(NamedTuple):
     """A hover text, and its part of the document, in bytes."""
 
     text: str
@@ -23,30 +22,30 @@ class Told(NamedTuple):
     end: int
 
 
-def hover(judged: Judged, place: int, choice: Choice) -> Optional[Told]:
+def hover(judged: Judged, place: int, choice: Choice) -> Optional[HoverText]:
     """The hover text of a place in bytes; None if there is none."""
     mention = judged.names.at(place)
     if mention:
-        told = list(_of_name(judged, mention, choice))
-        return Told("\n\n".join(told), mention.start, mention.end) if told else None
+        parts = list(_of_name(judged, mention, choice))
+        return HoverText("\n\n".join(parts), mention.start, mention.end) if parts else None
     its = statement_tokens(judged, place)
     token = next((it for it in its if it.start <= place <= it.end), None)
     if token is None:
         return None
     if its[1:2] == [token] and its[0].text in OF_FUNCTIONS:
-        return Told(_of_function(judged, its), token.start, token.end)
+        return HoverText(_of_function(judged, its), token.start, token.end)
     row = row_of(judged, its[0])
-    return Told(_of_row(row), its[0].start, its[-1].end) if row else None
+    return HoverText(_of_row(row), its[0].start, its[-1].end) if row else None
 
 
 def _of_name(judged: Judged, mention: Mention, choice: Choice) -> Iterator[str]:
     its = mention.symbol
     if its.kind is Kind.LAM:
         yield from _of_lam(judged, mention)
-        yield from _of_body(judged, "service", its.name)
-        yield f"Plan: {choice.told()}"
+        yield from _of_body(judged, BodyKind.SERVICE, its.name)
+        yield f"Plan: {choice.text()}"
     elif its.kind is Kind.PROCEDURE:
-        yield from _of_body(judged, "proc", its.name)
+        yield from _of_body(judged, BodyKind.PROCEDURE, its.name)
     elif its.kind is Kind.REGISTER:
         yield from _of_register(judged, mention)
     elif its.kind is Kind.TABLE:
@@ -90,15 +89,15 @@ def _of_lam(judged: Judged, mention: Mention) -> Iterator[str]:
         yield f"LAM `{mention.symbol.name}`: crate {crate}, station {station}, sub-address {sub}{what}" + (f", bit {bit} of the graded-L pattern" if bit else "")
 
 
-def _of_body(judged: Judged, kind: str, name: str) -> Iterator[str]:
+def _of_body(judged: Judged, kind: BodyKind, name: str) -> Iterator[str]:
     """What a service or procedure takes at most, and how late a service can be."""
-    told = judged.ask("costs")
-    head = re.search(rf"(?m)^{kind} {name} .*$", told.text) if told.accepted else None
+    verdict = judged.ask("costs")
+    head = line_of_body(verdict.text, kind, name) if verdict.accepted else None
     if head:
-        yield _code(head[0])
-        late = re.search(rf"(?m)^service {name} .*$", judged.ask("response").text) if kind == "service" else None
+        yield _code(head)
+        late = line_of_body(judged.ask("response").text, kind, name) if kind is BodyKind.SERVICE else None
         if late:
-            yield _code(f"response: {late[0]}")
+            yield _code(f"response: {late}")
 
 
 def _code(text: str) -> str:
@@ -153,13 +152,13 @@ def declared_at(plan: Plan, its: Address) -> List[Declaration]:
 def _of_function(judged: Judged, its: List[Token]) -> str:
     """The name of a statement's function, and what the plan says of it at the statement's registers."""
     function = int(its[1].text)
-    told = [f"F{function}: {functions.name(function)}"]
+    parts = [f"F{function}: {functions.name(function)}"]
     register = judged.names.at(its[2].start) if len(its) > 2 else None
     for _, address in addresses(judged, register) if register else ():
         text = address_text(judged.plan, address)
         found = sorted({function_text(it) for it in declared_at(judged.plan, address) if it.function == function})
-        told.append(f"{text}: {', '.join(found) or 'not declared'}")
-    return "\n\n".join(dict.fromkeys(told))
+        parts.append(f"{text}: {', '.join(found) or 'not declared'}")
+    return "\n\n".join(dict.fromkeys(parts))
 
 
 def function_text(it: Declaration) -> str:

@@ -1,41 +1,17 @@
 """What is known at a place of a script: the statement there, its row of `camac costs`, the range of a variable, and what a register may address."""
 import bisect
 import itertools
-import re
-from typing import Dict, List, NamedTuple, Optional, Tuple
+from typing import Dict, List, Optional, Tuple
 
-from camac.bodies import Row, rows_of_line
 from camac.layout import begins
 from camac.lsp.workspace import Judged
 from camac.names import Block, Mention
+from camac.printed import read_known, rows_of_line
 from camac.tokens import Token, tokens_of
-from camac.tree import Range
+from camac.values import Address, Range, Row, range_of
 
-ABOUT = re.compile(r"at (\S+) (\S+) (\S+)(?: to (\S+) (\S+) (\S+))?")
 # The lines around a place in which the statement is looked for, and the cycles of a register that are shown.
 AROUND = 8
-
-
-class Address(NamedTuple):
-    """Where a cycle may go: ranges of crates, stations and sub-addresses."""
-
-    crate: Range
-    station: Range
-    sub_address: Range
-
-
-def _range(word: str) -> Range:
-    low, _, high = word.partition("..")
-    return int(low), int(high or low)
-
-
-def addresses_of(about: str) -> List[Address]:
-    """The address in a row of costs; of a scan the first and the last one."""
-    found = ABOUT.match(about)
-    if not found:
-        return []
-    its = [found.group(1, 2, 3)] + ([found.group(4, 5, 6)] if found[4] else [])
-    return [Address(*map(_range, words)) for words in its]
 
 
 def statement_tokens(judged: Judged, place: int) -> List[Token]:
@@ -63,15 +39,15 @@ def _tokens_around(data: bytes, block: Block, place: int) -> List[Token]:
 
 def row_of(judged: Judged, first: Token) -> Optional[Row]:
     """The row of `costs` of a statement, given by its first token; None if the script is refused."""
-    told, text = judged.ask("costs"), judged.text
-    if not told.accepted:
+    verdict, text = judged.ask("costs"), judged.text
+    if not verdict.accepted:
         return None
     line = text.line_at(first.start)
     tokens = tokens_of(text.line_of(line))
     before = first.start - text.line_starts[line - 1]
     # A row stands for each statement that begins on the line, and for each `else`.
     places = [it.start for it, is_first in zip(tokens, begins([it.text for it in tokens])) if _has_row(it.text, is_first)]
-    rows = rows_of_line(told.text, line)
+    rows = rows_of_line(verdict.text, line)
     number = bisect.bisect_left(places, before)
     return rows[number] if number < len(rows) else None
 
@@ -84,7 +60,7 @@ def range_at(judged: Judged, mention: Mention) -> Optional[Range]:
     """The range of a variable before the statement that names it, as the checker knows it; None where it does not come to the statement."""
     its = statement_tokens(judged, mention.start)
     words = _known(judged, its[0]).get(mention.symbol.name, []) if its else []
-    return _range(words[0]) if len(words) == 1 else None
+    return range_of(words[0]) if len(words) == 1 else None
 
 
 def _known(judged: Judged, first: Token) -> Dict[str, List[str]]:
@@ -92,8 +68,8 @@ def _known(judged: Judged, first: Token) -> Dict[str, List[str]]:
     key = "known", first.start
     if key not in judged.kept:
         line = judged.text.line_at(first.start)
-        told = judged.judge.known_at(judged.text.data, line, first.start - judged.text.line_starts[line - 1] + 1)
-        judged.kept[key] = {it[0]: it[1:] for it in map(str.split, told.text.splitlines()[1:])} if told.accepted else {}
+        verdict = judged.judge.ask("explain", judged.text.data, (line, first.start - judged.text.line_starts[line - 1] + 1))
+        judged.kept[key] = read_known(verdict.text) if verdict.accepted else {}
     its: Dict[str, List[str]] = judged.kept[key]
     return its
 
@@ -105,8 +81,8 @@ def addresses(judged: Judged, mention: Mention) -> List[Tuple[int, Address]]:
     if not rows:
         used = itertools.islice((it for it in judged.names.of(mention.symbol) if not it.declares), AROUND)
         rows = [row_of(judged, tokens[0]) for tokens in (statement_tokens(judged, it.start) for it in used) if tokens]
-    told = [(row.line, address) for row in rows if row for address in addresses_of(row.about)]
-    return told or [(line, address) for line, address in written_addresses(judged, mention)]
+    found = [(row.line, address) for row in rows if row for address in row.addresses()]
+    return found or [(line, address) for line, address in written_addresses(judged, mention)]
 
 
 def written_addresses(judged: Judged, mention: Mention) -> List[Tuple[int, Address]]:

@@ -5,10 +5,9 @@ from typing import Iterator, List, NamedTuple, Optional, Tuple
 
 from camac.layout import begins
 from camac.lsp.workspace import Judged
+from camac.printed import read_explanation
 from camac.tokens import PIECE, is_token, tokens_of
 
-FIRST = re.compile(r"refused ([A-Z]\d+) line (\d+): (.*)")
-MARK = re.compile(r"[ |\t]*\^")
 # The most refusals that are shown.
 MOST = 10
 SIGN = re.compile(rb"[\x00-\xff][\x80-\xbf]*")
@@ -17,8 +16,8 @@ BLANK = bytes(it if it == ord("\n") else ord(" ") for it in range(256))
 BODY = re.compile(rb"#[^\n]*|\b(service|proc)\b|([{}])")
 
 
-class Refusal(NamedTuple):
-    """A rule that refuses, the line of the script, the place in bytes, the rule in words, what is said of the case, and the lines that follow."""
+class Placed(NamedTuple):
+    """A refusal with its place: the code, the line of the script, the place in bytes, the rule in words, what is said of the case, and the lines that follow."""
 
     code: str
     line: int
@@ -32,35 +31,31 @@ class Refusal(NamedTuple):
         return "\n".join([f"{self.text}. {self.sentence}".rstrip(), *self.advice])
 
 
-def refusals(judged: Judged) -> List[Refusal]:
-    """The first refusal, and the first of each other body of a script, where a rule of the checker refuses it."""
+def refusals(judged: Judged) -> List[Placed]:
+    """The first refusal, and each further one: of linking, or the first of each other body of a script, where a rule of the checker refuses it."""
     if "refusals" not in judged.kept:
         judged.kept["refusals"] = list(_refusals(judged))
-    found: List[Refusal] = judged.kept["refusals"]
+    found: List[Placed] = judged.kept["refusals"]
     return found
 
 
-def _refusals(judged: Judged) -> Iterator[Refusal]:
-    data, told = judged.text.data, judged.ask("explain")
+def _refusals(judged: Judged) -> Iterator[Placed]:
+    data, verdict = judged.text.data, judged.ask("explain")
     for _ in range(MOST):
-        found = None if told.accepted else FIRST.match(told.text)
-        if not found:
+        found = read_explanation(verdict.text)
+        if found is None:
             return
-        code, line = found[1], int(found[2])
-        sentence, advice = _explanation(told.text)
+        code, line, rule = found.refusal
+        if line is None:
+            return
         start, end = _place(judged, data, code, line)
-        yield Refusal(code, line, start, end, found[3], sentence, advice)
+        yield Placed(code, line, start, end, rule, found.sentence, found.advice)
+        if code[0] == "L":
+            yield from (Placed(it.code, it.line, *_place(judged, data, it.code, it.line), it.rule, "", ()) for it in found.also[: MOST - 1] if it.line)
         rest = _without_body(data, start) if code[0] == "E" else None
         if rest is None:
             return
-        data, told = rest, judged.judge.ask("explain", rest)
-
-
-def _explanation(told: str) -> Tuple[str, Tuple[str, ...]]:
-    """What is said of a case, and the lines that follow, behind the line of the script and the mark below it."""
-    its = [it for it in told.split("\n")[2:] if it and not MARK.fullmatch(it) and not it.startswith("also ")]
-    has_sentence = bool(its) and not its[0].startswith("Why: ")
-    return (its[0], tuple(its[1:])) if has_sentence else ("", tuple(its))
+        data, verdict = rest, judged.judge.ask("explain", rest)
 
 
 def _place(judged: Judged, data: bytes, code: str, line: int) -> Tuple[int, int]:
@@ -75,8 +70,8 @@ def _place(judged: Judged, data: bytes, code: str, line: int) -> Tuple[int, int]
     if not tokens:
         return at + len(its), at + len(its)
     alone = b"\n".join(it.text.encode() for it in tokens)
-    again = FIRST.match(judged.judge.ask("explain", data[:at] + alone + data[at + len(its) :]).text)
-    number = int(again[2]) - line if again and again[1] == code else 0
+    again = read_explanation(judged.judge.ask("explain", data[:at] + alone + data[at + len(its) :]).text)
+    number = (again.refusal.line or line) - line if again and again.refusal.code == code else 0
     if not 0 <= number < len(tokens):
         number = 0
     if code[0] == "S":

@@ -314,10 +314,10 @@ class Server:
         if its.is_plan:
             return None
         judged = self.workspace.judged(its)
-        told = hover(judged, self.place(params, judged.text), its.choice or Choice("", ""))
-        if told is None:
+        text = hover(judged, self.place(params, judged.text), its.choice or Choice("", ""))
+        if text is None:
             return None
-        return {"contents": {"kind": "markdown", "value": told.text}, "range": judged.text.range(told.start, told.end)}
+        return {"contents": {"kind": "markdown", "value": text.text}, "range": judged.text.range(text.start, text.end)}
 
     def on_completion(self, params: Params) -> Any:
         judged = self.script(params)
@@ -392,8 +392,8 @@ class Server:
         return made
 
     def action(self, uri: str, judged: Judged, it: actions.Fix, shown: List[Any]) -> Any:
-        mended = [one for one in shown if one.get("code") == it.code]
-        return {"title": it.title, "kind": "quickfix", "edit": self.workspace_edit(uri, judged, it.edits), **({"diagnostics": mended} if mended else {})}
+        fixed = [one for one in shown if one.get("code") == it.code]
+        return {"title": it.title, "kind": "quickfix", "edit": self.workspace_edit(uri, judged, it.edits), **({"diagnostics": fixed} if fixed else {})}
 
     def on_command(self, params: Params) -> Any:
         if params["command"] != KEEPS:

@@ -7,6 +7,7 @@ from camac.lsp.documents import Text
 from camac.lsp.protocol import FAILED, ResponseError
 from camac.lsp.workspace import Judged
 from camac.names import SCRIPT, Kind, Mention, fault_of_new_name
+from camac.printed import without_name
 from camac.toml_places import Table, read_places, tables
 
 # Kinds of symbols, as the protocol numbers them.
@@ -81,13 +82,8 @@ def renamed(judged: Judged, mention: Mention, new: str) -> Tuple[Edit, ...]:
     if why:
         raise ResponseError(FAILED, why)
     edits = tuple(Edit(it.start, it.end, new) for it in judged.names.of(mention.symbol))
-    before = _verdict(judged.ask("check").text, mention.symbol.name)
-    after = _verdict(judged.judge.ask("check", edited(judged.text.data, edits)).text, new)
+    before = without_name(judged.ask("check").text, mention.symbol.name)
+    after = without_name(judged.judge.ask("check", edited(judged.text.data, edits)).text, new)
     if before != after:
         raise ResponseError(FAILED, f"with `{new}` the checker would say: {after[0]}")
     return edits
-
-
-def _verdict(told: str, name: str) -> List[str]:
-    """What the checker says, with a sign in the place of a service's name."""
-    return re.sub(rf"(?m)^service {name} ", "service ? ", told).split("\n")

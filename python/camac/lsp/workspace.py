@@ -6,16 +6,17 @@ import pathlib
 import re
 import tempfile
 from functools import cached_property
-from typing import Any, Callable, Dict, List, NamedTuple, Optional
+from typing import Any, Callable, Dict, List, NamedTuple, Optional, Tuple
 from urllib.parse import unquote, urlsplit
 
 from camac.library import Verdict
 from camac.lsp.documents import Text
 from camac.names import Names
-from camac.plans import Plan, parse_plan
-from camac.program import explain_plan, known_at, output_of, quickest, verdict
+from camac.printed import read_plan
+from camac.program import explain_plan, output_of, quickest, verdict
 from camac.texts import GREATEST_TEXT, SAMPLE, plan_text
 from camac.toml_places import with_commands
+from camac.values import Plan
 
 # The first line of a script may name its plan.
 NAMED = re.compile(r"#\s*plan:\s*(\S+)", re.I)
@@ -29,7 +30,7 @@ class Choice(NamedTuple):
     file: str
     why: str
 
-    def told(self) -> str:
+    def text(self) -> str:
         return f"{os.path.basename(self.file)} ({self.why})"
 
 
@@ -83,16 +84,11 @@ class Judge:
         with open(descriptor, "wb") as out:
             out.write(data)
 
-    def ask(self, command: str, script: bytes) -> Verdict:
+    def ask(self, command: str, script: bytes, at: Optional[Tuple[int, int]] = None) -> Verdict:
+        """What a subcommand says of a script; with line and column (from 1, in bytes) what is known before the statement there."""
         if max(len(script), len(self.data)) > GREATEST_TEXT:
             return Verdict(False, "fault input too long\n")
-        return verdict(command, self.file, script, self.program)
-
-    def known_at(self, script: bytes, line: int, column: int) -> Verdict:
-        """What the checker knows before the statement at a place, from 1, the column in bytes."""
-        if max(len(script), len(self.data)) > GREATEST_TEXT:
-            return Verdict(False, "fault input too long\n")
-        return known_at(self.file, script, line, column, self.program)
+        return verdict(command, self.file, script, self.program, at)
 
     @cached_property
     def explained(self) -> Verdict:
@@ -106,7 +102,7 @@ class Judge:
         """The crates of the plan, and the commands of its modules; of a refused plan nothing."""
         if not self.explained.accepted:
             return Plan(0, {}, ())
-        found = parse_plan(output_of("plan", "--", self.file, program=self.program))
+        found = read_plan(output_of("plan", "--", self.file, program=self.program))
         return with_commands(found, self.data.decode("utf-8", "replace"))
 
 
@@ -115,13 +111,13 @@ class Judged:
 
     def __init__(self, judge: Judge, text: Text) -> None:
         self.judge, self.text = judge, text
-        self.told: Dict[str, Verdict] = {}
+        self.verdicts: Dict[str, Verdict] = {}
         self.kept: Dict[Any, Any] = {}
 
     def ask(self, command: str) -> Verdict:
-        if command not in self.told:
-            self.told[command] = self.judge.ask(command, self.text.data)
-        return self.told[command]
+        if command not in self.verdicts:
+            self.verdicts[command] = self.judge.ask(command, self.text.data)
+        return self.verdicts[command]
 
     @cached_property
     def names(self) -> Names:

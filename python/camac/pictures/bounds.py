@@ -3,7 +3,7 @@ from typing import Mapping, Optional, Sequence, Tuple
 
 from camac.pictures.svg import Canvas, count, cut
 from camac.runs import Run, Seen, SeenOfBit
-from camac.scripts import Service
+from camac.values import Service
 
 # Of cycles and of words: where the bar begins, and how wide it is.
 CYCLES, WORDS = (160, 210), (580, 150)

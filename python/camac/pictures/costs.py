@@ -1,10 +1,11 @@
 """The picture of a body's cost: what its bound consists of, as bars below bars, and then by line."""
 from typing import Dict, List, NamedTuple, Optional, Sequence, Tuple
 
-from camac.bodies import Body, Kind, Row, calls_of, opened
+from camac.bodies import calls_of, opened
 from camac.pictures.lines import OF_LOCK, draw_lines, parts_of
 from camac.pictures.svg import MONO_11, NO_POINTER, SANS_11, WIDTH, Canvas, count, cut, number, share
 from camac.runs import Seen
+from camac.values import Body, BodyKind, Row
 
 WIDE = WIDTH - 2
 FIRST_BAR, BAR, STEP = 22, 20, 21
@@ -48,7 +49,7 @@ def draw_costs(body: Body, source: Sequence[str], seen: Optional[Seen] = None, b
     _draw_whole(canvas, y, body, scale)
     if seen:
         _draw_seen(canvas, y, seen, scale)
-    procedures = {it.name: it for it in bodies if it.kind is Kind.PROCEDURE}
+    procedures = {it.name: it for it in bodies if it.kind is BodyKind.PROCEDURE}
     nodes = nodes_of(opened(body, procedures))
     y += FIRST_BAR + 2
     _draw_nodes(canvas, y, nodes, scale, (body, source))
@@ -64,7 +65,7 @@ def draw_costs(body: Body, source: Sequence[str], seen: Optional[Seen] = None, b
 def draw_calls(body: Body, source: Sequence[str], bodies: Sequence[Body]) -> List[Tuple[str, Canvas]]:
     """Of each call of a body the lines of what is called, with what they have of the body's bound, and a title."""
     drawn = []
-    for it in calls_of(body, {one.name: one for one in bodies if one.kind is Kind.PROCEDURE}):
+    for it in calls_of(body, {one.name: one for one in bodies if one.kind is BodyKind.PROCEDURE}):
         title = f"call {it.body.name} (line {it.line}): {it.times:,} × {it.each:,} = {count(it.times * it.each, 'cycle')}"
         canvas = Canvas(title)
         promised = (it.times, it.promised() // it.times) if it.promised() else None

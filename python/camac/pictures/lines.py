@@ -1,8 +1,8 @@
 """The lines of a body with what each has of the bound: a table of numbers, with heat behind the text and a bar beside it."""
 from typing import Dict, List, NamedTuple, Optional, Sequence, Tuple
 
-from camac.bodies import Body, Row
 from camac.pictures.svg import MONO_11, Canvas, count, cut, share
+from camac.values import Body, Row
 
 ROW = 17
 # Of a longer body the lines of most cost are shown.

@@ -5,7 +5,7 @@ from typing import Dict, List, NamedTuple, Sequence, Tuple
 from camac.histograms import Spectrum
 from camac.pictures.svg import BOLD_12, LEVELS, WIDTH, Canvas, count, ticks
 from camac.runs import Run
-from camac.scripts import Service
+from camac.values import Service
 
 LEFT, TOP, HIGH = 84, 30, 200
 COLUMNS, ROWS = 96, 40

@@ -4,9 +4,8 @@ from typing import Dict, List, NamedTuple, Optional, Sequence, Tuple
 
 from camac.functions import name
 from camac.pictures.svg import Canvas, count, cut
-from camac.plans import Crate, Declaration, Plan, Station
 from camac.runs import Run
-from camac.scripts import Service
+from camac.values import Crate, Declaration, Plan, Service, Station
 
 LEFT, STEP, TALLEST = 86, 34, 104
 CRATE_HEIGHT, BOX_HEIGHT = 160, 132

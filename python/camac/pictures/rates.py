@@ -35,7 +35,7 @@ class Plot:
     def up(self, value: float) -> float:
         return self.foot - HIGH * value / self.top
 
-    def draw_axes(self, told: float, values: Sequence[Tuple[float, str]]) -> None:
+    def draw_axes(self, given: float, values: Sequence[Tuple[float, str]]) -> None:
         for value, text in values:
             self.canvas.line((self.left, self.up(value)), (self.left + WIDE, self.up(value)), "l-grid thin")
             self.canvas.text(self.left - 6, self.up(value) + 4, text, "mute s10 r")
@@ -43,7 +43,7 @@ class Plot:
             self.canvas.line((self.across(rate), self.foot), (self.across(rate), self.foot + 4), "l-mute thin")
             self.canvas.text(self.across(rate), self.foot + 15, _rate(rate), "mute s10 m")
         self.canvas.line((self.left, self.foot), (self.left + WIDE, self.foot), "l-mute thin")
-        self.canvas.line((self.across(told), self.upper), (self.across(told), self.foot), "l-ink thin")
+        self.canvas.line((self.across(given), self.upper), (self.across(given), self.foot), "l-ink thin")
         self.canvas.text(self.left + WIDE, self.foot + 29, "triggers a second", "mute s10 r")
 
     def draw(self, lines: Sequence[Line]) -> None:
@@ -59,42 +59,42 @@ class Plot:
             self.canvas.text(self.left + WIDE + 6, last + 4, it.label, "s10", NO_POINTER)
 
 
-def draw_rates(simulations: Sequence[Simulation], told: Simulation, cycle: float) -> Canvas:
-    """Draws two plots for each service: over its rate the share that is answered, and the cycles that its look-at-mes wait. `told` is the
+def draw_rates(simulations: Sequence[Simulation], given: Simulation, cycle: float) -> Canvas:
+    """Draws two plots for each service: over its rate the share that is answered, and the cycles that its look-at-mes wait. `given` is the
     simulation of the rates that were given; `cycle` are the seconds of a cycle."""
     canvas = Canvas("Look-at-mes that are answered, and how long they wait, over the rate")
     y = 0.0
-    for at, it in enumerate(told.services):
+    for at, it in enumerate(given.services):
         its = [one.services[at] for one in simulations]
         canvas.text(0, y + 14, f"{it.name} (GL {it.gl})", "b")
         canvas.text(LEFT, y + 32, "share of the triggers that are answered", "mute s11")
         canvas.text(PANEL + LEFT, y + 32, "cycles from a look-at-me to the end of its service", "mute s11")
-        _draw_live(canvas, y + 42, its, it, cycle if len(told.services) == 1 else None)
+        _draw_live(canvas, y + 42, its, it, cycle if len(given.services) == 1 else None)
         _draw_waits(canvas, y + 42, its, it)
         _draw_tips(canvas, y + 42, its)
         y += ROW
-    words = "All rates grow together." if len(told.services) > 1 else ""
+    words = "All rates grow together." if len(given.services) > 1 else ""
     canvas.text(0, y + 12, f"The upright line: the given rate. {words}", "mute s11")
     canvas.grow(y + 18)
     return canvas
 
 
-def _draw_live(canvas: Canvas, y: float, its: Sequence[Simulated], told: Simulated, cycle: Optional[float]) -> None:
+def _draw_live(canvas: Canvas, y: float, its: Sequence[Simulated], given: Simulated, cycle: Optional[float]) -> None:
     plot = Plot(canvas, (LEFT, y), [it.rate for it in its], 1)
-    plot.draw_axes(told.rate, [(part / 4, f"{25 * part} %") for part in range(5)])
+    plot.draw_axes(given.rate, [(part / 4, f"{25 * part} %") for part in range(5)])
     lines = [Line([it.live() for it in its], "ours", "answered")]
     if cycle is not None:
         lines.append(Line([it.reckoned(cycle) for it in its], "ink dash", "1 / (1 + r τ)"))
     plot.draw(lines)
 
 
-def _draw_waits(canvas: Canvas, y: float, its: Sequence[Simulated], told: Simulated) -> None:
-    top = max([told.end or 0, *(it.quantile(1.0) for it in its)])
+def _draw_waits(canvas: Canvas, y: float, its: Sequence[Simulated], given: Simulated) -> None:
+    top = max([given.end or 0, *(it.quantile(1.0) for it in its)])
     plot = Plot(canvas, (PANEL + LEFT, y), [it.rate for it in its], 1.05 * top)
-    plot.draw_axes(told.rate, [(value, f"{value:,}") for value in ticks(top)])
+    plot.draw_axes(given.rate, [(value, f"{value:,}") for value in ticks(top)])
     lines = [Line([it.quantile(part) for it in its], kind, label) for part, label, kind in QUANTILES]
-    if told.end is not None:
-        lines.append(Line([told.end] * len(its), "ink dash", f"at most {told.end:,}"))
+    if given.end is not None:
+        lines.append(Line([given.end] * len(its), "ink dash", f"at most {given.end:,}"))
     plot.draw(lines)
 
 

@@ -5,7 +5,7 @@ from camac.late import Late
 from camac.pictures.costs import MARK, NARROWEST
 from camac.pictures.svg import NO_POINTER, SANS_11, Canvas, count, cut
 from camac.runs import Run
-from camac.scripts import Response
+from camac.values import Response
 
 # Where the bars begin, how wide the longest one is, and how many characters the sum below a bar has room for.
 LEFT, WIDE, SUM = 160, 640, 125

@@ -7,9 +7,8 @@ from typing import Dict, List, Mapping, NamedTuple, Optional, Sequence, Tuple, U
 from camac.functions import writes
 from camac.histograms import Bins, Series, Spectrum
 from camac.pictures.svg import WIDTH, Canvas, count, cut, number, ticks
-from camac.plans import Plan
 from camac.runs import Channel, Run, by_bit
-from camac.scripts import Service
+from camac.values import Plan, Service
 
 ACROSS, GAP = 4, 16
 PANEL = (WIDTH - GAP * (ACROSS - 1)) / ACROSS

@@ -2,10 +2,9 @@
 from typing import Dict, Optional, Sequence, Tuple
 
 from camac.functions import reads, writes
-from camac.listings import Cycle, Lock, Unlock
 from camac.pictures.svg import NO_POINTER, WIDTH, Canvas, count, number
 from camac.runs import Kept, Operation
-from camac.scripts import Service
+from camac.values import Cycle, Lock, Service, Unlock
 
 CELL, WAIT = 17, 6
 ROW = 52

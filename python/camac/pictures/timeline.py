@@ -3,7 +3,7 @@ from typing import Dict, List, NamedTuple, Sequence, Tuple
 
 from camac.pictures.svg import BOLD_12, LEVELS, WIDTH, Canvas, count, number, ticks
 from camac.runs import Run, by_bit
-from camac.scripts import Service
+from camac.values import Service
 
 LEFT, RIGHT = 64, 108
 WIDE = WIDTH - LEFT - RIGHT

@@ -1,16 +1,16 @@
 """The report: one page of HTML with all that is known of a run. It fetches nothing, and opens from a file."""
 from typing import List, Mapping, NamedTuple, Optional
 
-from camac.bodies import Body, costs
 from camac.columns import Naming, ask
 from camac.drive import File, Refused
-from camac.plans import plan as read_plan
 from camac.program import knows_command, version
 from camac.report import sections
 from camac.report.page import page
 from camac.report.refused import refused_page
 from camac.runs import Check, Inputs, collect
-from camac.scripts import check, response, source_lines
+from camac.subcommands import check, costs, plan as read_plan, response
+from camac.texts import source_lines
+from camac.values import Body
 
 __all__ = ["Report", "report"]
 

@@ -1,16 +1,15 @@
 """The page where plan or script is refused: what `camac explain` says, the lines around the place, and the plan if it is good."""
-import re
 from typing import List, Optional
 
 from camac.drive import File, Refused
 from camac.pictures import draw_plan
 from camac.pictures.svg import escape
-from camac.plans import plan
 from camac.program import lines_of
 from camac.report.page import figure, header, page
 from camac.report.sections import base_name
 from camac.runs import Inputs
-from camac.scripts import source_lines
+from camac.subcommands import plan
+from camac.texts import source_lines
 
 # The lines that are shown before and behind the place.
 AROUND = 6
@@ -23,9 +22,9 @@ def refused_page(inputs: Inputs, line: str, program: Optional[File] = None) -> s
         f'<p class="bad">{escape(line)}</p>',
         f"<p>A script that is refused has no run. The program explains:</p><pre>{escape(explanation)}</pre>",
     ]
-    place = re.match(r"refused [SLE]\d+ line (\d+):", line)
-    if place:
-        parts.append(f"<h2>The place</h2><pre>{_lines_around(source_lines(inputs.script), int(place[1]))}</pre>")
+    at = Refused(line).line
+    if at:
+        parts.append(f"<h2>The place</h2><pre>{_lines_around(source_lines(inputs.script), at)}</pre>")
     try:
         parts.append("<h2>The plan</h2>" + figure(draw_plan(plan(inputs.plan, program))))
     except Refused:

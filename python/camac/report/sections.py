@@ -6,17 +6,15 @@ import os
 from typing import Dict, List, NamedTuple, Optional, Sequence, Tuple, Union
 
 from camac import functions
-from camac.bodies import Body
-from camac.drive import Ending, File
+from camac.drive import File
+from camac.values import Body, Ending, Plan, Response, Service
 from camac.pictures import (
     channel_groups, command_groups, draw_bounds, draw_calls, draw_costs, draw_pairs, draw_places, draw_plan, draw_response, draw_run, draw_strip, event_groups,
 )
 from camac.pictures.spectra import BOTH
 from camac.pictures.svg import count, escape, share
-from camac.plans import Plan
 from camac.report.page import Cell, Column, Row, figure, folded, header, panels, table
 from camac.runs import Inputs, Kept, Run, Why
-from camac.scripts import Response, Service
 
 SECTIONS = (
     ("bounds", "Bounds"),
@@ -257,9 +255,9 @@ def _commands_table(facts: Facts) -> str:
         where = Cell(order, f"{crate} {station} {sub_address} F{function}")
         there = facts.plan.type_at(crate, station)
         words = sent.words
-        told = (words.least, words.mean(), words.greatest) if words.count else ("", "", "")
+        numbers = (words.least, words.mean(), words.greatest) if words.count else ("", "", "")
         name = there.name if there else "controller"
-        rows.append((where, name, functions.name(function), sent.count, sent.no_q, sent.no_x, sent.waits, *told))
+        rows.append((where, name, functions.name(function), sent.count, sent.no_q, sent.no_x, sent.waits, *numbers))
     texts = [Column(title, True) for title in ("crate station A F", "type", "meaning")]
     return table([*texts, *map(Column, "cycles,Q = 0,X = 0,waits,word least,mean,most".split(","))], rows)
 

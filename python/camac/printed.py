@@ -1,0 +1,308 @@
+"""The one reader of what the program prints: its lines, and the sentences of an explanation, as values."""
+import functools
+import re
+from typing import Any, Callable, Dict, Generic, Iterable, Iterator, List, Optional, Tuple, TypeVar, Union
+
+from camac.functions import reads, writes
+from camac.values import Body, BodyKind, Command, Cost, Crate, Cycle, Declaration, Demand, Ending, Explanation, Heading, Item, Lock, ModuleType, Move, Near
+from camac.values import Plan, Refusal, Request, Response, Row, RunEnd, Service, Station, Step, Unlock
+
+T = TypeVar("T")
+ORDINALS = "first second third fourth fifth sixth seventh eighth ninth tenth".split()
+# By its name in a form a part, and how it is read.
+PARTS: Dict[str, Tuple[str, Callable[[str], Any]]] = {
+    "number": (r"0|[1-9]\d*", int),
+    "maybe": (r"\d+|-", lambda it: None if it == "-" else int(it)),
+    "word": (r"\w+", str),
+    "name": (r"\S+", str),
+    "rest": (".+", str),
+    "hex": ("[0-9a-f]{6}", lambda it: int(it, 16)),
+    "crate": ("[1-7]", int),
+    "station": ("[1-9]|1[0-9]|2[0-3]|28|30", int),
+    "sub": ("1[0-5]|[0-9]", int),
+    "function": ("[12][0-9]|3[01]|[0-9]", int),
+    "bit": ("[01]", int),
+    "move": ("in |out |none", lambda it: Move(it.rstrip())),
+    "service": ("[A-Za-z][A-Za-z0-9_]{0,31}|-", lambda it: None if it == "-" else it),
+    "how": ("(?:ended|short)(?= events)|overrun(?= [1-7] wait)", Ending),
+    "code": (r"[A-Z]\d\d?", str),
+    "kind": ("service|proc", BodyKind),
+    "head": ("service|proc", lambda it: it == "service"),
+    "probe": ("(?: probe)?", bool),
+    "each": (r"cycles \d+ words \d+ steps \d+", lambda it: Cost(*map(int, it.split()[1::2]))),
+    "cost": (r"\d+ \d+ \d+", lambda it: Cost(*map(int, it.split()))),
+    "about": (r"(?: at \S+ \S+ \S+(?: to \S+ \S+ \S+)?| turns \d+| crate \S+| proc \w+)?", str.lstrip),
+    "quoted": ("[^`]+", str),
+    "some": (".*?", str),
+    "array": ("command|entry|type|crate|station", str),
+    "ordinal": ("|".join(ORDINALS), lambda it: ORDINALS.index(it) + 1),
+    "unit": ("dataway cycles|event words|steps", {"dataway cycles": "within", "event words": "event", "steps": "steps"}.get),
+}
+# A part in a form.
+FIELD = re.compile(r"\{([a-z_]+)(?::([a-z]+))?\}")
+
+
+class Form(Generic[T]):
+    """A line or a sentence: a regular expression in which {cycles} is a number, and {name:word} another of the parts. `make` makes a value of
+    them, and of the whole text if it has a field `line`."""
+
+    def __init__(self, make: Callable[..., T], text: str, has_line: bool = False) -> None:
+        self.make, self.text, self.has_line = make, text, has_line
+
+    @functools.cached_property
+    def pattern(self) -> "re.Pattern[str]":
+        return re.compile(FIELD.sub(lambda it: f"(?P<{it[1]}>{PARTS[it[2] or 'number'][0]})", self.text), re.A | re.M)
+
+    @functools.cached_property
+    def readers(self) -> List[Tuple[str, Callable[[str], Any]]]:
+        return [(name, PARTS[part or "number"][1]) for name, part in FIELD.findall(self.text)]
+
+    def read(self, line: str) -> Optional[T]:
+        """The value of a whole line; None if it is none of this form."""
+        return self._made(self.pattern.fullmatch(line))
+
+    def find(self, text: str) -> Optional[T]:
+        """The value of the first place in a text that has this form."""
+        return self._made(self.pattern.search(text))
+
+    def _made(self, found: "Optional[re.Match[str]]") -> Optional[T]:
+        if found is None:
+            return None
+        fields = {name: None if found[name] is None else read(found[name]) for name, read in self.readers}
+        return self.make(line=found[0], **fields) if self.has_line else self.make(**fields)
+
+
+Fields = Form[Dict[str, Any]]
+
+
+def _body(cycles: int, words: int, steps: int, of_cycles: int, of_words: int, of_steps: Optional[int], **its: Any) -> Body:
+    return Body(most=Cost(cycles, words, steps), annotated=(of_cycles, of_words, of_steps), rows=(), **its)
+
+
+def _declaration(first: int, last: Optional[int], **its: Any) -> Declaration:
+    return Declaration(first=first, last=first if last is None else last, **its)
+
+
+SERVICE = Form(Service, "service {name:word} gl {gl} cycles {cycles} of {annotated_cycles} words {words} of {annotated_words} steps {steps}")
+HEADING = Form(Heading, r"{is_service:head} {name:word}(?:\(.*\))? within {cycles} cycles event {words} words(?: steps {steps})?", has_line=True)
+RESPONSE = Form(Response, r"service {name:word} gl {gl} cycles {cycles} (?:once|every {every}) start {start:maybe} end {end:maybe}(?: of \d+)? longest {longest:maybe}")
+BODY = Form(
+    _body,
+    r"{kind:kind} {name:word} line {line}(?: gl {gl} at \d+ \d+ \d+)? cycles {cycles} of {of_cycles} words {words} of {of_words} steps {steps}(?: of {of_steps})?",
+)
+ROW = Form(Row, "line {line} depth {depth} {word:name} times {times} {each:each} share {share:cost}{about:about}")
+BUFFER = Form(lambda words: Plan(words, {}, ()), "buffer {words}")
+TYPE = Form(ModuleType, "type {name:name} commands {commands} probes {probes}")
+DECLARATION = Form(_declaration, "command f {function} a {first}(?: to {last})?(?: width {width})?{is_probe:probe}")
+CRATE = Form(Crate, "crate {number} waits {waits}")
+STATION = Form(Station, "station {number} {type:name} gl {gl:maybe}")
+AT = Form(lambda move, **at: (Command(**at), move), "cycle {crate:crate} {station:station} {sub_address:sub} {function:function} {move:move}")
+WORD = re.compile("[0-9a-f]{6}")
+REPLY: "Form[Tuple[int, int, int]]" = Form(lambda x, q, wait: (x, q, wait), "{x:bit} q{q:bit} wait {wait:sub}")
+OTHERS: Tuple["Form[Any]", ...] = (
+    Form(Demand, "demand {pattern:hex} {service:service}"),
+    Form(Lock, "lock {crate:crate} wait {wait:sub}"),
+    Form(Unlock, "unlock {crate:crate}"),
+)
+END = Form(RunEnd, "{how:how}(?: {crate:crate} wait {wait:sub})? events {events}", has_line=True)
+REQUESTS = (
+    Form(lambda **at: Request("cycle", tuple(at.values())), "cycle {c:crate} {n:station} {a:sub} {f:function} (?:in|none|out {data:hex})"),
+    Form(lambda: Request("demand"), "demand"),
+    Form(lambda crate: Request("lock", (crate,)), "lock {crate:crate}"),
+    Form(lambda crate: Request("unlock", (crate,)), "unlock {crate:crate}"),
+)
+REFUSAL = Form(Refusal, "refused {code:code}(?: line {line})?: {rule:rest}")
+ALSO = Form(Refusal, "also refused {code:code} line {line}: {rule:rest}")
+SOURCE, MARK = re.compile(r" *\d+ \|.*"), re.compile(r" *\| (\s*\^)")
+# The part of a line that is not shown.
+CUT = ".."
+# Of sentences.
+NEAR = Form(Near, r"Did you mean `{word:quoted}`(?: instead of `{earlier:quoted}`)?\?")
+MAY_STAND: Fields = Form(dict, r"^Found the end of the script; expected {words:some}\.(?: |$)")
+NOT_DECLARED: Fields = Form(dict, r"is not declared above as an? {kind:word}\b")
+ALLOWED: Tuple["Form[Tuple[str, int]]", ...] = (
+    Form(lambda number, word: (word, number), "may (?:take|keep) {number} {word:unit}, its heading allows"),
+    Form(lambda number: ("turns", number), r"The loop may take {number} turns, and \d+ are allowed"),
+    Form(lambda number: ("turns", number), r"The number after `turns` is \d+, and no loop may take more than {number} turns"),
+)
+LEFT_SIDE: Fields = Form(dict, "^The left of `-` may be 0 to {greatest}, ")
+PLACE: Fields = Form(dict, "Line {line}, column {column}")
+STEPS = (
+    Form(lambda array, place, of: Step(of or array, "", place), "{array:array} number {place}(?: of `{of:word}`)?"),
+    Form(lambda array, place, of: Step(of or array, "", place), "{place:ordinal} {array:array}(?: of `{of:word}`)?"),
+    Form(Step, "{array:array} `?{name:quoted}`?"),
+    Form(lambda key: Step("", key), "`?{key:word}`?"),
+)
+
+
+def shown(line: str) -> str:
+    """A line for a fault: it may be of any length, and hold anything."""
+    return repr(line if len(line) <= 80 else f"{line[:80]}..")
+
+
+def _read(line: str, *forms: "Form[Any]") -> Any:
+    """The value of a line that has one of these forms."""
+    its = next((it for it in (form.read(line) for form in forms) if it is not None), None)
+    if its is None:
+        raise ValueError(f"no line of this kind: {shown(line)}")
+    return its
+
+
+def read_services(printed: str) -> List[Service]:
+    """What `camac check` prints of an accepted script."""
+    return [_read(line, SERVICE) for line in printed.splitlines()[1:]]
+
+
+def read_headings(printed: str) -> List[Heading]:
+    """What `camac bounds` prints."""
+    return [_read(line, HEADING) for line in printed.splitlines()]
+
+
+def read_responses(printed: str) -> List[Response]:
+    """What `camac response` prints of an accepted script."""
+    return [_read(line, RESPONSE) for line in printed.splitlines()]
+
+
+def read_bodies(printed: str) -> List[Body]:
+    """What `camac costs` prints. Waits and slack are not in it."""
+    bodies: List[Tuple[Body, List[Row]]] = []
+    for line in printed.splitlines():
+        row = ROW.read(line) if bodies else None
+        if row:
+            bodies[-1][1].append(row)
+        else:
+            bodies.append((_read(line, BODY), []))
+    return [body._replace(rows=tuple(rows)) for body, rows in bodies]
+
+
+def rows_of_line(printed: str, line: int) -> List[Row]:
+    """The rows of a line of the script, in their order, in what `camac costs` prints."""
+    return [_read(it, ROW) for it in re.findall(rf"(?m)^line {line} .*$", printed)]
+
+
+def line_of_body(printed: str, kind: BodyKind, name: str) -> Optional[str]:
+    """The line of a body in what `camac costs` or `camac response` prints."""
+    found = re.search(rf"(?m)^{kind.value} {name} .*$", printed)
+    return found[0] if found else None
+
+
+def without_name(printed: str, name: str) -> List[str]:
+    """The lines of a verdict, with a sign in the place of a service's name."""
+    return re.sub(rf"(?m)^service {name} ", "service ? ", printed).split("\n")
+
+
+def read_plan(printed: str) -> Plan:
+    """What `camac plan` prints, with `--commands` or without."""
+    plan, crates, name = Plan(0, {}, ()), [], ""
+    for line in printed.splitlines():
+        it = _read(line, STATION, DECLARATION, TYPE, CRATE, BUFFER)
+        if isinstance(it, Plan):
+            plan = it
+        elif isinstance(it, ModuleType):
+            name, plan.types[it.name] = it.name, it
+        elif isinstance(it, Declaration):
+            plan.types[name] = plan.types[name]._replace(declarations=(*plan.types[name].declarations, it))
+        elif isinstance(it, Crate):
+            crates.append(it)
+        else:
+            crates[-1] = crates[-1]._replace(stations=(*crates[-1].stations, it))
+    return plan._replace(crates=tuple(crates))
+
+
+def parse_listing(lines: Iterable[str]) -> Iterator[Item]:
+    """Yields the items of a listing, given by its lines.
+
+    Raises ValueError, with the number of the line, if one is none of a listing."""
+    for number, line in enumerate(lines, 1):
+        line = line.rstrip("\n")
+        head, _, tail = line.partition(" x")
+        item: Optional[Item] = None
+        if tail:
+            at, word = (head, "000000") if head.endswith("none") else (head[:-6], head[-6:])
+            its, reply = _read_command(at), _read_reply(tail)
+            if its and reply and WORD.fullmatch(word):
+                item = Cycle(*its, int(word, 16), *reply)
+        else:
+            item = _read_other(line)
+        if item is None:
+            raise ValueError(f"line {number} is no line of a listing: {shown(line)}")
+        yield item
+
+
+# There are few commands, replies and other lines, so each is read once.
+@functools.lru_cache(maxsize=4096)
+def _read_command(text: str) -> Optional[Tuple[Command, Move]]:
+    """Reads a dataway cycle up to its word; None if its function does not move a word so."""
+    its = AT.read(text)
+    if its is None:
+        return None
+    f = its[0].function
+    return its if its[1] is (Move.IN if reads(f) else Move.OUT if writes(f) else Move.NONE) else None
+
+
+@functools.lru_cache(maxsize=4096)
+def _read_reply(text: str) -> Optional[Tuple[int, int, int]]:
+    return REPLY.read(text)
+
+
+@functools.lru_cache(maxsize=4096)
+def _read_other(line: str) -> Optional[Item]:
+    return next((it for it in (form.read(line) for form in OTHERS) if it), None) or read_end(line)
+
+
+def read_end(line: str) -> Optional[RunEnd]:
+    """The last line of a run; None if it is none."""
+    return RunEnd(Ending.REFUSED, line) if REFUSAL.read(line) else END.read(line)
+
+
+@functools.lru_cache(maxsize=4096)
+def read_request(line: bytes) -> Optional[Request]:
+    """A line of a live run that asks for an operation; None if it is none. A script asks for the same again and again, so they are kept."""
+    return next((it for it in (form.read(line.decode(errors="replace")) for form in REQUESTS) if it), None)
+
+
+def is_refused(printed: str) -> bool:
+    return printed.startswith("refused ")
+
+
+def read_explanation(printed: str) -> Optional[Explanation]:
+    """What `camac explain` prints of a refusal; None if it says no refusal."""
+    first, *its = printed.rstrip("\n").split("\n")
+    also = tuple(it for it in map(ALSO.read, its) if it)
+    lines = its[: len(its) - len(also)]
+    refusal, mark = REFUSAL.read(first), MARK.fullmatch(lines[1]) if len(lines) > 1 else None
+    if refusal is None:
+        return None
+    its = [it for it in lines if not SOURCE.fullmatch(it) and not MARK.fullmatch(it)]
+    sentence = its.pop(0) if its and not its[0].startswith("Why: ") else ""
+    is_cut = lines[:1] and lines[0].partition(" | ")[2].startswith(CUT)
+    return Explanation(refusal, sentence, tuple(its), len(mark[1]) if mark and not is_cut else None, tuple(lines), also)
+
+
+def read_expected(printed: str) -> Optional[List[str]]:
+    """What `camac explain` expects in place of the end of a script: words in backquotes, and what it calls by words; None if it is another refusal."""
+    its = MAY_STAND.find(printed)
+    return re.split(", | or ", its["words"]) if its else None
+
+
+def read_allowed(sentence: str) -> Optional[Tuple[str, int]]:
+    """The number that a loop or a heading has to say, with the word before it."""
+    return next((it for it in (form.find(sentence) for form in ALLOWED) if it), None)
+
+
+def read_place(sentence: str) -> Union[Tuple[int, int], List[Optional[Step]]]:
+    """What a sentence on a plan is about: line and column, or the steps to a table or key (None for what is no step)."""
+    at = PLACE.pattern.match(sentence)
+    if at:
+        return int(at["line"]), int(at["column"])
+    return [next((it for it in (form.read(step) for form in STEPS) if it), None) for step in sentence.partition(":")[0].split(", ")]
+
+
+def read_known(printed: str) -> Dict[str, List[str]]:
+    """The words behind each name in what `camac explain --at` prints, below its first line."""
+    return {it[0]: it[1:] for it in map(str.split, printed.splitlines()[1:])}
+
+
+def is_known(printed: str) -> bool:
+    """Whether `camac explain --at` has a statement there: its first line is then `reached` or `not reached`."""
+    return printed.partition("\n")[0].endswith("reached")

@@ -1,0 +1,56 @@
+"""The subcommands of the program, each as a call that gives what it prints as values."""
+from typing import Iterator, List, Mapping, Optional
+
+from camac.bodies import parse_costs
+from camac.drive import File, Refused
+from camac.library import settings
+from camac.printed import parse_listing, read_headings, read_plan, read_responses, read_services
+from camac.program import EVERY, knows_option, lines_of, output_of
+from camac.values import Body, Heading, Item, Plan, Response, RunEnd, Service
+
+
+def plan(path: File, program: Optional[File] = None) -> Plan:
+    """Has the program read a plan, which may be "@sample".
+
+    Raises Refused with the first fault of the plan, ProgramFault if it cannot be read, and OSError if there is no program."""
+    option = ["--commands"] if knows_option("plan", "--commands", program) else []
+    return read_plan(output_of("plan", *option, "--", path, program=program))
+
+
+def check(plan: File, script: File, program: Optional[File] = None) -> List[Service]:
+    """Has the program check a script, and returns its services in the order of the text.
+
+    Raises Refused if plan or script is refused, ProgramFault if one cannot be read, and OSError if there is no program."""
+    return read_services(output_of("check", "--", plan, script, program=program))
+
+
+def bounds(plan: File, script: File, program: Optional[File] = None) -> List[Heading]:
+    """Returns the least headings of a script, in the order of the text, whatever its own headings say. Raises as `check`."""
+    return read_headings(output_of("bounds", "--", plan, script, program=program))
+
+
+def costs(plan: File, script: File, program: Optional[File] = None) -> List[Body]:
+    """Returns the bodies of an accepted script, in the order of the text, with what each statement has of the bound. Raises as `check`, and UsageFault if
+    the program has no `costs`."""
+    return parse_costs(output_of("costs", "--", plan, script, program=program))
+
+
+def response(plan: File, script: File, every: Optional[Mapping[str, int]] = None, program: Optional[File] = None) -> List[Response]:
+    """Returns how late each service of a script can be, in the order of their bits. `every` has the rates that are known: of a service's
+    name, how many cycles pass at least until its module raises its look-at-me again (1 to 4,294,967,295).
+
+    Raises as `check`, and UsageFault if the program has no `response`, or a rate is none of a service of the script."""
+    rates = [f"{EVERY}{it}" for it in settings(every)]
+    return read_responses(output_of("response", *rates, "--", plan, script, program=program))
+
+
+def run(plan: File, script: File, answers: File, events: File, program: Optional[File] = None) -> Iterator[Item]:
+    """Plays a script against answers, and yields what it did, as it comes. The last item is the end of the run. The event file is
+    created anew.
+
+    Raises Refused if plan or script is refused, ProgramFault if a file cannot be read or written, and OSError if there is no
+    program."""
+    for item in parse_listing(lines_of("run", "--", plan, script, answers, events, program=program)):
+        if isinstance(item, RunEnd) and item.is_refused_script():
+            raise Refused(item.line)
+        yield item
