@@ -1,25 +1,24 @@
 -- What was found of two readers, as what is found of their texts.
-use Rattle.std.proofs.Common.{ℕ, List, subst, inl, inr}
+use Rattle.std.proofs.Common.{◌≡◌, ℕ, List, sym, ap, ◌∙◌, subst, inl, inr}
 use Rattle.std.specs.Prelude.{Option, Some, Result, Ok, Err}
 use Rattle.camac_branch.specs.Plan.{Layout}
 use Rattle.camac_plan.specs.Reading.{reading}
 use Rattle.camac_plan.specs.declared.fault.PlanRule.{PlanRule}
-use Rattle.camac_engines.specs.Accepted.{Accepts, accepted}
-use Rattle.camac_engines.specs.Found.{HasJudged, IsJudgedIf, IsTooLong}
+use Rattle.camac_engines.specs.Found.{Found, HasJudged, HasRead, IsJudged, IsTooLong}
 use Rattle.camac_engines.specs.declared.judging.Judged.{Judged}
 use Rattle.camac_engines.specs.declared.plan.PlanSource.{PlanSource}
 use Rattle.camac_engines.specs.declared.reading.TheConstants.{TEXT_LIMIT}
-use Rattle.camac_c.specs.Texts.{AreLongTexts, IsFound}
+use Rattle.camac_c.specs.Texts.{AreLongTexts, IsFound, found_in}
 use Rattle.camac_c.proofs.Read.{IsText, plan_long, read_all, read_long, says_reading}
 
 module _ {R : Type 0} (left : R → Option (List ℕ)) (src src' : PlanSource R) (p s : List ℕ) (is : IsText left src p) (t : Option (List ℕ)) where
-  found_if : (says : Result Layout PlanRule) (j : Judged) → IsJudgedIf says (Some s) t j → IsFound says s j
-  found_if (Ok plan) j h = subst (λ (text : List ℕ). Accepts (Ok j) plan (accepted plan text)) (read_all TEXT_LIMIT s h.0 t h.1) h.2
-  found_if (Err rule) j h = h.1
+  -- what was read of readers of these texts
+  pub has_read : (found : Found) → HasRead left src src' (Some s) t found → found ≡ found_in (reading p) s
+  has_read (Ok found) h = (λ i. Ok (found.0, read_all TEXT_LIMIT s found.1 t h.1 i)) ∙ ap (λ (says : Result Layout PlanRule). found_in says s) (says_reading left src src' p (Ok found.0) is h.0)
+  has_read (Err rule) h = ap (λ (says : Result Layout PlanRule). found_in says s) (says_reading left src src' p (Err rule) is h.0)
 
-  -- of readers of these texts this was found
   pub found : (j : Judged) → HasJudged left src src' (Some s) t j → IsFound (reading p) s j
-  found j h = subst (λ (says : Result Layout PlanRule). IsFound says s j) (says_reading left src src' p h.0 is h.1) (found_if h.0 j h.2)
+  found j h = subst (λ (found : Found). IsJudged found j) (has_read h.0 h.1) h.2
 
   pub too_long : IsTooLong left src src' (Some s) t → AreLongTexts p s
   too_long (inl h) = inl (plan_long left src src' p is h.0)

@@ -4,13 +4,14 @@ use Rattle.std.specs.Global.{Vec}
 use Rattle.camac_checked.specs.Checked.{CheckedScript, IsChecked}
 use Rattle.camac_plan.specs.Reading.{reading}
 use Rattle.camac_engines.specs.Accepted.{accepted}
-use Rattle.camac_engines.specs.Report.{report}
+use Rattle.camac_engines.specs.Ask.{TellsFound}
+use Rattle.camac_engines.specs.declared.ask.Ask.TheVariants.{Check}
 use Rattle.camac_engines.specs.declared.fault.ToolFault.{ToolFault}
 use Rattle.camac_engines.specs.declared.fault.ToolFault.TheVariants as fault
 use Rattle.camac_engines.specs.declared.outcome.Outcome.TheVariants.{Good, Refused}
 use Rattle.camac_c.specs.Filled.{Gives, GivesNothing}
 use Rattle.camac_c.specs.Talk.{Holds, StartsOn}
-use Rattle.camac_c.specs.Texts.{AreLongTexts, Reports, report_by}
+use Rattle.camac_c.specs.Texts.{AreLongTexts, found_in}
 use Rattle.camac_c.specs.declared.handle.Handle.{Handle}
 use Rattle.camac_c.specs.declared.session.Session.{Session}
 
@@ -25,8 +26,8 @@ IsOpened plan script v = Holds v (λ s. (c : CheckedScript) × Spells plan scrip
 -- the text is that of `check`: 0 with a session, 1 without; 3 for want of memory, 7 where a text is too long
 abbrev pub OpensNone : (plan script : List ℕ) (after : Option Session) → ℕ → (old new : List ℕ) (size : ℕ) → Type 0
 OpensNone plan script after code old new size =
-    ((text : List ℕ) × Reports (report_by report (reading plan) script) Good text × IsOpened plan script after × (code ≡ 0) × Gives text old new size)
-    ⊎ ((text : List ℕ) × Reports (report_by report (reading plan) script) Refused text × (after ≡ None) × (code ≡ 1) × Gives text old new size)
+    ((text : List ℕ) × TellsFound Check (found_in (reading plan) script) Good text × IsOpened plan script after × (code ≡ 0) × Gives text old new size)
+    ⊎ ((text : List ℕ) × TellsFound Check (found_in (reading plan) script) Refused text × (after ≡ None) × (code ≡ 1) × Gives text old new size)
     ⊎ ((after ≡ None) × (code ≡ 3) × GivesNothing old new size)
     ⊎ ((after ≡ None) × (code ≡ 7) × AreLongTexts plan script × GivesNothing old new size)
 
@@ -38,7 +39,7 @@ Opens (Some s) plan script after code old new size = (after ≡ Some s) × (code
 -- the same before the text goes out: it was written behind what stood there
 abbrev pub OpensInto : (plan script : List ℕ) → (old new : Vec ℕ) → Result (Option Handle) ToolFault → Type 0
 OpensInto plan script old new (Ok (Some h)) =
-    (text : List ℕ) × Reports (report_by report (reading plan) script) Good text × IsOpened plan script h.value × (new.items ≡ old.items ++ text)
-OpensInto plan script old new (Ok None) = (text : List ℕ) × Reports (report_by report (reading plan) script) Refused text × (new.items ≡ old.items ++ text)
+    (text : List ℕ) × TellsFound Check (found_in (reading plan) script) Good text × IsOpened plan script h.value × (new.items ≡ old.items ++ text)
+OpensInto plan script old new (Ok None) = (text : List ℕ) × TellsFound Check (found_in (reading plan) script) Refused text × (new.items ≡ old.items ++ text)
 OpensInto plan script old new (Err fault.TooLong) = AreLongTexts plan script
 OpensInto plan script old new (Err _) = Unit {0}

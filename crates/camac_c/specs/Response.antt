@@ -5,22 +5,17 @@ use Rattle.std.specs.Global.{Vec}
 use Rattle.std.specs.Iterator.{Drains}
 use Rattle.std.specs.Str.Iter.{split_whitespace_rest, split_whitespace_steps}
 use Rattle.std.specs.declared.str.SplitWhitespace.{SplitWhitespace}
-use Rattle.camac_checked.specs.Checked.{CheckedScript}
-use Rattle.camac_explain.specs.Finding.{refusal_of}
 use Rattle.camac_plan.specs.Reading.{reading}
 use Rattle.camac_response_times.specs.Setting.{ReadsSettings}
 use Rattle.camac_response_times.specs.declared.setting.Misuse.{Misuse}
 use Rattle.camac_response_times.specs.declared.setting.Settings.{Settings}
-use Rattle.camac_response.specs.Checked.{IsNoService}
-use Rattle.camac_engines.specs.Report.{refused}
-use Rattle.camac_engines.specs.Response.{IsResponse}
+use Rattle.camac_engines.specs.Response.{NamesNone, TellsResponse}
 use Rattle.camac_engines.specs.declared.fault.ToolFault.{ToolFault}
 use Rattle.camac_engines.specs.declared.fault.ToolFault.TheVariants as fault
 use Rattle.camac_engines.specs.declared.judging.Judged.{Judged}
-use Rattle.camac_engines.specs.declared.judging.Judged.TheVariants as judged
 use Rattle.camac_engines.specs.declared.outcome.Outcome.{Outcome}
 use Rattle.camac_c.specs.Filled.{GivesNothing}
-use Rattle.camac_c.specs.Texts.{Answers, AreLongTexts, IsFound, Reports}
+use Rattle.camac_c.specs.Texts.{Answers, AreLongTexts, IsFound}
 
 -- the words of a text, between white space
 pub record AreWordsOf (text : List ℕ) (words : List (List ℕ)) : Type 0 where
@@ -39,11 +34,6 @@ abbrev pub SplitsText : List ℕ → Option (Vec (Bor (List ℕ))) → Type 0
 SplitsText text (Some words) = AreWordsOf text (map (λ w. w.now) words.items)
 SplitsText text None = IsNoText text
 
--- of an accepted script the lines of its services, of a refused one the line of `camac check`
-abbrev pub Says : Settings → Judged → Outcome → List ℕ → Type 0
-Says s (judged.Accepted c) outcome text = IsResponse s c outcome text
-Says s (judged.Refused f) outcome text = Reports (refused (refusal_of f)) outcome text
-
 module _ (plan script : List ℕ) where
   -- what is found of plan and script is told, at the settings of the words
   pub record IsTold (every within : List (List ℕ)) (outcome : Outcome) (text : List ℕ) : Type 0 where
@@ -51,15 +41,15 @@ module _ (plan script : List ℕ) where
     pub read : ReadsSettings every within (Ok settings)
     pub verdict : Judged
     pub found : IsFound (reading plan) script verdict
-    pub says : Says settings verdict outcome text
+    pub says : TellsResponse settings verdict outcome text
 
   -- the words name a service that the accepted script does not have
   pub record NamesNoService (every within : List (List ℕ)) (misuse : Misuse) : Type 0 where
     pub settings : Settings
     pub read : ReadsSettings every within (Ok settings)
-    pub checked : CheckedScript
-    pub found : IsFound (reading plan) script (judged.Accepted checked)
-    pub unknown : IsNoService checked.script settings.every.items settings.within.items (Some misuse)
+    pub verdict : Judged
+    pub found : IsFound (reading plan) script verdict
+    pub unknown : NamesNone settings verdict misuse
 
   abbrev pub AreMisused : (every within : List (List ℕ)) → Type 0
   AreMisused every within = (misuse : Misuse) × (ReadsSettings every within (Err misuse) ⊎ NamesNoService every within misuse)

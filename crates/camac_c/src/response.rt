@@ -6,6 +6,7 @@ ghost use Rattle.camac_c.specs.Response.{AnswersResponse, RespondsTo, RespondsTo
 use crate::filling::{code_of, fault_code, give, give_nothing};
 use crate::plain::MISUSE;
 use camac_engines::{Outcome, PlanSource, Responded, ToolFault, engine_response};
+use camac_response::read_settings;
 use camac_word::Watched;
 use std::alloc::{AllocError, Global};
 
@@ -78,10 +79,14 @@ fn respond_to(
 ) -> Result<Option<(Outcome, Vec<u8>)>, ToolFault>
     ensures { RespondsTo plan.now script.now (map (λ w. w.now) every.now) (map (λ w. w.now) within.now) result }
 {
+    let settings = match read_settings(alloc, every, within)? {
+        Ok(settings) => settings,
+        Err(_) => return Ok(None),
+    };
     let mut plan = PlanSource::Text(Watched::new(plan));
     let mut script = Watched::new(script);
     let mut out = Watched::new(Vec::new(alloc));
-    match engine_response(alloc, &mut plan, &mut script, every, within, &mut out)? {
+    match engine_response(alloc, &settings, &mut plan, &mut script, &mut out)? {
         Responded::Told(outcome) => Ok(Some((outcome, out.into_inner()))),
         Responded::Misused(_) => Ok(None),
     }

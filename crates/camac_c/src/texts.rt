@@ -1,20 +1,45 @@
 // The calls on texts: what the program's subcommands print, for bytes in memory.
 
 ghost use Rattle.std.specs.Prelude.{◌≡◌};
-ghost use Rattle.camac_engines.specs.Report.{report};
-ghost use Rattle.camac_engines.specs.Costs.{costs_report};
-ghost use Rattle.camac_engines.specs.Headings.{headings_report};
-ghost use Rattle.camac_engines.specs.Known.{known_report};
+ghost use Rattle.camac_engines.specs.declared.ask.Ask.TheVariants as ask;
+ghost use Rattle.camac_engines.specs.declared.ask.PlanAsk.TheVariants as plan_ask;
 ghost use Rattle.camac_c.specs.Run.{AnswersRun};
-ghost use Rattle.camac_c.specs.Texts.{AnswersBy, AnswersEvents, AnswersExplain, AnswersExplainPlan, AnswersPlan};
+ghost use Rattle.camac_c.specs.Texts.{AnswersEvents, AnswersPlan, AnswersTexts};
 
 use crate::filling::{code_of, give_answer};
-use camac_tool::{
-    PlanSource, engine_bounds, engine_check, engine_costs, engine_events, engine_explain,
-    engine_explain_at, engine_explain_plan, engine_plan, engine_run,
-};
+use camac_tool::{Ask, PlanAsk, PlanSource, answer, answer_plan, engine_events, engine_run};
 use camac_word::Watched;
 use std::alloc::Global;
+
+// What is asked of a plan.
+fn tell_plan(alloc: Global, ask: PlanAsk, plan: &[u8], text: &mut [u8], size: &mut usize) -> u32
+    ensures { AnswersPlan ask plan.now result text.old text.new size.new }
+{
+    let mut plan = PlanSource::Text(Watched::new(plan));
+    let mut out = Watched::new(Vec::new(alloc));
+    let answer = answer_plan(alloc, ask, &mut plan, &mut out);
+    give_answer(&answer, &out.into_inner(), text, size);
+    code_of(&answer)
+}
+
+// What is asked of a plan and a script.
+fn tell(
+    alloc: Global,
+    ask: Ask,
+    plan: &[u8],
+    script: &[u8],
+    text: &mut [u8],
+    size: &mut usize,
+) -> u32
+    ensures { AnswersTexts ask plan.now script.now result text.old text.new size.new }
+{
+    let mut plan = PlanSource::Text(Watched::new(plan));
+    let mut script = Watched::new(script);
+    let mut out = Watched::new(Vec::new(alloc));
+    let answer = answer(alloc, ask, &mut plan, &mut script, &mut out);
+    give_answer(&answer, &out.into_inner(), text, size);
+    code_of(&answer)
+}
 
 /// Lists a plan.
 #[unsafe(no_mangle)]
@@ -24,13 +49,9 @@ pub extern "C" fn camac_raw_plan(
     text: &mut [u8],
     size: &mut usize,
 ) -> u32
-    ensures { AnswersPlan plan.now result text.old text.new size.new }
+    ensures { AnswersPlan plan_ask.Lines plan.now result text.old text.new size.new }
 {
-    let mut plan = PlanSource::Text(Watched::new(plan));
-    let mut out = Watched::new(Vec::new(alloc));
-    let answer = engine_plan(alloc, &mut plan, &mut out);
-    give_answer(&answer, &out.into_inner(), text, size);
-    code_of(&answer)
+    tell_plan(alloc, PlanAsk::Lines, plan, text, size)
 }
 
 /// Explains the refusal of a plan.
@@ -41,13 +62,9 @@ pub extern "C" fn camac_raw_explain_plan(
     text: &mut [u8],
     size: &mut usize,
 ) -> u32
-    ensures { AnswersExplainPlan plan.now result text.old text.new size.new }
+    ensures { AnswersPlan plan_ask.Explain plan.now result text.old text.new size.new }
 {
-    let mut plan = PlanSource::Text(Watched::new(plan));
-    let mut out = Watched::new(Vec::new(alloc));
-    let answer = engine_explain_plan(alloc, &mut plan, &mut out);
-    give_answer(&answer, &out.into_inner(), text, size);
-    code_of(&answer)
+    tell_plan(alloc, PlanAsk::Explain, plan, text, size)
 }
 
 /// Checks a script against a plan.
@@ -59,14 +76,9 @@ pub extern "C" fn camac_raw_check(
     text: &mut [u8],
     size: &mut usize,
 ) -> u32
-    ensures { AnswersBy report plan.now script.now result text.old text.new size.new }
+    ensures { AnswersTexts ask.Check plan.now script.now result text.old text.new size.new }
 {
-    let mut plan = PlanSource::Text(Watched::new(plan));
-    let mut script = Watched::new(script);
-    let mut out = Watched::new(Vec::new(alloc));
-    let answer = engine_check(alloc, &mut plan, &mut script, &mut out);
-    give_answer(&answer, &out.into_inner(), text, size);
-    code_of(&answer)
+    tell(alloc, Ask::Check, plan, script, text, size)
 }
 
 /// Checks a script against a plan, and explains a refusal.
@@ -78,14 +90,23 @@ pub extern "C" fn camac_raw_explain(
     text: &mut [u8],
     size: &mut usize,
 ) -> u32
-    ensures { AnswersExplain plan.now script.now result text.old text.new size.new }
+    ensures { AnswersTexts ask.Explain plan.now script.now result text.old text.new size.new }
 {
-    let mut plan = PlanSource::Text(Watched::new(plan));
-    let mut script = Watched::new(script);
-    let mut out = Watched::new(Vec::new(alloc));
-    let answer = engine_explain(alloc, &mut plan, &mut script, &mut out);
-    give_answer(&answer, &out.into_inner(), text, size);
-    code_of(&answer)
+    tell(alloc, Ask::Explain, plan, script, text, size)
+}
+
+/// Prints the headings of a script with the least numbers that are accepted, and explains a refusal.
+#[unsafe(no_mangle)]
+pub extern "C" fn camac_raw_explain_bounds(
+    alloc: Global,
+    plan: &[u8],
+    script: &[u8],
+    text: &mut [u8],
+    size: &mut usize,
+) -> u32
+    ensures { AnswersTexts ask.ExplainBounds plan.now script.now result text.old text.new size.new }
+{
+    tell(alloc, Ask::ExplainBounds, plan, script, text, size)
 }
 
 /// Prints what the checker knows before the statement at a line and a column, both from 1.
@@ -99,14 +120,10 @@ pub extern "C" fn camac_raw_explain_at(
     text: &mut [u8],
     size: &mut usize,
 ) -> u32
-    ensures { AnswersBy (known_report line column) plan.now script.now result text.old text.new size.new }
+    ensures { AnswersTexts (ask.ExplainAt line column) plan.now script.now result text.old text.new size.new }
 {
-    let mut plan = PlanSource::Text(Watched::new(plan));
-    let mut script = Watched::new(script);
-    let mut out = Watched::new(Vec::new(alloc));
-    let answer = engine_explain_at(alloc, &mut plan, &mut script, line, column, &mut out);
-    give_answer(&answer, &out.into_inner(), text, size);
-    code_of(&answer)
+    let ask = Ask::ExplainAt { line, column };
+    tell(alloc, ask, plan, script, text, size)
 }
 
 /// Prints the headings of a script with the least numbers that are accepted.
@@ -118,14 +135,9 @@ pub extern "C" fn camac_raw_bounds(
     text: &mut [u8],
     size: &mut usize,
 ) -> u32
-    ensures { AnswersBy headings_report plan.now script.now result text.old text.new size.new }
+    ensures { AnswersTexts ask.Bounds plan.now script.now result text.old text.new size.new }
 {
-    let mut plan = PlanSource::Text(Watched::new(plan));
-    let mut script = Watched::new(script);
-    let mut out = Watched::new(Vec::new(alloc));
-    let answer = engine_bounds(alloc, &mut plan, &mut script, &mut out);
-    give_answer(&answer, &out.into_inner(), text, size);
-    code_of(&answer)
+    tell(alloc, Ask::Bounds, plan, script, text, size)
 }
 
 /// Prints what the bounds of a script consist of.
@@ -137,14 +149,9 @@ pub extern "C" fn camac_raw_costs(
     text: &mut [u8],
     size: &mut usize,
 ) -> u32
-    ensures { AnswersBy costs_report plan.now script.now result text.old text.new size.new }
+    ensures { AnswersTexts ask.Costs plan.now script.now result text.old text.new size.new }
 {
-    let mut plan = PlanSource::Text(Watched::new(plan));
-    let mut script = Watched::new(script);
-    let mut out = Watched::new(Vec::new(alloc));
-    let answer = engine_costs(alloc, &mut plan, &mut script, &mut out);
-    give_answer(&answer, &out.into_inner(), text, size);
-    code_of(&answer)
+    tell(alloc, Ask::Costs, plan, script, text, size)
 }
 
 /// Runs a script on the text of its answers: the listing goes to `text`, the event file to `file`.

@@ -1,5 +1,4 @@
 pub mod Types
-pub mod Found
 pub mod Explained
 pub mod Told
 pub mod Responses

@@ -1,6 +1,5 @@
 -- What `camac costs` tells of a plan and a script.
-use Rattle.std.specs.Prelude.{ℕ, List, Option, Some, None, Result, Ok, Err}
-use Rattle.std.specs.Io.KnownBytes.{Keeps}
+use Rattle.std.specs.Prelude.{ℕ, List, Some, None, Ok, Err}
 use Rattle.camac_lang.specs.Tree.{Script}
 use Rattle.camac_branch.specs.Plan.{Layout}
 use Rattle.camac_rules.specs.Capped.{capped}
@@ -8,13 +7,9 @@ use Rattle.camac_check_costs.specs.Bodies.{costs_with}
 use Rattle.camac_check_costs.specs.Texts.{costs_text}
 use Rattle.camac_explain.specs.Finding.{refusal_of}
 use Rattle.camac_engines.specs.Accepted.{Accepted, accepted}
-use Rattle.camac_engines.specs.Engine.{Shows}
 use Rattle.camac_engines.specs.Report.{Report, refused}
-use Rattle.camac_engines.specs.declared.fault.ToolFault.{ToolFault}
-use Rattle.camac_engines.specs.declared.fault.ToolFault.TheVariants as fault
 use Rattle.camac_engines.specs.declared.judging.Judged.{Judged}
 use Rattle.camac_engines.specs.declared.judging.Judged.TheVariants as judged
-use Rattle.camac_engines.specs.declared.outcome.Outcome.{Outcome}
 use Rattle.camac_engines.specs.declared.outcome.Outcome.TheVariants.{Good}
 
 -- the costs of an accepted script
@@ -34,8 +29,3 @@ costs_report plan text = costs_found plan (accepted plan text)
 abbrev pub costs_report_of : Judged → Report
 costs_report_of (judged.Accepted c) = costs_shown c.plan c.script
 costs_report_of (judged.Refused f) = refused (refusal_of f)
-
--- they were written, or nothing where memory was refused
-abbrev pub ShowsCosts : Judged → (o p : Option (List ℕ)) → Result Outcome ToolFault → Type 0
-ShowsCosts j o p (Err fault.Memory) = Keeps o p
-ShowsCosts j o p r = Shows (costs_report_of j) o p r

@@ -12,36 +12,46 @@ use Rattle.camac_engines.specs.declared.judging.Judged.{Judged}
 use Rattle.camac_engines.specs.declared.judging.Judged.TheVariants as judged
 use Rattle.camac_engines.specs.declared.plan.PlanSource.{PlanSource}
 use Rattle.camac_engines.specs.declared.reading.TheConstants.{TEXT_LIMIT}
+use Rattle.camac_engines.specs.declared.texts.Texts.{Texts}
+use Rattle.camac_engines.specs.declared.texts.Texts.TheVariants as texts
 
--- the script's text was read whole, and this was found of it
-abbrev pub IsJudged : Layout → (s t : Option (List ℕ)) → Judged → Type 0
-IsJudged plan s t j = (text : List ℕ) × WasRead TEXT_LIMIT s t text × Accepts (Ok j) plan (accepted plan text)
+-- a plan and the text of a script, or the rule that the plan breaks
+abbrev pub Found : Type 0
+Found = Result (Layout × List ℕ) PlanRule
 
--- the same, unless a fault came first
-abbrev pub JudgesOn : Layout → (s t : Option (List ℕ)) → Result Judged ToolFault → Type 0
-JudgesOn plan s t (Ok j) = IsJudged plan s t j
-JudgesOn plan s t (Err fault.TooLong) = ConsumesSome s t (TEXT_LIMIT + 1)
-JudgesOn plan s t (Err fault.Read) = Unit {0}
-JudgesOn plan s t (Err fault.Memory) = Unit {0}
-JudgesOn plan s t (Err fault.Write) = ⊥
+abbrev pub found_of : Texts → Found
+found_of (texts.Read plan script) = Ok (plan, script.items)
+found_of (texts.Refused text refusal) = Err refusal.rule
 
--- where the plan may be refused: of the script nothing is read then
-abbrev pub IsJudgedIf : Result Layout PlanRule → (s t : Option (List ℕ)) → Judged → Type 0
-IsJudgedIf (Ok plan) s t j = IsJudged plan s t j
-IsJudgedIf (Err rule) s t j = (t ≡ s) × (j ≡ judged.Refused (finding.Plan rule))
+-- this was found of a plan and a script
+abbrev pub IsJudged : Found → Judged → Type 0
+IsJudged (Ok found) j = Accepts (Ok j) found.0 (accepted found.0 found.1)
+IsJudged (Err rule) j = j ≡ judged.Refused (finding.Plan rule)
 
--- a plan was read and then a script, and this was found of them
-abbrev pub HasJudged : {R : Type 0} → (of : R → Option (List ℕ)) → (plan plan' : PlanSource R) → (s t : Option (List ℕ)) → Judged → Type 0
-HasJudged of plan plan' s t j = (says : Result Layout PlanRule) × Says of plan plan' says × IsJudgedIf says s t j
+-- the source of the plan and the reader of the script, before and after
+module _ {R : Type 0} (of : R → Option (List ℕ)) (plan plan' : PlanSource R) (s t : Option (List ℕ)) where
+  -- they were read; where the plan is refused, nothing of the script
+  abbrev pub HasRead : Found → Type 0
+  HasRead (Ok found) = Says of plan plan' (Ok found.0) × WasRead TEXT_LIMIT s t found.1
+  HasRead (Err rule) = Says of plan plan' (Err rule) × (t ≡ s)
 
--- one of the two texts is too long
-abbrev pub IsTooLong : {R : Type 0} → (of : R → Option (List ℕ)) → (plan plan' : PlanSource R) → (s t : Option (List ℕ)) → Type 0
-IsTooLong of plan plan' s t =
-    (IsPlanTooLong of plan plan' × (t ≡ s)) ⊎ ((layout : Layout) × Says of plan plan' (Ok layout) × ConsumesSome s t (TEXT_LIMIT + 1))
+  -- one of the two texts is too long
+  abbrev pub IsTooLong : Type 0
+  IsTooLong = (IsPlanTooLong of plan plan' × (t ≡ s)) ⊎ ((layout : Layout) × Says of plan plan' (Ok layout) × ConsumesSome s t (TEXT_LIMIT + 1))
 
-abbrev pub ReadsJudged : {R : Type 0} → (of : R → Option (List ℕ)) → (plan plan' : PlanSource R) → (s t : Option (List ℕ)) → Result Judged ToolFault → Type 0
-ReadsJudged of plan plan' s t (Ok j) = HasJudged of plan plan' s t j
-ReadsJudged of plan plan' s t (Err fault.TooLong) = IsTooLong of plan plan' s t
-ReadsJudged of plan plan' s t (Err fault.Read) = Unit {0}
-ReadsJudged of plan plan' s t (Err fault.Memory) = Unit {0}
-ReadsJudged of plan plan' s t (Err fault.Write) = ⊥
+  -- they were read and judged
+  abbrev pub HasJudged : Judged → Type 0
+  HasJudged j = (found : Found) × HasRead found × IsJudged found j
+
+  -- this was done, unless a fault came first
+  abbrev pub UnlessFault : {T : Type 0} → (T → Type 0) → Result T ToolFault → Type 0
+  UnlessFault Done (Ok done) = Done done
+  UnlessFault Done (Err fault.TooLong) = IsTooLong
+  UnlessFault Done (Err fault.Write) = ⊥
+  UnlessFault Done (Err _) = Unit {0}
+
+  abbrev pub ReadsTexts : Result Texts ToolFault → Type 0
+  ReadsTexts = UnlessFault (λ read. HasRead (found_of read))
+
+  abbrev pub ReadsJudged : Result Judged ToolFault → Type 0
+  ReadsJudged = UnlessFault HasJudged

@@ -13,3 +13,4 @@ pub mod Spot
 pub mod Known
 pub mod Costs
 pub mod Response
+pub mod Ask

@@ -25,23 +25,17 @@ abbrev pub IsPlanTooLong : {R : Type 0} → (left : R → Option (List ℕ)) →
 IsPlanTooLong left (Text old) (Text new) = ConsumesSome (left (inner_of old)) (left (inner_of new)) (TEXT_LIMIT + 1)
 IsPlanTooLong left _ _ = ⊥
 
--- what the source says, unless a fault came first
-abbrev pub ReadsPlan : {R : Type 0} → (left : R → Option (List ℕ)) → (old new : PlanSource R) → Result (Result Layout PlanRule) ToolFault → Type 0
-ReadsPlan left old new (Ok says) = Says left old new says
-ReadsPlan left old new (Err fault.TooLong) = IsPlanTooLong left old new
-ReadsPlan left old new (Err fault.Read) = Unit {0}
-ReadsPlan left old new (Err fault.Memory) = Unit {0}
-ReadsPlan left old new (Err _) = ⊥
-
 -- a plan, or the rule that was broken
 abbrev pub by_rule : Result Layout PlanRefusal → Result Layout PlanRule
 by_rule (Ok plan) = Ok plan
 by_rule (Err refusal) = Err refusal.rule
 
--- what was read says
-abbrev pub says_of : Result PlanRead ToolFault → Result (Result Layout PlanRule) ToolFault
-says_of (Ok read) = Ok (by_rule read.says)
-says_of (Err f) = Err f
+-- what the source says, unless a fault came first
+abbrev pub ReadsPlan : {R : Type 0} → (left : R → Option (List ℕ)) → (old new : PlanSource R) → Result PlanRead ToolFault → Type 0
+ReadsPlan left old new (Ok read) = Says left old new (by_rule read.says)
+ReadsPlan left old new (Err fault.TooLong) = IsPlanTooLong left old new
+ReadsPlan left old new (Err fault.Write) = ⊥
+ReadsPlan left old new (Err _) = Unit {0}
 
 -- what a text reads as, unless memory was refused
 abbrev pub JudgesPlan : Result (Result Layout PlanRefusal) ToolFault → Result Layout PlanRule → Type 0

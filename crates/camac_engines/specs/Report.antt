@@ -1,5 +1,5 @@
 -- What `camac plan` tells of a plan, `camac check` of a plan and a script, and `camac events` of an event file.
-use Rattle.std.specs.Prelude.{ℕ, List, ◌++◌, Option, Some, None, Result, Ok, Err}
+use Rattle.std.specs.Prelude.{◌≡◌, ℕ, List, ◌++◌, Option, Some, None, Result, Ok, Err}
 use Rattle.camac_lang.specs.Tree.{Script}
 use Rattle.camac_branch.specs.Plan.{Layout}
 use Rattle.camac_tokens.specs.Fault.{Fault as TextFault}
@@ -30,6 +30,10 @@ use Rattle.camac_engines.specs.declared.outcome.Outcome.TheVariants.{Good, Refus
 -- the outcome and the text; none where memory was refused
 abbrev pub Report : Type 0
 Report = Option (Outcome × List ℕ)
+
+-- it says this
+abbrev pub Reports : Report → Outcome → List ℕ → Type 0
+Reports r outcome text = r ≡ Some (outcome, text)
 
 abbrev pub refused : Refusal → Report
 refused r = Some (Refused, refusal_text r)

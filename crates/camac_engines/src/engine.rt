@@ -1,18 +1,28 @@
 // The engines: from the bytes of their inputs to the bytes of their output.
 
-ghost use Rattle.std.specs.Prelude.{◌≡◌, ◌||◌, false};
+ghost use Rattle.std.specs.Prelude.{◌≡◌, ◌||◌, Err, false};
 ghost use Rattle.camac_event.specs.Reading.{file_at};
-ghost use Rattle.camac_engines.specs.Engine.{Checks, ChecksOn, ShowsEvents, ShowsPlan, Shows, is_write_fault};
-ghost use Rattle.camac_engines.specs.Plan.{plan_failed};
+ghost use Rattle.camac_engines.specs.Ask.{AnswersEvents, AnswersPlan, AnswersTexts, TellsFound, TellsPlan, TellsScript};
+ghost use Rattle.camac_engines.specs.Engine.{IsWritten, Shows, is_write_fault};
+ghost use Rattle.camac_engines.specs.Found.{found_of};
+ghost use Rattle.camac_engines.specs.Plan.{by_rule, plan_failed};
 ghost use Rattle.camac_engines.specs.Reading.{is_read_fault};
-ghost use Rattle.camac_engines.specs.Report.{refused, report, report_commands, report_events, report_of, report_plan};
+ghost use Rattle.camac_engines.specs.Report.{refused, report_events, report_of};
+ghost use Rattle.camac_engines.specs.declared.ask.Ask.TheVariants as ask;
+ghost use Rattle.camac_engines.specs.declared.ask.PlanAsk.TheVariants as plan_ask;
 ghost use Rattle.camac_word.specs.Watched.{inner_of, has_failed};
 
+use crate::ask::{Ask, PlanAsk};
+use crate::costs::show_costs;
+use crate::explaining::{explain_headings, explain_judged, explain_refusal};
 use crate::fault::ToolFault;
+use crate::headings::{judge_headings, show_headings};
 use crate::judging::{Judged, judge};
+use crate::known::{find_known, show_known};
 use crate::outcome::Outcome;
-use crate::plan::{PlanSource, read_plan};
-use crate::reading::{EVENTS_LIMIT, TEXT_LIMIT, read_whole};
+use crate::plan::{PlanRead, PlanRefusal, PlanSource, read_plan};
+use crate::reading::{EVENTS_LIMIT, read_whole};
+use crate::texts::{Texts, read_texts};
 use camac_branch::Plan;
 use camac_event::EventFile;
 use camac_lines::{
@@ -22,78 +32,185 @@ use camac_word::Watched;
 use std::alloc::Global;
 use std::io::{Read, Write};
 
-/// Lists a plan: its lines, or the line of its refusal, are written to `out`. Nothing is written before a fault but one of the writer,
-/// which leaves a prefix of the text.
+/// Answers what is asked of a plan and a script: that, or the line of the first refusal, is written to `out`. The plan is read and judged
+/// first, then the script. Nothing is written before a fault but one of the writer, which leaves a prefix of the text.
+pub fn answer<P: Read, S: Read, W: Write>(
+    alloc: Global,
+    ask: Ask,
+    plan: &mut PlanSource<P>,
+    script: &mut Watched<S>,
+    out: &mut Watched<W>,
+) -> Result<Outcome, ToolFault>
+    ensures answers { AnswersTexts ask P.remaining plan.old plan.new (S.remaining (inner_of script.old)) (S.remaining (inner_of script.new)) (W.contents (inner_of out.old)) (W.contents (inner_of out.new)) result }
+    ensures out_failed { has_failed out.new ≡ (has_failed out.old || is_write_fault result) }
+    ensures in_failed { (plan_failed plan.new || has_failed script.new)
+        ≡ ((plan_failed plan.old || has_failed script.old) || is_read_fault result) }
+{
+    let texts = read_texts(alloc, plan, script)?;
+    tell(alloc, ask, &texts, out)
+}
+
+/// The same of a plan alone.
+pub fn answer_plan<P: Read, W: Write>(
+    alloc: Global,
+    ask: PlanAsk,
+    plan: &mut PlanSource<P>,
+    out: &mut Watched<W>,
+) -> Result<Outcome, ToolFault>
+    ensures answers { AnswersPlan ask P.remaining plan.old plan.new (W.contents (inner_of out.old)) (W.contents (inner_of out.new)) result }
+    ensures out_failed { has_failed out.new ≡ (has_failed out.old || is_write_fault result) }
+    ensures in_failed { plan_failed plan.new ≡ (plan_failed plan.old || is_read_fault result) }
+{
+    let PlanRead { text, says } = read_plan(alloc, plan)?;
+    match says {
+        Ok(plan) => list_plan(ask, &plan, out),
+        Err(refusal) => tell_refusal(alloc, ask, &text, &refusal, out),
+    }
+}
+
+/// Lists a plan.
 pub fn engine_plan<P: Read, W: Write>(
     alloc: Global,
     plan: &mut PlanSource<P>,
     out: &mut Watched<W>,
 ) -> Result<Outcome, ToolFault>
-    ensures shows { ShowsPlan (λ says. Shows (report_plan says)) P.remaining plan.old plan.new (W.contents (inner_of out.old)) (W.contents (inner_of out.new)) result }
+    ensures answers { AnswersPlan plan_ask.Lines P.remaining plan.old plan.new (W.contents (inner_of out.old)) (W.contents (inner_of out.new)) result }
     ensures out_failed { has_failed out.new ≡ (has_failed out.old || is_write_fault result) }
     ensures in_failed { plan_failed plan.new ≡ (plan_failed plan.old || is_read_fault result) }
 {
-    match read_plan(alloc, plan)? {
-        Ok(plan) => {
-            write_plan(out, &plan)?;
-            Ok(Outcome::Good)
-        }
-        Err(rule) => refuse(out, Refusal::Plan(rule)),
-    }
+    answer_plan(alloc, PlanAsk::Lines, plan, out)
 }
 
-/// Lists a plan with the commands of its types: what `engine_plan` writes, and after the line of each type the lines of its commands.
-pub fn engine_commands<P: Read, W: Write>(
-    alloc: Global,
-    plan: &mut PlanSource<P>,
-    out: &mut Watched<W>,
-) -> Result<Outcome, ToolFault>
-    ensures shows { ShowsPlan (λ says. Shows (report_commands says)) P.remaining plan.old plan.new (W.contents (inner_of out.old)) (W.contents (inner_of out.new)) result }
-    ensures out_failed { has_failed out.new ≡ (has_failed out.old || is_write_fault result) }
-    ensures in_failed { plan_failed plan.new ≡ (plan_failed plan.old || is_read_fault result) }
-{
-    match read_plan(alloc, plan)? {
-        Ok(plan) => {
-            write_plan_with_commands(out, &plan)?;
-            Ok(Outcome::Good)
-        }
-        Err(rule) => refuse(out, Refusal::Plan(rule)),
-    }
-}
-
-/// Checks a script against a plan: the verdict, or the line of the first refusal, is written to `out`. The plan is read and judged
-/// first, then the script. Nothing is written before a fault but one of the writer, which leaves a prefix of the text.
+/// Checks a script against a plan.
 pub fn engine_check<P: Read, S: Read, W: Write>(
     alloc: Global,
     plan: &mut PlanSource<P>,
     script: &mut Watched<S>,
     out: &mut Watched<W>,
 ) -> Result<Outcome, ToolFault>
-    ensures checks { Checks report P.remaining plan.old plan.new (S.remaining (inner_of script.old)) (S.remaining (inner_of script.new)) (W.contents (inner_of out.old)) (W.contents (inner_of out.new)) result }
+    ensures answers { AnswersTexts ask.Check P.remaining plan.old plan.new (S.remaining (inner_of script.old)) (S.remaining (inner_of script.new)) (W.contents (inner_of out.old)) (W.contents (inner_of out.new)) result }
     ensures out_failed { has_failed out.new ≡ (has_failed out.old || is_write_fault result) }
     ensures in_failed { (plan_failed plan.new || has_failed script.new)
-        ≡ (plan_failed plan.old || has_failed script.old || is_read_fault result) }
+        ≡ ((plan_failed plan.old || has_failed script.old) || is_read_fault result) }
 {
-    let says = read_plan(alloc, plan)?;
-    match says {
-        Ok(plan) => check_on(alloc, &plan, script, out),
-        Err(rule) => refuse(out, Refusal::Plan(rule)),
-    }
+    answer(alloc, Ask::Check, plan, script, out)
 }
 
-fn check_on<S: Read, W: Write>(
+/// Finds the least headings of a script for a plan.
+pub fn engine_bounds<P: Read, S: Read, W: Write>(
     alloc: Global,
-    plan: &Plan,
+    plan: &mut PlanSource<P>,
     script: &mut Watched<S>,
     out: &mut Watched<W>,
 ) -> Result<Outcome, ToolFault>
-    ensures checks { ChecksOn report plan.now (S.remaining (inner_of script.old)) (S.remaining (inner_of script.new)) (W.contents (inner_of out.old)) (W.contents (inner_of out.new)) result }
+    ensures answers { AnswersTexts ask.Bounds P.remaining plan.old plan.new (S.remaining (inner_of script.old)) (S.remaining (inner_of script.new)) (W.contents (inner_of out.old)) (W.contents (inner_of out.new)) result }
     ensures out_failed { has_failed out.new ≡ (has_failed out.old || is_write_fault result) }
-    ensures in_failed { has_failed script.new ≡ (has_failed script.old || is_read_fault result) }
+    ensures in_failed { (plan_failed plan.new || has_failed script.new)
+        ≡ ((plan_failed plan.old || has_failed script.old) || is_read_fault result) }
 {
-    let text = read_whole(alloc, script, TEXT_LIMIT)?;
-    let judged = judge(alloc, plan, &text)?;
-    show(out, &judged)
+    answer(alloc, Ask::Bounds, plan, script, out)
+}
+
+/// Lists an event file of either version: its lines, or the line of its refusal, are written to `out`. Nothing is written before a fault
+/// but one of the writer, which leaves a prefix of the text. No memory is taken but the file's bytes.
+pub fn engine_events<R: Read, W: Write>(
+    alloc: Global,
+    input: &mut Watched<R>,
+    out: &mut Watched<W>,
+) -> Result<Outcome, ToolFault>
+    ensures answers { AnswersEvents (R.remaining (inner_of input.old)) (R.remaining (inner_of input.new)) (W.contents (inner_of out.old)) (W.contents (inner_of out.new)) result }
+    ensures out_failed { has_failed out.new ≡ (has_failed out.old || is_write_fault result) }
+    ensures in_failed { has_failed input.new ≡ (has_failed input.old || is_read_fault result) }
+{
+    let bytes = read_whole(alloc, input, EVENTS_LIMIT)?;
+    list_events(&bytes, out)
+}
+
+fn list_events<W: Write>(bytes: &[u8], out: &mut Watched<W>) -> Result<Outcome, ToolFault>
+    ensures shows { Shows (report_events (file_at bytes.now)) (W.contents (inner_of out.old)) (W.contents (inner_of out.new)) result }
+    ensures failed { has_failed out.new ≡ (has_failed out.old || is_write_fault result) }
+{
+    match EventFile::new(bytes) {
+        Ok(file) => {
+            write_event_file(out, &file)?;
+            Ok(Outcome::Good)
+        }
+        Err(flaw) => refuse(out, Refusal::Event(flaw)),
+    }
+}
+
+fn list_plan<W: Write>(
+    ask: PlanAsk,
+    plan: &Plan,
+    out: &mut Watched<W>,
+) -> Result<Outcome, ToolFault>
+    ensures tells { IsWritten (TellsPlan ask (Ok plan.now)) (W.contents (inner_of out.old)) (W.contents (inner_of out.new)) result }
+    ensures failed { has_failed out.new ≡ (has_failed out.old || is_write_fault result) }
+{
+    match ask {
+        PlanAsk::Commands => write_plan_with_commands(out, plan)?,
+        PlanAsk::Lines => write_plan(out, plan)?,
+        PlanAsk::Explain => write_plan(out, plan)?,
+    }
+    Ok(Outcome::Good)
+}
+
+#[tactic(auto, using(crate::proofs::Told::written))]
+fn tell_refusal<W: Write>(
+    alloc: Global,
+    ask: PlanAsk,
+    text: &[u8],
+    refusal: &PlanRefusal,
+    out: &mut Watched<W>,
+) -> Result<Outcome, ToolFault>
+    ensures tells { IsWritten (TellsPlan ask (Err refusal.now.rule)) (W.contents (inner_of out.old)) (W.contents (inner_of out.new)) result }
+    ensures failed { has_failed out.new ≡ (has_failed out.old || is_write_fault result) }
+{
+    match ask {
+        PlanAsk::Explain => explain_refusal(alloc, text, refusal, out),
+        PlanAsk::Lines => refuse(out, Refusal::Plan(refusal.rule)),
+        PlanAsk::Commands => refuse(out, Refusal::Plan(refusal.rule)),
+    }
+}
+
+fn tell<W: Write>(
+    alloc: Global,
+    ask: Ask,
+    texts: &Texts,
+    out: &mut Watched<W>,
+) -> Result<Outcome, ToolFault>
+    ensures tells { IsWritten (TellsFound ask (found_of texts.now)) (W.contents (inner_of out.old)) (W.contents (inner_of out.new)) result }
+    ensures failed { has_failed out.new ≡ (has_failed out.old || is_write_fault result) }
+{
+    match texts {
+        Texts::Read(plan, text) => tell_script(alloc, ask, plan, text, out),
+        Texts::Refused(text, refusal) => tell_refusal(alloc, ask.of_plan(), text, refusal, out),
+    }
+}
+
+fn tell_script<W: Write>(
+    alloc: Global,
+    ask: Ask,
+    plan: &Plan,
+    text: &[u8],
+    out: &mut Watched<W>,
+) -> Result<Outcome, ToolFault>
+    ensures tells { IsWritten (TellsScript ask plan.now text.now) (W.contents (inner_of out.old)) (W.contents (inner_of out.new)) result }
+    ensures failed { has_failed out.new ≡ (has_failed out.old || is_write_fault result) }
+{
+    match ask {
+        Ask::Check => show(out, &judge(alloc, plan, text)?),
+        Ask::Explain => explain_judged(alloc, plan, text, &judge(alloc, plan, text)?, out),
+        Ask::ExplainBounds => {
+            explain_headings(alloc, text, &judge_headings(alloc, plan, text)?, out)
+        }
+        Ask::ExplainAt { line, column } => {
+            let found = find_known(alloc, plan, text, line, column)?;
+            show_known(out, line, column, &found)
+        }
+        Ask::Bounds => show_headings(out, &judge_headings(alloc, plan, text)?),
+        Ask::Costs => show_costs(alloc, &judge(alloc, plan, text)?, out),
+    }
 }
 
 fn show<W: Write>(out: &mut Watched<W>, judged: &Judged) -> Result<Outcome, ToolFault>
@@ -117,32 +234,4 @@ pub fn refuse<W: Write>(out: &mut Watched<W>, refusal: Refusal) -> Result<Outcom
 {
     write_refusal(out, refusal)?;
     Ok(Outcome::Refused)
-}
-
-/// Lists an event file of either version: its lines, or the line of its refusal, are written to `out`. Nothing is written before a fault
-/// but one of the writer, which leaves a prefix of the text. No memory is taken but the file's bytes.
-pub fn engine_events<R: Read, W: Write>(
-    alloc: Global,
-    input: &mut Watched<R>,
-    out: &mut Watched<W>,
-) -> Result<Outcome, ToolFault>
-    ensures shows { ShowsEvents (R.remaining (inner_of input.old)) (R.remaining (inner_of input.new)) (W.contents (inner_of out.old)) (W.contents (inner_of out.new)) result }
-    ensures out_failed { has_failed out.new ≡ (has_failed out.old || is_write_fault result) }
-    ensures in_failed { has_failed input.new ≡ (has_failed input.old || is_read_fault result) }
-{
-    let bytes = read_whole(alloc, input, EVENTS_LIMIT)?;
-    list_events(&bytes, out)
-}
-
-fn list_events<W: Write>(bytes: &[u8], out: &mut Watched<W>) -> Result<Outcome, ToolFault>
-    ensures shows { Shows (report_events (file_at bytes.now)) (W.contents (inner_of out.old)) (W.contents (inner_of out.new)) result }
-    ensures failed { has_failed out.new ≡ (has_failed out.old || is_write_fault result) }
-{
-    match EventFile::new(bytes) {
-        Ok(file) => {
-            write_event_file(out, &file)?;
-            Ok(Outcome::Good)
-        }
-        Err(flaw) => refuse(out, Refusal::Event(flaw)),
-    }
 }

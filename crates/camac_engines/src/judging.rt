@@ -5,15 +5,15 @@ ghost use Rattle.camac_names.specs.Link.{link_fault};
 ghost use Rattle.camac_rules.specs.Accept.{accept};
 ghost use Rattle.camac_engines.specs.Accepted.{Accepts, accepted, accepted_linked, accepted_checked};
 ghost use Rattle.camac_engines.specs.Engine.{Judges};
-ghost use Rattle.camac_engines.specs.Found.{JudgesOn, ReadsJudged};
+ghost use Rattle.camac_engines.specs.Found.{ReadsJudged};
 ghost use Rattle.camac_engines.specs.Plan.{plan_failed};
 ghost use Rattle.camac_engines.specs.Reading.{is_read_fault};
 ghost use Rattle.camac_engines.specs.Report.{report, report_linked, report_accepted};
 ghost use Rattle.camac_word.specs.Watched.{inner_of, has_failed};
 
 use crate::fault::ToolFault;
-use crate::plan::{PlanSource, read_plan};
-use crate::reading::{TEXT_LIMIT, read_whole};
+use crate::plan::PlanSource;
+use crate::texts::{Texts, read_texts};
 use camac_branch::Plan;
 use camac_check::{CheckFault, Checked, check};
 use camac_explain::Finding;
@@ -40,23 +40,10 @@ pub fn read_judged<P: Read, S: Read>(
     ensures reads { ReadsJudged P.remaining plan.old plan.new (S.remaining (inner_of script.old)) (S.remaining (inner_of script.new)) result }
     ensures failed { (plan_failed plan.new || has_failed script.new) ≡ ((plan_failed plan.old || has_failed script.old) || is_read_fault result) }
 {
-    let says = read_plan(alloc, plan)?;
-    match says {
-        Ok(plan) => judge_on(alloc, &plan, script),
-        Err(rule) => Ok(Judged::Refused(Finding::Plan(rule))),
+    match read_texts(alloc, plan, script)? {
+        Texts::Read(plan, script) => judge(alloc, &plan, &script),
+        Texts::Refused(_, refusal) => Ok(Judged::Refused(Finding::Plan(refusal.rule))),
     }
-}
-
-fn judge_on<S: Read>(
-    alloc: Global,
-    plan: &Plan,
-    script: &mut Watched<S>,
-) -> Result<Judged, ToolFault>
-    ensures judges { JudgesOn plan.now (S.remaining (inner_of script.old)) (S.remaining (inner_of script.new)) result }
-    ensures failed { has_failed script.new ≡ (has_failed script.old || is_read_fault result) }
-{
-    let text = read_whole(alloc, script, TEXT_LIMIT)?;
-    judge(alloc, plan, &text)
 }
 
 /// Judges the text of a script for a plan.

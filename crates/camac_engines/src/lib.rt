@@ -3,6 +3,7 @@
 // A crate of its own beside the runner, whose proof is the longest, so that both are proved at once.
 #![tactic(auto)]
 
+mod ask;
 mod costs;
 mod engine;
 mod explaining;
@@ -18,14 +19,14 @@ mod response;
 mod rule;
 mod sample;
 mod spot;
+mod texts;
 
-pub use costs::engine_costs;
-pub use engine::{engine_check, engine_commands, engine_events, engine_plan, refuse};
-pub use explaining::{engine_explain, engine_explain_plan};
+pub use ask::{Ask, PlanAsk};
+pub use engine::{
+    answer, answer_plan, engine_bounds, engine_check, engine_events, engine_plan, refuse,
+};
 pub use fault::ToolFault;
-pub use headings::engine_bounds;
 pub use judging::{Judged, read_judged};
-pub use known::engine_explain_at;
 pub use outcome::{Outcome, status};
 pub use plan::PlanSource;
 pub use response::{Responded, engine_response};

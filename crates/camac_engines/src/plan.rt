@@ -1,8 +1,8 @@
 // Where a plan comes from, and what it says.
 
-ghost use Rattle.std.specs.Prelude.{◌≡◌, ◌||◌, IfErr};
+ghost use Rattle.std.specs.Prelude.{◌≡◌, ◌||◌};
 ghost use Rattle.camac_plan.specs.Reading.{reading};
-ghost use Rattle.camac_engines.specs.Plan.{JudgesPlan, ReadsPlan, by_rule, plan_failed, says_of};
+ghost use Rattle.camac_engines.specs.Plan.{JudgesPlan, ReadsPlan, plan_failed};
 ghost use Rattle.camac_engines.specs.Reading.{is_read_fault};
 
 use crate::fault::ToolFault;
@@ -23,23 +23,6 @@ pub enum PlanSource<R> {
     Text(Watched<R>),
 }
 
-/// The plan of a source, or the first rule that its text breaks.
-pub fn read_plan<R: Read>(
-    alloc: Global,
-    source: &mut PlanSource<R>,
-) -> Result<Result<Plan, PlanRule>, ToolFault>
-    ensures reads { ReadsPlan R.remaining source.old source.new result }
-    ensures failed { plan_failed source.new ≡ (plan_failed source.old || is_read_fault result) }
-{
-    match source {
-        PlanSource::Sample => Ok(Ok(sample_plan(alloc)?)),
-        PlanSource::Text(reader) => {
-            let text = read_whole(alloc, reader, TEXT_LIMIT)?;
-            Ok(by_rule(judge_plan(alloc, &text)?))
-        }
-    }
-}
-
 /// The first rule that a plan's text breaks, and its case.
 #[derive(Clone, Copy, Debug)]
 pub struct PlanRefusal {
@@ -55,11 +38,8 @@ pub struct PlanRead {
 }
 
 /// The plan of a source with its text, or the first rule that this breaks, with its case.
-pub fn read_plan_text<R: Read>(
-    alloc: Global,
-    source: &mut PlanSource<R>,
-) -> Result<PlanRead, ToolFault>
-    ensures reads { ReadsPlan R.remaining source.old source.new (says_of result) }
+pub fn read_plan<R: Read>(alloc: Global, source: &mut PlanSource<R>) -> Result<PlanRead, ToolFault>
+    ensures reads { ReadsPlan R.remaining source.old source.new result }
     ensures failed { plan_failed source.new ≡ (plan_failed source.old || is_read_fault result) }
 {
     match source {
@@ -72,15 +52,6 @@ pub fn read_plan_text<R: Read>(
             let says = judge_plan(alloc, text.as_slice())?;
             Ok(PlanRead { text, says })
         }
-    }
-}
-
-fn by_rule(says: Result<Plan, PlanRefusal>) -> Result<Plan, PlanRule>
-    ensures { result ≡ by_rule says }
-{
-    match says {
-        Ok(plan) => Ok(plan),
-        Err(refusal) => Err(refusal.rule),
     }
 }
 

@@ -1,11 +1,12 @@
 // The engine of how long look-at-mes wait for their services.
 
-ghost use Rattle.std.specs.Prelude.{◌≡◌, ◌||◌, length, map};
+ghost use Rattle.std.specs.Prelude.{◌≡◌, ◌||◌, length};
 ghost use Rattle.camac_response.specs.Kept.{AreKept};
 ghost use Rattle.camac_engines.specs.Engine.{is_write_fault};
 ghost use Rattle.camac_engines.specs.Plan.{plan_failed};
 ghost use Rattle.camac_engines.specs.Reading.{is_read_fault};
-ghost use Rattle.camac_engines.specs.Response.{Responds, RespondsOn, SaysKept, ShowsResponses};
+ghost use Rattle.camac_engines.specs.Response.{Responds, RespondsOn, SaysKept};
+ghost use Rattle.camac_engines.specs.declared.judging.Judged.TheVariants.{Accepted};
 ghost use Rattle.camac_word.specs.Watched.{inner_of, has_failed};
 
 use crate::engine::refuse;
@@ -15,7 +16,7 @@ use crate::outcome::Outcome;
 use crate::plan::PlanSource;
 use camac_check::Checked;
 use camac_response::{
-    Misuse, Responses, Settings, are_kept, no_service, read_settings, sources_of, write_responses,
+    Misuse, Responses, Settings, are_kept, no_service, sources_of, write_responses,
 };
 use camac_word::Watched;
 use std::alloc::Global;
@@ -30,53 +31,47 @@ pub enum Responded<'a> {
     Misused(Misuse<'a>),
 }
 
-/// Finds how long look-at-mes wait for their services: for each service a line, in the order of their bits, or the line of the first refusal,
-/// are written to `out`. The words SERVICE=CYCLES after `--every` and `--within` are read first, then the plan and the script. Nothing is
+/// Finds how long look-at-mes wait for their services, at the settings of the words after `--every` and `--within`: for each service a line, in
+/// the order of their bits, or the line of the first refusal, are written to `out`. The plan is read first, then the script. Nothing is
 /// written before a fault but one of the writer, which leaves a prefix of the text.
 pub fn engine_response<'a, P: Read, S: Read, W: Write>(
     alloc: Global,
+    settings: &Settings<'a>,
     plan: &mut PlanSource<P>,
     script: &mut Watched<S>,
-    every: &[&'a str],
-    within: &[&'a str],
     out: &mut Watched<W>,
 ) -> Result<Responded<'a>, ToolFault>
-    ensures responds { Responds (map (λ w. w.now) every.now) (map (λ w. w.now) within.now) P.remaining plan.old plan.new (S.remaining (inner_of script.old)) (S.remaining (inner_of script.new)) (W.contents (inner_of out.old)) (W.contents (inner_of out.new)) result }
+    ensures responds { Responds settings.now P.remaining plan.old plan.new (S.remaining (inner_of script.old)) (S.remaining (inner_of script.new)) (W.contents (inner_of out.old)) (W.contents (inner_of out.new)) result }
     ensures out_failed { has_failed out.new ≡ (has_failed out.old || is_write_fault result) }
     ensures in_failed { (plan_failed plan.new || has_failed script.new)
         ≡ ((plan_failed plan.old || has_failed script.old) || is_read_fault result) }
 {
-    match read_settings(alloc, every, within)? {
-        Ok(settings) => {
-            let judged = read_judged(alloc, plan, script)?;
-            respond(alloc, &judged, &settings, out)
-        }
-        Err(misuse) => Ok(Responded::Misused(misuse)),
-    }
+    let judged = read_judged(alloc, plan, script)?;
+    respond(alloc, settings, &judged, out)
 }
 
 fn respond<'a, W: Write>(
     alloc: Global,
-    judged: &Judged,
     settings: &Settings<'a>,
+    judged: &Judged,
     out: &mut Watched<W>,
 ) -> Result<Responded<'a>, ToolFault>
     ensures responds { RespondsOn settings.now judged.now (W.contents (inner_of out.old)) (W.contents (inner_of out.new)) result }
     ensures failed { has_failed out.new ≡ (has_failed out.old || is_write_fault result) }
 {
     match judged {
-        Judged::Accepted(checked) => respond_to(alloc, checked, settings, out),
+        Judged::Accepted(checked) => respond_to(alloc, settings, checked, out),
         Judged::Refused(finding) => Ok(Responded::Told(refuse(out, finding.refusal())?)),
     }
 }
 
 fn respond_to<'a, W: Write>(
     alloc: Global,
-    checked: &Checked,
     settings: &Settings<'a>,
+    checked: &Checked,
     out: &mut Watched<W>,
 ) -> Result<Responded<'a>, ToolFault>
-    ensures shows { ShowsResponses settings.now checked.now (W.contents (inner_of out.old)) (W.contents (inner_of out.new)) result }
+    ensures responds { RespondsOn settings.now (Accepted checked.now) (W.contents (inner_of out.old)) (W.contents (inner_of out.new)) result }
     ensures failed { has_failed out.new ≡ (has_failed out.old || is_write_fault result) }
 {
     if let Some(misuse) = no_service(checked, settings) {
@@ -84,8 +79,9 @@ fn respond_to<'a, W: Write>(
     }
     let sources = sources_of(alloc, checked, &settings.every)?;
     let responses = Responses::of(alloc, sources)?;
+    let outcome = outcome_of(checked, &responses, settings);
     write_responses(out, checked, &responses, &settings.within)?;
-    Ok(Responded::Told(outcome_of(checked, &responses, settings)))
+    Ok(Responded::Told(outcome))
 }
 
 fn outcome_of(checked: &Checked, responses: &Responses, settings: &Settings<'_>) -> Outcome

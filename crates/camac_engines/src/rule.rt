@@ -1,8 +1,8 @@
 // The engine that explains a rule.
 
 ghost use Rattle.std.specs.Prelude.{◌≡◌, ◌||◌};
-ghost use Rattle.camac_engines.specs.Engine.{is_write_fault};
-ghost use Rattle.camac_engines.specs.Rule.{ShowsRule};
+ghost use Rattle.camac_engines.specs.Engine.{IsWritten, is_write_fault};
+ghost use Rattle.camac_engines.specs.Rule.{TellsRule};
 ghost use Rattle.camac_word.specs.Watched.{inner_of, has_failed};
 
 use crate::fault::ToolFault;
@@ -19,7 +19,7 @@ pub fn engine_explain_rule<W: Write>(
     rule: Rule,
     out: &mut Watched<W>,
 ) -> Result<Outcome, ToolFault>
-    ensures shows { ShowsRule rule (W.contents (inner_of out.old)) (W.contents (inner_of out.new)) result }
+    ensures tells { IsWritten (TellsRule rule) (W.contents (inner_of out.old)) (W.contents (inner_of out.new)) result }
     ensures failed { has_failed out.new ≡ (has_failed out.old || is_write_fault result) }
 {
     let lines = explain_rule(alloc, rule)?;

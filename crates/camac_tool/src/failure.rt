@@ -1,7 +1,7 @@
 // Why a call on a file or a standard stream failed: what stands below the line of a fault.
 
-ghost use Rattle.std.specs.Prelude.{◌≡◌, Err};
-ghost use Rattle.camac_tool.specs.Status.{EndsAs, fault_status};
+ghost use Rattle.std.specs.Prelude.{◌≡◌};
+ghost use Rattle.camac_tool.specs.Status.{EndsStopped, fault_status};
 ghost use Rattle.camac_engines.specs.declared.fault.ToolFault.TheVariants.{Read as read-fault, Write as write-fault};
 
 use arrayvec::ArrayString;
@@ -44,7 +44,7 @@ impl<'a> Failure<'a> {
 
     /// Tells a fault on standard error, and which file it is of, and answers the exit status. Of a pipe that its reader closed nothing is told.
     pub fn tell<R: Eprint>(&self, rt: &R, fault: ToolFault) -> u8
-        ensures { EndsAs (Err fault) result }
+        ensures { EndsStopped fault result }
     {
         let Some((name, why)) = self.0.get() else {
             let _ = eprintln!(rt; "{fault}");

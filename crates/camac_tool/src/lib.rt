@@ -15,9 +15,8 @@ mod streams;
 mod target;
 
 pub use camac_engines::{
-    Outcome, PlanSource, Responded, ToolFault, engine_bounds, engine_check, engine_commands,
-    engine_costs, engine_events, engine_explain, engine_explain_at, engine_explain_plan,
-    engine_plan, engine_response, sample_plan, status,
+    Ask, Outcome, PlanAsk, PlanSource, Responded, ToolFault, answer, answer_plan, engine_bounds,
+    engine_check, engine_events, engine_plan, engine_response, sample_plan, status,
 };
 pub use camac_tool_words::{Job, JobFault, read_words};
 pub use devices::run_on_devices;

@@ -1,11 +1,14 @@
 // The program, from its words to its exit status.
 
-ghost use Rattle.std.specs.Prelude.{◌≡◌, ◌||◌, [], Err, IfOk, IfErr, OnOk, codes, is_err, is_none, map, string_bytes};
+ghost use Rattle.std.specs.Prelude.{◌≡◌, ◌||◌, [], IfOk, IfErr, OnOk, codes, is_err, is_none, map, string_bytes};
 ghost use Rattle.std.specs.Str.{bytes_eq};
 ghost use Rattle.camac_engines.specs.declared.fault.ToolFault.TheVariants.{Read as read-fault, Write};
+ghost use Rattle.camac_play.specs.declared.telling.Telling.TheVariants.{Listing, Requests};
 ghost use Rattle.clap.specs.Words.{kind_of};
-ghost use Rattle.camac_tool.specs.Status.{Ends, EndsAs, EndsJob, EndsMisuse, EndsResponse, EndsRule, EndsUsage};
+ghost use Rattle.camac_tool.specs.Jobs.{CanAnswer, CanAnswerPlan, CanEnd, CanExplainRule, CanListEvents, CanRespond, CanRun, IsAnswered};
+ghost use Rattle.camac_tool.specs.Status.{Ends, EndsAs, EndsJob, EndsMisuse, EndsUsage};
 ghost use Rattle.camac_tool.specs.declared.launch.ArgumentsFault.TheVariants.{Memory, NotText};
+ghost use Rattle.camac_tool.specs.declared.program.Done.TheVariants.{Answered};
 ghost use Rattle.camac_tool.specs.Gathered.{has_stopped, held_in};
 ghost use Rattle.camac_tool.specs.Input.{IsSourceOf};
 
@@ -18,9 +21,8 @@ use crate::places::hold_places;
 use crate::running::engine_drive;
 use crate::target::{Earlier, NewFile, keep_apart, settle};
 use camac_engines::{
-    Outcome, PlanSource, Responded, ToolFault, engine_bounds, engine_check, engine_commands,
-    engine_costs, engine_events, engine_explain, engine_explain_at, engine_explain_plan,
-    engine_explain_rule, engine_plan, engine_response, status,
+    Ask, Outcome, PlanAsk, PlanSource, Responded, ToolFault, answer, answer_plan, engine_events,
+    engine_explain_rule, engine_response, status,
 };
 use camac_explain::Rule;
 use camac_response::{Misuse, read_settings};
@@ -47,7 +49,7 @@ pub fn exit_status<R: Runtime + AllocGlobal>(rt: &R, words: &[String]) -> u8
     let failure = Failure::none();
     let _places = match hold_places(rt) {
         Ok(places) => places,
-        Err(why) => return stopped(rt, &failure, failure.read("/", why)),
+        Err(why) => return failure.tell(rt, failure.read("/", why)),
     };
     match read_words(rt.alloc(), words) {
         Ok(job) => serve(rt, &failure, job),
@@ -68,148 +70,134 @@ pub fn unread_status<R: Runtime>(rt: &R, fault: ArgumentsFault) -> u8
     }
 }
 
-#[tactic(auto, using(crate::proofs::Ended::engine_ends, crate::proofs::Ended::response_job, crate::proofs::Ended::rule_job))]
 fn serve<'a, R: Runtime + AllocGlobal>(rt: &R, failure: &Failure<'a>, job: Job<'a>) -> u8
     ensures { EndsJob job.entry result }
 {
-    let answer = match job {
-        Job::Plan(plan) => show_plan(rt, failure, AskPlan::Show, plan),
-        Job::Commands(plan) => show_plan(rt, failure, AskPlan::Commands, plan),
-        Job::ExplainPlan(plan) => show_plan(rt, failure, AskPlan::Explain, plan),
-        Job::ExplainRule(code) => return tell_rule(rt, failure, code),
-        Job::Check(plan, script) => judge(rt, failure, Ask::Check, plan, script),
-        Job::Explain(plan, script) => judge(rt, failure, Ask::Explain, plan, script),
-        Job::Bounds(plan, script) => judge(rt, failure, Ask::Bounds, plan, script),
+    finished(rt, failure, done(rt, failure, job))
+}
+
+/// What became of a job.
+pub enum Done<'a> {
+    /// An engine answered it.
+    Answered(Outcome),
+    /// Words of `response` are wrong, and nothing was written.
+    Misused(Misuse<'a>),
+    /// The word has the form of a code, and is none.
+    NoCode(&'a str),
+}
+
+fn done<'a, R: Runtime + AllocGlobal>(
+    rt: &R,
+    failure: &Failure<'a>,
+    job: Job<'a>,
+) -> Result<Done<'a>, ToolFault>
+    ensures { CanEnd job.entry result }
+{
+    match job {
+        Job::Plan(plan) => ask_plan(rt, failure, PlanAsk::Lines, plan),
+        Job::Commands(plan) => ask_plan(rt, failure, PlanAsk::Commands, plan),
+        Job::ExplainPlan(plan) => ask_plan(rt, failure, PlanAsk::Explain, plan),
+        Job::ExplainRule(code) => explain_rule(rt, failure, code),
+        Job::Check(plan, script) => ask(rt, failure, Ask::Check, plan, script),
+        Job::Explain(plan, script) => ask(rt, failure, Ask::Explain, plan, script),
+        Job::ExplainBounds(plan, script) => ask(rt, failure, Ask::ExplainBounds, plan, script),
         Job::ExplainAt(line, column, plan, script) => {
-            show_known(rt, failure, line, column, plan, script)
+            ask(rt, failure, Ask::ExplainAt { line, column }, plan, script)
         }
-        Job::Costs(plan, script) => show_costs(rt, failure, plan, script),
+        Job::Bounds(plan, script) => ask(rt, failure, Ask::Bounds, plan, script),
+        Job::Costs(plan, script) => ask(rt, failure, Ask::Costs, plan, script),
         Job::Response(plan, script, every, within) => {
-            let answer = show_responses(rt, failure, plan, script, &every, &within);
-            return responded(rt, failure, answer);
+            respond(rt, failure, plan, script, &every, &within)
         }
-        Job::Events(file) => show_events(rt, failure, file),
+        Job::Events(file) => list_events(rt, failure, file),
         Job::Run(plan, script, answers, events) => {
             run(rt, failure, plan, script, answers, events)
         }
         Job::Drive(plan, script, events) => drive(rt, failure, plan, script, events),
-    };
-    finished(rt, failure, answer)
-}
-
-// What is asked of a plan alone.
-#[derive(Clone, Copy)]
-enum AskPlan {
-    Show,
-    Commands,
-    Explain,
-}
-
-fn show_plan<'a, R: Runtime + AllocGlobal>(
-    rt: &R,
-    failure: &Failure<'a>,
-    ask: AskPlan,
-    plan: &'a str,
-) -> Result<Outcome, ToolFault> {
-    let mut plan = source_of(plan_input(rt, failure, plan)?);
-    let mut out = Watched::new(Gathered::new(rt.alloc(), output(rt, failure))?);
-    let outcome = match ask {
-        AskPlan::Show => engine_plan(rt.alloc(), &mut plan, &mut out)?,
-        AskPlan::Commands => engine_commands(rt.alloc(), &mut plan, &mut out)?,
-        AskPlan::Explain => engine_explain_plan(rt.alloc(), &mut plan, &mut out)?,
-    };
-    handed_on(&mut out.into_inner(), outcome)
-}
-
-// Explains a rule. A word that has the form of a code, and is none, is a mistake.
-fn tell_rule<R: Runtime + AllocGlobal>(rt: &R, failure: &Failure<'_>, code: &str) -> u8
-    ensures { EndsRule code.now result }
-{
-    match Rule::of_code(code) {
-        Some(rule) => finished(rt, failure, show_rule(rt, failure, rule)),
-        None => {
-            let _ = eprintln!(rt; "fault {code}: no such code");
-            USAGE
-        }
     }
 }
 
-fn show_rule<R: Runtime + AllocGlobal>(
+fn ask_plan<'a, R: Runtime + AllocGlobal>(
     rt: &R,
-    failure: &Failure<'_>,
-    rule: Rule,
-) -> Result<Outcome, ToolFault> {
-    engine_explain_rule(rt.alloc(), rule, &mut Watched::new(output(rt, failure)))
+    failure: &Failure<'a>,
+    ask: PlanAsk,
+    plan: &'a str,
+) -> Result<Done<'a>, ToolFault>
+    ensures { IsAnswered (CanAnswerPlan ask plan.now) result }
+{
+    let mut plan = source_of(plan_input(rt, failure, plan)?);
+    let mut out = Watched::new(Gathered::new(rt.alloc(), output(rt, failure))?);
+    let outcome = answer_plan(rt.alloc(), ask, &mut plan, &mut out)?;
+    handed_on(&mut out.into_inner(), outcome)
 }
 
-// What is asked of a plan and a script, and answered in a few lines.
-#[derive(Clone, Copy)]
-enum Ask {
-    Check,
-    Explain,
-    Bounds,
-}
-
-fn judge<'a, R: Runtime + AllocGlobal>(
+fn ask<'a, R: Runtime + AllocGlobal>(
     rt: &R,
     failure: &Failure<'a>,
     ask: Ask,
     plan: &'a str,
     script: &'a str,
-) -> Result<Outcome, ToolFault> {
-    let mut plan = source_of(plan_input(rt, failure, plan)?);
-    let mut script = Watched::new(open(rt, failure, script)?);
-    let mut out = Watched::new(output(rt, failure));
-    match ask {
-        Ask::Check => engine_check(rt.alloc(), &mut plan, &mut script, &mut out),
-        Ask::Explain => engine_explain(rt.alloc(), &mut plan, &mut script, &mut out),
-        Ask::Bounds => engine_bounds(rt.alloc(), &mut plan, &mut script, &mut out),
-    }
-}
-
-fn show_known<'a, R: Runtime + AllocGlobal>(
-    rt: &R,
-    failure: &Failure<'a>,
-    line: u32,
-    column: u32,
-    plan: &'a str,
-    script: &'a str,
-) -> Result<Outcome, ToolFault> {
-    let mut plan = source_of(plan_input(rt, failure, plan)?);
-    let mut script = Watched::new(open(rt, failure, script)?);
-    let mut out = Watched::new(output(rt, failure));
-    engine_explain_at(rt.alloc(), &mut plan, &mut script, line, column, &mut out)
-}
-
-fn show_costs<'a, R: Runtime + AllocGlobal>(
-    rt: &R,
-    failure: &Failure<'a>,
-    plan: &'a str,
-    script: &'a str,
-) -> Result<Outcome, ToolFault> {
+) -> Result<Done<'a>, ToolFault>
+    ensures { IsAnswered (CanAnswer ask plan.now) result }
+{
     let mut plan = source_of(plan_input(rt, failure, plan)?);
     let mut script = Watched::new(open(rt, failure, script)?);
     let mut out = Watched::new(Gathered::new(rt.alloc(), output(rt, failure))?);
-    let outcome = engine_costs(rt.alloc(), &mut plan, &mut script, &mut out)?;
+    let outcome = answer(rt.alloc(), ask, &mut plan, &mut script, &mut out)?;
     handed_on(&mut out.into_inner(), outcome)
 }
 
 // Words that are wrong are told before a file is opened.
-fn show_responses<'a, R: Runtime + AllocGlobal>(
+fn respond<'a, R: Runtime + AllocGlobal>(
     rt: &R,
     failure: &Failure<'a>,
     plan: &'a str,
     script: &'a str,
     every: &[&'a str],
     within: &[&'a str],
-) -> Result<Responded<'a>, ToolFault> {
-    if let Err(misuse) = read_settings(rt.alloc(), every, within)? {
-        return Ok(Responded::Misused(misuse));
-    }
+) -> Result<Done<'a>, ToolFault>
+    ensures { CanRespond plan.now (map (λ w. w.now) every.now) (map (λ w. w.now) within.now) result }
+{
+    let settings = match read_settings(rt.alloc(), every, within)? {
+        Ok(settings) => settings,
+        Err(misuse) => return Ok(Done::Misused(misuse)),
+    };
     let mut plan = source_of(plan_input(rt, failure, plan)?);
     let mut script = Watched::new(open(rt, failure, script)?);
+    let mut out = Watched::new(Gathered::new(rt.alloc(), output(rt, failure))?);
+    match engine_response(rt.alloc(), &settings, &mut plan, &mut script, &mut out)? {
+        Responded::Told(outcome) => handed_on(&mut out.into_inner(), outcome),
+        Responded::Misused(misuse) => Ok(Done::Misused(misuse)),
+    }
+}
+
+// Explains a rule by its code.
+fn explain_rule<'a, R: Runtime + AllocGlobal>(
+    rt: &R,
+    failure: &Failure<'a>,
+    code: &'a str,
+) -> Result<Done<'a>, ToolFault>
+    ensures { CanExplainRule code.now result }
+{
+    let Some(rule) = Rule::of_code(code) else {
+        return Ok(Done::NoCode(code));
+    };
     let mut out = Watched::new(output(rt, failure));
-    engine_response(rt.alloc(), &mut plan, &mut script, every, within, &mut out)
+    let outcome = engine_explain_rule(rt.alloc(), rule, &mut out)?;
+    Ok(Done::Answered(outcome))
+}
+
+fn list_events<'a, R: Runtime + AllocGlobal>(
+    rt: &R,
+    failure: &Failure<'a>,
+    file: &'a str,
+) -> Result<Done<'a>, ToolFault>
+    ensures { IsAnswered CanListEvents result }
+{
+    let mut input = Watched::new(open(rt, failure, file)?);
+    let mut out = Watched::new(Gathered::new(rt.alloc(), output(rt, failure))?);
+    let outcome = engine_events(rt.alloc(), &mut input, &mut out)?;
+    handed_on(&mut out.into_inner(), outcome)
 }
 
 fn run<'a, R: Runtime + AllocGlobal>(
@@ -219,7 +207,9 @@ fn run<'a, R: Runtime + AllocGlobal>(
     script: &'a str,
     answers: &'a str,
     events: &'a str,
-) -> Result<Outcome, ToolFault> {
+) -> Result<Done<'a>, ToolFault>
+    ensures { IsAnswered (CanRun Listing plan.now) result }
+{
     let plan = plan_input(rt, failure, plan)?;
     let script = open(rt, failure, script)?;
     let answers = open(rt, failure, answers)?;
@@ -235,7 +225,7 @@ fn run<'a, R: Runtime + AllocGlobal>(
     )?;
     let outcome = ran.outcome?;
     settle(&ran.records)?;
-    Ok(outcome)
+    Ok(Done::Answered(outcome))
 }
 
 // A request goes out in one write to a writer that keeps nothing back, and no answer is read ahead of its request.
@@ -245,7 +235,9 @@ fn drive<'a, R: Runtime + AllocGlobal>(
     plan: &'a str,
     script: &'a str,
     events: &'a str,
-) -> Result<Outcome, ToolFault> {
+) -> Result<Done<'a>, ToolFault>
+    ensures { IsAnswered (CanRun Requests plan.now) result }
+{
     let plan = plan_input(rt, failure, plan)?;
     let script = open(rt, failure, script)?;
     let answers = open(rt, failure, "@in")?;
@@ -261,18 +253,7 @@ fn drive<'a, R: Runtime + AllocGlobal>(
         &mut file,
     )?;
     settle(&file.into_inner())?;
-    Ok(outcome)
-}
-
-fn show_events<'a, R: Runtime + AllocGlobal>(
-    rt: &R,
-    failure: &Failure<'a>,
-    file: &'a str,
-) -> Result<Outcome, ToolFault> {
-    let mut input = Watched::new(open(rt, failure, file)?);
-    let mut out = Watched::new(Gathered::new(rt.alloc(), output(rt, failure))?);
-    let outcome = engine_events(rt.alloc(), &mut input, &mut out)?;
-    handed_on(&mut out.into_inner(), outcome)
+    Ok(Done::Answered(outcome))
 }
 
 fn output<'r, 'f, 'a, R: Print>(
@@ -282,15 +263,18 @@ fn output<'r, 'f, 'a, R: Print>(
     Named::new(io::writer(rt), STANDARD_OUTPUT, failure)
 }
 
-// The lines of a plan, of events and of costs are many, so they are gathered before they go out.
-fn handed_on<W: Write + Drop>(out: &mut Gathered<W>, outcome: Outcome) -> Result<Outcome, ToolFault>
-    ensures outcome { IfOk result (λ o. o ≡ outcome) }
+// What is told is gathered before it goes out.
+fn handed_on<'a, W: Write + Drop>(
+    out: &mut Gathered<W>,
+    outcome: Outcome,
+) -> Result<Done<'a>, ToolFault>
+    ensures outcome { IfOk result (λ done. done ≡ Answered outcome) }
     ensures fault { IfErr result (λ fault. fault ≡ Write) }
     ensures all { OnOk result (held_in out.new ≡ []) }
     ensures failed { has_stopped out.new ≡ (has_stopped out.old || is_err result) }
 {
     match out.flush() {
-        Ok(()) => Ok(outcome),
+        Ok(()) => Ok(Done::Answered(outcome)),
         Err(_) => Err(ToolFault::Write),
     }
 }
@@ -321,27 +305,21 @@ fn source_of<I: Drop>(input: Option<I>) -> PlanSource<I>
 
 // What standard error does not take is lost: there is no other place to tell it.
 
-fn finished<R: Runtime>(rt: &R, failure: &Failure<'_>, answer: Result<Outcome, ToolFault>) -> u8
-    ensures { EndsAs answer result }
-{
-    match answer {
-        Ok(_) => status(&answer),
-        Err(fault) => failure.tell(rt, fault),
-    }
-}
-
-// Of `response`, whose words may be wrong.
-fn responded<R: Runtime + AllocGlobal>(
+fn finished<R: Runtime + AllocGlobal>(
     rt: &R,
     failure: &Failure<'_>,
-    answer: Result<Responded<'_>, ToolFault>,
+    done: Result<Done<'_>, ToolFault>,
 ) -> u8
-    ensures { EndsResponse answer.entry result }
+    ensures { EndsAs done.entry result }
 {
-    match answer {
-        Ok(Responded::Told(outcome)) => finished(rt, failure, Ok(outcome)),
-        Ok(Responded::Misused(misuse)) => misused_words(rt, failure, misuse),
-        Err(fault) => stopped(rt, failure, fault),
+    match done {
+        Ok(Done::Answered(outcome)) => status(&Ok(outcome)),
+        Ok(Done::Misused(misuse)) => misused_words(rt, failure, misuse),
+        Ok(Done::NoCode(code)) => {
+            let _ = eprintln!(rt; "fault {code}: no such code");
+            USAGE
+        }
+        Err(fault) => failure.tell(rt, fault),
     }
 }
 
@@ -355,14 +333,8 @@ fn misused_words<R: Runtime + AllocGlobal>(rt: &R, failure: &Failure<'_>, misuse
     };
     match setting_error(rt.alloc(), option, word) {
         Ok(error) => print_usage(rt, failure, error),
-        Err(_) => stopped(rt, failure, ToolFault::Memory),
+        Err(_) => failure.tell(rt, ToolFault::Memory),
     }
-}
-
-fn stopped<R: Runtime>(rt: &R, failure: &Failure<'_>, fault: ToolFault) -> u8
-    ensures { EndsAs (Err fault) result }
-{
-    finished(rt, failure, Err(fault))
 }
 
 fn misused<R: Runtime>(rt: &R, why: &str) -> u8
@@ -377,7 +349,7 @@ fn print_usage<R: Runtime>(rt: &R, failure: &Failure<'_>, error: Error) -> u8
     ensures { EndsUsage (kind_of error) result }
 {
     if error.kind() == ErrorKind::OutOfMemory {
-        return stopped(rt, failure, ToolFault::Memory);
+        return failure.tell(rt, ToolFault::Memory);
     }
     let printed = error.print(rt);
     if error.use_stderr() {
@@ -385,6 +357,6 @@ fn print_usage<R: Runtime>(rt: &R, failure: &Failure<'_>, error: Error) -> u8
     }
     match printed {
         Ok(()) => 0,
-        Err(why) => stopped(rt, failure, failure.write(STANDARD_OUTPUT, why)),
+        Err(why) => failure.tell(rt, failure.write(STANDARD_OUTPUT, why)),
     }
 }

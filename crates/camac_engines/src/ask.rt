@@ -1,0 +1,46 @@
+// What the engines are asked.
+
+ghost use Rattle.std.specs.Prelude.{◌≡◌};
+ghost use Rattle.camac_engines.specs.Ask.{of_plan};
+
+/// What is asked of a plan and a script.
+#[derive(Clone, Copy, Debug)]
+pub enum Ask {
+    /// The bounds of each service.
+    Check,
+    /// The same, and why a plan or a script is refused, with a line for each further refusal: of linking, or else of the checker, which judges each
+    /// procedure and service by itself.
+    Explain,
+    /// The headings of `Bounds`, and why a plan is refused, or a script whatever its headings say.
+    ExplainBounds,
+    /// What the checker knows before the statement at a place: a line for each variable, for each register that is set and for each locked
+    /// crate, or that the checker does not come there. Line and column are from 1, the column in bytes.
+    ExplainAt { line: u32, column: u32 },
+    /// The headings with the least numbers that are accepted. The script's own numbers there are not looked at.
+    Bounds,
+    /// What the bounds consist of: a line for each procedure and service, and one for each of its statements.
+    Costs,
+}
+
+/// What is asked of a plan alone.
+#[derive(Clone, Copy, Debug)]
+pub enum PlanAsk {
+    /// What it says.
+    Lines,
+    /// The same, and after the line of each type the lines of its commands.
+    Commands,
+    /// What it says, and why it is refused.
+    Explain,
+}
+
+impl Ask {
+    /// What is asked of a plan that is refused.
+    pub fn of_plan(self) -> PlanAsk
+        ensures { result ≡ of_plan self }
+    {
+        match self {
+            Ask::Explain | Ask::ExplainBounds => PlanAsk::Explain,
+            _ => PlanAsk::Lines,
+        }
+    }
+}
