@@ -9,7 +9,7 @@ typedef uint32_t of_text(const uint8_t *text, size_t text_size, uint8_t *out, si
 typedef uint32_t of_script(const uint8_t *plan, size_t plan_size, const uint8_t *script, size_t script_size, uint8_t *out, size_t room, size_t *size);
 
 of_text camac_raw_plan, camac_raw_explain_plan, camac_raw_events;
-of_script camac_raw_check, camac_raw_explain, camac_raw_bounds, camac_raw_costs;
+of_script camac_raw_check, camac_raw_explain, camac_raw_explain_bounds, camac_raw_bounds, camac_raw_costs;
 uint32_t camac_raw_version(void);
 uint32_t camac_raw_explain_at(const uint8_t *plan, size_t plan_size, const uint8_t *script, size_t script_size, uint32_t line, uint32_t column,
                               uint8_t *out, size_t room, size_t *size);
@@ -132,6 +132,10 @@ int camac_check(const void *plan, size_t plan_size, const void *script, size_t s
 
 int camac_explain(const void *plan, size_t plan_size, const void *script, size_t script_size, char *text, size_t room, size_t *size) {
     return call_of_script(camac_raw_explain, plan, plan_size, script, script_size, text, room, size);
+}
+
+int camac_explain_bounds(const void *plan, size_t plan_size, const void *script, size_t script_size, char *text, size_t room, size_t *size) {
+    return call_of_script(camac_raw_explain_bounds, plan, plan_size, script, script_size, text, room, size);
 }
 
 int camac_explain_at(const void *plan, size_t plan_size, const void *script, size_t script_size, uint32_t line, uint32_t column, char *text,

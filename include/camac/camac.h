@@ -167,12 +167,13 @@ uint32_t camac_version(void);
 /* What a code says, in English. */
 const char *camac_code_text(int code);
 
-/* What `camac plan`, `camac explain PLAN`, `check`, `explain`, `bounds` and `costs` print, of texts that are in memory. CAMAC_OK: accepted.
- * CAMAC_REFUSED: the text says why, that of an explanation at length. */
+/* What `camac plan`, `camac explain PLAN`, `check`, `explain`, `explain --bounds`, `bounds` and `costs` print, of texts that are in memory.
+ * CAMAC_OK: accepted. CAMAC_REFUSED: the text says why, that of an explanation at length. */
 CAMAC_CALL camac_plan(const void *plan, size_t plan_size, char *text, size_t room, size_t *size);
 CAMAC_CALL camac_explain_plan(const void *plan, size_t plan_size, char *text, size_t room, size_t *size);
 CAMAC_CALL camac_check(const void *plan, size_t plan_size, const void *script, size_t script_size, char *text, size_t room, size_t *size);
 CAMAC_CALL camac_explain(const void *plan, size_t plan_size, const void *script, size_t script_size, char *text, size_t room, size_t *size);
+CAMAC_CALL camac_explain_bounds(const void *plan, size_t plan_size, const void *script, size_t script_size, char *text, size_t room, size_t *size);
 CAMAC_CALL camac_bounds(const void *plan, size_t plan_size, const void *script, size_t script_size, char *text, size_t room, size_t *size);
 CAMAC_CALL camac_costs(const void *plan, size_t plan_size, const void *script, size_t script_size, char *text, size_t room, size_t *size);
 

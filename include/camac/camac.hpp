@@ -97,6 +97,11 @@ template <class Call> verdict judged(Call call) {
         return camac_explain(plan.data(), plan.size(), script.data(), script.size(), t, room, n);
     });
 }
+[[nodiscard]] inline verdict explain_bounds(std::string_view plan, std::string_view script) {
+    return detail::judged([&](char *t, std::size_t room, std::size_t *n) {
+        return camac_explain_bounds(plan.data(), plan.size(), script.data(), script.size(), t, room, n);
+    });
+}
 [[nodiscard]] inline verdict explain_at(std::string_view plan, std::string_view script, std::uint32_t line, std::uint32_t column) {
     return detail::judged([&](char *t, std::size_t room, std::size_t *n) {
         return camac_explain_at(plan.data(), plan.size(), script.data(), script.size(), line, column, t, room, n);

@@ -181,6 +181,11 @@ def explain(plan: Text, script: Text) -> Verdict:
     return _judged("explain", plan, script)
 
 
+def explain_bounds(plan: Text, script: Text) -> Verdict:
+    """What `camac explain --bounds` prints."""
+    return _judged("explain_bounds", plan, script)
+
+
 def explain_at(plan: Text, script: Text, line: int, column: int) -> Verdict:
     """What `camac explain --at LINE:COLUMN` prints: what the checker knows before the statement there. Both are from 1, the column in bytes. If no
     statement is there, it is not accepted. Raises UsageFault if one of them is not from 1 to 4,294,967,295."""

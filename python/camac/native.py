@@ -100,7 +100,7 @@ class Calls(NamedTuple):
 _TEXT, _BUFFER, _SESSION = [c_char_p, c_size_t], [c_char_p, c_size_t, POINTER(c_size_t)], POINTER(SessionStruct)
 _OF_TEXTS: Dict[str, List[Any]] = {
     **{name: [*_TEXT, *_BUFFER] for name in ("plan", "explain_plan", "events")},
-    **{name: [*_TEXT, *_TEXT, *_BUFFER] for name in ("check", "explain", "bounds", "costs")},
+    **{name: [*_TEXT, *_TEXT, *_BUFFER] for name in ("check", "explain", "explain_bounds", "bounds", "costs")},
     "explain_at": [*_TEXT, *_TEXT, c_uint32, c_uint32, *_BUFFER],
     "response": [*_TEXT, *_TEXT, *_TEXT, *_TEXT, *_BUFFER],
     "run": [*_TEXT, *_TEXT, *_TEXT, *_BUFFER, *_BUFFER],

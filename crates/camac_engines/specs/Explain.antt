@@ -5,6 +5,7 @@ use Rattle.camac_plan.specs.declared.fault.PlanRule.{PlanRule}
 use Rattle.camac_explain.specs.Explanation.{IsPlanExplanation, explanation_of}
 use Rattle.camac_explain.specs.declared.finding.Finding.{Finding}
 use Rattle.camac_engines.specs.Accepted.{Accepted}
+use Rattle.camac_engines.specs.Refusals.{all_refusals, also_text}
 use Rattle.camac_engines.specs.Report.{Report}
 use Rattle.camac_engines.specs.declared.judging.Judged.{Judged}
 use Rattle.camac_engines.specs.declared.judging.Judged.TheVariants as judged
@@ -15,13 +16,18 @@ use Rattle.camac_engines.specs.declared.outcome.Outcome.TheVariants.{Good, Refus
 abbrev pub Explained : List ℕ → Finding → List ℕ → Type 0
 Explained text f more = (of_text : Option (List ℕ)) × (more ≡ explanation_of text f of_text)
 
-abbrev pub ExplainedIf : List ℕ → Accepted → List ℕ → Type 0
-ExplainedIf text (Some (Err f)) more = Explained text f more
-ExplainedIf text _ more = ⊥
+-- and then a line for each further refusal
+abbrev pub AllExplained : Layout → List ℕ → Finding → List ℕ → Type 0
+AllExplained plan text f more = (lines : List ℕ) × Explained text f lines × (more ≡ lines ++ also_text (all_refusals plan text))
 
-abbrev pub ExplainedBy : List ℕ → Judged → List ℕ → Type 0
-ExplainedBy text (judged.Refused f) more = Explained text f more
-ExplainedBy text (judged.Accepted c) more = ⊥
+-- what explains a finding, where there is one
+abbrev pub ExplainedIf : (Explains : Finding → List ℕ → Type 0) → Accepted → List ℕ → Type 0
+ExplainedIf Explains (Some (Err f)) more = Explains f more
+ExplainedIf Explains _ more = ⊥
+
+abbrev pub ExplainedBy : (Explains : Finding → List ℕ → Type 0) → Judged → List ℕ → Type 0
+ExplainedBy Explains (judged.Refused f) more = Explains f more
+ExplainedBy Explains (judged.Accepted c) more = ⊥
 
 -- those that explain a plan's refusal
 abbrev pub PlanExplained : Result Layout PlanRule → List ℕ → Type 0

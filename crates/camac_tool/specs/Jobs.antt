@@ -88,6 +88,7 @@ CanEnd (job.ExplainPlan plan) = IsAnswered (CanAnswerPlan plan_ask.Explain plan.
 CanEnd (job.ExplainRule code) = CanExplainRule code.now
 CanEnd (job.Check plan script) = IsAnswered (CanAnswer ask.Check plan.now)
 CanEnd (job.Explain plan script) = IsAnswered (CanAnswer ask.Explain plan.now)
+CanEnd (job.ExplainBounds plan script) = IsAnswered (CanAnswer ask.ExplainBounds plan.now)
 CanEnd (job.ExplainAt line column plan script) = IsAnswered (CanAnswer (ask.ExplainAt line column) plan.now)
 CanEnd (job.Bounds plan script) = IsAnswered (CanAnswer ask.Bounds plan.now)
 CanEnd (job.Costs plan script) = IsAnswered (CanAnswer ask.Costs plan.now)

@@ -12,4 +12,4 @@ returns-in_err-write_verdict-in-Accepted-clause-tells g c =
 
 pub returns-in_ok-more-in-Refused-clause-tells : goal.returns-in_ok-more-in-Refused-clause-tells
 returns-in_ok-more-in-Refused-clause-tells g c =
-    rw c.in-Refused.is (refusal_explained c.args.text.now c.in_ok-more-in-Refused.more.items c.in-Refused.finding (g.W.Write.contents (inner_of c.args.out.now)) (g.W.Write.contents (inner_of c.refuse_and.new.out)) c.refuse_and.result c.in_ok-more-in-Refused.ensures (rw (c.refusal.ensures, c.deref.ensures.value) at c.refuse_and.ensures.shows))
+    rw c.in-Refused.is (refusal_explained (AllExplained c.args.plan.now c.args.text.now) c.push_also.new.lines.items c.in-Refused.finding (g.W.Write.contents (inner_of c.args.out.now)) (g.W.Write.contents (inner_of c.refuse_and.new.out)) c.refuse_and.result c.in_ok-more-in-Refused.ensures (rw (c.refusal.ensures, c.deref.ensures.value) at c.refuse_and.ensures.shows))
