@@ -377,6 +377,7 @@ impl<'a, const V: usize, const DEPTH: usize, const CAP: usize> Machine<'a, V, DE
     }
 
     // Goes on until an answer is wanted, or the service is over.
+    #[inline(always)]
     pub(crate) fn settle_at_once(&mut self, pending: &mut Option<Pending<'a>>)
         requires room { HasRoom self.old }
         requires quiet { self.old.unlocks.items ≡ [] }
@@ -394,7 +395,6 @@ impl<'a, const V: usize, const DEPTH: usize, const CAP: usize> Machine<'a, V, DE
 
     /// Begins the service of this number, and goes on until it wants an answer, or is over: then nothing is wanted. It pauses after more than `most`
     /// steps.
-    #[inline(always)]
     pub fn serve(&mut self, number: usize, pending: &mut Option<Pending<'a>>, most: u32)
         requires room { HasRoom self.old }
         requires quiet { self.old.unlocks.items ≡ [] }

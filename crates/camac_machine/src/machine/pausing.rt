@@ -1,6 +1,6 @@
 // Pauses: a service makes no more than so many steps at once.
 
-ghost use Rattle.std.specs.Prelude.{◌≡◌, [], None, Some};
+ghost use Rattle.std.specs.Prelude.{◌≡◌, [], List, None, Some};
 ghost use Rattle.camac_branch.specs.Branch.{Answer};
 ghost use Rattle.camac_model.specs.Behaviour.{ends};
 ghost use Rattle.camac_machine.specs.MachineState.{stands, IsFineHere, HasRoom, PausesAfter, Settles};
@@ -17,7 +17,6 @@ fn pause(pending: &mut Option<Pending<'_>>)
 
 impl<'a, const V: usize, const DEPTH: usize, const CAP: usize> Machine<'a, V, DEPTH, CAP> {
     // Goes on until an answer is wanted, or the service is over. It pauses after more than so many steps.
-    #[inline(always)]
     pub(crate) fn settle(&mut self, pending: &mut Option<Pending<'a>>, most: u32)
         requires room { HasRoom self.old }
         requires quiet { self.old.unlocks.items ≡ [] }
