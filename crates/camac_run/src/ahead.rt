@@ -74,6 +74,7 @@ fn forget_read(pending: &Pending, variables: &mut [Option<u32>])
         Pending::Read { variable, .. } => note(variables, *variable, None),
         Pending::Lock { .. } => {}
         Pending::Transfer(_) => {}
+        Pending::Pause => {}
     }
 }
 
