@@ -29,9 +29,9 @@ use Rattle.camac_machine.specs.declared.machine.Pending.{Pending}
 use Rattle.camac_machine.proofs.Fine.{fine_follow, some_is}
 use Rattle.camac_machine.proofs.Frames.{left_pushed}
 use Rattle.camac_machine.proofs.Takes.{cycle_goes, cycle_halts}
-use Rattle.camac_run.specs.Ahead.{Does, past_first, AreAhead, IsAhead, BeginningsAreAhead, AheadIsMade, operations, with_operation, Plays}
+use Rattle.camac_run.specs.Ahead.{Does, past_first, AreAhead, IsAhead, BeginningsAreAhead, AheadIsMade, operations, with_operation}
 use Rattle.camac_run.specs.Holds.{told_of, event_pieces}
-use Rattle.camac_run.specs.Operation.{Begins, StopsAt, Waits, Wants, crate_of, operation_of}
+use Rattle.camac_run.specs.Operation.{Begins, Waits, Wants, crate_of, operation_of}
 use Rattle.camac_run.specs.Runner.{RunnerState, rest, with_event, last_words_in, GoesOn}
 use Rattle.camac_run.specs.Sound.{runner_state}
 use Rattle.camac_run.specs.Sure.{Knows, KnowsVariables, KnowsRegisters, IsKnown, cycle_of, After, on, MakesCycle, NeedsNone, IsSure, LeadsTo, BlockLeadsTo, IsStep}

@@ -1,5 +1,5 @@
 -- What statements surely do.
-use Rattle.std.proofs.Common.{add-one, append-nil, append_assoc, ◌-◌, ◌≡◌, ◌∙◌, ℕ, suc, zero, ◌+◌, ◌<◌, ◌≤◌, List, [], ◌∷◌, ◌++◌, length, drop, take, map, set, get_or, Bool, true, Option, Some, None, inl, inr, refl, sym, ap, subst, arith}
+use Rattle.std.proofs.Common.{add-one, append-nil, append_assoc, ◌-◌, ◌≡◌, ◌∙◌, ℕ, suc, zero, ◌+◌, ◌<◌, ◌≤◌, List, [], ◌∷◌, ◌++◌, length, drop, take, map, set, get_or, true, Option, Some, None, inl, inr, refl, sym, ap, subst, arith}
 use Rattle.std.specs.Prelude.{is_some, IfSome, slice_get, slice_index_or}
 use Rattle.std.proofs.lemmas.Bool.{false≢true}
 use Rattle.std.specs.Borrow.{Bor}
@@ -16,21 +16,21 @@ use Rattle.camac_lang.specs.declared.word.CrateCall.{CrateCall}
 use Rattle.camac_lang.specs.declared.word.LamCall.{LamCall}
 use Rattle.camac_lang.specs.declared.word.WordSize.{WordSize}
 use Rattle.camac_lang.specs.declared.word.WordSize.TheVariants.{Full}
-use Rattle.camac_model.specs.Behaviour.{Behaviour, Action, ends, stops, wrong, given, unless_wrong}
-use Rattle.camac_model.specs.Cycle.{cycle, sized, kept}
+use Rattle.camac_model.specs.Behaviour.{Action, ends, given, unless_wrong}
+use Rattle.camac_model.specs.Cycle.{cycle, sized}
 use Rattle.camac_model.specs.Fine.{most_turns}
 use Rattle.camac_model.specs.Meaning.{Context, act, effect, fits_size}
 use Rattle.camac_model.specs.State.{State, Variables, Registers, set_at, with_variable, with_register, with_word}
 use Rattle.camac_model.specs.Value.{value}
 use Rattle.camac_machine.specs.MachineState.{open_of, owner_of}
-use Rattle.camac_machine.specs.Rest.{Operation, makes, reads, awaited, for_loop, Open}
+use Rattle.camac_machine.specs.Rest.{makes, reads, awaited, for_loop, Open}
 use Rattle.camac_machine.specs.declared.machine.Frame.{Frame}
 use Rattle.camac_machine.specs.declared.machine.Owner as rust_owner
 use Rattle.camac_machine.specs.declared.machine.Owner.TheVariants as rust
 use Rattle.camac_machine.specs.Store.{held_at, registers_in, variables_in}
 use Rattle.camac_machine.specs.declared.scope.Places.{Places}
 use Rattle.camac_machine.proofs.Lists.{split_last}
-use Rattle.camac_run.specs.Sure.{Knows, KnowsVariables, KnowsRegisters, IsKnown, HasValue, After, on, MakesCycle, PassesFrom, NeedsNone, IsSure, sure_of, IsStep, Extends, Adds}
+use Rattle.camac_run.specs.Sure.{KnowsVariables, KnowsRegisters, IsKnown, HasValue, on, MakesCycle, PassesFrom, NeedsNone, IsSure, sure_of, IsStep, Extends, Adds}
 use Rattle.camac_run.specs.declared.ahead.Sure.{Sure}
 use Rattle.camac_run.specs.declared.ahead.Sure.TheVariants as sure
 use Rattle.camac_run.specs.declared.progress.Wanted.{Wanted}

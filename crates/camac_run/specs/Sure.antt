@@ -1,5 +1,5 @@
 -- What a service in progress surely does, whatever is answered, by what is known before the answers.
-use Rattle.std.specs.Prelude.{◌≡◌, ◌⊎◌, ℕ, List, [], ◌∷◌, ◌++◌, Option, Some, None, slice_index_or}
+use Rattle.std.specs.Prelude.{◌≡◌, ◌⊎◌, ℕ, List, ◌∷◌, ◌++◌, Option, Some, None, slice_index_or}
 use Rattle.camac_branch.specs.Address.{Address}
 use Rattle.camac_branch.specs.Branch.{Answer}
 use Rattle.camac_branch.specs.declared.answer.Command.{Command}
@@ -13,7 +13,6 @@ use Rattle.camac_machine.specs.MachineState.{bounds_of, context_in, left_in, ope
 use Rattle.camac_machine.specs.Rest.{Operation, makes, reads, locks, transfers, pauses, awaited, Open, left_of}
 use Rattle.camac_machine.specs.declared.machine.Frame.{Frame}
 use Rattle.camac_machine.specs.declared.machine.Machine.{Machine}
-use Rattle.camac_machine.specs.declared.machine.Pending.{Pending}
 use Rattle.camac_run.specs.Ahead.{AreAhead}
 use Rattle.camac_run.specs.declared.ahead.Sure.{Sure}
 use Rattle.camac_run.specs.declared.ahead.Sure.TheVariants as sure

@@ -15,3 +15,6 @@ returns-in-Lock c = λ f g k a. let no = rw c.in-Lock.is at a in absurd no
 
 pub returns-in-Transfer : goal.returns-in-Transfer
 returns-in-Transfer c = λ f g k a. let no = rw c.in-Transfer.is at a in absurd no
+
+pub returns-in-Pause : goal.returns-in-Pause
+returns-in-Pause c = λ f g k a. let no = rw c.in-Pause.is at a in absurd no
