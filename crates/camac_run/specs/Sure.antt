@@ -9,9 +9,8 @@ use Rattle.camac_model.specs.Fine.{Bounds, IsFine, most_turns}
 use Rattle.camac_model.specs.Meaning.{Context, effect}
 use Rattle.camac_model.specs.State.{State, Registers, Variables, set_at}
 use Rattle.camac_model.specs.Value.{value}
-use Rattle.camac_machine.specs.MachineState.{bounds_of, context_in, left_in, open_of, pending_of, registers_here, variables_here}
+use Rattle.camac_machine.specs.MachineState.{bounds_of, context_in, left_in, registers_here, variables_here}
 use Rattle.camac_machine.specs.Rest.{Operation, makes, reads, locks, transfers, pauses, awaited, Open, left_of}
-use Rattle.camac_machine.specs.declared.machine.Frame.{Frame}
 use Rattle.camac_machine.specs.declared.machine.Machine.{Machine}
 use Rattle.camac_run.specs.Ahead.{AreAhead}
 use Rattle.camac_run.specs.declared.ahead.Sure.{Sure}
