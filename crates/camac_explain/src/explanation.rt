@@ -5,6 +5,7 @@ ghost use Rattle.camac_text.specs.Parser.{script_of};
 ghost use Rattle.camac_explain.specs.Advice.{told};
 ghost use Rattle.camac_explain.specs.Explanation.{IsPlanExplanation, advice_text, explanation_of, in_script, line_of, sentence_line, sentence_of, told_of};
 ghost use Rattle.camac_explain.specs.Sentence.{link_sentence_of, check_sentence_of};
+ghost use Rattle.camac_explain.specs.Source.{source_of};
 
 use crate::advice::{Advice, check_advice, link_advice, plan_advice, text_advice};
 use crate::finding::Finding;
