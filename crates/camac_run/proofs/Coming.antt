@@ -331,14 +331,14 @@ is_ahead h o os new w same a =
     record { ahead = subst (λ (l : List Wanted). AreAhead l (rest h)) (sym same) a; some = rw w.0 (λ awake. some'); none = rw w.0 tt }
 
 -- nothing, where no answer is wanted
-pub none_ahead : (h : RunnerState) → Wants h None → IsAhead h []
-none_ahead h w = record { ahead = tt; some = some h.overrun w; none = none h.overrun }
+pub none_ahead : (h : RunnerState) (os : List Wanted) → os ≡ [] → Wants h None → IsAhead h os
+none_ahead h os is w = record { ahead = subst (λ (l : List Wanted). AreAhead l (rest h)) (sym is) tt; some = some h.overrun w; none = none h.overrun }
   where
-    some : (o : Option Overrun) → IsSome o ⊎ (is_paused h.pending ≡ true) → IfNone o (is_paused h.pending ≡ false → 1 ≤ 0)
-    some None (inl is) = absurd is
+    some : (o : Option Overrun) → IsSome o ⊎ (is_paused h.pending ≡ true) → IfNone o (is_paused h.pending ≡ false → 1 ≤ length os)
+    some None (inl over) = absurd over
     some None (inr paused) = λ awake. absurd (false≢true (sym awake ∙ paused))
-    some (Some o) is = tt
+    some (Some o) over = tt
 
-    none : (o : Option Overrun) → IfSome o (λ p. ([] : List Wanted) ≡ [])
+    none : (o : Option Overrun) → IfSome o (λ p. os ≡ [])
     none None = tt
-    none (Some o) = refl
+    none (Some o) = is
