@@ -26,7 +26,7 @@ follows Explains plan (judged.Refused f) a is more h = subst (λ (b : Accepted).
 same_more : (F G : List ℕ → Type 0) → ((more : List ℕ) → F more → G more) → (told : Report) (outcome : Outcome) (whole : List ℕ) → ReportsMore F told outcome whole → ReportsMore G told outcome whole
 same_more F G k None outcome whole h = absurd h
 same_more F G k (Some (Good, text)) outcome whole h = h
-same_more F G k (Some (Refused, text)) outcome whole h = (h.0, (h.1, k h.1 h.2, h.3))
+same_more F G k (Some (Refused, text)) outcome whole (same, (more, told, is)) = (same, (more, k more told, is))
 
 -- what was found, as it is told, and the text
 pub explained : (Explains : Finding → List ℕ → Type 0) (plan : Layout) (j : Judged) (a : Accepted) (told shown : Report) (o p : Option (List ℕ)) (r : Result Outcome ToolFault)
