@@ -30,7 +30,7 @@ module _ (old new : List ℕ) (size : ℕ) {o o' : Option (List ℕ)} {code : �
   module _ {T : Type 0} (WasRead : T → Type 0) (Says : T → Outcome → List ℕ → Type 0) (IsTooLong : Type 0) (Told : Outcome → List ℕ → Type 0) (IsLong : Type 0)
       (known : (found : T) → WasRead found → (outcome : Outcome) (text : List ℕ) → Says found outcome text → Told outcome text) (long : IsTooLong → IsLong) where
     answers : (q : Result Outcome ToolFault) → EngineAnswers WasRead Says IsTooLong (Some []) (Some items) q → GoesOut q items old new size → Answers Told IsLong (engine_code q) old new size
-    answers (Ok outcome) h g = inl (outcome, items, known h.0 h.1 outcome items (subst (λ (text : List ℕ). Says h.0 outcome text) (sym h.4) h.3), refl, g)
+    answers (Ok outcome) h g = inl (outcome, items, known h.0 h.1 outcome items (subst (λ (text : List ℕ). Says h.0 outcome text) (sym h.2.2) h.2.1), refl, g)
     answers (Err fault.Write) h g = inr (inl (refl, g))
     answers (Err fault.Read) h g = inr (inl (refl, g))
     answers (Err fault.Memory) h g = inr (inl (refl, g))

@@ -27,13 +27,13 @@ module _ {R : Type 0} (left : R → Option (List ℕ)) (src src' : PlanSource R)
         (subst (λ (x : Option (List ℕ)). Responds settings left src src' a t o x r) after h))
 
     is_told : (outcome : Outcome) → Responds settings left src src' (Some s) t (Some []) (Some items) (Ok (Told outcome)) → IsTold p s every within outcome items
-    is_told outcome h = record { settings = settings; read = read; verdict = h.0; found = found left src src' p s is t h.0 h.1; says = subst (λ (text : List ℕ). TellsResponse settings h.0 outcome text) (sym h.4) h.3 }
+    is_told outcome h = record { settings = settings; read = read; verdict = h.0; found = found left src src' p s is t h.0 h.1; says = subst (λ (text : List ℕ). TellsResponse settings h.0 outcome text) (sym h.2.2) h.2.1 }
 
     pub response_told : (outcome : Outcome) → Responds settings left src src' a t o o' (Ok (Told outcome)) → IsTold p s every within outcome items
     response_told outcome h = is_told outcome (moved (Ok (Told outcome)) h)
 
     are_misused : (misuse : Misuse) → Responds settings left src src' (Some s) t (Some []) (Some items) (Ok (Misused misuse)) → AreMisused p s every within
-    are_misused misuse h = (misuse, inr (record { settings = settings; read = read; verdict = h.0; found = found left src src' p s is t h.0 h.1; unknown = h.2 }))
+    are_misused misuse h = (misuse, inr (record { settings = settings; read = read; verdict = h.0; found = found left src src' p s is t h.0 h.1; unknown = h.2.0 }))
 
     pub response_misused : (misuse : Misuse) → Responds settings left src src' a t o o' (Ok (Misused misuse)) → AreMisused p s every within
     response_misused misuse h = are_misused misuse (moved (Ok (Misused misuse)) h)

@@ -1,6 +1,5 @@
 -- How the engine of a job can end. What a file or a standard stream has is in no clause, so this is: for some inputs.
-use Rattle.std.specs.Prelude.{◌≡◌, ◌⊎◌, ℕ, Bool, true, List, map, codes, Option, Some, None, Result, Ok, Err}
-use Rattle.std.specs.Str.{bytes_eq}
+use Rattle.std.specs.Prelude.{◌⊎◌, ℕ, Bool, List, map, Option, Some, None, Result, Ok, Err}
 use Rattle.clap.specs.Words.{Text}
 use Rattle.camac_branch.specs.Plan.{Layout}
 use Rattle.camac_event.specs.Reading.{file_at}
@@ -18,7 +17,6 @@ use Rattle.camac_engines.specs.Found.{Found, IsJudged}
 use Rattle.camac_engines.specs.Report.{Reports, report_events}
 use Rattle.camac_engines.specs.Response.{NamesNone, TellsResponse}
 use Rattle.camac_engines.specs.Rule.{TellsRule}
-use Rattle.camac_engines.specs.Sample.{sample}
 use Rattle.camac_engines.specs.declared.ask.Ask.{Ask}
 use Rattle.camac_engines.specs.declared.ask.Ask.TheVariants as ask
 use Rattle.camac_engines.specs.declared.ask.PlanAsk.{PlanAsk}
@@ -32,32 +30,23 @@ use Rattle.camac_tool.specs.Run.{RunsJudged}
 use Rattle.camac_tool.specs.declared.program.Done.{Done}
 use Rattle.camac_tool.specs.declared.program.Done.TheVariants.{Answered, Misused, NoCode}
 
--- where the word of a plan is `@sample`, it is the sample plan
-abbrev pub IsPlanOf : (word : Text) → Result Layout PlanRule → Type 0
-IsPlanOf word says = bytes_eq word (codes "@sample") ≡ true → says ≡ Ok sample
-
-abbrev pub plan_in : Found → Result Layout PlanRule
-plan_in (Ok found) = Ok found.0
-plan_in (Err rule) = Err rule
-
 -- an engine that reads a plan, one that reads a plan and a script, and one that reads an event file
-abbrev pub CanAnswerPlan : PlanAsk → (plan : Text) → Outcome → Type 0
-CanAnswerPlan a plan outcome = (says : Result Layout PlanRule) × IsPlanOf plan says × ((text : List ℕ) × TellsPlan a says outcome text)
+abbrev pub CanAnswerPlan : PlanAsk → Outcome → Type 0
+CanAnswerPlan a outcome = (says : Result Layout PlanRule) × (text : List ℕ) × TellsPlan a says outcome text
 
-abbrev pub CanAnswer : Ask → (plan : Text) → Outcome → Type 0
-CanAnswer a plan outcome = (found : Found) × IsPlanOf plan (plan_in found) × ((text : List ℕ) × TellsFound a found outcome text)
+abbrev pub CanAnswer : Ask → Outcome → Type 0
+CanAnswer a outcome = (found : Found) × (text : List ℕ) × TellsFound a found outcome text
 
 abbrev pub CanListEvents : Outcome → Type 0
 CanListEvents outcome = (bytes text : List ℕ) × Reports (report_events (file_at bytes)) outcome text
 
 -- this was found of a plan and a script
-abbrev pub CanBeFound : (plan : Text) → Judged → Type 0
-CanBeFound plan j = (found : Found) × IsPlanOf plan (plan_in found) × IsJudged found j
+abbrev pub CanBeFound : Judged → Type 0
+CanBeFound j = (found : Found) × IsJudged found j
 
 -- a run of it, on some answers
-abbrev pub CanRun : Telling → (plan : Text) → Outcome → Type 0
-CanRun telling plan outcome =
-    (j : Judged) × CanBeFound plan j × ((gathers : Bool) × (u v : Option (List ℕ)) × (a b : Outputs) × RunsJudged gathers telling j u v a b (Ok outcome))
+abbrev pub CanRun : Telling → Outcome → Type 0
+CanRun telling outcome = (j : Judged) × CanBeFound j × ((gathers : Bool) × (u v : Option (List ℕ)) × (a b : Outputs) × RunsJudged gathers telling j u v a b (Ok outcome))
 
 -- an engine answered, unless a fault came first
 abbrev pub IsAnswered : (Outcome → Type 0) → Result Done ToolFault → Type 0
@@ -66,13 +55,13 @@ IsAnswered Can (Ok _) = ⊥
 IsAnswered Can (Err fault) = Unit {0}
 
 -- with what was found at the settings of the words, or words were wrong
-abbrev pub CanRespond : (plan : Text) → (every within : List Text) → Result Done ToolFault → Type 0
-CanRespond plan every within (Ok (Answered outcome)) =
-    (s : Settings) × ReadsSettings every within (Ok s) × ((j : Judged) × CanBeFound plan j × ((text : List ℕ) × TellsResponse s j outcome text))
-CanRespond plan every within (Ok (Misused misuse)) =
-    ReadsSettings every within (Err misuse) ⊎ ((s : Settings) × ReadsSettings every within (Ok s) × ((j : Judged) × CanBeFound plan j × NamesNone s j misuse))
-CanRespond plan every within (Ok (NoCode code)) = ⊥
-CanRespond plan every within (Err fault) = Unit {0}
+abbrev pub CanRespond : (every within : List Text) → Result Done ToolFault → Type 0
+CanRespond every within (Ok (Answered outcome)) =
+    (s : Settings) × ReadsSettings every within (Ok s) × ((j : Judged) × CanBeFound j × ((text : List ℕ) × TellsResponse s j outcome text))
+CanRespond every within (Ok (Misused misuse)) =
+    ReadsSettings every within (Err misuse) ⊎ ((s : Settings) × ReadsSettings every within (Ok s) × ((j : Judged) × CanBeFound j × NamesNone s j misuse))
+CanRespond every within (Ok (NoCode code)) = ⊥
+CanRespond every within (Err fault) = Unit {0}
 
 -- of a rule by its code, and of a word that is none
 abbrev pub CanExplainRule : Text → Result Done ToolFault → Type 0
@@ -82,17 +71,17 @@ CanExplainRule code (Ok (NoCode word)) = IsRuleOf code None
 CanExplainRule code (Err fault) = (rule : Rule) × IsRuleOf code (Some rule)
 
 abbrev pub CanEnd : Job → Result Done ToolFault → Type 0
-CanEnd (job.Plan plan) = IsAnswered (CanAnswerPlan plan_ask.Lines plan.now)
-CanEnd (job.Commands plan) = IsAnswered (CanAnswerPlan plan_ask.Commands plan.now)
-CanEnd (job.ExplainPlan plan) = IsAnswered (CanAnswerPlan plan_ask.Explain plan.now)
+CanEnd (job.Plan plan) = IsAnswered (CanAnswerPlan plan_ask.Lines)
+CanEnd (job.Commands plan) = IsAnswered (CanAnswerPlan plan_ask.Commands)
+CanEnd (job.ExplainPlan plan) = IsAnswered (CanAnswerPlan plan_ask.Explain)
 CanEnd (job.ExplainRule code) = CanExplainRule code.now
-CanEnd (job.Check plan script) = IsAnswered (CanAnswer ask.Check plan.now)
-CanEnd (job.Explain plan script) = IsAnswered (CanAnswer ask.Explain plan.now)
-CanEnd (job.ExplainBounds plan script) = IsAnswered (CanAnswer ask.ExplainBounds plan.now)
-CanEnd (job.ExplainAt line column plan script) = IsAnswered (CanAnswer (ask.ExplainAt line column) plan.now)
-CanEnd (job.Bounds plan script) = IsAnswered (CanAnswer ask.Bounds plan.now)
-CanEnd (job.Costs plan script) = IsAnswered (CanAnswer ask.Costs plan.now)
-CanEnd (job.Response plan script every within) = CanRespond plan.now (map (λ w. w.now) every.items) (map (λ w. w.now) within.items)
+CanEnd (job.Check plan script) = IsAnswered (CanAnswer ask.Check)
+CanEnd (job.Explain plan script) = IsAnswered (CanAnswer ask.Explain)
+CanEnd (job.ExplainBounds plan script) = IsAnswered (CanAnswer ask.ExplainBounds)
+CanEnd (job.ExplainAt line column plan script) = IsAnswered (CanAnswer (ask.ExplainAt line column))
+CanEnd (job.Bounds plan script) = IsAnswered (CanAnswer ask.Bounds)
+CanEnd (job.Costs plan script) = IsAnswered (CanAnswer ask.Costs)
+CanEnd (job.Response plan script every within) = CanRespond (map (λ w. w.now) every.items) (map (λ w. w.now) within.items)
 CanEnd (job.Events file) = IsAnswered CanListEvents
-CanEnd (job.Run plan script answers events) = IsAnswered (CanRun Listing plan.now)
-CanEnd (job.Drive plan script events) = IsAnswered (CanRun Requests plan.now)
+CanEnd (job.Run plan script answers events) = IsAnswered (CanRun Listing)
+CanEnd (job.Drive plan script events) = IsAnswered (CanRun Requests)

@@ -123,7 +123,7 @@ fn ask_plan<'a, R: Runtime + AllocGlobal>(
     ask: PlanAsk,
     plan: &'a str,
 ) -> Result<Done<'a>, ToolFault>
-    ensures { IsAnswered (CanAnswerPlan ask plan.now) result }
+    ensures { IsAnswered (CanAnswerPlan ask) result }
 {
     let mut plan = source_of(plan_input(rt, failure, plan)?);
     let mut out = Watched::new(Gathered::new(rt.alloc(), output(rt, failure))?);
@@ -138,7 +138,7 @@ fn ask<'a, R: Runtime + AllocGlobal>(
     plan: &'a str,
     script: &'a str,
 ) -> Result<Done<'a>, ToolFault>
-    ensures { IsAnswered (CanAnswer ask plan.now) result }
+    ensures { IsAnswered (CanAnswer ask) result }
 {
     let mut plan = source_of(plan_input(rt, failure, plan)?);
     let mut script = Watched::new(open(rt, failure, script)?);
@@ -156,7 +156,7 @@ fn respond<'a, R: Runtime + AllocGlobal>(
     every: &[&'a str],
     within: &[&'a str],
 ) -> Result<Done<'a>, ToolFault>
-    ensures { CanRespond plan.now (map (λ w. w.now) every.now) (map (λ w. w.now) within.now) result }
+    ensures { CanRespond (map (λ w. w.now) every.now) (map (λ w. w.now) within.now) result }
 {
     let settings = match read_settings(rt.alloc(), every, within)? {
         Ok(settings) => settings,
@@ -208,7 +208,7 @@ fn run<'a, R: Runtime + AllocGlobal>(
     answers: &'a str,
     events: &'a str,
 ) -> Result<Done<'a>, ToolFault>
-    ensures { IsAnswered (CanRun Listing plan.now) result }
+    ensures { IsAnswered (CanRun Listing) result }
 {
     let plan = plan_input(rt, failure, plan)?;
     let script = open(rt, failure, script)?;
@@ -236,7 +236,7 @@ fn drive<'a, R: Runtime + AllocGlobal>(
     script: &'a str,
     events: &'a str,
 ) -> Result<Done<'a>, ToolFault>
-    ensures { IsAnswered (CanRun Requests plan.now) result }
+    ensures { IsAnswered (CanRun Requests) result }
 {
     let plan = plan_input(rt, failure, plan)?;
     let script = open(rt, failure, script)?;
