@@ -1,5 +1,5 @@
 -- What was found of two readers, as what is found of their texts.
-use Rattle.std.proofs.Common.{◌≡◌, ℕ, List, sym, ap, ◌∙◌, subst, inl, inr}
+use Rattle.std.proofs.Common.{◌≡◌, ℕ, List, ap, ◌∙◌, subst, inl, inr}
 use Rattle.std.specs.Prelude.{Option, Some, Result, Ok, Err}
 use Rattle.camac_branch.specs.Plan.{Layout}
 use Rattle.camac_plan.specs.Reading.{reading}

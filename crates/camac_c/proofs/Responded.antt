@@ -1,5 +1,5 @@
 -- What the engine of a response says of readers and writers, as what the call on texts says.
-use Rattle.std.proofs.Common.{◌≡◌, ℕ, List, [], sym, subst, inl, inr}
+use Rattle.std.proofs.Common.{◌≡◌, ℕ, List, [], sym, subst, inr}
 use Rattle.std.specs.Prelude.{Option, Some, None, Result, Ok, Err}
 use Rattle.std.specs.Global.{Vec}
 use Rattle.camac_response_times.specs.Setting.{ReadsSettings}
@@ -13,7 +13,7 @@ use Rattle.camac_engines.specs.declared.plan.PlanSource.{PlanSource}
 use Rattle.camac_engines.specs.declared.response.Responded.{Responded}
 use Rattle.camac_engines.specs.declared.response.Responded.TheVariants.{Told, Misused}
 use Rattle.camac_c.specs.Response.{AreMisused, AreWordsOf, IsTold, RespondsTo, RespondsToTexts}
-use Rattle.camac_c.proofs.Found.{found, too_long}
+use Rattle.camac_c.proofs.Found.{found}
 use Rattle.camac_c.proofs.Read.{IsText}
 
 module _ {R : Type 0} (left : R → Option (List ℕ)) (src src' : PlanSource R) (p s : List ℕ) (is : IsText left src p) (t : Option (List ℕ)) (every within : List (List ℕ)) (settings : Settings)
