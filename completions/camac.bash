@@ -40,7 +40,7 @@ _camac() {
     ;;
   [1-6]:explain)
     case $word:${words[-2]} in
-    -*) offered='--at --help -h' ;;
+    -*) offered='--at --bounds --help -h' ;;
     *:--at) ;;
     *) _camac_file "${words[1]}:$place" "$word" && return ;;
     esac

@@ -9,7 +9,7 @@ typedef uint32_t of_text(const uint8_t *text, size_t text_size, uint8_t *out, si
 typedef uint32_t of_script(const uint8_t *plan, size_t plan_size, const uint8_t *script, size_t script_size, uint8_t *out, size_t room, size_t *size);
 
 of_text camac_raw_plan, camac_raw_explain_plan, camac_raw_events;
-of_script camac_raw_check, camac_raw_explain, camac_raw_bounds, camac_raw_costs;
+of_script camac_raw_check, camac_raw_explain, camac_raw_explain_bounds, camac_raw_bounds, camac_raw_costs;
 uint32_t camac_raw_version(void);
 uint32_t camac_raw_explain_at(const uint8_t *plan, size_t plan_size, const uint8_t *script, size_t script_size, uint32_t line, uint32_t column,
                               uint8_t *out, size_t room, size_t *size);
@@ -20,6 +20,7 @@ uint32_t camac_raw_run(const uint8_t *plan, size_t plan_size, const uint8_t *scr
 uint32_t camac_raw_open(void *run, const uint8_t *plan, size_t plan_size, const uint8_t *script, size_t script_size, uint8_t *out, size_t room,
                         size_t *size);
 uint32_t camac_raw_wants(void *run, void *want);
+size_t camac_raw_ahead(void *run, uint8_t *bytes, size_t room);
 uint32_t camac_raw_next(void *run, const void *answer, void *progress);
 uint32_t camac_raw_step(void *run, const void *answer, void *progress, void *want);
 size_t camac_raw_words(void *run, uint8_t *bytes, size_t room);
@@ -32,6 +33,8 @@ uint32_t camac_raw_service_name(void *run, uint32_t number, uint8_t *text, size_
 uint32_t camac_raw_service_numbers(void *run, uint32_t number, uint8_t *bytes, size_t room, size_t *size);
 uint32_t camac_raw_where(void *run, uint8_t *bytes, size_t room, size_t *size);
 uint32_t camac_raw_abandon(void *run, uint8_t *bytes, size_t room, size_t *size);
+uint32_t camac_raw_limit_steps(void *run, uint32_t most);
+uint32_t camac_raw_go_on(void *run, void *progress);
 uint32_t camac_raw_rewind(void *run);
 void camac_raw_file_header(uint8_t *bytes, size_t room, size_t *size);
 void camac_raw_close(void *run);
@@ -82,6 +85,7 @@ const char *camac_code_text(int code) {
     case CAMAC_RANGE: return "a number out of its range";
     case CAMAC_SPENT: return "all answers are spent";
     case CAMAC_LONG: return "a text too long";
+    case CAMAC_BUSY: return "the run pauses";
     default: return "no code of camac";
     }
 }
@@ -128,6 +132,10 @@ int camac_check(const void *plan, size_t plan_size, const void *script, size_t s
 
 int camac_explain(const void *plan, size_t plan_size, const void *script, size_t script_size, char *text, size_t room, size_t *size) {
     return call_of_script(camac_raw_explain, plan, plan_size, script, script_size, text, room, size);
+}
+
+int camac_explain_bounds(const void *plan, size_t plan_size, const void *script, size_t script_size, char *text, size_t room, size_t *size) {
+    return call_of_script(camac_raw_explain_bounds, plan, plan_size, script, script_size, text, room, size);
 }
 
 int camac_explain_at(const void *plan, size_t plan_size, const void *script, size_t script_size, uint32_t line, uint32_t column, char *text,
@@ -186,11 +194,50 @@ int camac_wants(const camac_session *s, camac_want *want) {
     return (int)camac_raw_wants(run_of(s), &want->kind);
 }
 
+/* The struct behind this one in a list, which gets the same size. */
+#define NEXT(its, bytes) ((its) = (void *)((char *)(its) + (bytes)), (its)->size = (bytes))
+
+size_t camac_ahead(const camac_session *s, camac_want *want, size_t room) {
+    uint32_t numbers[7 * CAMAC_AHEAD];
+    if (!is_session(s) || !room || !IS_KNOWN(want)) return 0;
+    const uint32_t size = want->size;
+    const size_t all = camac_raw_ahead(run_of(s), (uint8_t *)numbers, sizeof numbers) / 7, count = all < room ? all : room;
+    for (size_t i = 0; i < count; i++) {
+        const uint32_t *const its = numbers + 7 * i;
+        if (i) NEXT(want, size);
+        CLEAR(want);
+        want->kind = (uint8_t)its[0];
+        want->c = (uint8_t)its[1];
+        want->n = (uint8_t)its[2];
+        want->a = (uint8_t)its[3];
+        want->f = (uint8_t)its[4];
+        want->data = (uint8_t)its[5];
+        want->word = its[6];
+    }
+    return count;
+}
+
 int camac_next(camac_session *s, const camac_answer *answer, camac_progress *progress) {
     if (!IS_KNOWN(progress)) return CAMAC_MISUSE;
     if (!is_session(s) || !IS_KNOWN(answer) || !is_known(answer)) return CLEAR(progress), CAMAC_MISUSE;
     CLEAR_SPARE(progress);
     return (int)camac_raw_next(run_of(s), &answer->word, &progress->kind);
+}
+
+int camac_next_many(camac_session *s, const camac_answer *answer, camac_progress *progress, size_t count, size_t *taken) {
+    size_t unasked;
+    taken = told(taken, &unasked);
+    if (count ? !IS_KNOWN(progress) : !is_session(s)) return CAMAC_MISUSE;
+    const uint32_t size = count ? progress->size : 0;
+    int code = CAMAC_OK;
+    for (size_t i = 0; i < count; i++) {
+        if (i) NEXT(progress, size), answer = (const void *)((const char *)answer + answer->size);
+        code = camac_next(s, answer, progress);
+        if (code != CAMAC_OK) break;
+        ++*taken;
+        if (progress->event) break;
+    }
+    return code;
 }
 
 int camac_step(camac_session *s, const camac_answer *answer, camac_progress *progress, camac_want *want) {
@@ -265,6 +312,17 @@ int camac_abandon(camac_session *s, uint32_t *unlocked, size_t room, size_t *cou
     if (!unlocked) unlocked = nowhere;
     if (room > CAMAC_CRATES) room = CAMAC_CRATES;
     return (int)camac_raw_abandon(run_of(s), (uint8_t *)unlocked, room * sizeof *unlocked, count);
+}
+
+int camac_limit_steps(camac_session *s, uint32_t most) {
+    return is_session(s) ? (int)camac_raw_limit_steps(run_of(s), most) : CAMAC_MISUSE;
+}
+
+int camac_go_on(camac_session *s, camac_progress *progress) {
+    if (!IS_KNOWN(progress)) return CAMAC_MISUSE;
+    if (!is_session(s)) return CLEAR(progress), CAMAC_MISUSE;
+    CLEAR_SPARE(progress);
+    return (int)camac_raw_go_on(run_of(s), &progress->kind);
 }
 
 int camac_rewind(camac_session *s) { return is_session(s) ? (int)camac_raw_rewind(run_of(s)) : CAMAC_MISUSE; }

@@ -35,23 +35,6 @@ def beside(statement):
     return f"var count k\nproc p(n in 0..5, i in 0..5) within 9 cycles event 99 words steps 99 {{\n  {statement}\n}}\n"
 
 
-# A plan with a second station that calls.
-TWO_STATIONS = """[[type]]
-name = "ADC"
-commands = [ { f = 0, a = 0, to = 11, width = 12 } ]
-[[crate]]
-number = 1
-[[crate.station]]
-n = 5
-type = "ADC"
-gl = 3
-[[crate.station]]
-n = 6
-type = "ADC"
-gl = 4
-"""
-
-
 def deep(statement):
     """A statement in fourteen loops of 65535 turns each."""
     names = [f"n{i}" for i in range(14)]
@@ -371,15 +354,6 @@ class Explain(Room):
                 self.assertTrue(first.startswith(f"refused {mistake.refused}: "), first)
                 for said in mistake.said:
                     self.assertTrue(any(said in line.encode("latin-1").decode() for line in lines), f"{said!r} is not in {lines}")
-
-    def test_second_service(self):
-        """The register that is named is one of the service that is refused."""
-        (self.room / "plan.toml").write_text(TWO_STATIONS)
-        lines = ["cdlam a 1 1 5 0", "cdlam b 1 1 6 0", "var v", "service a within 9 cycles event 9 words {", "  cdreg first 1 1 5 0", "}"]
-        lines += ["service b within 9 cycles event 9 words {", "  if q { cdreg second 1 1 6 0 }", "  cfsa 0 second -> v", "}"]
-        status, text = self.call("explain", "plan.toml", "@in", given="\n".join(lines) + "\n")
-        self.assertEqual(text.splitlines()[:3], ["refused E6 line 9: register may be unset", "    9 |   cfsa 0 second -> v", "The register `second` may be unset here."])
-        self.assertEqual(status, 1)
 
     def test_misspelt_statements(self):
         """Each word that begins a statement is meant by one with a `_` at its end."""

@@ -246,14 +246,17 @@ class Calls(Case):
         self.assertGreater(sum(events for events, _ in counts), LISTS)
 
     def test_a_consumer_writes_what_the_program_writes(self):
-        """Its listing and its event file of random scripts are those of `camac run`, byte for byte."""
+        """Its listing and its event file of random scripts are those of `camac run`, byte for byte, and the same answers in lists do the same."""
         pool = concurrent.futures.ProcessPoolExecutor()
         made = filter(None, pool.map(accepted_script, range(10 * SCRIPTS), chunksize=20))
         for k, (plan, script) in zip(range(SCRIPTS), made):
             (self.room / f"{k}.plan").write_bytes(plan)
             (self.room / f"{k}.script").write_bytes(script)
         pool.shutdown(cancel_futures=True)
-        self.assertEqual(call(self.program("consumer"), self.room, SCRIPTS), (0, ""))
+        status, counts = call(self.program("consumer"), self.room, SCRIPTS)
+        self.assertEqual(status, 0, counts)
+        lists, answers = map(int, counts.split())
+        self.assertGreater(answers - lists, SCRIPTS)
 
         def ran(k):
             words = [self.room / f"{k}.{kind}" for kind in ("plan", "script", "answers", "its_events")]
@@ -265,7 +268,7 @@ class Calls(Case):
         for k, (status, listing, events) in enumerate(told):
             self.assertEqual((status, listing, events), (int(b"overrun" in listing), self.file(f"{k}.listing"), self.file(f"{k}.events")), k)
         ends = collections.Counter(listing.split()[-6 if status else -3] for status, listing, _ in told)
-        print(f"\n{sum(listing.count(10) for _, listing, _ in told)} lines, ends {dict(ends)}", flush=True)
+        print(f"\n{sum(listing.count(10) for _, listing, _ in told)} lines, ends {dict(ends)}, {answers} answers in {lists} lists", flush=True)
 
     def test_codes_sessions_and_threads(self):
         for static in (False, True):
@@ -279,6 +282,11 @@ class Calls(Case):
         program = of_c.compiled(self.room, "response", HERE / "response.cpp")
         told = ONE_SERVICE.format("once", "") + ONE_SERVICE.format("every 200", "of 3 ")
         self.assertEqual(call(program, SAMPLE, EXAMPLES / "straight_line.script"), (library.MISUSE, told))
+
+    def test_lists_in_cpp(self):
+        program = of_c.compiled(self.room, "lists_in_cpp", HERE / "lists.cpp")
+        told = "".join(f"1 12\nevent {number} words 12\n" for number in (1, 2)) + "1 12\noverrun 1 wait 15\n"
+        self.assertEqual(call(program, SAMPLE, EXAMPLES / "all_channels.script"), (0, told))
 
     def test_a_run_in_cpp(self):
         """It is played once, and twice if it prints much more than its answers let expect."""
@@ -328,6 +336,16 @@ class Examples(Case):
             self.assertEqual((status, told), (1, "refused E12 line 4: more cycles than annotated\n"))
             status, told = call(program, self.room, self.room)
             self.assertEqual((status, "accepted" in told), (3, False), told)
+
+
+    def test_lists(self):
+        program = of_c.compiled(self.room, "lists", EXAMPLES / "c/lists.c")
+        status, told = call(program, SAMPLE, EXAMPLES / "all_channels.script")
+        self.assertEqual(status, 0, told)
+        print(f"\n{told}", end="", flush=True)
+        one, lists = ([int(it) for it in re.findall(r"\d+", line)] for line in told.splitlines())
+        self.assertEqual((one[:2], lists[:2]), ([6500, 6500], [6500, 1000]))
+        self.assertGreater(lists[2], 3 * one[2])
 
 
 class Python(Case):
@@ -562,6 +580,24 @@ class Python(Case):
             self.assertEqual(str(found.exception), "the session is closed")
         self.assertEqual((session.services(), session.held(), session.answers_left()), ([], (), 0))
         session.close()
+
+    def test_lists(self):
+        """What is ahead goes over the turns of a `for` and ends before an `if`; its answers are taken up to an event."""
+        script = (EXAMPLES / "all_channels.script").read_bytes()
+        with library.Session(self.sample(), script) as session:
+            self.assertEqual([it.kind for it in session.ahead()], [library.DEMAND])
+            session.next(DEMAND)
+            self.assertEqual([(it.c, it.n, it.a, it.f, it.data) for it in session.ahead()], [(1, 5, a, 0, library.READ) for a in range(12)])
+            self.assertEqual((len(session.ahead(5)), session.ahead(0)), (5, []))
+            did = session.next_many([Answer(1, 1, a) for a in range(12)] + [DEMAND])
+            self.assertEqual(([it.word for it in did], did[-1].event, session.words()), (list(range(12)), 1, tuple(range(12))))
+            session.next(DEMAND)
+            did = session.next_many([CYCLE, Answer(wait=15), CYCLE])
+            self.assertEqual(([it.kind for it in did], session.ahead()), ([library.CYCLE, library.STOPPED], []))
+            self.assertEqual([it.kind for it in session.next_many([CYCLE])], [library.STOPPED])
+        self.assertEqual(session.ahead(), [])
+        with self.assertRaises(UsageFault):
+            session.next_many([CYCLE])
 
     def test_what_a_session_tells(self):
         """Services, the last answer and what is held, on the answers of a service with a lock."""

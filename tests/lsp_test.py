@@ -301,6 +301,7 @@ class Shown(Served):
             ("var \u00e4\n", [(0, 4, 5, "S1")]),
             ("", []),
             ("cdlam adc 1 1 4 12 # x\n", [(0, 0, 18, "L1")]),
+            ("cdlam a 1 1 4 12\n\n  cdlam b 1 1 3 12 var v\n", [(0, 0, 16, "L1"), (2, 2, 18, "L1")]),
         ]:
             with self.subTest(text=text):
                 self.assertEqual(self.shown(self.open(text)), wanted)

@@ -14,7 +14,7 @@ from support.program import ANSWERS, CLOSED, DEMAND, EVENT_FILE, EVENT_FILE_ONE,
 
 WORDS = {"plan": ["PLAN"], "check": ["PLAN", "SCRIPT"], "explain": ["PLAN|CODE", "[SCRIPT]"], "bounds": ["PLAN", "SCRIPT"], "costs": ["PLAN", "SCRIPT"], "response": ["PLAN", "SCRIPT"], "run": ["PLAN", "SCRIPT", "ANSWERS", "EVENTS"], "drive": ["PLAN", "SCRIPT", "EVENTS"], "events": ["FILE"]}
 # The options of a command but those of help, with the values that they take.
-OPTIONS = {"plan": {"commands": ""}, "explain": {"at": "LINE:COLUMN"}, "response": {"every": "SERVICE=CYCLES", "within": "SERVICE=CYCLES"}}
+OPTIONS = {"plan": {"commands": ""}, "explain": {"at": "LINE:COLUMN", "bounds": ""}, "response": {"every": "SERVICE=CYCLES", "within": "SERVICE=CYCLES"}}
 
 
 class WorkedRow(Case):
@@ -112,9 +112,9 @@ class Usage(Case):
         for word in ("e12", "E", "E12x", "12", "./E12"):
             self.assertEqual(self.call("explain", word), (3, b"", lacks(word)))
         self.assertEqual(self.call("explain", "E12", "@in", given=b""), (3, b"", lacks("E12")))
-        for words in ("--at 3 none none", "--at 3:0 none none", "--at 0:1 none none", "--at +3:1 none none", "--at 3:1: none none", "--at 3:4294967296 none none", "--at 3:1 none", "--at 3:1 E12"):
+        for words in ("--at 3 none none", "--at 3:0 none none", "--at 0:1 none none", "--at +3:1 none none", "--at 3:1: none none", "--at 3:4294967296 none none", "--at 3:1 none", "--at 3:1 E12", "--bounds none", "--bounds E12", "--bounds --at 3:1 none none"):
             status, out, err = self.call("explain", *words.split())
-            self.assertEqual((status, out, err.partition(b"\n")[0]), (2, b"", b"error: '--at <LINE:COLUMN>' needs two numbers from 1, a plan and a script"), words)
+            self.assertEqual((status, out, err.partition(b"\n")[0]), (2, b"", b"error: '--at <LINE:COLUMN>' needs two numbers from 1, a plan and a script; '--bounds' needs a plan and a script"), words)
         self.assertEqual(self.call("explain", "--at", "3:1", "@in", "@in"), (2, b"", TWICE))
 
     def test_standard_input_once(self):

@@ -185,11 +185,12 @@ class Printed(Case):
             text, command = its.printed.decode(), its.command.partition(" ")[0]
             lines = text.splitlines()
             if printed.is_refused(text):
-                (code, line, rule), sentence, advice, column, rest = printed.read_explanation(text)
-                self.assertEqual(lines, [f"refused {code}: {rule}" if line is None else f"refused {code} line {line}: {rule}", *rest])
+                (code, line, rule), sentence, advice, column, rest, also = printed.read_explanation(text)
+                further = [f"also refused {it.code} line {it.line}: {it.rule}" for it in also]
+                self.assertEqual(lines, [f"refused {code}: {rule}" if line is None else f"refused {code} line {line}: {rule}", *rest, *further])
                 told = [*[sentence] * bool(sentence), *advice]
                 shown = rest[: len(rest) - len(told)]
-                self.assertEqual((len(advice), rest), (3 if its.command == "explain" else 0, (*shown, *told)))
+                self.assertEqual((len(advice), rest), (3 if its.command in ("explain", "explain --bounds") else 0, (*shown, *told)))
                 self.assertEqual((len(shown), column is None), (0 if "P" in code or not told else 1 if code[0] in "LE" else 2, code[0] != "S" or not told))
                 command = "refused"
             elif command == "run":

@@ -224,6 +224,7 @@ class Command(Case):
         self.write("good", script(["cclc adc"]))
         self.write("odd", script(["put 1"]))
         self.write("bad", script(["put w"]))
+        self.write("two", "proc p() within 0 cycles event 1 words steps 1 {\n  put 16777216\n}\n\nproc later() within 0 cycles event 0 words steps 9 { cdreg r 1 1 6 0  cfsa 27 r }\n")
         self.write("plan", "[[types]]\n")
         calling = "odd:3: warning W3: this service neither reads nor clears the module of `adc` (crate 1, station 5), which may call it for ever\n"
         for words, status, printed in [
@@ -233,6 +234,7 @@ class Command(Case):
             (["--strict", "@sample", "good"], 0, ""),
             (["@sample", "bad", "good"], 1, "bad:4:5: refused S5: name not declared\n"),
             (["@sample", "none", "bad"], 3, "none: fault: No such file or directory\nbad:4:5: refused S5: name not declared\n"),
+            (["@sample", "two"], 1, "two:2: refused E16: word above 24 bits\ntwo:5: refused E12: more cycles than annotated\n"),
             (["plan", "good", "odd"], 1, "plan: refused P2: unknown key\n"),
             (["none", "good"], 3, "none: fault: No such file or directory\n"),
             (["@sample", "@in"], 2, ""),

@@ -35,7 +35,7 @@
  * THREADS   Different sessions may be used by different threads at the same time. The calls on one session come one after another, each
  *           after the one before (by a lock, by a join). No call is for a signal handler, or for the child of a fork of a process with threads.
  * TIME      camac_next and camac_step go on until an operation is wanted: at most as many steps as camac_service tells of the service in progress, some
- *           7 to 200 ns each. Nothing interrupts them.
+ *           7 to 200 ns each. Nothing interrupts them, but camac_limit_steps may set a limit for a session.
  * YOU KEEP  what the proof takes for granted, and nothing can test:
  *           1. A session is CAMAC_NONE or what camac_open left there, and nobody else changes its bytes.
  *           2. Each pointer leads to as many bytes as its length says. What the library writes overlaps nothing else that you hand in, and
@@ -63,6 +63,8 @@ extern "C" {
 #define CAMAC_FILE_BYTES 16777216u
 #define CAMAC_EVENT_WORDS 4096u
 #define CAMAC_CRATES 7u
+#define CAMAC_AHEAD 64u
+#define CAMAC_NO_LIMIT 0xffffffffu /* more steps than any service makes */
 
 enum camac_code {
     CAMAC_OK = 0,        /* done */
@@ -74,7 +76,8 @@ enum camac_code {
     CAMAC_OVERRUN = 4,   /* a wait that the plan does not permit: the run stays where it was, for good */
     CAMAC_RANGE = 5,     /* a word or gl above 0xffffff, a wait above 15, or the number of no service */
     CAMAC_SPENT = 6,     /* the run has used 4,294,967,295 answers */
-    CAMAC_LONG = 7       /* a text that is longer than it may be */
+    CAMAC_LONG = 7,      /* a text that is longer than it may be */
+    CAMAC_BUSY = 8       /* the run pauses, after as many steps as camac_limit_steps allows at once: it wants no answer, but camac_go_on */
 };
 
 /* A run of an accepted script. Its parts are the library's. */
@@ -164,12 +167,13 @@ uint32_t camac_version(void);
 /* What a code says, in English. */
 const char *camac_code_text(int code);
 
-/* What `camac plan`, `camac explain PLAN`, `check`, `explain`, `bounds` and `costs` print, of texts that are in memory. CAMAC_OK: accepted.
- * CAMAC_REFUSED: the text says why, that of an explanation at length. */
+/* What `camac plan`, `camac explain PLAN`, `check`, `explain`, `explain --bounds`, `bounds` and `costs` print, of texts that are in memory.
+ * CAMAC_OK: accepted. CAMAC_REFUSED: the text says why, that of an explanation at length. */
 CAMAC_CALL camac_plan(const void *plan, size_t plan_size, char *text, size_t room, size_t *size);
 CAMAC_CALL camac_explain_plan(const void *plan, size_t plan_size, char *text, size_t room, size_t *size);
 CAMAC_CALL camac_check(const void *plan, size_t plan_size, const void *script, size_t script_size, char *text, size_t room, size_t *size);
 CAMAC_CALL camac_explain(const void *plan, size_t plan_size, const void *script, size_t script_size, char *text, size_t room, size_t *size);
+CAMAC_CALL camac_explain_bounds(const void *plan, size_t plan_size, const void *script, size_t script_size, char *text, size_t room, size_t *size);
 CAMAC_CALL camac_bounds(const void *plan, size_t plan_size, const void *script, size_t script_size, char *text, size_t room, size_t *size);
 CAMAC_CALL camac_costs(const void *plan, size_t plan_size, const void *script, size_t script_size, char *text, size_t room, size_t *size);
 
@@ -199,24 +203,45 @@ CAMAC_CALL camac_run(const void *plan, size_t plan_size, const void *script, siz
 CAMAC_CALL camac_open(camac_session *s, const void *plan, size_t plan_size, const void *script, size_t script_size,
                       char *text, size_t room, size_t *size);
 
-/* What the next answer is for; nothing changes. CAMAC_OVERRUN: nothing, since the run is over. Where the code is not CAMAC_OK, *want is
- * zeros. */
+/* What the next answer is for; nothing changes. CAMAC_OVERRUN: nothing, since the run is over. CAMAC_BUSY: nothing yet, since the run pauses. Where
+ * the code is not CAMAC_OK, *want is zeros. */
 CAMAC_CALL camac_wants(const camac_session *s, camac_want *want);
 
-/* Takes the answer to what was wanted, and tells what it did. CAMAC_OVERRUN tells the crate and the wait. At any other code that is not
- * CAMAC_OK the run stays as it was, and *progress is zeros. */
+/* Takes the answer to what was wanted, and tells what it did. CAMAC_OVERRUN tells the crate and the wait. CAMAC_BUSY of a run that did not pause
+ * tells what the answer did up to the pause. At any other code that is not CAMAC_OK, and at CAMAC_BUSY of a run that paused already, the run stays
+ * as it was, and *progress is zeros. */
 CAMAC_CALL camac_next(camac_session *s, const camac_answer *answer, camac_progress *progress);
+
+/* The operations that come next, whatever is answered: a controller that makes lists of commands makes them in one transfer. Writes as many as there
+ * is room for, and answers how many: one at least where the run goes on, and CAMAC_AHEAD at most. 0 where the run is over or the session is none. The
+ * first is that of camac_wants. Until the answer of the last one is taken, no lockout is to be released and no event left. A wait that is not
+ * permitted ends the run before the rest. The size of want[0] counts for all, and is written into the others. */
+size_t camac_ahead(const camac_session *s, camac_want *want, size_t room);
+
+/* camac_next of one answer after the other, up to one that is not taken, whose code it gives, or that leaves an event: its words and its record can
+ * be read then. *taken is how many were taken, and progress[*taken] tells of the one that was not. The size of progress[0] counts for all, and is
+ * written into the others; each answer has its own. */
+CAMAC_CALL camac_next_many(camac_session *s, const camac_answer *answer, camac_progress *progress, size_t count, size_t *taken);
 
 /* camac_next, and where that is CAMAC_OK, camac_wants after it, at one crossing. At any other code *want is zeros. */
 CAMAC_CALL camac_step(camac_session *s, const camac_answer *answer, camac_progress *progress, camac_want *want);
+
+/* Sets how many steps the run makes at once, in one answer or after a pause: after more it pauses. 0 is a pause after each step. At first there is
+ * no limit, CAMAC_NO_LIMIT; camac_rewind keeps it. A run that pauses goes on to do so. */
+CAMAC_CALL camac_limit_steps(camac_session *s, uint32_t most);
+
+/* Goes on after a pause. CAMAC_OK: an answer is wanted again. CAMAC_BUSY: it pauses again. *progress tells the lockouts to release, and the event if
+ * the service ended; its kind is 0. Of a run that does not pause nothing changes: CAMAC_OK, or CAMAC_OVERRUN where it is over. */
+CAMAC_CALL camac_go_on(camac_session *s, camac_progress *progress);
 
 /* Writes the words of the event that the last answer left, as many as there is room for, and answers how many the event has. 0 where it left
  * none. An answer that was not taken (CAMAC_RANGE, CAMAC_SPENT, CAMAC_MISUSE) changes nothing here, too. */
 size_t camac_words(const camac_session *s, uint32_t *words, size_t room);
 
-/* What `camac run` writes for the last answer: its lines of the listing, and where it left an event, the record of that for an event file. Both
- * are of no bytes before the first answer, and after a wait that is not permitted. In front of the records stands the header, of which
- * camac_file_header writes as many bytes as there is room for, and answers how many it has. The last line of a listing is yours to write. */
+/* What `camac run` writes for the last answer, or after it for the last camac_go_on: its lines of the listing, and where it left an event, the record
+ * of that for an event file. Both are of no bytes before the first answer, and after a wait that is not permitted. In front of the records stands
+ * the header, of which camac_file_header writes as many bytes as there is room for, and answers how many it has. The last line of a listing is
+ * yours to write. */
 CAMAC_CALL camac_item(const camac_session *s, char *text, size_t room, size_t *size);
 CAMAC_CALL camac_record(const camac_session *s, void *bytes, size_t room, size_t *size);
 size_t camac_file_header(void *bytes, size_t room);
@@ -226,7 +251,8 @@ size_t camac_file_header(void *bytes, size_t room);
 size_t camac_held(const camac_session *s, uint32_t *crates, size_t room);
 
 /* Where the run stands: the service in progress, from 1 in the order of the script, and the line of its statement that wants the next answer, or
- * whose wait ended the run. In a procedure the line is that of the procedure's statement. Both are 0 at a demand. Each pointer may be NULL. */
+ * whose wait ended the run. In a procedure the line is that of the procedure's statement. Both are 0 at a demand, and while the run pauses. Each
+ * pointer may be NULL. */
 CAMAC_CALL camac_where(const camac_session *s, uint32_t *service, uint32_t *line);
 
 /* How many answers may still come: 0 where the run is over by an overrun, and where the session is none. */

@@ -97,6 +97,11 @@ template <class Call> verdict judged(Call call) {
         return camac_explain(plan.data(), plan.size(), script.data(), script.size(), t, room, n);
     });
 }
+[[nodiscard]] inline verdict explain_bounds(std::string_view plan, std::string_view script) {
+    return detail::judged([&](char *t, std::size_t room, std::size_t *n) {
+        return camac_explain_bounds(plan.data(), plan.size(), script.data(), script.size(), t, room, n);
+    });
+}
 [[nodiscard]] inline verdict explain_at(std::string_view plan, std::string_view script, std::uint32_t line, std::uint32_t column) {
     return detail::judged([&](char *t, std::size_t room, std::size_t *n) {
         return camac_explain_at(plan.data(), plan.size(), script.data(), script.size(), line, column, t, room, n);
@@ -138,6 +143,12 @@ class session {
         CAMAC_THROW(fault(code));
     }
 
+    // Fails unless an answer was taken.
+    void taken(int code, const camac_progress &progress) {
+        if (code == CAMAC_OVERRUN) its_last = progress;
+        if (code != CAMAC_OK && !(code == CAMAC_BUSY && progress.kind != 0)) fail(code);
+    }
+
     // The bytes of a call with a buffer.
     template <class Call> std::string filled(Call call) const {
         std::string bytes;
@@ -176,7 +187,7 @@ public:
     // What check prints of the two texts.
     [[nodiscard]] const std::string &verdict() const noexcept { return its_verdict; }
 
-    // What the next answer is for. Throws overrun where the run is over, and fault (CAMAC_MISUSE) where the session is none.
+    // What the next answer is for. Throws overrun where the run is over, and fault where it pauses (CAMAC_BUSY) or the session is none (CAMAC_MISUSE).
     [[nodiscard]] camac_want wants() const {
         camac_want want = CAMAC_WANT;
         const int code = camac_wants(&its, &want);
@@ -184,21 +195,57 @@ public:
         return want;
     }
 
-    // Takes an answer, and tells what it did. Throws overrun, or fault at any other code, which leaves the run as it was.
+    // The operations that come next, whatever is answered, as many as `room` at most. None where the run is over.
+    [[nodiscard]] std::vector<camac_want> ahead(std::size_t room = CAMAC_AHEAD) const {
+        std::vector<camac_want> wants(std::min<std::size_t>(room, CAMAC_AHEAD), camac_want CAMAC_WANT);
+        wants.resize(camac_ahead(&its, wants.data(), wants.size()));
+        return wants;
+    }
+
+    // Takes an answer, and tells what it did. Throws overrun, or fault at any other code, which leaves the run as it was. Where the run pauses after
+    // the answer, is_busy tells so; an answer to a run that pauses is fault (CAMAC_BUSY).
     camac_progress next(const camac_answer &answer) {
         camac_progress progress = CAMAC_PROGRESS;
-        const int code = camac_next(&its, &answer, &progress);
-        if (code == CAMAC_OVERRUN) its_last = progress;
-        if (code != CAMAC_OK) fail(code);
+        taken(camac_next(&its, &answer, &progress), progress);
         return progress;
+    }
+
+    // The same of one answer after the other, up to one that leaves an event: what each did that was taken. Throws where the first is not taken; a
+    // later one ends the list.
+    std::vector<camac_progress> next(const std::vector<camac_answer> &answers) {
+        std::vector<camac_progress> did(answers.size(), camac_progress CAMAC_PROGRESS);
+        std::size_t taken = 0;
+        const int code = camac_next_many(&its, answers.data(), did.data(), answers.size(), &taken);
+        if (code == CAMAC_OVERRUN) its_last = did[taken];
+        if (code != CAMAC_OK && !taken) fail(code);
+        did.resize(taken);
+        return did;
     }
 
     // The same, and what the next answer is for, at one crossing.
     camac_progress step(const camac_answer &answer, camac_want &want) {
         camac_progress progress = CAMAC_PROGRESS;
-        const int code = camac_step(&its, &answer, &progress, &want);
-        if (code == CAMAC_OVERRUN) its_last = progress;
+        taken(camac_step(&its, &answer, &progress, &want), progress);
+        return progress;
+    }
+
+    // Sets how many steps the run makes at once, before it pauses; CAMAC_NO_LIMIT at first.
+    void limit_steps(std::uint32_t most) {
+        const int code = camac_limit_steps(&its, most);
         if (code != CAMAC_OK) fail(code);
+    }
+
+    // Whether the run pauses: it wants no answer, but go_on.
+    [[nodiscard]] bool is_busy() const noexcept {
+        camac_want want = CAMAC_WANT;
+        return camac_wants(&its, &want) == CAMAC_BUSY;
+    }
+
+    // Goes on after a pause, and tells the lockouts to release, and the event if the service ended.
+    camac_progress go_on() {
+        camac_progress progress = CAMAC_PROGRESS;
+        const int code = camac_go_on(&its, &progress);
+        if (code != CAMAC_OK && code != CAMAC_BUSY) fail(code);
         return progress;
     }
 

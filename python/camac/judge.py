@@ -138,8 +138,10 @@ def _faults(call: Callable[[], List[Found]], files: List[TextFile], program: Opt
     except Refused as refusal:
         its = read_explanation("\n".join(lines_of("explain", "--", *files, program=program)))
         # The headings as they are may be refused before what no heading fixes.
-        lines, column = (its.lines, its.column) if its and its.refusal == (refusal.code, refusal.line, refusal.rule) else ((), None)
-        return [Found("refused", refusal.line, refusal.code, refusal.rule, lines, column)]
+        if its is None or its.refusal != (refusal.code, refusal.line, refusal.rule):
+            return [Found("refused", refusal.line, refusal.code, refusal.rule)]
+        first = Found("refused", refusal.line, refusal.code, refusal.rule, its.lines, its.column)
+        return [first, *(Found("refused", it.line, it.code, it.rule) for it in its.also)]
     except UsageFault:
         raise
     except ProgramFault as fault:

@@ -16,6 +16,7 @@ from camac.drive import Answer, Branch, File, Lockouts, ProgramFault, Refused, U
 from camac.events import NEW_FILE
 from camac.values import Ending, RunEnd
 from camac.native import (
+    BUSY,
     CYCLE as CYCLE,
     DEMAND as DEMAND,
     EVENT_WORDS,
@@ -23,6 +24,7 @@ from camac.native import (
     LONG,
     MISUSE,
     NO_DATA as NO_DATA,
+    NO_LIMIT as NO_LIMIT,
     NO_MEMORY,
     OK,
     OVERRUN,
@@ -52,6 +54,8 @@ COMMANDS = frozenset(("plan", "check", "explain", "bounds", "costs", "response")
 SPENT_LINE = "refused A4 line 4294967296: too many answers"
 MISUSED = "a number is out of range, or a word names no service"
 CLOSED = "the session is closed"
+PAUSED = "the run pauses, and wants no answer"
+LIMIT_RANGE = "a limit of steps is out of range"
 
 
 class ServiceInfo(NamedTuple):
@@ -95,6 +99,8 @@ def _fault(code: int) -> Exception:
         return ProgramFault(*FAULTS[code])
     if code == MISUSE:
         return UsageFault(CLOSED, 2)
+    if code == BUSY:
+        return UsageFault(PAUSED, 2)
     return RuntimeError(f"the library answers the code {code}")
 
 
@@ -175,6 +181,11 @@ def explain(plan: Text, script: Text) -> Verdict:
     return _judged("explain", plan, script)
 
 
+def explain_bounds(plan: Text, script: Text) -> Verdict:
+    """What `camac explain --bounds` prints."""
+    return _judged("explain_bounds", plan, script)
+
+
 def explain_at(plan: Text, script: Text, line: int, column: int) -> Verdict:
     """What `camac explain --at LINE:COLUMN` prints: what the checker knows before the statement there. Both are from 1, the column in bytes. If no
     statement is there, it is not accepted. Raises UsageFault if one of them is not from 1 to 4,294,967,295."""
@@ -224,11 +235,11 @@ def run(plan: Text, script: Text, answers: Text) -> Tuple[Verdict, bytes]:
     return Verdict(code == OK, listing.decode("utf-8", "replace")), file
 
 
-def _check_taken(code: int) -> None:
-    """Raises the fault of an answer that was not taken, by its code."""
+def _check_taken(code: int, progress: Progress) -> None:
+    """Raises the fault of an answer that was not taken, by its code and what it did."""
     if code == SPENT:
         raise OverflowError(SPENT_LINE)
-    if code not in (OK, OVERRUN):
+    if code not in (OK, OVERRUN) and not (code == BUSY and progress.kind):
         raise _fault(code)
 
 
@@ -257,7 +268,8 @@ class Session:
             raise _fault(code)
 
     def wants(self) -> Optional[Want]:
-        """What the next answer is for; None if the run is over, by an overrun. The next call fills the same object again."""
+        """What the next answer is for; None if the run is over, by an overrun. The next call fills the same object again. Raises UsageFault while
+        the run pauses."""
         code = self._calls.camac_wants(self._at, self._to_want)
         if code == OVERRUN:
             return None
@@ -265,19 +277,63 @@ class Session:
             raise _fault(code)
         return self._want
 
+    def ahead(self, room: int = native.AHEAD) -> List[Want]:
+        """The operations that come next, whatever is answered, as many as `room` at most: what a controller that makes lists of commands makes in one
+        transfer. The first is that of `wants`. None if the run is over, by an overrun."""
+        room = max(0, min(room, native.AHEAD))
+        wants = (Want * max(room, 1))()
+        wants[0].size = ctypes.sizeof(Want)
+        return list(wants[: self._calls.camac_ahead(self._at, wants, room)])
+
+    def next_many(self, answers: Iterable[Answer]) -> List[Progress]:
+        """`next` of one answer after the other, up to one that leaves an event, ends the run by an overrun or is not taken. Returns what each did, the
+        overrun too. Raises what `next` raises if the first is not taken."""
+        given = list(answers)
+        size, taken = ctypes.sizeof(native.AnswerStruct), c_size_t()
+        its, did = (native.AnswerStruct * len(given))(), (Progress * max(len(given), 1))()
+        did[0].size = ctypes.sizeof(Progress)
+        for i, (x, q, word, wait, gl) in enumerate(given):
+            its[i].size = size
+            native.write_answer(its, i * size + native.BEHIND_SIZE, word, gl, x, q, wait)
+        code = self._calls.camac_next_many(self._at, its, did, len(given), byref(taken))
+        if not taken.value:
+            _check_taken(code)
+        return list(did[: taken.value + (code == OVERRUN)])
+
     def next(self, answer: Answer) -> Progress:
         """Takes an answer, and returns what it did. The next call fills the same object again. Raises OverflowError if the run has used
-        4,294,967,295 answers."""
+        4,294,967,295 answers, and UsageFault while it pauses."""
         self._give(answer)
-        _check_taken(self._calls.camac_next(self._at, self._to_answer, self._to_progress))
+        _check_taken(self._calls.camac_next(self._at, self._to_answer, self._to_progress), self._progress)
         return self._progress
 
     def step(self, answer: Answer) -> Tuple[Progress, Optional[Want]]:
-        """`next`, and then `wants`, in one call of the library."""
+        """`next`, and then `wants`, in one call of the library. Nothing is wanted if the run is over, or pauses."""
         self._give(answer)
         code = self._calls.camac_step(self._at, self._to_answer, self._to_progress, self._to_want)
-        _check_taken(code)
-        return self._progress, None if code == OVERRUN else self._want
+        _check_taken(code, self._progress)
+        return self._progress, self._want if code == OK else None
+
+    def limit_steps(self, most: int = NO_LIMIT) -> None:
+        """Sets how many steps the run makes at once: in an answer or a `go_on`, after more, it pauses. Raises UsageFault if the number is not from 0 to
+        4,294,967,295, which is no limit."""
+        if not 0 <= most <= NO_LIMIT:
+            raise UsageFault(LIMIT_RANGE, 2)
+        code = self._calls.camac_limit_steps(self._at, most)
+        if code != OK:
+            raise _fault(code)
+
+    def is_busy(self) -> bool:
+        """Whether the run pauses: it wants no answer, but `go_on`."""
+        return bool(self._calls.camac_wants(self._at, self._to_want) == BUSY)
+
+    def go_on(self) -> Progress:
+        """Goes on after a pause, and returns what the run did: the crates to release, and the event if the service ended. It may pause again. The next
+        call fills the same object again."""
+        code = self._calls.camac_go_on(self._at, self._to_progress)
+        if code not in (OK, BUSY, OVERRUN):
+            raise _fault(code)
+        return self._progress
 
     def _give(self, answer: Answer) -> None:
         x, q, word, wait, gl = answer
@@ -308,7 +364,8 @@ class Session:
         return tuple(self._words[:count])
 
     def where(self) -> Optional[Place]:
-        """The service in progress, and the line of its statement that wants the next answer, or whose wait ended the run; None at a demand."""
+        """The service in progress, and the line of its statement that wants the next answer, or whose wait ended the run; None at a demand, and while
+        the run pauses."""
         service, line = c_uint32(), c_uint32()
         code = self._calls.camac_where(self._at, byref(service), byref(line))
         if code != OK:

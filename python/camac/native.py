@@ -12,10 +12,14 @@ from typing import Any, Dict, List, NamedTuple, Tuple
 NAME = "libcamac.so.0"
 # The version whose structs are here. A library fits whose first two numbers are the same.
 VERSION = 200
-OK, REFUSED, MISUSE, NO_MEMORY, OVERRUN, RANGE, SPENT, LONG = range(8)
+OK, REFUSED, MISUSE, NO_MEMORY, OVERRUN, RANGE, SPENT, LONG, BUSY = range(9)
 DEMAND, CYCLE, LOCK, STOPPED = range(1, 5)
 NO_DATA, READ, WRITE = range(3)
 EVENT_WORDS = 4096
+# More steps than any service makes.
+NO_LIMIT = 4_294_967_295
+# The most operations that are told ahead.
+AHEAD = 64
 
 
 class _Sized(ctypes.Structure):
@@ -96,7 +100,7 @@ class Calls(NamedTuple):
 _TEXT, _BUFFER, _SESSION = [c_char_p, c_size_t], [c_char_p, c_size_t, POINTER(c_size_t)], POINTER(SessionStruct)
 _OF_TEXTS: Dict[str, List[Any]] = {
     **{name: [*_TEXT, *_BUFFER] for name in ("plan", "explain_plan", "events")},
-    **{name: [*_TEXT, *_TEXT, *_BUFFER] for name in ("check", "explain", "bounds", "costs")},
+    **{name: [*_TEXT, *_TEXT, *_BUFFER] for name in ("check", "explain", "explain_bounds", "bounds", "costs")},
     "explain_at": [*_TEXT, *_TEXT, c_uint32, c_uint32, *_BUFFER],
     "response": [*_TEXT, *_TEXT, *_TEXT, *_TEXT, *_BUFFER],
     "run": [*_TEXT, *_TEXT, *_TEXT, *_BUFFER, *_BUFFER],
@@ -104,8 +108,12 @@ _OF_TEXTS: Dict[str, List[Any]] = {
 }
 _OF_SESSIONS: Dict[str, List[Any]] = {
     "wants": [_SESSION, POINTER(Want)],
+    "ahead": [_SESSION, POINTER(Want), c_size_t],
     "next": [_SESSION, POINTER(AnswerStruct), POINTER(Progress)],
+    "next_many": [_SESSION, POINTER(AnswerStruct), POINTER(Progress), c_size_t, POINTER(c_size_t)],
     "step": [_SESSION, POINTER(AnswerStruct), POINTER(Progress), POINTER(Want)],
+    "limit_steps": [_SESSION, c_uint32],
+    "go_on": [_SESSION, POINTER(Progress)],
     "words": [_SESSION, POINTER(c_uint32), c_size_t],
     "held": [_SESSION, POINTER(c_uint32), c_size_t],
     "item": [_SESSION, *_BUFFER],
@@ -121,7 +129,7 @@ _OF_SESSIONS: Dict[str, List[Any]] = {
 }
 # What is called at each answer. Their arguments are made once, as C has them, and ctypes takes half of the time where it need not look at them.
 _OFTEN = frozenset(("wants", "next", "step", "item", "record"))
-_RESULTS = {"words": c_size_t, "held": c_size_t, "file_header": c_size_t, "answers_left": c_uint32, "services": c_size_t, "close": None}
+_RESULTS = {"ahead": c_size_t, "words": c_size_t, "held": c_size_t, "file_header": c_size_t, "answers_left": c_uint32, "services": c_size_t, "close": None}
 
 
 def find_library() -> str:

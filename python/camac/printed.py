@@ -112,6 +112,7 @@ REQUESTS = (
     Form(lambda crate: Request("unlock", (crate,)), "unlock {crate:crate}"),
 )
 REFUSAL = Form(Refusal, "refused {code:code}(?: line {line})?: {rule:rest}")
+ALSO = Form(Refusal, "also refused {code:code} line {line}: {rule:rest}")
 SOURCE, MARK = re.compile(r" *\d+ \|.*"), re.compile(r" *\| (\s*\^)")
 # The part of a line that is not shown.
 CUT = ".."
@@ -271,14 +272,16 @@ def is_refused(printed: str) -> bool:
 
 def read_explanation(printed: str) -> Optional[Explanation]:
     """What `camac explain` prints of a refusal; None if it says no refusal."""
-    first, *lines = printed.rstrip("\n").split("\n")
+    first, *its = printed.rstrip("\n").split("\n")
+    also = tuple(it for it in map(ALSO.read, its) if it)
+    lines = its[: len(its) - len(also)]
     refusal, mark = REFUSAL.read(first), MARK.fullmatch(lines[1]) if len(lines) > 1 else None
     if refusal is None:
         return None
     its = [it for it in lines if not SOURCE.fullmatch(it) and not MARK.fullmatch(it)]
     sentence = its.pop(0) if its and not its[0].startswith("Why: ") else ""
     is_cut = lines[:1] and lines[0].partition(" | ")[2].startswith(CUT)
-    return Explanation(refusal, sentence, tuple(its), len(mark[1]) if mark and not is_cut else None, tuple(lines))
+    return Explanation(refusal, sentence, tuple(its), len(mark[1]) if mark and not is_cut else None, tuple(lines), also)
 
 
 def read_expected(printed: str) -> Optional[List[str]]:

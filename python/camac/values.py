@@ -303,13 +303,15 @@ class Refusal(NamedTuple):
 
 class Explanation(NamedTuple):
     """What `camac explain` says of a refusal: what is said of the case ("" if nothing is), the lines that follow, and the column of the mark, in
-    characters from 1 (None if there is no mark, or the line is shown in part). `lines` are all lines below the refusal."""
+    characters from 1 (None if there is no mark, or the line is shown in part). `lines` are all lines below the refusal, up to the further
+    refusals, which are in `also`."""
 
     refusal: Refusal
     sentence: str
     advice: Tuple[str, ...]
     column: Optional[int]
     lines: Tuple[str, ...]
+    also: Tuple[Refusal, ...]
 
 
 class Near(NamedTuple):

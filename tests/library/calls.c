@@ -61,6 +61,7 @@ static void handed_in(void) {
     IS_MISUSE(camac_check(NO_SCRIPT, out, sizeof out, &size));
     IS_MISUSE(camac_check(TEXTS, NULL, 1, &size));
     IS_MISUSE(camac_explain(NO_SCRIPT, out, sizeof out, &size));
+    IS_MISUSE(camac_explain_bounds(NO_PLAN, out, sizeof out, &size));
     IS_MISUSE(camac_explain_at(NO_SCRIPT, 1, 1, out, sizeof out, &size));
     IS_MISUSE(camac_explain_at(TEXTS, 0, 1, out, sizeof out, &size));
     IS_MISUSE(camac_explain_at(TEXTS, 1, 0, out, sizeof out, &size));
@@ -142,6 +143,7 @@ static void texts(void) {
     EXPECT(CAMAC_OK, camac_plan(plan.bytes, plan.size, out, sizeof out, &size));
     EXPECT(CAMAC_OK, camac_explain_plan(plan.bytes, plan.size, out, sizeof out, &size));
     EXPECT(CAMAC_OK, camac_explain(plan.bytes, plan.size, script.bytes, script.size, out, sizeof out, &size));
+    EXPECT(CAMAC_OK, camac_explain_bounds(plan.bytes, plan.size, script.bytes, script.size, out, sizeof out, &size));
     EXPECT(CAMAC_OK, camac_bounds(plan.bytes, plan.size, script.bytes, script.size, out, sizeof out, &size));
     EXPECT(CAMAC_OK, camac_costs(plan.bytes, plan.size, script.bytes, script.size, out, sizeof out, &size));
     EXPECT(CAMAC_OK, camac_events("CAMACEV2", 8, out, sizeof out, &size));
@@ -151,6 +153,7 @@ static void texts(void) {
     if (size != 27 || memcmp(out, "refused S1 line 1: bad byte", 27)) size--;
     if (size != 27 || memcmp(out, "refused S1 line 1: bad byte", 27)) fail("a refusal says otherwise");
     EXPECT(CAMAC_REFUSED, camac_explain(plan.bytes, plan.size, "!", 1, out, sizeof out, &size));
+    EXPECT(CAMAC_REFUSED, camac_explain_bounds(plan.bytes, plan.size, "!", 1, out, sizeof out, &size));
     EXPECT(CAMAC_REFUSED, camac_explain_at(plan.bytes, plan.size, script.bytes, script.size, 1, 1, out, sizeof out, &size));
     if (size != 20 || memcmp(out, "no statement at 1:1\n", 20)) fail("a place without a statement says otherwise");
     EXPECT(CAMAC_REFUSED, camac_explain_at(plan.bytes, plan.size, "!", 1, 1, 1, out, sizeof out, &size));
@@ -166,6 +169,7 @@ static void texts(void) {
     IS_LONG(camac_explain_plan(long_text, CAMAC_TEXT_BYTES + 1, out, sizeof out, &size));
     IS_LONG(camac_check(plan.bytes, plan.size, long_text, CAMAC_TEXT_BYTES + 1, out, sizeof out, &size));
     IS_LONG(camac_explain(plan.bytes, plan.size, long_text, CAMAC_TEXT_BYTES + 1, out, sizeof out, &size));
+    IS_LONG(camac_explain_bounds(plan.bytes, plan.size, long_text, CAMAC_TEXT_BYTES + 1, out, sizeof out, &size));
     IS_LONG(camac_explain_at(plan.bytes, plan.size, long_text, CAMAC_TEXT_BYTES + 1, 1, 1, out, sizeof out, &size));
     IS_LONG(camac_bounds(plan.bytes, plan.size, long_text, CAMAC_TEXT_BYTES + 1, out, sizeof out, &size));
     IS_LONG(camac_costs(plan.bytes, plan.size, long_text, CAMAC_TEXT_BYTES + 1, out, sizeof out, &size));

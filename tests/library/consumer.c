@@ -1,8 +1,10 @@
 /* consumer.c: what a data acquisition program makes of a run: the listing and the event file of `camac run`. The run is begun again before it is
  * played. Now and then a service is abandoned: what was written since its demand is taken back, and the rest is that of a run without it. Where it
- * stands, each time something is wanted, is a line of the script that can want it.
+ * stands, each time something is wanted, is a line of the script that can want it. A second session takes the same answers in lists, as long as what
+ * it tells ahead, and does the same.
  *
- *     consumer FOLDER COUNT     of FOLDER/K.plan and FOLDER/K.script, K below COUNT, it makes K.answers at random, K.listing and K.events */
+ *     consumer FOLDER COUNT     of FOLDER/K.plan and FOLDER/K.script, K below COUNT, it makes K.answers at random, K.listing and K.events, and prints
+ *                               how many lists there were, and how many answers in them */
 #define _POSIX_C_SOURCE 200809L
 #include "common.h"
 #include <unistd.h>
@@ -77,8 +79,65 @@ static void abandon(camac_session *s, camac_want *want, uint32_t room) {
     if (want->kind != CAMAC_DEMAND) fail("no demand is wanted");
 }
 
+/* Goes on while the run pauses, and puts what it tells. */
+static int go_on(camac_session *s, int code, camac_want *want, FILE *listing, FILE *events, uint32_t *count) {
+    const camac_answer answer = CAMAC_ANSWER;
+    camac_progress did = CAMAC_PROGRESS;
+    if (code != CAMAC_BUSY) return code;
+    while (code == CAMAC_BUSY) {
+        EXPECT(CAMAC_BUSY, camac_wants(s, want));
+        EXPECT(CAMAC_BUSY, camac_step(s, &answer, &did, want));
+        code = camac_go_on(s, &did);
+        put(listing, item, s);
+        put(events, camac_record, s);
+        if (did.event) *count = did.event;
+    }
+    return code == CAMAC_OK ? camac_wants(s, want) : code;
+}
+
 static void take_back(FILE *file, long at) {
     if (fflush(file) || ftruncate(fileno(file), at) || fseek(file, at, SEEK_SET)) fail("a file cannot be written");
+}
+
+/* A session that takes its answers in lists, what was told ahead, and of the list so far what `one`, which takes them one by one, did. */
+static struct {
+    camac_session s;
+    camac_want wants[CAMAC_AHEAD];
+    camac_answer answers[CAMAC_AHEAD];
+    camac_progress did[CAMAC_AHEAD];
+    size_t count, used;
+    unsigned long lists, all;
+} list;
+
+/* An answer for the list: what is wanted is what was told ahead. */
+static void gather(const camac_want *want, const camac_answer *answer, uint32_t room) {
+    if (!list.used) {
+        list.wants[0] = *want;
+        list.count = camac_ahead(&list.s, list.wants, room);
+        if (!list.count || list.count > room) fail("%zu operations are ahead", list.count);
+    }
+    if (memcmp(&list.wants[list.used], want, sizeof *want)) fail("something else is ahead");
+    list.answers[list.used] = *answer;
+}
+
+static void same(int (*call)(const camac_session *, void *, size_t, size_t *), const camac_session *one) {
+    static char bytes[1 << 15], others[1 << 15];
+    size_t size, other;
+    EXPECT(CAMAC_OK, call(one, bytes, sizeof bytes, &size));
+    EXPECT(CAMAC_OK, call(&list.s, others, sizeof others, &other));
+    if (size != other || memcmp(bytes, others, size)) fail("a list tells something else");
+}
+
+/* Hands the list in, whose last answer got this code. */
+static void hand_in(int code, const camac_session *one) {
+    camac_progress did[CAMAC_AHEAD] = {CAMAC_PROGRESS};
+    size_t taken;
+    EXPECT(code, camac_next_many(&list.s, list.answers, did, list.used, &taken));
+    if (taken != list.used - (code != CAMAC_OK) || memcmp(did, list.did, list.used * sizeof *did)) fail("a list does something else");
+    same(item, one);
+    same(camac_record, one);
+    list.lists++, list.all += list.used;
+    list.used = 0;
 }
 
 /* Plays up to an overrun, or to the end of the answers. */
@@ -99,16 +158,23 @@ static void play(camac_session *s, const char *folder, long k, const text *scrip
         for (int n = 0; n < 3 && want.kind == CAMAC_DEMAND; n++) at[n] = ftell(files[n]);
         if (want.kind == CAMAC_DEMAND) answer.gl = any_pattern(s, &seed);
         fprintf(answers, "%d %d %06x %x %06x\n", answer.x, answer.q, (unsigned)answer.word, answer.wait, (unsigned)answer.gl);
+        gather(&want, &answer, 1 + chance(&seed, CAMAC_AHEAD));
         code = camac_step(s, &answer, &did, &want);
+        list.did[list.used++] = did;
+        if (list.used == list.count || code != CAMAC_OK) hand_in(code, s);
         put(listing, item, s);
         put(events, camac_record, s);
-        if (code == CAMAC_OK && camac_answers_left(s) != before - i - 1) fail("%u answers are left", (unsigned)camac_answers_left(s));
+        if ((code == CAMAC_OK || code == CAMAC_BUSY) && camac_answers_left(s) != before - i - 1) fail("%u answers are left", (unsigned)camac_answers_left(s));
         if (did.event) count = did.event;
         if (did.kind == CAMAC_DEMAND) service = did.service;
+        code = go_on(s, code, &want, listing, events, &count);
         if (code != CAMAC_OK || want.kind == CAMAC_DEMAND || chance(&seed, 20)) continue;
+        if (list.used) hand_in(CAMAC_OK, s);
+        EXPECT(CAMAC_OK, camac_abandon(&list.s, NULL, 0, NULL));
         abandon(s, &want, chance(&seed, CAMAC_CRATES + 1));
         for (int n = 0; n < 3; n++) take_back(files[n], at[n]);
     }
+    if (list.used) hand_in(CAMAC_OK, s);
     if (code == CAMAC_OVERRUN) fprintf(listing, "overrun %d wait %d events %u\n", did.c, did.wait, (unsigned)count);
     else fprintf(listing, "%s events %u\n", want.kind == CAMAC_DEMAND ? "ended" : "short", (unsigned)count);
     if (fclose(answers) || fclose(listing) || fclose(events)) fail("a file cannot be written");
@@ -120,7 +186,10 @@ int main(int words_count, char **words) {
         camac_session s = CAMAC_NONE;
         uint32_t seed = (uint32_t)k;
         const text plan = of_file(words[1], k, "plan"), script = of_file(words[1], k, "script");
+        const camac_session none = CAMAC_NONE;
+        list.s = none;
         open_session(&s, &plan, &script);
+        open_session(&list.s, &plan, &script);
         for (camac_want want = CAMAC_WANT; chance(&seed, 30) && camac_wants(&s, &want) == CAMAC_OK;) {
             camac_progress did = CAMAC_PROGRESS;
             camac_answer answer = any_answer(&seed);
@@ -128,9 +197,12 @@ int main(int words_count, char **words) {
             if (camac_next(&s, &answer, &did) > CAMAC_OVERRUN) fail("an answer is not taken");
         }
         EXPECT(CAMAC_OK, camac_rewind(&s));
+        EXPECT(CAMAC_OK, camac_limit_steps(&s, chance(&seed, 2) ? CAMAC_NO_LIMIT : chance(&seed, 20)));
         play(&s, words[1], k, &script);
         camac_close(&s);
+        camac_close(&list.s);
         free(plan.bytes), free(script.bytes);
     }
+    printf("%lu %lu\n", list.lists, list.all);
     return 0;
 }

@@ -43,6 +43,10 @@ static void none(void) {
     EXPECT(CAMAC_MISUSE, camac_where(NULL, NULL, NULL));
     if (service || line) fail("a none stands somewhere");
     EXPECT(CAMAC_MISUSE, camac_abandon(&s, NULL, 0, &size));
+    EXPECT(CAMAC_MISUSE, camac_limit_steps(&s, 1));
+    spoil(&did, sizeof did);
+    EXPECT(CAMAC_MISUSE, camac_go_on(&s, &did));
+    expect_zeros(&did, &no_progress, sizeof did, __LINE__);
     EXPECT(CAMAC_MISUSE, camac_rewind(&s));
     EXPECT(CAMAC_MISUSE, camac_rewind(NULL));
     if (camac_services(&s) || camac_answers_left(&s) || camac_held(&s, NULL, 0) || camac_held(NULL, NULL, 1)) fail("a none has something");
@@ -64,6 +68,8 @@ static void handed_in(camac_session *s) {
     EXPECT(CAMAC_MISUSE, camac_step(s, &no_answer, &did, &want));
     want.size++, did.size = 0;
     EXPECT(CAMAC_MISUSE, camac_step(s, &no_answer, &did, &want));
+    EXPECT(CAMAC_MISUSE, camac_go_on(s, &did));
+    EXPECT(CAMAC_MISUSE, camac_go_on(s, NULL));
     did.size = sizeof did, answer.spare[0] = 1;
     EXPECT(CAMAC_MISUSE, camac_step(s, &answer, &did, &want));
     EXPECT(CAMAC_MISUSE, camac_step(s, NULL, &did, &want));
@@ -77,6 +83,30 @@ static void handed_in(camac_session *s) {
     expect_zeros(&want, &no_want, sizeof want, __LINE__);
     expect_zeros(&did, &no_progress, sizeof did, __LINE__);
     if (camac_file_header(NULL, 9) != 8 || camac_file_header(text, 3) != 8 || memcmp(text, "CAM", 4)) fail("the header says otherwise");
+}
+
+/* Lists: the first struct has the size of all that are written, and a list ends where an answer is not taken or leaves an event. */
+static void lists(camac_session *s) {
+    camac_want wants[3] = {CAMAC_WANT};
+    camac_progress did[3] = {CAMAC_PROGRESS};
+    camac_answer answers[3] = {CAMAC_ANSWER, CAMAC_ANSWER, CAMAC_ANSWER};
+    size_t taken = 9;
+    wants[1].size = 9;
+    if (camac_ahead(s, wants, 0) || camac_ahead(s, NULL, 1) || camac_ahead(s, wants + 1, 1) || camac_ahead(NULL, wants, 1)) fail("something is ahead");
+    if (camac_ahead(s, wants, 3) != 1 || wants[0].kind != CAMAC_DEMAND || wants[1].size != 9) fail("more than a demand is ahead");
+    EXPECT(CAMAC_MISUSE, camac_next_many(s, answers, NULL, 1, &taken));
+    EXPECT(CAMAC_MISUSE, camac_next_many(s, NULL, did, 1, &taken));
+    EXPECT(CAMAC_MISUSE, camac_next_many(NULL, answers, did, 0, &taken));
+    EXPECT(CAMAC_OK, camac_next_many(s, NULL, NULL, 0, &taken));
+    if (taken) fail("%zu answers are taken", taken);
+    answers[2].wait = 16;
+    EXPECT(CAMAC_RANGE, camac_next_many(s, answers, did, 3, &taken));
+    if (taken != 2 || did[1].size != sizeof *did || did[1].kind != CAMAC_DEMAND) fail("%zu answers are taken", taken);
+    expect_zeros(did + 2, &no_progress, sizeof *did, __LINE__);
+    answers[2].wait = 0, answers[1].size = 0;
+    EXPECT(CAMAC_MISUSE, camac_next_many(s, answers, did, 3, &taken));
+    if (taken != 1) fail("%zu answers are taken", taken);
+    EXPECT(CAMAC_OK, camac_rewind(s));
 }
 
 /* The services as the verdict tells them. */
@@ -185,6 +215,7 @@ int main(int count, char **words) {
     none();
     EXPECT(CAMAC_OK, camac_open(&s, plan.bytes, plan.size, script.bytes, script.size, verdict, sizeof verdict - 1, &size));
     handed_in(&s);
+    lists(&s);
     services(&s, verdict);
     stepped(&s);
     camac_close(&s);

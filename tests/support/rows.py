@@ -6,7 +6,7 @@ import typing
 from support.program import TOP
 
 INPUTS = ("PLAN", "SCRIPT", "ANSWERS")
-PLAYED = re.compile(r"(plan|plan --commands|check|explain(?: --at \d+:\d+)?|bounds|costs|response(?: --(?:every|within) \w+=\d+)*|run|drive) ([01])")
+PLAYED = re.compile(r"(plan|plan --commands|check|explain(?: --at \d+:\d+| --bounds)?|bounds|costs|response(?: --(?:every|within) \w+=\d+)*|run|drive) ([01])")
 # The commands that need no script.
 OF_A_PLAN = ("plan", "plan --commands", "explain")
 EVENT = re.compile(r"gl (\d+) cycles (\d+) missed (\d+) words((?: [0-9a-f]{6})*)")

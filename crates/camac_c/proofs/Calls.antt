@@ -9,7 +9,7 @@ use Rattle.camac_c.specs.Last.{last_lines, last_record}
 use Rattle.camac_c.specs.Place.{numbers_of_place}
 use Rattle.camac_c.specs.Plain.{only_code}
 use Rattle.camac_c.specs.Service.{name_at, numbers_at}
-use Rattle.camac_c.specs.Talk.{AnswersBytes, AnswersCode, AnswersCount, AnswersNext, AnswersStep, AnswersText, AnswersWants, Lists, Talks, TellsIf, TellsWords}
+use Rattle.camac_c.specs.Talk.{AnswersBytes, AnswersCode, AnswersCount, AnswersGoOn, AnswersNext, AnswersStep, AnswersText, AnswersWants, Lists, Talks, TellsIf, TellsWords}
 use Rattle.camac_c.specs.declared.plain.Ask.{Ask}
 use Rattle.camac_c.specs.declared.plain.Ask.TheVariants as ask
 use Rattle.camac_c.specs.declared.plain.CamacAnswer.{CamacAnswer}
@@ -53,6 +53,8 @@ written (Some s) (Some after) ask.Left none told ws h = h.0
 written (Some s) (Some after) ask.Services none told ws h = h.0
 written (Some s) (Some after) (ask.Name k) none told ws h = listed_none (name_at s.checked.now.script k) told ws h.1
 written (Some s) (Some after) (ask.Numbers k) none told ws h = numbered_none (numbers_at s.checked.now k) told ws h.1
+written (Some s) (Some after) (ask.Limit most) none told ws h = h.0
+written (Some s) (Some after) ask.GoOn none told ws h = h.0
 written (Some s) (Some after) ask.Abandon none told ws h = abandoned_none s.runner.overrun s after ws told h
 written (Some s) (Some after) ask.Rewind none told ws h = h.0
 
@@ -68,6 +70,9 @@ next_answers v after a ws told h = (told, asked v after (ask.Next a) told ws h, 
 pub step_answers : (v after : Option Session) (a : CamacAnswer) (ws : List ℕ) (told : Told) → Talks v (ask.Step a) (only_code 2) after [] ws told
     → AnswersStep v a after told.code told.progress told.want
 step_answers v after a ws told h = (told, asked v after (ask.Step a) told ws h, refl, refl, refl)
+
+pub go_on_answers : (v after : Option Session) (ws : List ℕ) (told : Told) → Talks v ask.GoOn (only_code 2) after [] ws told → AnswersGoOn v after told.code told.progress
+go_on_answers v after ws told h = (told, asked v after ask.GoOn told ws h, refl, refl)
 
 pub count_answers : (v after : Option Session) (a : Ask) (ws : List ℕ) (told : Told) → Talks v a (only_code 2) after [] ws told → AnswersCount v a after told.count
 count_answers v after a ws told h = (told, asked v after a told ws h, refl)

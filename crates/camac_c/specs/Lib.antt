@@ -1,4 +1,6 @@
 pub mod Abandoned
+pub mod Ahead
+pub mod Paused
 pub mod Filled
 pub mod Held
 pub mod Last

@@ -1,24 +1,30 @@
 -- What the calls of a session say.
-use Rattle.std.specs.Prelude.{◌≡◌, ◌<◌, ◌≤◌, ◌-◌, ℕ, List, [], length, reverse, Option, None, Some, IfSome, nat_eq, if◌then◌else◌}
-use Rattle.camac_branch.specs.Branch.{Answer}
+use Rattle.std.specs.Prelude.{◌≡◌, ◌<◌, ◌≤◌, ◌-◌, ℕ, List, [], length, reverse, true, false, Option, None, Some, IfSome, nat_eq, if◌then◌else◌}
+use Rattle.camac_branch.specs.Branch.{Answer as BranchAnswer}
 use Rattle.camac_branch.specs.declared.answer.Overrun.{Overrun}
 use Rattle.camac_checked.specs.Checked.{CheckedScript}
 use Rattle.camac_model.specs.Run.{the_run}
+use Rattle.camac_run.specs.Ahead.{IsAhead}
 use Rattle.camac_run.specs.Holds.{HoldsAfter}
 use Rattle.camac_run.specs.Operation.{Wants}
 use Rattle.camac_run.specs.Requested.{IsSafeRequest, held_in}
-use Rattle.camac_run.specs.Runner.{RunnerState, rest, last_words_in, Progresses}
+use Rattle.camac_run.specs.Runner.{RunnerState, rest, last_words_in, KeepsLimit, Progresses}
 use Rattle.camac_run.specs.declared.place.Place.{Place}
 use Rattle.camac_run.specs.declared.progress.Progress.{Progress}
 use Rattle.camac_run.specs.declared.progress.Wanted.{Wanted}
+use Rattle.camac_machine.specs.Rest.{is_paused}
 use Rattle.camac_c.specs.Abandoned.{LeavesUnless}
+use Rattle.camac_c.specs.Ahead.{numbers_ahead}
 use Rattle.camac_c.specs.Filled.{filled, filled_words}
 use Rattle.camac_c.specs.Held.{held_then}
 use Rattle.camac_c.specs.Last.{last_lines, last_record}
+use Rattle.camac_c.specs.Paused.{GoesOnIf, Limits}
 use Rattle.camac_c.specs.Place.{IsAt, numbers_of_place}
 use Rattle.camac_c.specs.Plain.{only_code}
 use Rattle.camac_c.specs.Service.{name_at, numbers_at}
-use Rattle.camac_c.specs.Told.{InRange, answer_in, asked, counted, did}
+use Rattle.camac_c.specs.Told.{InRange, answer_in, asked, counted, did, while_paused}
+use Rattle.camac_c.specs.declared.last.Last.{Last}
+use Rattle.camac_c.specs.declared.last.Last.TheVariants.{Nothing, Answer, Pause}
 use Rattle.camac_c.specs.declared.plain.Ask.{Ask}
 use Rattle.camac_c.specs.declared.plain.Ask.TheVariants as ask
 use Rattle.camac_c.specs.declared.plain.CamacAnswer.{CamacAnswer}
@@ -28,8 +34,8 @@ use Rattle.camac_c.specs.declared.plain.Told.{Told}
 use Rattle.camac_c.specs.declared.session.Session.{Session}
 
 -- at the beginning of the run of this script: no answer was used, and no event left
-pub record StartsOn (c : CheckedScript) (s : Session) : Type 0 where
-  pub runs : (answers : List Answer) → rest s.runner answers ≡ the_run c.plan c.script answers
+pub record Begins (c : CheckedScript) (s : Session) : Type 0 where
+  pub runs : (answers : List BranchAnswer) → rest s.runner answers ≡ the_run c.plan c.script answers
   pub holds : HoldsAfter c.plan c.script [] [] s.runner
   pub checked : s.runner.checked ≡ c
   pub script : s.checked.now ≡ c
@@ -37,33 +43,46 @@ pub record StartsOn (c : CheckedScript) (s : Session) : Type 0 where
   pub events : s.runner.events ≡ 0
   pub overrun : s.runner.overrun ≡ None
   pub quiet : last_words_in s.runner ≡ []
-  pub last : s.last ≡ None
+  pub last : s.last ≡ Nothing
   pub held : s.held.items ≡ []
+  pub awake : is_paused s.runner.pending ≡ false
 
--- what the run wants its next answer for, which may be made; nothing changes
+-- and it may make all its steps at once
+abbrev pub StartsOn : CheckedScript → Session → Type 0
+StartsOn c s = Begins c s × (s.runner.limit ≡ 4294967295)
+
+-- what the run wants its next answer for, which may be made; 8 while it pauses; nothing changes
 abbrev pub TellsWant : Session → Session → Told → Type 0
 TellsWant s after told =
     (after ≡ s)
-    × ((wanted : Option Wanted) × Wants s.runner wanted × IfSome wanted (IsSafeRequest s.runner.checked.plan (held_in s.runner)) × (told ≡ asked wanted))
+    × ((wanted : Option Wanted) × Wants s.runner wanted × IfSome wanted (IsSafeRequest s.runner.checked.plan (held_in s.runner)) × (told ≡ while_paused (is_paused s.runner.pending) (asked wanted)))
 
 -- an answer is not taken, and nothing changes
 abbrev pub Declines : ℕ → Session → Session → Told → Type 0
 Declines code s after told = (after ≡ s) × (told ≡ only_code code)
 
+-- where the last was an answer
+abbrev pub IfAnswer : Last → (Progress → Type 0) → Type 0
+IfAnswer (Answer progress) P = P progress
+IfAnswer Nothing P = Unit {0}
+IfAnswer (Pause unlocks event) P = Unit {0}
+
 -- it is taken, and told and kept is what it did
 pub record Takes (a : CamacAnswer) (s after : Session) (told : Told) : Type 0 where
   pub progress : Progress
   pub progresses : Progresses s.runner (answer_in a) progress after.runner
-  pub told_is : told ≡ did progress (length (last_words_in after.runner))
-  pub last : after.last ≡ Some progress
+  pub keeps : KeepsLimit s.runner after.runner
+  pub told_is : told ≡ while_paused (is_paused after.runner.pending) (did progress (length (last_words_in after.runner)))
+  pub last : after.last ≡ Answer progress
   pub held : after.held.items ≡ held_then progress s.held.items
   pub checked : after.checked ≡ s.checked
 
--- 5 where it is out of its range, 6 where the run has used the most answers
+-- 8 while the run pauses, 5 where the answer is out of its range, 6 where the run has used the most answers
 pub record TellsNext (a : CamacAnswer) (s after : Session) (told : Told) : Type 0 where
-  pub range : (InRange a → ⊥) → Declines 5 s after told
-  pub spent : InRange a → 4294967295 ≤ s.runner.fed → Declines 6 s after told
-  pub taken : InRange a → s.runner.fed < 4294967295 → Takes a s after told
+  pub busy : is_paused s.runner.pending ≡ true → Declines 8 s after told
+  pub range : is_paused s.runner.pending ≡ false → (InRange a → ⊥) → Declines 5 s after told
+  pub spent : is_paused s.runner.pending ≡ false → InRange a → 4294967295 ≤ s.runner.fed → Declines 6 s after told
+  pub taken : is_paused s.runner.pending ≡ false → InRange a → s.runner.fed < 4294967295 → Takes a s after told
 
 -- where that is done, told is also what the run wants then
 abbrev pub with_want : (next wants : Told) → Told
@@ -83,6 +102,10 @@ TellsWords words old new told = (new ≡ filled_words words old) × (told ≡ co
 -- where the run stands
 abbrev pub TellsPlace : RunnerState → (old new : List ℕ) → Told → Type 0
 TellsPlace h old new told = (place : Option Place) × IsAt h place × TellsWords (numbers_of_place place) old new told
+
+-- what comes next, whatever is answered
+abbrev pub TellsAhead : RunnerState → (old new : List ℕ) → Told → Type 0
+TellsAhead h old new told = (os : List Wanted) × IsAhead h os × TellsWords (numbers_ahead os) old new told
 
 -- a text, as far as there is room
 abbrev pub Lists : List ℕ → (old new : List ℕ) → Told → Type 0
@@ -104,6 +127,7 @@ answers_left h = left_from h.overrun h.fed
 -- where bytes are asked for, they are written, and nothing changes
 abbrev pub Steps : Session → Ask → Session → (old new : List ℕ) → Told → Type 0
 Steps s ask.Wants after old new told = (new ≡ old) × TellsWant s after told
+Steps s ask.Ahead after old new told = (after ≡ s) × TellsAhead s.runner old new told
 Steps s (ask.Next a) after old new told = (new ≡ old) × TellsNext a s after told
 Steps s (ask.Step a) after old new told = (new ≡ old) × TellsStep a s after told
 Steps s ask.Words after old new told = (after ≡ s) × TellsWords (last_words_in s.runner) old new told
@@ -115,8 +139,10 @@ Steps s ask.Left after old new told = (new ≡ old) × (after ≡ s) × (told �
 Steps s ask.Services after old new told = (new ≡ old) × (after ≡ s) × (told ≡ counted (length s.checked.now.script.services))
 Steps s (ask.Name k) after old new told = (after ≡ s) × TellsIf Lists (name_at s.checked.now.script k) old new told
 Steps s (ask.Numbers k) after old new told = (after ≡ s) × TellsIf TellsWords (numbers_at s.checked.now k) old new told
+Steps s (ask.Limit most) after old new told = (new ≡ old) × Limits most s after × (told ≡ only_code 0)
+Steps s ask.GoOn after old new told = (new ≡ old) × GoesOnIf (is_paused s.runner.pending) s after told
 Steps s ask.Abandon after old new told = LeavesUnless s.runner.overrun s after old new told
-Steps s ask.Rewind after old new told = (new ≡ old) × StartsOn s.checked.now after × (told ≡ only_code 0)
+Steps s ask.Rewind after old new told = (new ≡ old) × Begins s.checked.now after × (after.runner.limit ≡ s.runner.limit) × (told ≡ only_code 0)
 
 abbrev pub Talks : Option Session → Ask → Told → Option Session → (old new : List ℕ) → Told → Type 0
 Talks None ask none after old new told = (after ≡ None) × (new ≡ old) × (told ≡ none)
@@ -136,6 +162,9 @@ AnswersNext v a after code progress = (told : Told) × Asks v (ask.Next a) after
 abbrev pub AnswersStep : Option Session → CamacAnswer → Option Session → ℕ → CamacProgress → CamacWant → Type 0
 AnswersStep v a after code progress want =
     (told : Told) × Asks v (ask.Step a) after [] [] told × (code ≡ told.code) × (progress ≡ told.progress) × (want ≡ told.want)
+
+abbrev pub AnswersGoOn : Option Session → Option Session → ℕ → CamacProgress → Type 0
+AnswersGoOn v after code progress = (told : Told) × Asks v ask.GoOn after [] [] told × (code ≡ told.code) × (progress ≡ told.progress)
 
 -- what is only counted, or only done
 abbrev pub AnswersCount : Option Session → Ask → Option Session → ℕ → Type 0

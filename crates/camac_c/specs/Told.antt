@@ -49,6 +49,11 @@ abbrev pub asked : Option Wanted → Told
 asked (Some wanted) = record (only_code 0) { want = want_in wanted }
 asked None = only_code 4
 
+-- the code is 8 while the run pauses
+abbrev pub while_paused : Bool → Told → Told
+while_paused true told = record told { code = 8 }
+while_paused false told = told
+
 -- so many there are
 abbrev pub counted : ℕ → Told
 counted count = record (only_code 0) { count = count }
@@ -95,3 +100,7 @@ progress_in (Overrun o) words = record no_progress { kind = 4; c = o.c; wait = o
 abbrev pub did : Progress → ℕ → Told
 did (Went item unlocks event) words = record (only_code 0) { progress = progress_in (Went item unlocks event) words }
 did (Overrun o) words = record (only_code 4) { progress = progress_in (Overrun o) words }
+
+-- what it did after a pause
+abbrev pub did_on : List ℕ → Option Left → ℕ → Told
+did_on unlocks event words = record (only_code 0) { progress = event_in event words (record no_progress { unlocked = crates_in unlocks }) }

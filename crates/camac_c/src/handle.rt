@@ -63,33 +63,39 @@ impl Handle {
         }
     }
 
-    /// Asks the run, which writes to `bytes` where it is asked for that. Where there is none, `none` is told.
+    /// Asks the run, which tells it, and writes to `bytes` where it is asked for that. Where there is none, `told` stays.
     #[inline(always)]
-    pub fn talk(self, ask: Ask, none: Told, bytes: &mut [u8]) -> (Handle, Told)
-        ensures { Talks self.value ask none result.0.value bytes.old bytes.new result.1 }
+    pub fn talk(self, ask: Ask, told: &mut Told, bytes: &mut [u8]) -> Handle
+        ensures { Talks self.value ask told.old result.value bytes.old bytes.new told.new }
     {
         let Handle { run, script, alloc } = self;
         if run.is_null() {
-            (Handle { run, script, alloc }, none)
+            Handle { run, script, alloc }
         } else {
-            let (run, told) = step(
+            let Loose { at, alloc } = step(
                 Loose {
                     at: run as *mut Session,
                     alloc,
                 },
                 ask,
+                told,
                 bytes,
             );
-            let Loose { at, alloc } = run;
-            (
-                Handle {
-                    run: at as *mut Hidden,
-                    script,
-                    alloc,
-                },
-                told,
-            )
+            Handle {
+                run: at as *mut Hidden,
+                script,
+                alloc,
+            }
         }
+    }
+
+    /// Asks the run. Where there is none, `told` stays.
+    #[inline(always)]
+    pub fn tell(&mut self, alloc: Global, ask: Ask, told: &mut Told, bytes: &mut [u8])
+        ensures { Talks self.old.value ask told.old self.new.value bytes.old bytes.new told.new }
+    {
+        let held = std::mem::replace(self, Handle::none(alloc));
+        *self = held.talk(ask, told, bytes);
     }
 
     /// Asks the run, where there is one, else tells `MISUSE`.
@@ -97,9 +103,8 @@ impl Handle {
     pub fn ask(&mut self, alloc: Global, ask: Ask, bytes: &mut [u8]) -> Told
         ensures { Asks self.old.value ask self.new.value bytes.old bytes.new result }
     {
-        let held = std::mem::replace(self, Handle::none(alloc));
-        let (after, told) = held.talk(ask, only_code(MISUSE), bytes);
-        *self = after;
+        let mut told = only_code(MISUSE);
+        self.tell(alloc, ask, &mut told, bytes);
         told
     }
 

@@ -2,7 +2,7 @@
 
 ghost use Rattle.std.specs.Prelude.{◌≡◌, length, reverse};
 ghost use Rattle.camac_c.specs.Filled.{filled_words};
-ghost use Rattle.camac_c.specs.Held.{held_after};
+ghost use Rattle.camac_c.specs.Held.{held_after, without};
 
 use arrayvec::ArrayVec;
 use byteorder::{ByteOrder, LittleEndian};
@@ -21,7 +21,17 @@ pub fn keep_held(held: &mut Held, item: &Item, unlocks: &[CrateNo])
             held.push(*c);
         }
     }
-    held.truncate(held.len() - unlocks.len().min(held.len()));
+    // most answers release none
+    if !unlocks.is_empty() {
+        release_held(held, unlocks.len());
+    }
+}
+
+/// Leaves so many lockouts, the last first.
+pub fn release_held(held: &mut Held, n: usize)
+    ensures { held.new.items ≡ without n held.old.items }
+{
+    held.truncate(held.len() - n.min(held.len()));
 }
 
 /// Writes the crates, the last first, as many as there is room for, the least byte of each number first. Returns the number of all.

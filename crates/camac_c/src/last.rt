@@ -1,4 +1,4 @@
-// What is told of the last answer: the lines of the listing, and the record of the event file.
+// What a run did last: the lines of the listing, and the record of the event file.
 
 ghost use Rattle.std.specs.Prelude.{◌≡◌, ◌≤◌, ◌+◌, ◌*◌, ◌++◌, length, take, Some};
 ghost use Rattle.std.specs.List.{flat_map};
@@ -6,50 +6,79 @@ ghost use Rattle.byteorder.specs.Endian.{big_bytes};
 ghost use Rattle.camac_event.specs.Spelling.{head_of, record_of};
 ghost use Rattle.camac_c.specs.Filled.{Gives};
 ghost use Rattle.camac_c.specs.Last.{last_lines, last_record};
+ghost use Rattle.camac_play.specs.Told.{event_record};
 
 use crate::filling::give;
+use arrayvec::ArrayVec;
 use byteorder::{BigEndian, ByteOrder};
 use camac_checked::Checked;
 use camac_event::Usage;
 use camac_lines::{LONGEST_LINE, bytes_in};
-use camac_report::items_in;
+use camac_report::{items_in, unlocks_line};
 use camac_run::Progress;
-use camac_word::{GlBit, Word24};
+use camac_word::{CrateNo, GlBit, Word24};
 
 /// The bytes of the longest record: what stands before its words, and 4,096 words.
 const LONGEST_RECORD: usize = 16 + 4 * 4096;
 
-/// Puts the lines of the listing for an answer into a buffer, as far as there is room, and tells their size.
-pub fn give_lines(checked: &Checked, last: &Option<Progress>, bytes: &mut [u8], size: &mut usize)
+/// What a run did last.
+#[derive(Drop)]
+pub enum Last {
+    /// It is at its beginning.
+    Nothing,
+    /// It took an answer.
+    Answer(Progress),
+    /// It went on after a pause: these crates were released, and this event left.
+    Pause(ArrayVec<CrateNo, 7>, Option<(u32, GlBit, Usage)>),
+}
+
+/// Puts the lines of the listing for that into a buffer, as far as there is room, and tells their size.
+pub fn give_lines(checked: &Checked, last: &Last, bytes: &mut [u8], size: &mut usize)
     ensures { Gives (last_lines checked.now.script last.now) bytes.old bytes.new size.new }
 {
     match last {
-        Some(Progress::Went { item, unlocks, .. }) => {
+        Last::Answer(Progress::Went { item, unlocks, .. }) => {
             let mut lines = [0; LONGEST_LINE];
             let end = items_in(&mut lines, 0, checked, item, unlocks.as_slice());
             give(&lines[..end], bytes, size);
         }
-        _ => give(&[], bytes, size),
+        Last::Pause(unlocks, _) => {
+            give(unlocks_line(unlocks.as_slice()).as_bytes(), bytes, size)
+        }
+        Last::Answer(Progress::Overrun(_)) => give(&[], bytes, size),
+        Last::Nothing => give(&[], bytes, size),
     }
 }
 
-/// Puts the record of the event that an answer left, with these words, into a buffer, as far as there is room, and tells its size.
-pub fn give_record(last: &Option<Progress>, words: &[Word24], bytes: &mut [u8], size: &mut usize)
+/// Puts the record of the event that it left, with these words, into a buffer, as far as there is room, and tells its size.
+pub fn give_record(last: &Last, words: &[Word24], bytes: &mut [u8], size: &mut usize)
     requires { length words.now ≤ 4096 }
     ensures { Gives (last_record last.now words.now) bytes.old bytes.new size.new }
 {
     match last {
-        Some(
-            Progress::Went {
-                event: Some((number, gl, usage)),
-                ..
-            },
-        ) => {
+        Last::Answer(Progress::Went { event, .. }) => give_event(event, words, bytes, size),
+        Last::Pause(_, event) => give_event(event, words, bytes, size),
+        Last::Answer(Progress::Overrun(_)) => give(&[], bytes, size),
+        Last::Nothing => give(&[], bytes, size),
+    }
+}
+
+fn give_event(
+    event: &Option<(u32, GlBit, Usage)>,
+    words: &[Word24],
+    bytes: &mut [u8],
+    size: &mut usize,
+)
+    requires { length words.now ≤ 4096 }
+    ensures { Gives (event_record event.now words.now) bytes.old bytes.new size.new }
+{
+    match event {
+        Some((number, gl, usage)) => {
             let mut record = [0; LONGEST_RECORD];
             let end = record_in(&mut record, *number, *gl, *usage, words);
             give(&record[..end], bytes, size);
         }
-        _ => give(&[], bytes, size),
+        None => give(&[], bytes, size),
     }
 }
 

@@ -10,12 +10,14 @@ ghost use Rattle.camac_c.specs.Talk.{AnswersBytes, AnswersCode, AnswersCount, An
 ghost use Rattle.camac_c.specs.declared.plain.Ask.TheVariants as ask;
 
 mod abandon;
+mod ahead;
 mod filling;
 mod handle;
 mod held;
 mod last;
 mod loose;
 mod opening;
+mod pausing;
 mod place;
 mod plain;
 mod response;
@@ -27,7 +29,7 @@ use camac_word::Watched;
 use filling::{fault_code, give, give_nothing};
 use handle::Handle;
 use opening::{is_open, open};
-use plain::{Ask, CamacAnswer, CamacProgress, CamacWant, MISUSE, OK, REFUSED};
+use plain::{Ask, CamacAnswer, CamacProgress, CamacWant, MISUSE, OK, REFUSED, only_code};
 use std::alloc::Global;
 
 /// 10,000 times the first number of the version, 100 times the second, and the third.
@@ -106,7 +108,8 @@ pub extern "C" fn camac_raw_next(
 ) -> u32
     ensures { AnswersNext handle.old.value answer.now handle.new.value result progress.new }
 {
-    let told = handle.ask(alloc, Ask::Next(*answer), &mut []);
+    let mut told = only_code(MISUSE);
+    handle.tell(alloc, Ask::Next(*answer), &mut told, &mut []);
     *progress = told.progress;
     told.code
 }
@@ -123,7 +126,8 @@ pub extern "C" fn camac_raw_step(
 ) -> u32
     ensures { AnswersStep handle.old.value answer.now handle.new.value result progress.new want.new }
 {
-    let told = handle.ask(alloc, Ask::Step(*answer), &mut []);
+    let mut told = only_code(MISUSE);
+    handle.tell(alloc, Ask::Step(*answer), &mut told, &mut []);
     *progress = told.progress;
     *want = told.want;
     told.code

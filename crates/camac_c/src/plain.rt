@@ -56,6 +56,8 @@ pub struct CamacProgress {
 pub enum Ask {
     /// What the next answer is for.
     Wants,
+    /// The operations that come next, whatever is answered.
+    Ahead,
     /// To take an answer.
     Next(CamacAnswer),
     /// To take an answer, and then what the next one is for.
@@ -78,6 +80,10 @@ pub enum Ask {
     Name(u32),
     /// Its numbers.
     Numbers(u32),
+    /// To make no more than so many steps at once.
+    Limit(u32),
+    /// To go on after a pause.
+    GoOn,
     /// To leave the service in progress.
     Abandon,
     /// To begin anew.
@@ -117,6 +123,9 @@ pub const SPENT: u32 = 6;
 
 /// A text above its limit.
 pub const LONG: u32 = 7;
+
+/// The run pauses: it wants no answer, but to go on.
+pub const BUSY: u32 = 8;
 
 pub const DEMAND: u8 = 1;
 

@@ -1,24 +1,27 @@
 // A run in progress: what is asked of it, and what it tells.
 
 ghost use Rattle.std.specs.Prelude.{◌≡◌, ◌↔◌, length, IfOk, IfSome, IsSome};
+ghost use Rattle.camac_machine.specs.Rest.{is_paused};
 ghost use Rattle.camac_run.specs.Runner.{last_words_in};
 ghost use Rattle.camac_c.specs.Abandoned.{LeavesUnless};
 ghost use Rattle.camac_c.specs.Filled.{filled_words};
 ghost use Rattle.camac_c.specs.Last.{last_lines, last_record};
+ghost use Rattle.camac_c.specs.Paused.{GoesOnIf, Limits};
 ghost use Rattle.camac_c.specs.Plain.{only_code};
 ghost use Rattle.camac_c.specs.Service.{name_at, numbers_at};
-ghost use Rattle.camac_c.specs.Talk.{Lists, StartsOn, Steps, TellsNext, TellsIf, TellsPlace, TellsStep, TellsWant, TellsWords, answers_left};
-ghost use Rattle.camac_c.specs.Told.{InRange, answer_in, counted, crates_in, did, event_in, flag_in, item_in, movement_in, service_in, want_in, word_in, written_in};
+ghost use Rattle.camac_c.specs.Talk.{Begins, IfAnswer, Lists, StartsOn, Steps, TellsAhead, TellsNext, TellsIf, TellsPlace, TellsStep, TellsWant, TellsWords, answers_left};
+ghost use Rattle.camac_c.specs.Told.{InRange, answer_in, asked, counted, crates_in, did, event_in, flag_in, item_in, movement_in, service_in, want_in, while_paused, word_in, written_in};
 
 use crate::abandon::write_crates;
+use crate::ahead::numbers_ahead;
 use crate::filling::give;
-use crate::held::{Held, keep_held, write_held};
-use crate::last::{give_lines, give_record};
+use crate::held::{Held, keep_held, release_held, write_held};
+use crate::last::{Last, give_lines, give_record};
 use crate::loose::Loose;
 use crate::place::numbers_of_place;
 use crate::plain::{
-    Ask, CYCLE, CamacAnswer, CamacProgress, CamacWant, DEMAND, LOCK, NO_PROGRESS, NO_WANT, OK,
-    OVERRUN, RANGE, SPENT, STOPPED, Told, only_code,
+    Ask, BUSY, CYCLE, CamacAnswer, CamacProgress, CamacWant, DEMAND, LOCK, NO_PROGRESS, NO_WANT,
+    OK, OVERRUN, RANGE, SPENT, STOPPED, Told, only_code,
 };
 use crate::service::{name_of, numbers_of, write_numbers};
 use byteorder::{ByteOrder, LittleEndian};
@@ -39,8 +42,8 @@ const MOST_ANSWERS: u32 = 4_294_967_295;
 pub struct Session<'a> {
     runner: FullRunner<'a>,
     checked: &'a Checked,
-    // what the last answer did
-    last: Option<Progress>,
+    // what the run did last
+    last: Last,
     held: Held,
 }
 
@@ -54,7 +57,7 @@ pub fn start<'a>(alloc: Global, checked: &'a Checked) -> Result<Loose<Session<'a
         Session {
             runner: FullRunner::start(checked),
             checked,
-            last: None,
+            last: Last::Nothing,
             held: Held::new(),
         },
     ) {
@@ -63,33 +66,37 @@ pub fn start<'a>(alloc: Global, checked: &'a Checked) -> Result<Loose<Session<'a
     }
 }
 
-/// Does what is asked.
+/// Does what is asked, and tells it.
 #[inline(always)]
 pub fn step<'a>(
     run: Loose<Session<'a>, Global>,
     ask: Ask,
+    told: &mut Told,
     bytes: &mut [u8],
-) -> (Loose<Session<'a>, Global>, Told)
-    ensures { Steps run.entry.value ask result.0.value bytes.old bytes.new result.1 }
+) -> Loose<Session<'a>, Global>
+    ensures { Steps run.entry.value ask result.value bytes.old bytes.new told.new }
 {
     let mut session = run.into_box();
-    let told = match ask {
-        Ask::Wants => wants(&session),
-        Ask::Next(answer) => next(&mut session, answer),
-        Ask::Step(answer) => next_and_wants(&mut session, answer),
-        Ask::Words => counted(write_words(session.runner.last_words(), bytes)),
-        Ask::Record => record(&session, bytes),
-        Ask::Item => item(&session, bytes),
-        Ask::Held => counted(write_held(session.held.as_slice(), bytes)),
-        Ask::Where => place(&session, bytes),
-        Ask::Left => counted(left(&session) as usize),
-        Ask::Services => counted(session.checked.services()),
-        Ask::Name(number) => name(&session, number, bytes),
-        Ask::Numbers(number) => numbers(&session, number, bytes),
-        Ask::Abandon => abandon(&mut session, bytes),
-        Ask::Rewind => rewind(&mut session),
-    };
-    (Loose::of(session), told)
+    match ask {
+        Ask::Wants => wants(&session, told),
+        Ask::Ahead => *told = ahead(&session, bytes),
+        Ask::Next(answer) => next(&mut session, answer, told),
+        Ask::Step(answer) => next_and_wants(&mut session, answer, told),
+        Ask::Words => *told = counted(write_words(session.runner.last_words(), bytes)),
+        Ask::Record => *told = record(&session, bytes),
+        Ask::Item => *told = item(&session, bytes),
+        Ask::Held => *told = counted(write_held(session.held.as_slice(), bytes)),
+        Ask::Where => *told = place(&session, bytes),
+        Ask::Left => *told = counted(left(&session) as usize),
+        Ask::Services => *told = counted(session.checked.services()),
+        Ask::Name(number) => *told = name(&session, number, bytes),
+        Ask::Numbers(number) => *told = numbers(&session, number, bytes),
+        Ask::Limit(most) => *told = limit(&mut session, most),
+        Ask::GoOn => *told = go_on(&mut session),
+        Ask::Abandon => *told = abandon(&mut session, bytes),
+        Ask::Rewind => *told = rewind(&mut session),
+    }
+    Loose::of(session)
 }
 
 /// Drops a run, and returns its allocator.
@@ -102,34 +109,44 @@ pub fn finish<'a>(run: Loose<Session<'a>, Global>) -> Global
     alloc
 }
 
-#[inline(always)]
-fn wants(session: &Session) -> Told
-    ensures { TellsWant session.now session.now result }
+fn wants(session: &Session, told: &mut Told)
+    ensures { TellsWant session.now session.now told.new }
 {
-    match session.runner.wants() {
-        None => only_code(OVERRUN),
-        Some(wanted) => Told {
-            want: want_of(wanted),
-            ..only_code(OK)
-        },
+    let wanted = session.runner.wants();
+    *told = only_code(if wanted.is_none() { OVERRUN } else { OK });
+    tell_want(wanted, &mut told.want);
+    while_paused(session, told);
+}
+
+#[inline(always)]
+fn tell_want(wanted: Option<Wanted>, want: &mut CamacWant)
+    ensures { want.new ≡ (asked wanted).want }
+{
+    match wanted {
+        None => *want = NO_WANT,
+        Some(wanted) => tell_operation(wanted, want),
     }
 }
 
 #[inline(always)]
-fn want_of(wanted: Wanted) -> CamacWant
-    ensures { result ≡ want_in wanted }
+pub fn tell_operation(wanted: Wanted, want: &mut CamacWant)
+    ensures { want.new ≡ want_in wanted }
 {
     match wanted {
-        Wanted::Demand => CamacWant {
-            kind: DEMAND,
-            ..NO_WANT
-        },
-        Wanted::Cycle(command) => cycle_of(command),
-        Wanted::Lock(c) => CamacWant {
-            kind: LOCK,
-            c: c.get() as u8,
-            ..NO_WANT
-        },
+        Wanted::Demand => {
+            *want = CamacWant {
+                kind: DEMAND,
+                ..NO_WANT
+            }
+        }
+        Wanted::Cycle(command) => *want = cycle_of(command),
+        Wanted::Lock(c) => {
+            *want = CamacWant {
+                kind: LOCK,
+                c: c.get() as u8,
+                ..NO_WANT
+            }
+        }
     }
 }
 
@@ -168,40 +185,71 @@ fn written_of(mv: DataMove) -> u32
     }
 }
 
-#[inline(always)]
-fn next(session: &mut Session, answer: CamacAnswer) -> Told
-    ensures { TellsNext answer session.old session.new result }
+// Takes an answer. A call of its own writes what is told in place: inlined, each field would be carried to the end of the export.
+#[inline(never)]
+fn next(session: &mut Session, answer: CamacAnswer, told: &mut Told)
+    ensures { TellsNext answer session.old session.new told.new }
 {
+    take(session, answer, told);
+}
+
+// The same, for both calls.
+#[inline(always)]
+fn take(session: &mut Session, answer: CamacAnswer, told: &mut Told)
+    ensures { TellsNext answer session.old session.new told.new }
+{
+    if session.runner.is_paused() {
+        *told = only_code(BUSY);
+        return;
+    }
     let Some(answer) = answer_of(answer) else {
-        return only_code(RANGE);
+        *told = only_code(RANGE);
+        return;
     };
     if session.runner.fed() >= MOST_ANSWERS {
-        return only_code(SPENT);
+        *told = only_code(SPENT);
+        return;
     }
     let progress = session.runner.next(answer);
-    let told = told_of(&progress, session.runner.last_words().len() as u32);
     if let Progress::Went { item, unlocks, .. } = &progress {
         keep_held(&mut session.held, item, unlocks.as_slice());
     }
-    session.last = Some(progress);
-    told
+    session.last = Last::Answer(progress);
+    let words = session.runner.last_words().len() as u32;
+    tell(&session.last, words, told);
+    while_paused(session, told);
+}
+
+// The code is `BUSY` while the run pauses.
+#[inline(always)]
+fn while_paused(session: &Session, told: &mut Told)
+    ensures { told.new ≡ while_paused (is_paused session.now.runner.pending) told.old }
+{
+    if session.runner.is_paused() {
+        told.code = BUSY;
+    }
 }
 
 // Takes an answer. Where that is done, told is also what the next one is for.
-#[inline(always)]
-fn next_and_wants(session: &mut Session, answer: CamacAnswer) -> Told
-    ensures { TellsStep answer session.old session.new result }
+#[inline(never)]
+fn next_and_wants(session: &mut Session, answer: CamacAnswer, told: &mut Told)
+    ensures { TellsStep answer session.old session.new told.new }
 {
-    let told = next(session, answer);
-    let wanted = wants(session);
+    take(session, answer, told);
     if told.code == OK {
-        Told {
-            want: wanted.want,
-            ..told
-        }
+        tell_want(session.runner.wants(), &mut told.want);
     } else {
-        told
+        // the contract says at each code what the run wants
+        let _ = session.runner.wants();
     }
+}
+
+fn ahead(session: &Session, bytes: &mut [u8]) -> Told
+    ensures { TellsAhead session.now.runner bytes.old bytes.new result }
+{
+    let ahead = session.runner.ahead();
+    let numbers = numbers_ahead(ahead.as_slice());
+    counted(write_numbers(numbers.as_slice(), bytes))
 }
 
 // So many there are.
@@ -241,9 +289,10 @@ fn place(session: &Session, bytes: &mut [u8]) -> Told
 fn left(session: &Session) -> u32
     ensures { result ≡ answers_left session.now.runner }
 {
-    match session.runner.wants() {
-        Some(_) => MOST_ANSWERS - session.runner.fed(),
-        None => 0,
+    if session.runner.is_over() {
+        0
+    } else {
+        MOST_ANSWERS - session.runner.fed()
     }
 }
 
@@ -269,12 +318,43 @@ fn numbers(session: &Session, number: u32, bytes: &mut [u8]) -> Told
     }
 }
 
+// Sets how many steps the run makes at once.
+fn limit(session: &mut Session, most: u32) -> Told
+    ensures told { result ≡ only_code 0 }
+    ensures limits { Limits most session.old session.new }
+{
+    session.runner.limit_steps(most);
+    only_code(OK)
+}
+
+// Goes on after a pause.
+fn go_on(session: &mut Session) -> Told
+    ensures { GoesOnIf (is_paused session.old.runner.pending) session.old session.new result }
+{
+    if !session.runner.is_paused() {
+        return only_code(if session.runner.is_over() {
+            OVERRUN
+        } else {
+            OK
+        });
+    }
+    let (unlocks, event) = session.runner.go_on();
+    let mut told = only_code(OK);
+    told.progress.unlocked = crates_of(unlocks.as_slice());
+    let words = session.runner.last_words().len() as u32;
+    tell_event(&event, words, &mut told.progress);
+    release_held(&mut session.held, unlocks.len());
+    session.last = Last::Pause(unlocks, event);
+    while_paused(session, &mut told);
+    told
+}
+
 // Leaves the service in progress.
 #[tactic(auto, using(crate::proofs::Abandoned::stays_over, crate::proofs::Abandoned::leaves_first))]
 fn abandon(session: &mut Session, bytes: &mut [u8]) -> Told
     ensures { LeavesUnless session.old.runner.overrun session.old session.new bytes.old bytes.new result }
 {
-    if session.runner.wants().is_none() {
+    if session.runner.is_over() {
         return only_code(OVERRUN);
     }
     let unlocks = session.runner.abandon();
@@ -285,11 +365,14 @@ fn abandon(session: &mut Session, bytes: &mut [u8]) -> Told
 // Begins anew.
 fn rewind(session: &mut Session) -> Told
     ensures told { result ≡ only_code 0 }
-    ensures begins { StartsOn session.old.checked.now session.new }
+    ensures begins { Begins session.old.checked.now session.new }
+    ensures limit { session.new.runner.limit ≡ session.old.runner.limit }
 {
     session.checked.fits_greatest();
+    let kept = session.runner.limit();
     session.runner = FullRunner::start(session.checked);
-    session.last = None;
+    session.runner.limit_steps(kept);
+    session.last = Last::Nothing;
     session.held = Held::new();
     only_code(OK)
 }
@@ -304,63 +387,59 @@ fn answer_of(answer: CamacAnswer) -> Option<Answer>
 }
 
 #[inline(always)]
-fn told_of(progress: &Progress, words: u32) -> Told
-    ensures { result ≡ did progress.now words }
+fn tell(last: &Last, words: u32, told: &mut Told)
+    ensures { IfAnswer last.now (λ progress. told.new ≡ did progress words) }
 {
-    match progress {
-        Progress::Overrun(overrun) => Told {
-            progress: CamacProgress {
-                kind: STOPPED,
-                c: overrun.c.get() as u8,
-                wait: overrun.wait,
-                ..NO_PROGRESS
+    match last {
+        Last::Nothing => {}
+        Last::Pause(_, _) => {}
+        Last::Answer(Progress::Overrun(overrun)) => {
+            *told = only_code(OVERRUN);
+            told.progress.kind = STOPPED;
+            told.progress.c = overrun.c.get() as u8;
+            told.progress.wait = overrun.wait;
+        }
+        Last::Answer(
+            Progress::Went {
+                item,
+                unlocks,
+                event,
             },
-            ..only_code(OVERRUN)
-        },
-        Progress::Went {
-            item,
-            unlocks,
-            event,
-        } => {
-            let unlocked = crates_of(unlocks.as_slice());
-            let told = CamacProgress {
-                unlocked,
-                ..item_of(item)
-            };
-            Told {
-                progress: with_event(told, event, words),
-                ..only_code(OK)
-            }
+        ) => {
+            told.code = OK;
+            told.want = NO_WANT;
+            told.count = 0;
+            tell_item(item, &mut told.progress);
+            told.progress.unlocked = unlocked_of(unlocks.as_slice());
+            tell_event(event, words, &mut told.progress);
         }
     }
 }
 
 #[inline(always)]
-fn item_of(item: &Item) -> CamacProgress
-    ensures { result ≡ item_in item.now }
+fn tell_item(item: &Item, progress: &mut CamacProgress)
+    ensures { progress.new ≡ item_in item.now }
 {
+    *progress = NO_PROGRESS;
     match item {
-        Item::Demand(pattern, service) => CamacProgress {
-            kind: DEMAND,
-            pattern: pattern.get(),
-            service: service_of(*service),
-            ..NO_PROGRESS
-        },
-        Item::Cycle(done) => CamacProgress {
-            kind: CYCLE,
-            wait: done.wait,
-            x: flag_of(done.reply.x),
-            q: flag_of(done.reply.q),
-            word: word_of(done),
-            ..NO_PROGRESS
-        },
-        Item::Lock(c, wait) => CamacProgress {
-            kind: LOCK,
-            c: c.get() as u8,
-            wait: *wait,
-            ..NO_PROGRESS
-        },
-        Item::Unlock(_) => NO_PROGRESS,
+        Item::Demand(pattern, service) => {
+            progress.kind = DEMAND;
+            progress.pattern = pattern.get();
+            progress.service = service_of(*service);
+        }
+        Item::Cycle(done) => {
+            progress.kind = CYCLE;
+            progress.wait = done.wait;
+            progress.x = flag_of(done.reply.x);
+            progress.q = flag_of(done.reply.q);
+            progress.word = word_of(done);
+        }
+        Item::Lock(c, wait) => {
+            progress.kind = LOCK;
+            progress.c = c.get() as u8;
+            progress.wait = *wait;
+        }
+        Item::Unlock(_) => {}
     }
 }
 
@@ -391,22 +470,31 @@ pub fn service_of(service: Option<usize>) -> u32
 }
 
 #[inline(always)]
-fn with_event(told: CamacProgress, event: &Option<(u32, GlBit, Usage)>, words: u32) -> CamacProgress
-    ensures { result ≡ event_in event.now words told }
+fn tell_event(event: &Option<(u32, GlBit, Usage)>, words: u32, progress: &mut CamacProgress)
+    ensures { progress.new ≡ event_in event.now words progress.old }
 {
-    match event {
-        None => told,
-        Some((number, gl, usage)) => CamacProgress {
-            event: *number,
-            event_gl: gl.get(),
-            event_words: words,
-            event_cycles: usage.cycles,
-            event_missed: u32::from(usage.missed),
-            ..told
-        },
+    if let Some((number, gl, usage)) = event {
+        progress.event = *number;
+        progress.event_gl = gl.get();
+        progress.event_words = words;
+        progress.event_cycles = usage.cycles;
+        progress.event_missed = u32::from(usage.missed);
     }
 }
 
+// The crates to be released. Most answers release none, and make no call for it.
+#[inline(always)]
+fn unlocked_of(crates: &[CrateNo]) -> [u8; 8]
+    ensures { result ≡ crates_in crates.now }
+{
+    if crates.is_empty() {
+        [0; 8]
+    } else {
+        crates_of(crates)
+    }
+}
+
+#[inline(never)]
 fn crates_of(crates: &[CrateNo]) -> [u8; 8]
     ensures { result ≡ crates_in crates.now }
 {

@@ -95,6 +95,20 @@ pub extern "C" fn camac_raw_explain(
     tell(alloc, Ask::Explain, plan, script, text, size)
 }
 
+/// Prints the headings of a script with the least numbers that are accepted, and explains a refusal.
+#[unsafe(no_mangle)]
+pub extern "C" fn camac_raw_explain_bounds(
+    alloc: Global,
+    plan: &[u8],
+    script: &[u8],
+    text: &mut [u8],
+    size: &mut usize,
+) -> u32
+    ensures { AnswersTexts ask.ExplainBounds plan.now script.now result text.old text.new size.new }
+{
+    tell(alloc, Ask::ExplainBounds, plan, script, text, size)
+}
+
 /// Prints what the checker knows before the statement at a line and a column, both from 1.
 #[unsafe(no_mangle)]
 pub extern "C" fn camac_raw_explain_at(

@@ -217,7 +217,7 @@ guard_same b true rule line d e r q is same h = ap (λ x. go_on (required x rule
 guard_same b false rule line d e r q is same h = ap (λ x. go_on (required x rule line d) (λ _. r)) is ∙ ap (λ c. Err (broken rule line c)) same
 
 -- a cost that is cut is the cost
-told_cut : (place : Body) (n allowed : ℕ) → budget place (min n (2 ^ 64 - 1)) allowed ≡ budget place n allowed
+pub told_cut : (place : Body) (n allowed : ℕ) → budget place (min n (2 ^ 64 - 1)) allowed ≡ budget place n allowed
 told_cut place n allowed =
     let k : ℕ = 2 ^ 64 - 1 in
     let same : min (min n k) k ≡ min n k = omega arith in

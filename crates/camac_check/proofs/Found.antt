@@ -83,10 +83,10 @@ pub not_headed : {X : Type 0} (view : X → Script) (plan : Layout) (script s0 k
     → Heads (least_from plan s0 0 0 0) s0 new 0 0 (Err f) → Finds view (Err f) (least plan script)
 unfolding and_then
 not_headed view plan script s0 k new fault.OutOfMemory is copy e h = tt
-not_headed view plan script s0 k new (fault.Link rule line) is copy e h =
+not_headed view plan script s0 k new (fault.Link rule line case) is copy e h =
     whole plan script s0 k is copy e
     ∙ ap (λ r. and_then r (λ h. Ok (record (unannotated script) { procedures = h.procedures; services = h.services }))) (ap (λ s. least_from plan s 0 0 0) (sym is) ∙ h)
-not_headed view plan script s0 k new (fault.Check rule line) is copy e h =
+not_headed view plan script s0 k new (fault.Check rule line case) is copy e h =
     whole plan script s0 k is copy e
     ∙ ap (λ r. and_then r (λ h. Ok (record (unannotated script) { procedures = h.procedures; services = h.services }))) (ap (λ s. least_from plan s 0 0 0) (sym is) ∙ h)
 

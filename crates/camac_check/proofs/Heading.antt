@@ -172,10 +172,10 @@ pub heads_procedure_fault : (plan : Layout) (s t : Script) (k done served : ℕ)
     → Finds {X = Bounds} (λ b. b) (Err f) (procedure_needs (after_procedures plan s done) p) → Heads (least_from plan s k done served) s t done served (Err f)
 unfolding and_then
 heads_procedure_fault plan s t k done served p fault.OutOfMemory e at h = tt
-heads_procedure_fault plan s t k done served p (fault.Link rule line) e at h =
+heads_procedure_fault plan s t k done served p (fault.Link rule line case) e at h =
     procedure_item plan s k done served p e at
     ∙ ap (λ r. and_then r (λ b. and_then (least_from plan (with_procedure_needing done b s) (k + 1) (done + 1) served) (λ h. Ok (procedure_first (needing b p) h)))) h
-heads_procedure_fault plan s t k done served p (fault.Check rule line) e at h =
+heads_procedure_fault plan s t k done served p (fault.Check rule line case) e at h =
     procedure_item plan s k done served p e at
     ∙ ap (λ r. and_then r (λ b. and_then (least_from plan (with_procedure_needing done b s) (k + 1) (done + 1) served) (λ h. Ok (procedure_first (needing b p) h)))) h
 
@@ -183,10 +183,10 @@ pub heads_service_fault : (plan : Layout) (s t : Script) (k done served : ℕ) (
     → Finds {X = Bounds} (λ b. b) (Err f) (service_needs (after_procedures plan s done) v) → Heads (least_from plan s k done served) s t done served (Err f)
 unfolding and_then
 heads_service_fault plan s t k done served v fault.OutOfMemory e at h = tt
-heads_service_fault plan s t k done served v (fault.Link rule line) e at h =
+heads_service_fault plan s t k done served v (fault.Link rule line case) e at h =
     service_item plan s k done served v e at
     ∙ ap (λ r. and_then r (λ b. and_then (least_from plan (with_service_needing served b s) (k + 1) done (served + 1)) (λ h. Ok (service_first (service_needing b v) h)))) h
-heads_service_fault plan s t k done served v (fault.Check rule line) e at h =
+heads_service_fault plan s t k done served v (fault.Check rule line case) e at h =
     service_item plan s k done served v e at
     ∙ ap (λ r. and_then r (λ b. and_then (least_from plan (with_service_needing served b s) (k + 1) done (served + 1)) (λ h. Ok (service_first (service_needing b v) h)))) h
 
@@ -218,8 +218,8 @@ heads_procedure plan s m t k done served p b r e at needs is h = rest r (subst (
       new ∙ ap (λ ps. record s { procedures = ps; services = take served s.services ++ h.services }) (parts h.procedures),
     )
     rest (Err fault.OutOfMemory) h = tt
-    rest (Err (fault.Link rule line)) h = whole ∙ ap (λ r. and_then r (λ h. Ok (procedure_first (needing b p) h))) h
-    rest (Err (fault.Check rule line)) h = whole ∙ ap (λ r. and_then r (λ h. Ok (procedure_first (needing b p) h))) h
+    rest (Err (fault.Link rule line case)) h = whole ∙ ap (λ r. and_then r (λ h. Ok (procedure_first (needing b p) h))) h
+    rest (Err (fault.Check rule line case)) h = whole ∙ ap (λ r. and_then r (λ h. Ok (procedure_first (needing b p) h))) h
 
 pub heads_service : (plan : Layout) (s m t : Script) (k done served : ℕ) (v : Service) (b : Bounds) (r : Result (Unit {0}) LeastFault) → slice_get s.order k ≡ Some next_service → slice_get s.services served ≡ Some v
     → service_needs (after_procedures plan s done) v ≡ Ok b → m ≡ with_service_needing served b s
@@ -248,5 +248,5 @@ heads_service plan s m t k done served v b r e at needs is h = rest r (subst (λ
       new ∙ ap (λ vs. record s { procedures = take done s.procedures ++ h.procedures; services = vs }) (parts h.services),
     )
     rest (Err fault.OutOfMemory) h = tt
-    rest (Err (fault.Link rule line)) h = whole ∙ ap (λ r. and_then r (λ h. Ok (service_first (service_needing b v) h))) h
-    rest (Err (fault.Check rule line)) h = whole ∙ ap (λ r. and_then r (λ h. Ok (service_first (service_needing b v) h))) h
+    rest (Err (fault.Link rule line case)) h = whole ∙ ap (λ r. and_then r (λ h. Ok (service_first (service_needing b v) h))) h
+    rest (Err (fault.Check rule line case)) h = whole ∙ ap (λ r. and_then r (λ h. Ok (service_first (service_needing b v) h))) h

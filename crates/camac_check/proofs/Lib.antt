@@ -7,3 +7,4 @@ pub mod Heading
 pub mod Relinked
 pub mod Found
 pub mod Rows
+mod FirstRefusal

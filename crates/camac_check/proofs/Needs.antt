@@ -5,11 +5,13 @@ use Rattle.std.proofs.lemmas.Bool.{lt-leb, cases_lt}
 use Rattle.camac_lang.specs.Tree.{Service}
 use Rattle.camac_range.specs.Number.{greatest}
 use Rattle.camac_branch.specs.Plan.{Layout}
+use Rattle.camac_names.specs.declared.fault.LinkCase.TheVariants.{Words}
 use Rattle.camac_names.specs.declared.fault.LinkRule.TheVariants.{EventAboveBuffer}
 use Rattle.camac_model.specs.Fine.{Bounds}
 use Rattle.camac_rules.specs.declared.rule.CheckRule.TheVariants.{TooManyWords}
 use Rattle.camac_rules.specs.Fault.{Fault}
 use Rattle.camac_rules.specs.Capped.{capped}
+use Rattle.camac_rules.specs.Cases.{budget}
 use Rattle.camac_rules.specs.Costs.{Verdict}
 use Rattle.camac_rules.specs.declared.case.Body.{Body}
 use Rattle.camac_rules.specs.declared.case.Body.TheVariants as body
@@ -21,28 +23,28 @@ use Rattle.camac_check.specs.declared.fault.LeastFault.{LeastFault}
 use Rattle.camac_check.specs.declared.fault.LeastFault.TheVariants as least
 use Rattle.camac_check_simple.specs.Gives.{by_code, by_rules}
 use Rattle.camac_check.specs.Least.{and_then, checked, event_fits, most, service_needs}
-use Rattle.camac_check.proofs.Capped.{cut, cut_all, block_cut, within_cut}
+use Rattle.camac_check.proofs.Capped.{cut, cut_all, block_cut, told_cut, within_cut}
 
-event_cut : (plan : Layout) (n line : ℕ) → event_fits plan (min n (2 ^ 64 - 1)) line ≡ event_fits plan n line
-event_cut plan n line =
+event_cut : (place : Body) (plan : Layout) (n line : ℕ) → event_fits place plan (min n (2 ^ 64 - 1)) line ≡ event_fits place plan n line
+event_cut place plan n line =
     let k : ℕ = 2 ^ 64 - 1 in
-    let fits : ℕ → Result (Unit {0}) LeastFault = λ w. if nat_le w plan.buffer then Ok tt else Err (least.Link EventAboveBuffer line) in
-    let fails : Result (Unit {0}) LeastFault = Err (least.Check TooManyWords line) in
+    let fits : ℕ → Result (Unit {0}) LeastFault = λ w. if nat_le w plan.buffer then Ok tt else Err (least.Link EventAboveBuffer line (Words w plan.buffer)) in
+    let fails : ℕ → Result (Unit {0}) LeastFault = λ w. Err (least.Check TooManyWords line (budget place w greatest)) in
     ⊎_elim
     (λ more.
-    ap (λ b. if b then fits (min n k) else fails) (lt-leb (min n k) greatest (omega (arith, more)))
-    ∙ sym (ap (λ b. if b then fits n else fails) (lt-leb n greatest more)))
-    (λ le. let same : min n k ≡ n = omega (arith, le) in ap (λ m. event_fits plan m line) same)
+    ap (λ b. if b then fits (min n k) else fails (min n k)) (lt-leb (min n k) greatest (omega (arith, more)))
+    ∙ ap (λ case. Err (least.Check TooManyWords line case)) (told_cut place n greatest) ∙ sym (ap (λ b. if b then fits n else fails n) (lt-leb n greatest more)))
+    (λ le. let same : min n k ≡ n = omega (arith, le) in ap (λ m. event_fits place plan m line) same)
     (cases_lt greatest n)
 
 -- what follows the body
 abbrev judged : Body → Layout → ℕ → Verdict → Result Bounds LeastFault
-judged place plan line v = and_then (event_fits plan v.costs.words line) (λ _. checked (within place most v.costs line))
+judged place plan line v = and_then (event_fits place plan v.costs.words line) (λ _. checked (within place most v.costs line))
 
 judged_cut : (place : Body) (plan : Layout) (line : ℕ) (v : Verdict) → judged place plan line (cut v) ≡ judged place plan line v
 judged_cut place plan line v =
-    ap (λ x. and_then x (λ _. checked (within place most (capped v.costs) line))) (event_cut plan v.costs.words line)
-    ∙ ap (λ x. and_then (event_fits plan v.costs.words line) (λ _. checked x)) (within_cut place most v.costs line (lit< tt) (lit< tt) (lit< tt))
+    ap (λ x. and_then x (λ _. checked (within place most (capped v.costs) line))) (event_cut place plan v.costs.words line)
+    ∙ ap (λ x. and_then (event_fits place plan v.costs.words line) (λ _. checked x)) (within_cut place most v.costs line (lit< tt) (lit< tt) (lit< tt))
 
 finish_needs : (place : Body) (plan : Layout) (line : ℕ) (q r : Result Verdict Fault) → q ≡ cut_all r → and_then (checked q) (judged place plan line) ≡ and_then (checked r) (judged place plan line)
 unfolding and_then

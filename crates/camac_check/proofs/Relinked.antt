@@ -10,11 +10,13 @@ use Rattle.camac_names.specs.declared.fault.LinkCase.{LinkCase}
 use Rattle.camac_names.specs.declared.fault.LinkCase.TheVariants.{Words}
 use Rattle.camac_names.specs.declared.fault.LinkFault.{LinkFault}
 use Rattle.camac_names.specs.declared.fault.LinkRule.{LinkRule}
+use Rattle.camac_names.specs.declared.fault.LinkCase.TheVariants.{Words}
 use Rattle.camac_names.specs.declared.fault.LinkRule.TheVariants.{StationWithoutBit, StationServedTwice, EventAboveBuffer}
 use Rattle.camac_names.specs.Link.{unless, place_of, served_by, lams_fault, lam_bit, is_on, is_served, service_fault, served_fault, or_else, services_fault, link_fault}
 use Rattle.camac_model.specs.Fine.{Bounds}
 use Rattle.camac_rules.specs.declared.case.Case.{Case}
 use Rattle.camac_rules.specs.declared.case.Body.{Body}
+use Rattle.camac_rules.specs.Cases.{budget}
 use Rattle.camac_rules.specs.declared.case.Body.TheVariants as body
 use Rattle.camac_rules.specs.declared.rule.CheckRule.{CheckRule}
 use Rattle.camac_rules.specs.declared.rule.CheckRule.TheVariants.{TooManyWords, TooManyCycles, TooManySteps}
@@ -101,11 +103,11 @@ record Served (c : Context) (v : Service) (k : Bounds) : Type 0 where
   accepted : accept_service c (service_needing k v) ≡ Ok k
   words : k.words ≤ c.plan.buffer
 
-event_ok : (plan : Layout) (words line : ℕ) (u : Unit {0}) → event_fits plan words line ≡ Ok u → words ≤ plan.buffer
-event_ok plan words line u e = go (nat_le words greatest) (nat_le words plan.buffer) refl e
+event_ok : (place : Body) (plan : Layout) (words line : ℕ) (u : Unit {0}) → event_fits place plan words line ≡ Ok u → words ≤ plan.buffer
+event_ok place plan words line u e = go (nat_le words greatest) (nat_le words plan.buffer) refl e
   where
     go : (a b : Bool) → nat_le words plan.buffer ≡ b
-        → (if a then if b then Ok tt else Err (fault.Link EventAboveBuffer line) else Err (fault.Check TooManyWords line)) ≡ Ok u → words ≤ plan.buffer
+        → (if a then if b then Ok tt else Err (fault.Link EventAboveBuffer line (Words words plan.buffer)) else Err (fault.Check TooManyWords line (budget place words greatest))) ≡ Ok u → words ≤ plan.buffer
     go true true is e = leb-true words plan.buffer is
     go true false is e = absurd (cc)
     go false b is e = absurd (cc)
@@ -116,9 +118,9 @@ service_served c v k e =
     let judged : Result Verdict Fault = accept_block c (alone_in place) v.body at_start in
     let x = then_ok (checked judged) _ k e in
     let found = checked_ok judged x.0 x.1 in
-    let y = then_ok (event_fits c.plan x.0.costs.words v.line) _ k x.2 in
+    let y = then_ok (event_fits place c.plan x.0.costs.words v.line) _ k x.2 in
     let is = within_ok place most x.0.costs k v.line (checked_ok (within place most x.0.costs v.line) k y.2) in
-    let small : x.0.costs.words ≤ c.plan.buffer = event_ok c.plan x.0.costs.words v.line y.0 y.1 in
+    let small : x.0.costs.words ≤ c.plan.buffer = event_ok place c.plan x.0.costs.words v.line y.0 y.1 in
     let words : k.words ≡ x.0.costs.words = ap (λ b. b.words) is.same in
     let steps : k.steps ≡ x.0.costs.steps = ap (λ b. b.steps) is.same in
     let below : x.0.costs.steps ≤ greatest = is.steps in

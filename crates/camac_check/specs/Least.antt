@@ -5,13 +5,16 @@ use Rattle.camac_lang.specs.Tree.{Procedure, Service, Item, next_table, next_lam
 use Rattle.camac_range.specs.Number.{greatest}
 use Rattle.camac_branch.specs.Plan.{Layout}
 use Rattle.camac_names.specs.Link.{link_fault}
+use Rattle.camac_names.specs.declared.fault.LinkCase.TheVariants.{Words}
 use Rattle.camac_names.specs.declared.fault.LinkFault.{LinkFault}
 use Rattle.camac_names.specs.declared.fault.LinkRule.TheVariants.{EventAboveBuffer}
 use Rattle.camac_model.specs.Fine.{Bounds}
 use Rattle.camac_rules.specs.declared.rule.CheckRule.TheVariants.{TooManyWords}
 use Rattle.camac_rules.specs.Fault.{Fault, broken}
 use Rattle.camac_rules.specs.Costs.{costs}
+use Rattle.camac_rules.specs.declared.case.Body.{Body}
 use Rattle.camac_rules.specs.declared.case.Body.TheVariants as body
+use Rattle.camac_rules.specs.Cases.{budget}
 use Rattle.camac_rules.specs.Cycles.{Context, alone_in}
 use Rattle.camac_rules.specs.Statements.{accept_block}
 use Rattle.camac_rules.specs.Accept.{at_start, within, accept_procedure, with_procedure, bare}
@@ -23,8 +26,8 @@ use Rattle.camac_check.specs.declared.fault.LeastFault.TheVariants.{OutOfMemory,
 abbrev pub Finds : {X Y : Type 0} → (X → Y) → Result X LeastFault → Result Y LeastFault → Type 0
 Finds view (Ok x) r = r ≡ Ok (view x)
 Finds view (Err OutOfMemory) r = Unit {0}
-Finds view (Err (Link rule line)) r = r ≡ Err (Link rule line)
-Finds view (Err (Check rule line)) r = r ≡ Err (Check rule line)
+Finds view (Err (Link rule line case)) r = r ≡ Err (Link rule line case)
+Finds view (Err (Check rule line case)) r = r ≡ Err (Check rule line case)
 
 -- goes on with what a step allows
 unfoldable pub and_then : {A B : Type 0} → Result A LeastFault → (A → Result B LeastFault) → Result B LeastFault
@@ -38,7 +41,7 @@ linked (Some f) = Err (of_link f)
 
 abbrev pub checked : {A : Type 0} → Result A Fault → Result A LeastFault
 checked (Ok x) = Ok x
-checked (Err (broken rule line case)) = Err (Check rule line)
+checked (Err (broken rule line case)) = Err (Check rule line case)
 
 -- headings with these numbers
 abbrev pub needing : Bounds → Procedure → Procedure
@@ -56,16 +59,16 @@ abbrev pub procedure_needs : Context → Procedure → Result Bounds LeastFault
 procedure_needs c p = checked (accept_procedure c (needing most p))
 
 -- so many words of an event are a number of a heading, and in the plan's buffer
-abbrev pub event_fits : Layout → ℕ → ℕ → Result (Unit {0}) LeastFault
-event_fits plan words line =
-    if nat_le words greatest then if nat_le words plan.buffer then Ok tt else Err (Link EventAboveBuffer line)
-    else Err (Check TooManyWords line)
+abbrev pub event_fits : Body → Layout → ℕ → ℕ → Result (Unit {0}) LeastFault
+event_fits place plan words line =
+    if nat_le words greatest then if nat_le words plan.buffer then Ok tt else Err (Link EventAboveBuffer line (Words words plan.buffer))
+    else Err (Check TooManyWords line (budget place words greatest))
 
 -- what a service needs
 abbrev pub service_needs : Context → Service → Result Bounds LeastFault
 service_needs c v =
     and_then (checked (accept_block c (alone_in (body.Service v.lam)) v.body at_start))
-    (λ found. and_then (event_fits c.plan found.costs.words v.line) (λ _. checked (within (body.Service v.lam) most found.costs v.line)))
+    (λ found. and_then (event_fits (body.Service v.lam) c.plan found.costs.words v.line) (λ _. checked (within (body.Service v.lam) most found.costs v.line)))
 
 -- procedures and services
 pub record Headed : Type 0 where
@@ -128,5 +131,5 @@ least_from plan s k done served =
 abbrev pub Heads : Result Headed LeastFault → (old new : Script) → (done served : ℕ) → Result (Unit {0}) LeastFault → Type 0
 Heads found old new done served (Ok u) = (h : Headed) × (found ≡ Ok h) × (new ≡ with_rest old done served h)
 Heads found old new done served (Err OutOfMemory) = Unit {0}
-Heads found old new done served (Err (Link rule line)) = found ≡ Err (Link rule line)
-Heads found old new done served (Err (Check rule line)) = found ≡ Err (Check rule line)
+Heads found old new done served (Err (Link rule line case)) = found ≡ Err (Link rule line case)
+Heads found old new done served (Err (Check rule line case)) = found ≡ Err (Check rule line case)

@@ -17,7 +17,7 @@ use camac_check_rows::Rows;
 use camac_check_simple::Context;
 use camac_checked::Bounds;
 use camac_lang::{Item, Procedure, Script, Service};
-use camac_names::LinkRule;
+use camac_names::{LinkCase, LinkRule};
 use camac_rules::{Body, Case, CheckRule};
 use std::alloc::Global;
 
@@ -70,8 +70,8 @@ fn accept_items(
     }
 }
 
-// What may be referred to after so many procedures.
-fn before<'a>(whole: &Context<'a>, done: usize) -> Context<'a>
+/// What may be referred to after so many procedures.
+pub fn before<'a>(whole: &Context<'a>, done: usize) -> Context<'a>
     requires { done ≤ length whole.now.procedures.now }
     ensures { by_rules result ≡ rules_before whole.now done }
 {
@@ -83,8 +83,8 @@ fn before<'a>(whole: &Context<'a>, done: usize) -> Context<'a>
     }
 }
 
-// What a procedure can cost.
-fn accept_procedure(
+/// What a procedure can cost.
+pub fn accept_procedure(
     alloc: Global,
     context: &Context,
     procedure: &Procedure,
@@ -141,8 +141,12 @@ fn procedure_in_64_bits(
     within(body, most, found.costs, procedure.line)
 }
 
-// What a service can cost.
-fn accept_service(alloc: Global, context: &Context, service: &Service) -> Result<Bounds, CheckFault>
+/// What a service can cost.
+pub fn accept_service(
+    alloc: Global,
+    context: &Context,
+    service: &Service,
+) -> Result<Bounds, CheckFault>
     ensures { Gives (λ b. b) result (accept_service (by_rules context.now) (service_of service.now)) }
 {
     accept_in_64_bits(alloc, context, service, service.cycles, service.words)
@@ -199,24 +203,29 @@ fn needs_in_64_bits(
     let known = Some(Facts::at_start(alloc));
     let mut none = Rows::none();
     let found = accept_block(alloc, context, &around, &service.body, known, &mut none)?;
-    event_fits(context.plan, found.costs.words(), service.line)?;
+    event_fits(body, context.plan, found.costs.words(), service.line)?;
     Ok(within(body, most(), found.costs, service.line)?)
 }
 
 // So many words of an event as a number of a heading, and in the plan's buffer.
-fn event_fits(plan: &Plan, words: u64, line: u32) -> Result<(), LeastFault>
-    ensures { Finds (λ _. tt) result (event_fits plan.now words line) }
+fn event_fits(body: Body, plan: &Plan, words: u64, line: u32) -> Result<(), LeastFault>
+    ensures { Finds (λ _. tt) result (event_fits body plan.now words line) }
 {
     if words > u64::from(u32::MAX) {
         return Err(LeastFault::Check {
             rule: CheckRule::TooManyWords,
             line,
+            case: budget(body, words, u32::MAX),
         });
     }
     if words > u64::from(plan.buffer()) {
         return Err(LeastFault::Link {
             rule: LinkRule::EventAboveBuffer,
             line,
+            case: LinkCase::Words {
+                allowed: words as u32,
+                buffer: plan.buffer(),
+            },
         });
     }
     Ok(())

@@ -5,21 +5,29 @@ ghost use Rattle.camac_check.specs.Faults.{of_link, of_check};
 ghost use Rattle.camac_check.specs.declared.fault.LeastFault.TheVariants.{OutOfMemory};
 
 use camac_check_known::CheckFault;
-use camac_names::{LinkFault, LinkRule};
-use camac_rules::CheckRule;
+use camac_names::{LinkCase, LinkFault, LinkRule};
+use camac_rules::{Case, CheckRule};
 use std::alloc::AllocError;
 use thiserror::Error;
 
-/// The first rule that a script breaks whatever the numbers of its headings, with its line: of linking, or of the checker (own).
+/// The first rule that a script breaks whatever the numbers of its headings, with its line and its case: of linking, or of the checker (own).
 #[derive(Clone, Copy, Debug, PartialEq, Eq, Error)]
 pub enum LeastFault {
     /// L5, E19: memory ran out.
     #[error("memory")]
     OutOfMemory,
     #[error("line {line}: {rule:?}")]
-    Link { rule: LinkRule, line: u32 },
+    Link {
+        rule: LinkRule,
+        line: u32,
+        case: LinkCase,
+    },
     #[error("line {line}: {rule:?}")]
-    Check { rule: CheckRule, line: u32 },
+    Check {
+        rule: CheckRule,
+        line: u32,
+        case: Case,
+    },
 }
 
 impl From<AllocError> for LeastFault {
@@ -36,7 +44,7 @@ impl From<LinkFault> for LeastFault {
     fn from(fault: LinkFault) -> LeastFault {
         match fault {
             LinkFault::OutOfMemory => LeastFault::OutOfMemory,
-            LinkFault::Broken { rule, line, .. } => LeastFault::Link { rule, line },
+            LinkFault::Broken { rule, line, case } => LeastFault::Link { rule, line, case },
         }
     }
 }
@@ -47,7 +55,7 @@ impl From<CheckFault> for LeastFault {
     fn from(fault: CheckFault) -> LeastFault {
         match fault {
             CheckFault::OutOfMemory => LeastFault::OutOfMemory,
-            CheckFault::Broken { rule, line, .. } => LeastFault::Check { rule, line },
+            CheckFault::Broken { rule, line, case } => LeastFault::Check { rule, line, case },
         }
     }
 }

@@ -5,7 +5,9 @@ mod accept;
 mod fault;
 mod headings;
 mod judge;
+pub mod laws;
 mod procedure;
+mod refused;
 mod statement;
 
 pub use camac_check_known::CheckFault;
@@ -16,4 +18,5 @@ pub use fault::LeastFault;
 pub use headings::least;
 pub use judge::check;
 pub use procedure::at_entry;
+pub use refused::refusals;
 pub use statement::{accept_block, accept_next};

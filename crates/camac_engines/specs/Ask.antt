@@ -6,9 +6,9 @@ use Rattle.camac_plan.specs.declared.fault.PlanRule.{PlanRule}
 use Rattle.camac_engines.specs.Accepted.{accepted}
 use Rattle.camac_engines.specs.Costs.{costs_report}
 use Rattle.camac_engines.specs.Engine.{Answers}
-use Rattle.camac_engines.specs.Explain.{ExplainedIf, PlanExplained, ReportsMore}
+use Rattle.camac_engines.specs.Explain.{AllExplained, Explained, ExplainedIf, PlanExplained, ReportsMore}
 use Rattle.camac_engines.specs.Found.{Found, HasRead, IsTooLong}
-use Rattle.camac_engines.specs.Headings.{headings_report}
+use Rattle.camac_engines.specs.Headings.{headed, headings_report}
 use Rattle.camac_engines.specs.Known.{known_report}
 use Rattle.camac_engines.specs.Plan.{Says, IsPlanTooLong}
 use Rattle.camac_engines.specs.Reading.{ConsumesSome, WasRead}
@@ -31,7 +31,8 @@ TellsPlan plan_ask.Explain read = ReportsMore (PlanExplained read) (report_plan 
 -- of a script's text, for a plan
 abbrev pub TellsScript : Ask → Layout → List ℕ → Outcome → List ℕ → Type 0
 TellsScript ask.Check plan text = Reports (report plan text)
-TellsScript ask.Explain plan text = ReportsMore (ExplainedIf text (accepted plan text)) (report plan text)
+TellsScript ask.Explain plan text = ReportsMore (ExplainedIf (AllExplained plan text) (accepted plan text)) (report plan text)
+TellsScript ask.ExplainBounds plan text = ReportsMore (ExplainedIf (Explained text) (headed plan text)) (headings_report plan text)
 TellsScript (ask.ExplainAt line column) plan text = Reports (known_report line column plan text)
 TellsScript ask.Bounds plan text = Reports (headings_report plan text)
 TellsScript ask.Costs plan text = Reports (costs_report plan text)
@@ -39,6 +40,7 @@ TellsScript ask.Costs plan text = Reports (costs_report plan text)
 -- what is asked of a plan that is refused
 abbrev pub of_plan : Ask → PlanAsk
 of_plan ask.Explain = plan_ask.Explain
+of_plan ask.ExplainBounds = plan_ask.Explain
 of_plan _ = plan_ask.Lines
 
 -- of a plan and a script

@@ -1,36 +1,37 @@
 -- What `camac explain` tells of a plan and a script.
-use Rattle.std.specs.Prelude.{◌≡◌, ℕ, List, [], ◌++◌, Some, None, Result, Ok, Err}
+use Rattle.std.specs.Prelude.{◌≡◌, ℕ, List, ◌++◌, Option, Some, None, Result, Ok, Err}
 use Rattle.camac_branch.specs.Plan.{Layout}
 use Rattle.camac_plan.specs.declared.fault.PlanRule.{PlanRule}
-use Rattle.camac_lines.specs.Codes.{plan_code}
-use Rattle.camac_lines.specs.Refusal.{code_of}
-use Rattle.camac_explain.specs.Advice.{plan_told}
-use Rattle.camac_explain.specs.Explanation.{IsExplanation, told_of}
-use Rattle.camac_explain.specs.Finding.{refusal_of}
-use Rattle.camac_explain.specs.Source.{source_of}
+use Rattle.camac_explain.specs.Explanation.{IsPlanExplanation, explanation_of}
 use Rattle.camac_explain.specs.declared.finding.Finding.{Finding}
 use Rattle.camac_engines.specs.Accepted.{Accepted}
+use Rattle.camac_engines.specs.Refusals.{all_refusals, also_text}
 use Rattle.camac_engines.specs.Report.{Report}
 use Rattle.camac_engines.specs.declared.judging.Judged.{Judged}
 use Rattle.camac_engines.specs.declared.judging.Judged.TheVariants as judged
 use Rattle.camac_engines.specs.declared.outcome.Outcome.{Outcome}
 use Rattle.camac_engines.specs.declared.outcome.Outcome.TheVariants.{Good, Refused}
 
--- the lines that explain what was found in a script's text
+-- the lines that explain what was found in a script's text, with some sentence or none of a rule of the text itself
 abbrev pub Explained : List ℕ → Finding → List ℕ → Type 0
-Explained text f more = IsExplanation (source_of text f) (told_of f) (code_of (refusal_of f)).0 more
+Explained text f more = (of_text : Option (List ℕ)) × (more ≡ explanation_of text f of_text)
 
-abbrev pub ExplainedIf : List ℕ → Accepted → List ℕ → Type 0
-ExplainedIf text (Some (Err f)) more = Explained text f more
-ExplainedIf text _ more = ⊥
+-- and then a line for each further refusal
+abbrev pub AllExplained : Layout → List ℕ → Finding → List ℕ → Type 0
+AllExplained plan text f more = (lines : List ℕ) × Explained text f lines × (more ≡ lines ++ also_text (all_refusals plan text))
 
-abbrev pub ExplainedBy : List ℕ → Judged → List ℕ → Type 0
-ExplainedBy text (judged.Refused f) more = Explained text f more
-ExplainedBy text (judged.Accepted c) more = ⊥
+-- what explains a finding, where there is one
+abbrev pub ExplainedIf : (Explains : Finding → List ℕ → Type 0) → Accepted → List ℕ → Type 0
+ExplainedIf Explains (Some (Err f)) more = Explains f more
+ExplainedIf Explains _ more = ⊥
+
+abbrev pub ExplainedBy : (Explains : Finding → List ℕ → Type 0) → Judged → List ℕ → Type 0
+ExplainedBy Explains (judged.Refused f) more = Explains f more
+ExplainedBy Explains (judged.Accepted c) more = ⊥
 
 -- those that explain a plan's refusal
 abbrev pub PlanExplained : Result Layout PlanRule → List ℕ → Type 0
-PlanExplained (Err rule) more = IsExplanation [] (plan_told rule) (plan_code rule).0 more
+PlanExplained (Err rule) more = IsPlanExplanation rule more
 PlanExplained (Ok plan) more = ⊥
 
 -- after the text of a refusal comes what explains it

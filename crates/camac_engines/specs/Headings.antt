@@ -8,37 +8,48 @@ use Rattle.camac_text.specs.Parser.{script_of}
 use Rattle.camac_check.specs.Least.{least}
 use Rattle.camac_check.specs.declared.fault.LeastFault.{LeastFault}
 use Rattle.camac_check.specs.declared.fault.LeastFault.TheVariants as least_fault
+use Rattle.camac_explain.specs.Finding.{refusal_of}
+use Rattle.camac_explain.specs.declared.finding.Finding.TheVariants as finding
 use Rattle.camac_lines.specs.Headings.{headings_text}
-use Rattle.camac_lines.specs.declared.refusal.Refusal.TheVariants as refusal
+use Rattle.camac_engines.specs.Accepted.{Accepted}
 use Rattle.camac_engines.specs.Report.{Report, refused}
 use Rattle.camac_engines.specs.declared.fault.ToolFault.{ToolFault}
 use Rattle.camac_engines.specs.declared.fault.ToolFault.TheVariants as fault
-use Rattle.camac_engines.specs.declared.headings.Headings.{Headings}
-use Rattle.camac_engines.specs.declared.headings.Headings.TheVariants as headings
+use Rattle.camac_engines.specs.declared.judging.Judged.{Judged}
+use Rattle.camac_engines.specs.declared.judging.Judged.TheVariants as judged
 use Rattle.camac_engines.specs.declared.outcome.Outcome.TheVariants.{Good}
 
--- of the script with its least headings
-abbrev pub headings_found : Result Script LeastFault → Report
-headings_found (Ok script) = Some (Good, headings_text script)
-headings_found (Err (least_fault.Link rule line)) = refused (refusal.Link rule line)
-headings_found (Err (least_fault.Check rule line)) = refused (refusal.Check rule line)
-headings_found (Err least_fault.OutOfMemory) = None
+-- the script with its least headings, or what refuses it whatever its headings say, with its case
+abbrev pub headed_found : Result Script LeastFault → Accepted
+headed_found (Ok script) = Some (Ok script)
+headed_found (Err (least_fault.Link rule line case)) = Some (Err (finding.Link rule line case))
+headed_found (Err (least_fault.Check rule line case)) = Some (Err (finding.Check rule line case))
+headed_found (Err least_fault.OutOfMemory) = None
 
--- of what reading the text gives
-abbrev pub headings_read : Layout → Result Script TextFault → Report
-headings_read plan (Ok script) = headings_found (least plan script)
-headings_read plan (Err fault) = refused (refusal.Text (rule_of fault.case) fault.line)
+-- by what reading the text gives
+abbrev pub headed_read : Layout → Result Script TextFault → Accepted
+headed_read plan (Ok script) = headed_found (least plan script)
+headed_read plan (Err flaw) = Some (Err (finding.Text (rule_of flaw.case) flaw.line flaw.left))
+
+abbrev pub headed : Layout → List ℕ → Accepted
+headed plan text = headed_read plan (script_of text)
+
+-- its headings, or the line of the refusal
+abbrev pub headings_told : Accepted → Report
+headings_told (Some (Ok script)) = Some (Good, headings_text script)
+headings_told (Some (Err f)) = refused (refusal_of f)
+headings_told None = None
 
 -- of a script's text
 abbrev pub headings_report : Layout → List ℕ → Report
-headings_report plan text = headings_read plan (script_of text)
+headings_report plan text = headings_told (headed plan text)
 
-abbrev pub headings_report_of : Headings → Report
-headings_report_of (headings.Least c) = Some (Good, headings_text c.script)
-headings_report_of (headings.Refused r) = refused r
+abbrev pub headings_report_of : Judged → Report
+headings_report_of (judged.Accepted c) = Some (Good, headings_text c.script)
+headings_report_of (judged.Refused f) = refused (refusal_of f)
 
 -- the least headings were found, or memory was refused
-abbrev pub FindsHeadings : Result Headings ToolFault → Report → Type 0
+abbrev pub FindsHeadings : Result Judged ToolFault → Report → Type 0
 FindsHeadings (Ok j) r = r ≡ headings_report_of j
 FindsHeadings (Err fault.Memory) r = Unit {0}
 FindsHeadings (Err _) r = ⊥

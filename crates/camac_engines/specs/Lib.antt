@@ -6,6 +6,7 @@ pub mod Engine
 pub mod Headings
 pub mod Accepted
 pub mod Found
+pub mod Refusals
 pub mod Explain
 pub mod Rule
 pub mod Spot

@@ -8,8 +8,11 @@ ghost use Rattle.camac_engines.specs.Ask.{of_plan};
 pub enum Ask {
     /// The bounds of each service.
     Check,
-    /// The same, and why a plan or a script is refused.
+    /// The same, and why a plan or a script is refused, with a line for each further refusal: of linking, or else of the checker, which judges each
+    /// procedure and service by itself.
     Explain,
+    /// The headings of `Bounds`, and why a plan is refused, or a script whatever its headings say.
+    ExplainBounds,
     /// What the checker knows before the statement at a place: a line for each variable, for each register that is set and for each locked
     /// crate, or that the checker does not come there. Line and column are from 1, the column in bytes.
     ExplainAt { line: u32, column: u32 },
@@ -36,7 +39,7 @@ impl Ask {
         ensures { result ≡ of_plan self }
     {
         match self {
-            Ask::Explain => PlanAsk::Explain,
+            Ask::Explain | Ask::ExplainBounds => PlanAsk::Explain,
             _ => PlanAsk::Lines,
         }
     }

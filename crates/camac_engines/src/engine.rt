@@ -14,7 +14,7 @@ ghost use Rattle.camac_word.specs.Watched.{inner_of, has_failed};
 
 use crate::ask::{Ask, PlanAsk};
 use crate::costs::show_costs;
-use crate::explaining::{explain_judged, explain_refusal};
+use crate::explaining::{explain_headings, explain_judged, explain_refusal};
 use crate::fault::ToolFault;
 use crate::headings::{judge_headings, show_headings};
 use crate::judging::{Judged, judge};
@@ -200,7 +200,10 @@ fn tell_script<W: Write>(
 {
     match ask {
         Ask::Check => show(out, &judge(alloc, plan, text)?),
-        Ask::Explain => explain_judged(alloc, text, &judge(alloc, plan, text)?, out),
+        Ask::Explain => explain_judged(alloc, plan, text, &judge(alloc, plan, text)?, out),
+        Ask::ExplainBounds => {
+            explain_headings(alloc, text, &judge_headings(alloc, plan, text)?, out)
+        }
         Ask::ExplainAt { line, column } => {
             let found = find_known(alloc, plan, text, line, column)?;
             show_known(out, line, column, &found)

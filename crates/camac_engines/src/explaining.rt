@@ -1,9 +1,10 @@
 // Explains a refusal.
 
-ghost use Rattle.std.specs.Prelude.{◌≡◌, ◌||◌, ◌++◌, Err, is_err};
+ghost use Rattle.std.specs.Prelude.{◌≡◌, ◌||◌, ◌++◌, Err, IfOk, is_err};
 ghost use Rattle.camac_lines.specs.Refusal.{refusal_text};
 ghost use Rattle.camac_engines.specs.Engine.{IsWritten, Shows, is_write_fault};
-ghost use Rattle.camac_engines.specs.Explain.{ExplainedBy, PlanExplained, ReportsMore};
+ghost use Rattle.camac_engines.specs.Explain.{AllExplained, Explained, ExplainedBy, PlanExplained, ReportsMore};
+ghost use Rattle.camac_engines.specs.Headings.{headings_report_of};
 ghost use Rattle.camac_engines.specs.Report.{refused_and, report_of, report_plan};
 ghost use Rattle.camac_word.specs.Watched.{inner_of, has_failed};
 ghost use Rattle.camac_word.specs.Writing.{Writes};
@@ -12,9 +13,11 @@ use crate::fault::ToolFault;
 use crate::judging::Judged;
 use crate::outcome::Outcome;
 use crate::plan::PlanRefusal;
+use crate::refusals::push_also;
+use camac_branch::Plan;
 use camac_explain::{Finding, explain_plan, explain_script};
 use camac_explain_text::text_sentence;
-use camac_lines::{Refusal, write_refusal, write_verdict};
+use camac_lines::{Refusal, write_headings, write_refusal, write_verdict};
 use camac_word::{Watched, WriteFault};
 use std::alloc::{AllocError, Global};
 use std::io::Write;
@@ -34,15 +37,16 @@ pub fn explain_refusal<W: Write>(
     refuse_and(out, Refusal::Plan(refusal.rule), &more)
 }
 
-/// Writes what `camac check` tells of what was judged, and after the line of a refusal the lines that explain it.
+/// Writes what `camac check` tells of what was judged, and after the line of a refusal the lines that explain it, and one for each further refusal.
 #[tactic(auto, using(crate::proofs::Explained::refusal_explained))]
 pub fn explain_judged<W: Write>(
     alloc: Global,
+    plan: &Plan,
     text: &[u8],
     judged: &Judged,
     out: &mut Watched<W>,
 ) -> Result<Outcome, ToolFault>
-    ensures tells { IsWritten (ReportsMore (ExplainedBy text.now judged.now) (report_of judged.now)) (W.contents (inner_of out.old)) (W.contents (inner_of out.new)) result }
+    ensures tells { IsWritten (ReportsMore (ExplainedBy (AllExplained plan.now text.now) judged.now) (report_of judged.now)) (W.contents (inner_of out.old)) (W.contents (inner_of out.new)) result }
     ensures failed { has_failed out.new ≡ (has_failed out.old || is_write_fault result) }
 {
     match judged {
@@ -51,11 +55,41 @@ pub fn explain_judged<W: Write>(
             Ok(Outcome::Good)
         }
         Judged::Refused(finding) => {
-            let sentence = sentence_of_text(alloc, text, *finding)?;
-            let more = explain_script(alloc, text, *finding, sentence)?;
+            let mut more = explain_finding(alloc, text, *finding)?;
+            push_also(alloc, &mut more, text, plan)?;
             refuse_and(out, finding.refusal(), &more)
         }
     }
+}
+
+/// Writes what `camac bounds` tells of what was judged, and after the line of a refusal the lines that explain it.
+#[tactic(auto, using(crate::proofs::Explained::refusal_explained))]
+pub fn explain_headings<W: Write>(
+    alloc: Global,
+    text: &[u8],
+    judged: &Judged,
+    out: &mut Watched<W>,
+) -> Result<Outcome, ToolFault>
+    ensures tells { IsWritten (ReportsMore (ExplainedBy (Explained text.now) judged.now) (headings_report_of judged.now)) (W.contents (inner_of out.old)) (W.contents (inner_of out.new)) result }
+    ensures failed { has_failed out.new ≡ (has_failed out.old || is_write_fault result) }
+{
+    match judged {
+        Judged::Accepted(checked) => {
+            write_headings(out, checked.script())?;
+            Ok(Outcome::Good)
+        }
+        Judged::Refused(finding) => {
+            let more = explain_finding(alloc, text, *finding)?;
+            refuse_and(out, finding.refusal(), &more)
+        }
+    }
+}
+
+fn explain_finding(alloc: Global, text: &[u8], finding: Finding) -> Result<Vec<u8>, AllocError>
+    ensures { IfOk result (λ more. Explained text.now finding more.items) }
+{
+    let sentence = sentence_of_text(alloc, text, finding)?;
+    explain_script(alloc, text, finding, sentence)
 }
 
 // What a rule that the text itself breaks knows, in words.

@@ -14,6 +14,7 @@ mod known;
 mod outcome;
 mod plan;
 mod reading;
+mod refusals;
 mod response;
 mod rule;
 mod sample;

@@ -1,2 +1,4 @@
 pub mod Told
 pub mod Mends
+pub mod Places
+pub mod Pieces

@@ -1,19 +1,25 @@
 -- The parts of an explanation, put one after the other.
-use Rattle.std.proofs.Common.{◌≡◌, ℕ, List, ◌++◌, Option, Some, ap, ◌∙◌}
-use Rattle.std.specs.Prelude.{Result, Ok, Err, OnOk}
+use Rattle.std.proofs.Common.{◌≡◌, ℕ, List, ◌++◌, Option, None, true, ap, ◌∙◌, refl}
+use Rattle.std.specs.Prelude.{Result, Ok, Err, is_err}
+use Rattle.camac_lang.specs.Tree.{Script}
+use Rattle.camac_tokens.specs.Fault.{Fault}
 use Rattle.camac_explain.specs.Advice.{Told, told}
-use Rattle.camac_explain.specs.Explanation.{IsTold, advice_text, sentence_line}
+use Rattle.camac_explain.specs.Explanation.{advice_text, in_script, sentence_line}
 
-pub is_told : {E : Type 0} (r : Result (Unit {0}) E) (old new sentence : List ℕ) → OnOk r (new ≡ old ++ sentence_line (Some sentence)) → OnOk r (IsTold old new)
-is_told (Ok u) old new sentence h = (Some sentence, h)
-is_told (Err e) old new sentence h = tt
+pub in_script_of : (sentence : Script → Option (List ℕ)) (r : Result Script Fault) (s : Script) → r ≡ Ok s → in_script sentence r ≡ sentence s
+in_script_of sentence r s e = ap (in_script sentence) e
+
+pub in_no_script : (sentence : Script → Option (List ℕ)) (r : Result Script Fault) → is_err r ≡ true → in_script sentence r ≡ None
+in_no_script sentence (Ok s) e = absurd (cc e)
+in_no_script sentence (Err f) e = refl
 
 pub same_advice : (why mend code code' : List ℕ) (t : Told) → why ≡ t.why → mend ≡ t.mend → code ≡ code' → advice_text (told why mend) code ≡ advice_text t code'
 same_advice why mend code code' t e f g =
     ap (λ x. advice_text (told x mend) code) e ∙ ap (λ y. advice_text (told t.why y) code) f ∙ ap (λ z. advice_text (told t.why t.mend) z) g
 
 -- source line, sentence and advice
-pub explained : (source l1 l2 l3 advice wanted : List ℕ) → l1 ≡ source → IsTold l1 l2 → l3 ≡ l2 ++ advice → advice ≡ wanted
-    → (s : Option (List ℕ)) × (l3 ≡ (source ++ sentence_line s) ++ wanted)
-explained source l1 l2 l3 advice wanted e1 (s, e2) e3 e4 =
-    (s, e3 ∙ ap (λ l. l ++ advice) (e2 ∙ ap (λ l. l ++ sentence_line s) e1) ∙ ap (λ a. (source ++ sentence_line s) ++ a) e4)
+pub explained : (source l1 l2 l3 advice wanted : List ℕ) (s t : Option (List ℕ)) → l1 ≡ source → l2 ≡ l1 ++ sentence_line s → s ≡ t → l3 ≡ l2 ++ advice
+    → advice ≡ wanted → l3 ≡ (source ++ sentence_line t) ++ wanted
+explained source l1 l2 l3 advice wanted s t e1 e2 e3 e4 e5 =
+    e4 ∙ ap (λ l. l ++ advice) (e2 ∙ ap (λ l. l ++ sentence_line s) e1 ∙ ap (λ o. source ++ sentence_line o) e3)
+    ∙ ap (λ a. (source ++ sentence_line t) ++ a) e5

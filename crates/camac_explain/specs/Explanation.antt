@@ -1,7 +1,15 @@
 -- The lines that follow a refusal: the source line, at most one sentence, and what is told of the rule.
-use Rattle.std.specs.Prelude.{◌≡◌, ℕ, List, [], ◌++◌, Option, Some, None, codes, map}
+use Rattle.std.specs.Prelude.{◌≡◌, ℕ, List, [], ◌++◌, Option, Some, None, Result, Ok, Err, codes, map}
+use Rattle.camac_lang.specs.Tree.{Script}
+use Rattle.camac_lines.specs.Codes.{plan_code}
+use Rattle.camac_lines.specs.Refusal.{code_of}
+use Rattle.camac_tokens.specs.Fault.{Fault}
+use Rattle.camac_plan.specs.declared.fault.PlanRule.{PlanRule}
+use Rattle.camac_text.specs.Parser.{script_of}
 use Rattle.camac_explain.specs.Advice.{Told, plan_told, text_told, link_told, check_told}
-use Rattle.camac_explain.specs.Source.{shown_byte}
+use Rattle.camac_explain.specs.Finding.{refusal_of}
+use Rattle.camac_explain.specs.Sentence.{link_sentence_of, check_sentence_of}
+use Rattle.camac_explain.specs.Source.{shown_byte, source_of}
 use Rattle.camac_explain.specs.declared.finding.Finding.{Finding}
 use Rattle.camac_explain.specs.declared.finding.Finding.TheVariants.{Plan, Text, Link, Check}
 
@@ -23,10 +31,25 @@ abbrev pub sentence_line : Option (List ℕ) → List ℕ
 sentence_line None = []
 sentence_line (Some sentence) = map shown_byte sentence ++ codes "\n"
 
--- a sentence was put at the end, or none
-abbrev pub IsTold : (old new : List ℕ) → Type 0
-IsTold old new = (sentence : Option (List ℕ)) × (new ≡ old ++ sentence_line sentence)
+-- what is told of the script of a text, and nothing where the text spells none
+abbrev pub in_script : (Script → Option (List ℕ)) → Result Script Fault → Option (List ℕ)
+in_script sentence (Ok s) = sentence s
+in_script sentence (Err e) = None
 
-abbrev pub IsExplanation : (source : List ℕ) → Told → (code : List ℕ) → List ℕ → Type 0
-IsExplanation source told code bytes =
-    (sentence : Option (List ℕ)) × (bytes ≡ source ++ sentence_line sentence ++ advice_text told code)
+-- what the rule knew of the script; of a rule of the text itself the sentence that is handed in
+abbrev pub sentence_of : (text : List ℕ) → Finding → (of_text : Option (List ℕ)) → Option (List ℕ)
+sentence_of text (Plan rule) of_text = None
+sentence_of text (Text rule line left) of_text = of_text
+sentence_of text (Link rule line case) of_text = in_script (λ s. link_sentence_of s rule case) (script_of text)
+sentence_of text (Check rule line case) of_text = in_script (λ s. check_sentence_of s rule case) (script_of text)
+
+abbrev pub explanation : (source : List ℕ) → (sentence : Option (List ℕ)) → Told → (code : List ℕ) → List ℕ
+explanation source sentence told code = source ++ sentence_line sentence ++ advice_text told code
+
+-- of a script's refusal
+abbrev pub explanation_of : (text : List ℕ) → Finding → (of_text : Option (List ℕ)) → List ℕ
+explanation_of text f of_text = explanation (source_of text f) (sentence_of text f of_text) (told_of f) (code_of (refusal_of f)).0
+
+-- of a plan's refusal, with some sentence or none
+abbrev pub IsPlanExplanation : PlanRule → List ℕ → Type 0
+IsPlanExplanation rule bytes = (sentence : Option (List ℕ)) × (bytes ≡ explanation [] sentence (plan_told rule) (plan_code rule).0)

@@ -4,3 +4,4 @@ pub mod Source
 pub mod Explanation
 pub mod Rule
 pub mod Sentence
+pub mod Names

@@ -1,20 +1,22 @@
 // The lines of an explanation.
 
-ghost use Rattle.std.specs.Prelude.{◌≡◌, ◌++◌, [], Some, IfOk, OnOk};
-ghost use Rattle.camac_explain.specs.Advice.{plan_told, told};
-ghost use Rattle.camac_explain.specs.Explanation.{IsExplanation, IsTold, advice_text, line_of, sentence_line, told_of};
-ghost use Rattle.camac_explain.specs.Finding.{refusal_of};
+ghost use Rattle.std.specs.Prelude.{◌≡◌, ◌++◌, Some, IfOk, OnOk, option_map, string_bytes};
+ghost use Rattle.camac_text.specs.Parser.{script_of};
+ghost use Rattle.camac_explain.specs.Advice.{told};
+ghost use Rattle.camac_explain.specs.Explanation.{IsPlanExplanation, advice_text, explanation_of, in_script, line_of, sentence_line, sentence_of, told_of};
+ghost use Rattle.camac_explain.specs.Sentence.{link_sentence_of, check_sentence_of};
 ghost use Rattle.camac_explain.specs.Source.{source_of};
-ghost use Rattle.camac_lines.specs.Codes.{plan_code};
-ghost use Rattle.camac_lines.specs.Refusal.{code_of};
 
 use crate::advice::{Advice, check_advice, link_advice, plan_advice, text_advice};
 use crate::finding::Finding;
+use crate::names::Names;
 use crate::plan::plan_sentence;
-use crate::sentence::{Names, check_sentence, link_sentence};
+use crate::sentence::{check_sentence, link_sentence};
 use crate::source::{push_shown, push_source};
 use camac_lines::Refusal;
+use camac_names::{LinkCase, LinkRule};
 use camac_plan::{PlanCase, PlanRule};
+use camac_rules::{Case, CheckRule};
 use std::alloc::{AllocError, Global};
 
 /// Why a plan's text is refused by a rule in this case: the lines that follow the refusal.
@@ -24,7 +26,7 @@ pub fn explain_plan(
     rule: PlanRule,
     case: PlanCase,
 ) -> Result<Vec<u8>, AllocError>
-    ensures { IfOk result (λ v. IsExplanation [] (plan_told rule) (plan_code rule).0 v.items) }
+    ensures { IfOk result (λ v. IsPlanExplanation rule v.items) }
 {
     let mut lines = Vec::new(alloc);
     let sentence = plan_sentence(alloc, text, case)?;
@@ -42,7 +44,7 @@ pub fn explain_script(
     finding: Finding,
     of_text: Option<String>,
 ) -> Result<Vec<u8>, AllocError>
-    ensures { IfOk result (λ v. IsExplanation (source_of text.now finding) (told_of finding) (code_of (refusal_of finding)).0 v.items) }
+    ensures { IfOk result (λ v. v.items ≡ explanation_of text.now finding (option_map string_bytes of_text)) }
 {
     let mut lines = Vec::new(alloc);
     push_source(&mut lines, text, finding)?;
@@ -59,18 +61,44 @@ fn sentence(
     text: &[u8],
     finding: Finding,
     of_text: Option<String>,
-) -> Result<Option<String>, AllocError> {
+) -> Result<Option<String>, AllocError>
+    ensures { IfOk result (λ s. option_map string_bytes s ≡ sentence_of text.now finding (option_map string_bytes of_text)) }
+{
     match finding {
         Finding::Plan(_) => Ok(None),
         Finding::Text { .. } => Ok(of_text),
-        Finding::Link { rule, case, .. } => match Names::new(alloc, text)? {
-            Some(names) => link_sentence(alloc, &names, rule, case),
-            None => Ok(None),
-        },
-        Finding::Check { rule, case, .. } => match Names::new(alloc, text)? {
-            Some(names) => check_sentence(alloc, &names, rule, case),
-            None => Ok(None),
-        },
+        Finding::Link { rule, case, .. } => sentence_of_linking(alloc, text, rule, case),
+        Finding::Check { rule, case, .. } => sentence_of_checker(alloc, text, rule, case),
+    }
+}
+
+#[tactic(auto, using(crate::proofs::Told::in_script_of, crate::proofs::Told::in_no_script))]
+fn sentence_of_linking(
+    alloc: Global,
+    text: &[u8],
+    rule: LinkRule,
+    case: LinkCase,
+) -> Result<Option<String>, AllocError>
+    ensures { IfOk result (λ s. option_map string_bytes s ≡ in_script (λ t. link_sentence_of t rule case) (script_of text.now)) }
+{
+    match Names::new(alloc, text)? {
+        Some(names) => link_sentence(alloc, &names, rule, case),
+        None => Ok(None),
+    }
+}
+
+#[tactic(auto, using(crate::proofs::Told::in_script_of, crate::proofs::Told::in_no_script))]
+fn sentence_of_checker(
+    alloc: Global,
+    text: &[u8],
+    rule: CheckRule,
+    case: Case,
+) -> Result<Option<String>, AllocError>
+    ensures { IfOk result (λ s. option_map string_bytes s ≡ in_script (λ t. check_sentence_of t rule case) (script_of text.now)) }
+{
+    match Names::new(alloc, text)? {
+        Some(names) => check_sentence(alloc, &names, rule, case),
+        None => Ok(None),
     }
 }
 
@@ -88,7 +116,7 @@ fn advice_of(finding: Finding) -> Advice
 
 // Puts a sentence at the end, if there is one, on a line of its own.
 fn push_sentence(lines: &mut Vec<u8>, sentence: Option<String>) -> Result<(), AllocError>
-    ensures { OnOk result (IsTold lines.old.items lines.new.items) }
+    ensures { OnOk result (lines.new.items ≡ lines.old.items ++ sentence_line (option_map string_bytes sentence)) }
 {
     match sentence {
         Some(sentence) => push_told(lines, sentence.as_bytes()),

@@ -5,6 +5,7 @@ mod advice;
 mod example;
 mod explanation;
 mod finding;
+mod names;
 mod plan;
 mod rule;
 mod sentence;

@@ -1,14 +1,15 @@
-// The sentences on the rules of linking and of the checker, and the names in them.
+// The sentences on the rules of linking and of the checker.
 
-ghost use Rattle.std.specs.Prelude.{◌≡◌, not, is_some, IfOk};
-ghost use Rattle.camac_explain.specs.Sentence.{AreNamesOf, is_malformed, is_link_malformed};
+ghost use Rattle.std.specs.Prelude.{◌≡◌, Some, IfOk, option_map, string_bytes};
+ghost use Rattle.camac_lines.specs.Words.{quoted};
+ghost use Rattle.camac_names.specs.declared.fault.LinkCase.TheVariants.{Place};
+ghost use Rattle.camac_explain.specs.Sentence.{argument_text, budget_text, direction_text, kept_text, is_service_steps, check_sentence_of, cost, does, link_sentence_of, sign_of, span, takes, unit_of, when, who};
 
+use crate::names::Names;
 use camac_func::FunctionClass;
-use camac_lang::{Lam, Name, Script};
 use camac_lines::Quote;
 use camac_names::{LinkCase, LinkRule};
 use camac_rules::{Body, Case, CheckRule, Numbers, Operator};
-use camac_text::{TextFault, parse};
 use std::alloc::{AllocError, Global};
 use std::fmt;
 
@@ -17,6 +18,8 @@ use std::fmt;
 struct Span(Numbers);
 
 impl fmt::Display for Span {
+    ghost output = { λ s. Some (span s.0) };
+
     fn fmt<W: fmt::Write>(&self, f: &mut fmt::Formatter<W>) -> fmt::Result {
         match self.0 {
             Numbers { low, high } if low == high => write!(f, "{low}"),
@@ -32,21 +35,12 @@ pub fn link_sentence(
     rule: LinkRule,
     case: LinkCase,
 ) -> Result<Option<String>, AllocError>
-    ensures { IfOk result (λ sentence. is_some sentence ≡ not (is_link_malformed case)) }
+    ensures { IfOk result (λ s. option_map string_bytes s ≡ link_sentence_of names.now.script rule case) }
 {
-    let sentence = match case {
-        LinkCase::Malformed => return Ok(None),
-        LinkCase::Place { crate_no, station } if rule == LinkRule::LamNotInstalled => {
-            let lam = names.lam_at(crate_no, station);
-            format!(in alloc;
-                "The LAM {lam} is at crate {crate_no}, station {station}, where the plan has no module."
-            )
-        }
+    match case {
+        LinkCase::Malformed => Ok(None),
         LinkCase::Place { crate_no, station } => {
-            let lam = names.served_at(crate_no, station);
-            format!(in alloc;
-                "The LAM {lam} is at crate {crate_no}, station {station}, which has no GL bit in the plan."
-            )
+            place_sentence(alloc, names, rule, crate_no, station).map(Some)
         }
         LinkCase::Served {
             crate_no,
@@ -54,12 +48,37 @@ pub fn link_sentence(
             line,
         } => format!(in alloc;
             "Crate {crate_no}, station {station} has a service already, on line {line}."
-        ),
+        ).map(Some),
         LinkCase::Words { allowed, buffer } => format!(in alloc;
             "The heading allows {allowed} event words, and the plan's buffer holds {buffer}."
-        ),
-    };
-    Ok(Some(sentence?))
+        ).map(Some),
+    }
+}
+
+// Of the LAM at a station.
+fn place_sentence(
+    alloc: Global,
+    names: &Names,
+    rule: LinkRule,
+    crate_no: u32,
+    station: u32,
+) -> Result<String, AllocError>
+    ensures { IfOk result (λ s. Some (string_bytes s) ≡ link_sentence_of names.now.script rule (Place crate_no station)) }
+{
+    match rule {
+        LinkRule::LamNotInstalled => {
+            let lam = names.lam_at(crate_no, station);
+            format!(in alloc;
+                "The LAM {lam} is at crate {crate_no}, station {station}, where the plan has no module."
+            )
+        }
+        _ => {
+            let lam = names.served_at(crate_no, station);
+            format!(in alloc;
+                "The LAM {lam} is at crate {crate_no}, station {station}, which has no GL bit in the plan."
+            )
+        }
+    }
 }
 
 /// What a rule of the checker knew, in words.
@@ -69,14 +88,16 @@ pub fn check_sentence(
     rule: CheckRule,
     case: Case,
 ) -> Result<Option<String>, AllocError>
-    ensures { IfOk result (λ sentence. is_some sentence ≡ not (is_malformed case)) }
+    ensures { IfOk result (λ s. option_map string_bytes s ≡ check_sentence_of names.now.script rule case) }
 {
-    let sentence = match case {
-        Case::Malformed => return Ok(None),
-        Case::NoCrate { crate_no } => format!(in alloc; "The plan has no crate {crate_no}."),
-        Case::NoModule { crate_no, station } => {
-            format!(in alloc; "The plan has no module at crate {crate_no}, station {station}.")
+    match case {
+        Case::Malformed => Ok(None),
+        Case::NoCrate { crate_no } => {
+            format!(in alloc; "The plan has no crate {crate_no}.").map(Some)
         }
+        Case::NoModule { crate_no, station } => format!(in alloc;
+            "The plan has no module at crate {crate_no}, station {station}."
+        ).map(Some),
         Case::NoCommand {
             function,
             crate_no,
@@ -84,85 +105,82 @@ pub fn check_sentence(
             sub_address,
         } => format!(in alloc;
             "The plan declares no F{function} at crate {crate_no}, station {station}, A{sub_address}."
-        ),
+        ).map(Some),
         Case::Direction {
             function,
             class,
             moves,
-        } => {
-            let (acts, moves) = (does(class), does(moves));
-            format!(in alloc; "F{function} {acts}, and the statement {moves}.")
-        }
+        } => direction_sentence(alloc, function, does(class), does(moves)).map(Some),
         Case::Operation {
             operator,
             left,
             right,
-        } => format!(in alloc;
-            "The left of `{}` may be {}, the right {}.",
-            sign_of(operator),
-            Span(left),
-            Span(right)
-        ),
-        Case::Width { greatest, bits } => {
-            format!(in alloc; "The value may be {greatest}, but has to fit in {bits} bits.")
+        } => {
+            let (sign, left, right) = (sign_of(operator), Span(left), Span(right));
+            format!(in alloc; "The left of `{sign}` may be {left}, the right {right}.").map(Some)
         }
+        Case::Width { greatest, bits } => format!(in alloc;
+            "The value may be {greatest}, but has to fit in {bits} bits."
+        ).map(Some),
         Case::Unset { body, register } => {
             let register = names.register(body, register);
-            format!(in alloc; "The register {register} may be unset here.")
+            format!(in alloc; "The register {register} may be unset here.").map(Some)
         }
         Case::Measure { body, variable } => {
             let variable = names.variable(body, variable);
             format!(in alloc;
                 "The body itself has to lower {variable} once by a number, and nothing else in it may write {variable}."
-            )
+            ).map(Some)
         }
         Case::Kept {
             body,
             variable,
             found,
             kept,
-        } => {
-            let when = match rule {
-                CheckRule::KeepFailsAtEntry => "Before the loop",
-                _ => "After a turn",
-            };
-            let variable = names.variable(body, variable);
-            let Numbers { low, high } = kept;
-            format!(in alloc;
-                "{when} {variable} may be {}, and it is kept in {low} to {high}.",
-                Span(found)
-            )
-        }
-        Case::Turns { needed, allowed } => {
-            format!(in alloc; "The loop may take {needed} turns, and {allowed} are allowed.")
-        }
+        } => kept_sentence(
+            alloc,
+            when(rule),
+            names.variable(body, variable),
+            found,
+            kept,
+        )
+        .map(Some),
+        Case::Turns { needed, allowed } => format!(in alloc;
+            "The loop may take {needed} turns, and {allowed} are allowed."
+        ).map(Some),
         Case::Annotation { turns, allowed } => format!(in alloc;
             "The number after `turns` is {turns}, and no loop may take more than {allowed} turns."
-        ),
+        ).map(Some),
         Case::Budget {
             body,
             needed,
             allowed,
-        } => budget_sentence(alloc, rule, body, Cost(needed), allowed),
+        } => budget_sentence(alloc, rule, body, needed, allowed).map(Some),
         Case::Crates { first, last } => {
             let (first, last) = (Span(first), Span(last));
-            format!(in alloc; "The first register holds crate {first}, the last one crate {last}.")
+            format!(in alloc;
+                "The first register holds crate {first}, the last one crate {last}."
+            ).map(Some)
         }
-        Case::Count { count, words } => {
-            format!(in alloc; "The transfer may send {count} words, and the table has {words}.")
+        Case::Count { count, words } => format!(in alloc;
+            "The transfer may send {count} words, and the table has {words}."
+        ).map(Some),
+        Case::Crate { numbers } => {
+            let crates = Span(numbers);
+            format!(in alloc;
+                "The crate is {crates} here, which is not one crate of the plan."
+            ).map(Some)
         }
-        Case::Crate { numbers } => format!(in alloc;
-            "The crate is {} here, which is not one crate of the plan.",
-            Span(numbers)
-        ),
-        Case::Locked { crate_no } => format!(in alloc; "Crate {crate_no} is locked already."),
-        Case::Word { greatest } => {
-            format!(in alloc; "The word may be {greatest}, and 24 bits hold at most 16777215.")
+        Case::Locked { crate_no } => {
+            format!(in alloc; "Crate {crate_no} is locked already.").map(Some)
         }
-        Case::Counted { body, variable } => format!(in alloc;
-            "A `for` around this line counts the variable {}.",
-            names.variable(body, variable)
-        ),
+        Case::Word { greatest } => format!(in alloc;
+            "The word may be {greatest}, and 24 bits hold at most 16777215."
+        ).map(Some),
+        Case::Counted { body, variable } => {
+            let variable = names.variable(body, variable);
+            format!(in alloc; "A `for` around this line counts the variable {variable}.").map(Some)
+        }
         Case::Argument {
             procedure,
             argument,
@@ -171,18 +189,57 @@ pub fn check_sentence(
         } => {
             let place = argument.saturating_add(1);
             let parameter = names.parameter(procedure, argument);
-            let Numbers { low, high } = wanted;
-            format!(in alloc;
-                "Argument {place} may be {}, and {parameter} takes {low} to {high}.",
-                Span(found)
-            )
+            argument_sentence(alloc, place, parameter, found, wanted).map(Some)
         }
-    };
-    Ok(Some(sentence?))
+    }
+}
+
+// Of what a function does, and what the statement does.
+fn direction_sentence(
+    alloc: Global,
+    function: u32,
+    acts: &str,
+    moves: &str,
+) -> Result<String, AllocError>
+    ensures { IfOk result (λ s. string_bytes s ≡ direction_text function acts.now moves.now) }
+{
+    format!(in alloc; "F{function} {acts}, and the statement {moves}.")
+}
+
+// Of a kept variable that leaves its range.
+fn kept_sentence(
+    alloc: Global,
+    when: &str,
+    variable: Quote<'_>,
+    found: Numbers,
+    kept: Numbers,
+) -> Result<String, AllocError>
+    ensures { IfOk result (λ s. string_bytes s ≡ kept_text when.now (quoted variable.entry.0.now) found kept) }
+{
+    let Numbers { low, high } = kept;
+    let found = Span(found);
+    format!(in alloc; "{when} {variable} may be {found}, and it is kept in {low} to {high}.")
+}
+
+// Of an argument, by its place from 1.
+fn argument_sentence(
+    alloc: Global,
+    place: usize,
+    parameter: Quote<'_>,
+    found: Numbers,
+    wanted: Numbers,
+) -> Result<String, AllocError>
+    ensures { IfOk result (λ s. string_bytes s ≡ argument_text place (quoted parameter.entry.0.now) found wanted) }
+{
+    let Numbers { low, high } = wanted;
+    let found = Span(found);
+    format!(in alloc; "Argument {place} may be {found}, and {parameter} takes {low} to {high}.")
 }
 
 // What a function or a statement of this class does.
-fn does(class: FunctionClass) -> &'static str {
+fn does(class: FunctionClass) -> &'static str
+    ensures { result.now ≡ does class }
+{
     match class {
         FunctionClass::Read => "reads",
         FunctionClass::Write => "writes",
@@ -190,7 +247,9 @@ fn does(class: FunctionClass) -> &'static str {
     }
 }
 
-fn sign_of(operator: Operator) -> &'static str {
+fn sign_of(operator: Operator) -> &'static str
+    ensures { result.now ≡ sign_of operator }
+{
     match operator {
         Operator::Add => "+",
         Operator::Sub => "-",
@@ -203,6 +262,8 @@ fn sign_of(operator: Operator) -> &'static str {
 struct Cost(u64);
 
 impl fmt::Display for Cost {
+    ghost output = { λ c. Some (cost c.0) };
+
     fn fmt<W: fmt::Write>(&self, f: &mut fmt::Formatter<W>) -> fmt::Result {
         let more = if self.0 == u64::MAX { "more than " } else { "" };
         write!(f, "{more}{}", self.0)
@@ -213,94 +274,63 @@ fn budget_sentence(
     alloc: Global,
     rule: CheckRule,
     body: Body,
-    needed: Cost,
+    needed: u64,
     allowed: u32,
-) -> Result<String, AllocError> {
-    let (costs, what) = match rule {
-        CheckRule::TooManyWords => ("keep", "event words"),
-        CheckRule::TooManyCycles => ("take", "dataway cycles"),
-        _ => ("take", "steps"),
-    };
-    let who = match body {
+) -> Result<String, AllocError>
+    ensures { IfOk result (λ s. string_bytes s ≡ budget_text rule body needed allowed) }
+{
+    let needed = Cost(needed);
+    if is_service_steps(rule, body) {
+        format!(in alloc; "The service may take {needed} steps, and {allowed} are allowed.")
+    } else {
+        let (who, takes, unit) = (who(body), takes(rule), unit_of(rule));
+        format!(in alloc; "The {who} may {takes} {needed} {unit}, its heading allows {allowed}.")
+    }
+}
+
+fn is_service_steps(rule: CheckRule, body: Body) -> bool
+    ensures { result ≡ is_service_steps rule body }
+{
+    match (rule, body) {
+        (CheckRule::TooManySteps, Body::Service(_)) => true,
+        _ => false,
+    }
+}
+
+fn who(body: Body) -> &'static str
+    ensures { result.now ≡ who body }
+{
+    match body {
         Body::Procedure(_) => "procedure",
-        Body::Service(_) if rule == CheckRule::TooManySteps => {
-            return format!(in alloc;
-                "The service may take {needed} steps, and {allowed} are allowed."
-            );
-        }
         Body::Service(_) => "service",
-    };
-    format!(in alloc; "The {who} may {costs} {needed} {what}, its heading allows {allowed}.")
-}
-
-/// The names that a script declares.
-#[derive(Drop)]
-pub struct Names {
-    script: Script,
-}
-
-impl Names {
-    /// The names of a text; None where it is no script.
-    pub fn new(alloc: Global, text: &[u8]) -> Result<Option<Names>, AllocError>
-        ensures { IfOk result (AreNamesOf text.now) }
-    {
-        match parse(alloc, text) {
-            Ok(script) => Ok(Some(Names { script })),
-            Err(TextFault::OutOfMemory) => Err(AllocError),
-            Err(TextFault::Broken { .. }) => Ok(None),
-        }
-    }
-
-    /// The variable or parameter of this number in a body.
-    pub fn variable(&self, body: Body, number: usize) -> Quote<'_> {
-        match body {
-            Body::Procedure(procedure) => self.parameter(procedure, number),
-            Body::Service(_) => quoted(self.script.variables().get(number)),
-        }
-    }
-
-    /// The parameter of this number of a procedure.
-    pub fn parameter(&self, procedure: usize, number: usize) -> Quote<'_> {
-        let procedure = self.script.procedures().get(procedure);
-        let parameter = procedure.and_then(|it| it.parameters.get(number));
-        quoted(parameter.map(|it| &it.name))
-    }
-
-    /// The register of this number in a body.
-    pub fn register(&self, body: Body, number: usize) -> Quote<'_> {
-        let registers = match body {
-            Body::Procedure(place) => self.script.procedures().get(place).map(|it| &it.registers),
-            Body::Service(lam) => {
-                let mut services = self.script.services().iter();
-                services.find(|it| it.lam == lam).map(|it| &it.registers)
-            }
-        };
-        quoted(registers.and_then(|it| it.get(number)))
-    }
-
-    /// The first LAM at a station.
-    pub fn lam_at(&self, crate_no: u32, station: u32) -> Quote<'_> {
-        let mut lams = self.script.lams().iter();
-        let lam = lams.find(|it| is_at(it, crate_no, station));
-        quoted(lam.map(|it| &it.name))
-    }
-
-    /// The LAM of the first service at a station.
-    pub fn served_at(&self, crate_no: u32, station: u32) -> Quote<'_> {
-        let lams = self.script.lams();
-        let mut served = self.script.services().iter().map(|it| lams.get(it.lam));
-        let lam = served.find(|it| it.is_some_and(|lam| is_at(lam, crate_no, station)));
-        quoted(lam.flatten().map(|it| &it.name))
     }
 }
 
-fn is_at(lam: &Lam, crate_no: u32, station: u32) -> bool {
-    lam.crate_no == crate_no && lam.station == station
+fn takes(rule: CheckRule) -> &'static str
+    ensures { result.now ≡ takes rule }
+{
+    match rule {
+        CheckRule::TooManyWords => "keep",
+        _ => "take",
+    }
 }
 
-fn quoted(name: Option<&Name>) -> Quote<'_> {
-    match name {
-        Some(name) => Quote(name.as_bytes()),
-        None => Quote(b"?"),
+fn unit_of(rule: CheckRule) -> &'static str
+    ensures { result.now ≡ unit_of rule }
+{
+    match rule {
+        CheckRule::TooManyWords => "event words",
+        CheckRule::TooManyCycles => "dataway cycles",
+        _ => "steps",
+    }
+}
+
+// When a kept variable leaves its range.
+fn when(rule: CheckRule) -> &'static str
+    ensures { result.now ≡ when rule }
+{
+    match rule {
+        CheckRule::KeepFailsAtEntry => "Before the loop",
+        _ => "After a turn",
     }
 }

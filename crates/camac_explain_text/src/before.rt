@@ -42,9 +42,7 @@ impl Before {
             outside: 0,
             in_procedure: false,
         };
-        let Ok(mut tokens) = TokensLeft::new(text) else {
-            return Ok(before);
-        };
+        let mut tokens = TokensLeft::new(text);
         for _at_most in 0..text.len() {
             let Some(token) = tokens.first() else {
                 break;

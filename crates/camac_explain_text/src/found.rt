@@ -121,13 +121,13 @@ impl<'a> Found<'a> {
 /// The bytes at which a fault shows, from which a text goes on, and their kind where they are a token. Where they are none, a token fault
 /// shows there: the bytes are a name or a number that is too long, or one that begins no token.
 pub fn token_at(text: &[u8]) -> (&[u8], Option<TokenKind>) {
-    let (size, kind) = match TokensLeft::new(text) {
-        Ok(tokens) => match tokens.first() {
-            Some(token) => (size_of(&token.kind, text), Some(token.kind.duplicate())),
-            None => (0, None),
+    let tokens = TokensLeft::new(text);
+    let (size, kind) = match tokens.first() {
+        Some(token) => (size_of(&token.kind, text), Some(token.kind.duplicate())),
+        None => match tokens.end() {
+            Err(TextFault::Broken { case, .. }) => (size_of_fault(case, text), None),
+            _ => (0, None),
         },
-        Err(TextFault::Broken { case, .. }) => (size_of_fault(case, text), None),
-        Err(TextFault::OutOfMemory) => (0, None),
     };
     (&text[..size.min(text.len())], kind)
 }

@@ -87,9 +87,9 @@ service_least c low own h v found fits e =
     let w = lower_ok lower judged (block_lower c low own h around v.body at_start) u.0 u.1 in
     let below = w.2 in (
       w.0.costs,
-      then_is (checked lower) w.0 (λ found. and_then (event_fits c.plan found.costs.words v.line) (λ _. checked (within place most found.costs v.line))) (ap checked w.1)
-          ∙ then_is (event_fits c.plan w.0.costs.words v.line) tt (λ _. checked (within place most w.0.costs v.line))
-          (event_is c.plan w.0.costs.words v.line (omega (arith, below.words, inside.words, fits.words)) (omega (arith, below.words, inside.words, fits.buffer)))
+      then_is (checked lower) w.0 (λ found. and_then (event_fits place c.plan found.costs.words v.line) (λ _. checked (within place most found.costs v.line))) (ap checked w.1)
+          ∙ then_is (event_fits place c.plan w.0.costs.words v.line) tt (λ _. checked (within place most w.0.costs v.line))
+          (event_is place c.plan w.0.costs.words v.line (omega (arith, below.words, inside.words, fits.words)) (omega (arith, below.words, inside.words, fits.buffer)))
           ∙ ap checked
           (within_is place most w.0.costs v.line (record {
             cycles = omega (arith, below.cycles, inside.cycles, fits.cycles);
@@ -259,5 +259,5 @@ checked_have_least l c found formed link judged finds =
         let same : t ≡ d.script = cc in
         subst (λ x. HasAtMost x l.script) same at_most
     go (Err OutOfMemory) t is at_most finds = tt
-    go (Err (Link rule line)) t is at_most finds = absurd (cc)
-    go (Err (Check rule line)) t is at_most finds = absurd (cc)
+    go (Err (Link rule line case)) t is at_most finds = absurd (cc)
+    go (Err (Check rule line case)) t is at_most finds = absurd (cc)

@@ -4,12 +4,14 @@ use Rattle.std.specs.Prelude.{nat_le, if◌then◌else◌}
 use Rattle.std.proofs.lemmas.Bool.{leb-true, le-leb}
 use Rattle.camac_range.specs.Number.{greatest}
 use Rattle.camac_branch.specs.Plan.{Layout}
+use Rattle.camac_names.specs.declared.fault.LinkCase.TheVariants.{Words}
 use Rattle.camac_names.specs.declared.fault.LinkRule.TheVariants.{EventAboveBuffer}
 use Rattle.camac_model.specs.Fine.{Bounds}
 use Rattle.camac_rules.specs.declared.rule.CheckRule.{CheckRule}
 use Rattle.camac_rules.specs.declared.rule.CheckRule.TheVariants.{TooManyWords, TooManyCycles, TooManySteps}
 use Rattle.camac_rules.specs.Fault.{Fault}
 use Rattle.camac_rules.specs.declared.case.Body.{Body}
+use Rattle.camac_rules.specs.Cases.{budget}
 use Rattle.camac_rules.specs.declared.case.Case.{Case}
 use Rattle.camac_rules.specs.Refusal.{go_on, required}
 use Rattle.camac_rules.specs.Costs.{Verdict}
@@ -59,10 +61,10 @@ within_is place m found line h =
     ∙ go_is (required (nat_le found.cycles m.cycles) TooManyCycles line _) tt _ (required_is (nat_le found.cycles m.cycles) TooManyCycles line _ (le-leb found.cycles m.cycles h.cycles))
     ∙ go_is (required (nat_le found.steps m.steps) TooManySteps line _) tt _ (required_is (nat_le found.steps m.steps) TooManySteps line _ (le-leb found.steps m.steps h.steps))
 
-pub event_is : (plan : Layout) (words line : ℕ) → words ≤ greatest → words ≤ plan.buffer → event_fits plan words line ≡ Ok tt
-event_is plan words line number fits =
-    ap (λ b. if b then if nat_le words plan.buffer then Ok tt else Err (Link EventAboveBuffer line) else Err (Check TooManyWords line)) (le-leb words greatest number)
-    ∙ ap (λ b. if b then Ok tt else Err (Link EventAboveBuffer line)) (le-leb words plan.buffer fits)
+pub event_is : (place : Body) (plan : Layout) (words line : ℕ) → words ≤ greatest → words ≤ plan.buffer → event_fits place plan words line ≡ Ok tt
+event_is place plan words line number fits =
+    ap (λ b. if b then if nat_le words plan.buffer then Ok tt else Err (Link EventAboveBuffer line (Words words plan.buffer)) else Err (Check TooManyWords line (budget place words greatest))) (le-leb words greatest number)
+    ∙ ap (λ b. if b then Ok tt else Err (Link EventAboveBuffer line (Words words plan.buffer))) (le-leb words plan.buffer fits)
 
 -- what is accepted is accepted at lower costs
 pub lower_ok : (q r : Result Verdict Fault) → CostsAtMost q r → (v : Verdict) → r ≡ Ok v → (w : Verdict) × (q ≡ Ok w) × AtMost w.costs v.costs

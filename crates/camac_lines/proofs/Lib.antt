@@ -4,3 +4,4 @@ pub mod Lines
 pub mod Pairs
 pub mod Texts
 pub mod Neighbours
+pub mod Words

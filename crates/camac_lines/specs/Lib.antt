@@ -8,3 +8,4 @@ pub mod Plan
 pub mod Refusal
 pub mod Texts
 pub mod Verdict
+pub mod Words

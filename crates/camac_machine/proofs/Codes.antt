@@ -10,7 +10,7 @@ use Rattle.camac_lang.specs.Code.{clash, condition_coded, block_coded, statement
 use Rattle.camac_lang.specs.Tree.{Block, Statement}
 use Rattle.camac_machine.specs.contracts.scope.Scope as scope
 use Rattle.camac_machine.specs.contracts.transfer.Course as course
-use Rattle.camac_machine.specs.Rest.{Operation, makes, reads, locks, transfers, Owner, nothing, releases, for_loop, while_loop, returns, Open}
+use Rattle.camac_machine.specs.Rest.{Operation, makes, reads, locks, transfers, pauses, Owner, nothing, releases, for_loop, while_loop, returns, Open}
 
 abbrev pub table_coded : Coded (Option (List ℕ))
 table_coded = coded_option (coded_list coded_ℕ)
@@ -20,6 +20,7 @@ operation_code (makes k) = gcons (gnum 0) (command.the_row.coded.code k)
 operation_code (reads k x bits) = gcons (gnum 1) (gcons (command.the_row.coded.code k) (gcons (gnum x) (gnum bits)))
 operation_code (locks k body) = gcons (gnum 2) (gcons (gnum k) (block_coded.code body))
 operation_code (transfers t f table x) = gcons (gnum 3) (gcons (course.the_row.coded.code t) (gcons (gnum f) (gcons (table_coded.code table) (gnum x))))
+operation_code pauses = gcons (gnum 4) gnil
 
 pub same_operation : (a b : Operation) → operation_code a ≡ operation_code b → a ≡ b
 same_operation (makes k) (makes l) e =
@@ -32,6 +33,7 @@ same_operation (transfers t f table x) (transfers u g words y) e =
     let h : course.the_row.coded.code t ≡ course.the_row.coded.code u = cc in
     let k : table_coded.code table ≡ table_coded.code words = cc in
     cc (course.the_row.coded.inj t u h, table_coded.inj table words k)
+same_operation pauses pauses e = refl
 same_operation x y e = clash (operation_code x) (operation_code y) e refl
 
 abbrev pub want_coded : Coded Operation

@@ -30,12 +30,13 @@ use Rattle.camac_machine.specs.declared.item.Item.TheVariants as item
 use Rattle.camac_machine.specs.declared.machine.Machine.{Machine}
 use Rattle.camac_machine.specs.declared.machine.TransferCycle.{TransferCycle}
 use Rattle.camac_machine.specs.declared.machine.Pending.{Pending}
-use Rattle.camac_machine.specs.declared.machine.Pending.TheVariants.{Cycle, Read, Lock, Transfer}
+use Rattle.camac_machine.specs.declared.machine.Pending.TheVariants.{Cycle, Read, Lock, Transfer, Pause}
 use Rattle.camac_machine.specs.declared.transfer.Course.{Course}
 use Rattle.camac_machine.specs.declared.transfer.Transfer as held
 use Rattle.camac_machine.specs.Course.{left_at, words_from, words_sent, data_of, words_after}
 use Rattle.camac_machine.specs.MachineState.{variables_here, registers_here, reach, with_value, context_in, state_of, bounds_of, left_in, stands, made, pending_of, after_pending, cycle_of, transferred, IsFineHere, FineThen, HasRoom, IsPending, StandsIn, Wants, Advances, Proceeds, Settles, Makes, IsRefused, Takes, Overruns}
 use Rattle.camac_machine.specs.Rest.{address_of, transfers, awaited, follows, transfer_left, rest_in, says}
+use Rattle.camac_machine.proofs.Pauses.{asked_all}
 use Rattle.camac_machine.proofs.Actions.{known}
 use Rattle.camac_machine.proofs.Commands.{on_branch}
 use Rattle.camac_machine.proofs.Fine.{blank, some_is, fine_given, fine_unless, keeps_rest}
@@ -331,8 +332,8 @@ module _ {V D C : ℕ} (h : Machine V D C) where
       room = p.room;
       checked = ap (λ (m : Machine V D C). m.checked) p.same;
       service = ap (λ (m : Machine V D C). m.service) p.same;
-      awaits = p.awaits;
-      begun = s;
+      awaits = asked_all (Some w) (IsPending mid) p.awaits;
+      begun = asked_all (Some w) (StandsIn mid) s;
       over = tt;
       goes = λ answers. ap (λ us. says us (stands (Some w) mid answers)) (mid_quiet (Some w) p) ∙ p.goes answers;
     }
@@ -369,6 +370,10 @@ module _ {V D C : ℕ} (h : Machine V D C) where
   pub lock_alone : (k : ℕ) (body : Bor (List Stmt)) (answers : List Answer) → follows (context_in h.checked.now) (pending_of (Lock k body)) (state_of h answers) ≡ ends (state_of h answers)
   unfolding follows
   lock_alone k body answers = refl
+
+  pub pause_alone : (answers : List Answer) → follows (context_in h.checked.now) (pending_of Pause) (state_of h answers) ≡ ends (state_of h answers)
+  unfolding follows
+  pause_alone answers = refl
 
   -- the words and the steps do not change the room
   room_kept : (ws : List ℕ) (n : ℕ) → HasRoom h → HasRoom (record h { words = ws; steps = n })
@@ -470,6 +475,7 @@ module _ {V D C : ℕ} (h : Machine V D C) (k : Command) (t : Course) (table : O
               service = refl;
               begun = refl;
               unlocks = refl;
+              steps = omega arith;
               can_follow = (p.1.0, some_is ((left_at t).next_address []) (address_of k) p.1.1);
               goes = λ answers.
                   let made' : State = after_cycle (address_of k) k.f d.reply d.wait answers (state_of h (a ∷ answers)) in

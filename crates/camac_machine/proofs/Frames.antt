@@ -20,7 +20,7 @@ use Rattle.camac_machine.specs.declared.machine.Frame.{Frame}
 use Rattle.camac_machine.specs.declared.machine.Machine.{Machine}
 use Rattle.camac_machine.specs.declared.machine.Owner.TheVariants.{Plain}
 use Rattle.camac_machine.specs.declared.machine.Pending.{Pending}
-use Rattle.camac_machine.specs.declared.machine.Pending.TheVariants.{Cycle, Read, Lock, Transfer}
+use Rattle.camac_machine.specs.declared.machine.Pending.TheVariants.{Cycle, Read, Lock, Transfer, Pause}
 use Rattle.camac_machine.specs.declared.scope.Scope.{Scope}
 use Rattle.camac_machine.specs.Rest.{nothing, owed, Open, left_of, rest_in, says}
 use Rattle.camac_machine.specs.Within.{StatementFits, Opens, OwnerFits, outer, OpenFit}
@@ -79,6 +79,7 @@ module _ {V D C : ℕ} (h : Machine V D C) where
     ready_at (Some (Read k x bits)) p = p
     ready_at (Some (Lock k body)) p = p
     ready_at (Some (Transfer w)) p = p
+    ready_at (Some Pause) p = p
 
     pub stands_at : (o : Option Pending) (answers : List Answer) → stands o (record h { begun = b }) answers ≡ stands o h answers
     stands_at None answers = refl

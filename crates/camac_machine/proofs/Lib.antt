@@ -24,3 +24,4 @@ pub mod Lists
 pub mod Turns
 pub mod Starts
 pub mod Standing
+pub mod Pauses

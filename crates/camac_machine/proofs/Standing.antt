@@ -1,8 +1,7 @@
 -- The statement that a machine stands in.
-use Rattle.std.proofs.Common.{◌≡◌, ℕ, List, [], refl, sym, ap, subst, ◌∙◌}
+use Rattle.std.proofs.Common.{◌≡◌, ℕ, [], refl, sym, subst}
 use Rattle.std.specs.Prelude.{Option, Some, None, IfSome, IsSomeAnd}
 use Rattle.std.specs.Borrow.{Bor}
-use Rattle.camac_branch.specs.Branch.{Answer}
 use Rattle.camac_checked.specs.Checked.{CheckedScript}
 use Rattle.camac_lang.specs.Tree.{Statement}
 use Rattle.camac_lang.specs.View.{statement_of}
@@ -13,19 +12,21 @@ use Rattle.camac_model.specs.State.{stepped}
 use Rattle.camac_machine.specs.declared.machine.Machine.{Machine}
 use Rattle.camac_machine.specs.declared.machine.Pending.{Pending}
 use Rattle.camac_machine.specs.MachineState.{context_in, state_of, pending_of, IsOf, IsOperationOf, StandsIn, Wants}
-use Rattle.camac_machine.specs.Rest.{Operation, makes, reads, locks, transfers}
+use Rattle.camac_machine.specs.Rest.{Operation, makes, reads, locks, transfers, pauses}
 
 self_of : (w : Operation) → IsOf w w
 self_of (makes k) = refl
 self_of (reads k x bits) = refl
 self_of (locks k body) = refl
 self_of (transfers t f table x) = (t, refl)
+self_of pauses = refl
 
 later_of : (first w v : Operation) → IsOf first w → IsOf w v → IsOf first v
 later_of (makes k) w v e f = subst (λ u. IsOf u v) e f
 later_of (reads k x bits) w v e f = subst (λ u. IsOf u v) e f
 later_of (locks k body) w v e f = subst (λ u. IsOf u v) e f
 later_of (transfers t f table x) w v e g = subst (λ u. IsOf u v) e.1 g
+later_of pauses w v e f = subst (λ u. IsOf u v) e f
 
 goes_on : (c : Context) (w v : Operation) (st : Statement) → IsOf w v → IsOperationOf c w st → IsOperationOf c v st
 goes_on c w v st later k = record { first = k.first; from = k.from; at = k.at; begins = k.begins; is_of = later_of k.first w v k.is_of later }

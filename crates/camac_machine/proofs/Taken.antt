@@ -130,6 +130,7 @@ module _ {V D C : ℕ} (h : Machine V D C) (k : ℕ) (body : Bor (List Stmt)) (a
       service = refl;
       begun = refl;
       unlocks = refl;
+      steps = omega arith;
       can_follow = tt;
       goes = λ answers.
           goes answers m.permitted

@@ -22,7 +22,7 @@ use Rattle.camac_model.proofs.Locks.{cycle_locks}
 use Rattle.camac_machine.specs.declared.machine.Machine.{Machine}
 use Rattle.camac_machine.specs.declared.machine.Pending.{Pending}
 use Rattle.camac_machine.specs.declared.item.Item.TheVariants as item
-use Rattle.camac_machine.specs.declared.machine.Pending.TheVariants.{Cycle, Read, Lock, Transfer}
+use Rattle.camac_machine.specs.declared.machine.Pending.TheVariants.{Cycle, Read, Lock, Transfer, Pause}
 use Rattle.camac_machine.specs.MachineState.{reach, with_value, context_in, opens_in, pending_of, made, state_of, bounds_of, left_in, stands, IsFineHere, HasRoom, IsPending, Makes, IsRefused, Takes, Overruns}
 use Rattle.camac_esone.specs.Transfers.{tally}
 use Rattle.camac_machine.specs.Course.{left_at, words_from, words_sent}
@@ -130,6 +130,7 @@ module _ {V D C : ℕ} (h new : Machine V D C) (k : Command) (a : Answer) (d : C
         service = refl;
         begun = refl;
         unlocks = refl;
+        steps = omega arith;
         can_follow = tt;
         goes = λ answers.
             goes_on h k a planned (λ l r t. ends t) d answers m.permitted m.done
@@ -149,6 +150,7 @@ module _ {V D C : ℕ} (h new : Machine V D C) (k : Command) (a : Answer) (d : C
         service = refl;
         begun = refl;
         unlocks = refl;
+        steps = omega arith;
         can_follow = tt;
         goes = λ answers.
             goes_on h k a planned (λ l r t. ends (with_variable x (kept bits r) t)) d answers m.permitted m.done
@@ -178,6 +180,7 @@ waits_first h (Transfer w) p =
     let n : ℕ = (left_at w.course).tally in
     transfer_waits h.checked.now.plan w.command.f (words_from n (words_sent w.table)) (left_at w.course).next_address (λ rs u. ends (with_variable w.tally (n + tally rs) u)) [] (address_of w.command) w.command.mv p.1.1 p.1.2 (state_of h [])
     ∙ first_short h.checked.now.plan (address_of w.command) w.command.f w.command.mv (λ r. stops short) (state_of h []) (crate_waits h.checked.now.plan w.command.c) p.0
+waits_first h Pause p = absurd p.0
 
 module _ {V D C : ℕ} (h : Machine V D C) (k : Command) (a : Answer) where
   pub cycle_cost : IsPending h (Cycle k) → ((answers : List Answer) → IsFineHere h (stands (Some (Cycle k)) h answers)) → (bounds_of h).cycles ≤ greatest → is_permitted h.checked.now.plan (branch_of h.branch) k.c a.wait ≡ true → h.cost + (1 + a.wait) < 2 ^ 32

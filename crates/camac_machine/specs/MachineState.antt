@@ -1,5 +1,5 @@
 -- What a machine holds, as the definitions see it.
-use Rattle.std.specs.Prelude.{◌≡◌, ℕ, zero, suc, ◌+◌, ◌*◌, ◌-◌, ◌<◌, ◌≤◌, List, [], ◌∷◌, ◌++◌, length, map, Option, Some, None, IsSome, IfSome, IfNone, IsSomeAnd, Bool, true, false, nat_eq, if◌then◌else◌, slice_index_or, slice_set, unwrap_or}
+use Rattle.std.specs.Prelude.{◌≡◌, ℕ, zero, suc, ◌+◌, ◌*◌, ◌-◌, ◌<◌, ◌≤◌, List, [], ◌∷◌, ◌++◌, length, map, Option, Some, None, IsSome, IfSome, IfNone, IsSomeAnd, Bool, true, false, nat_eq, if◌then◌else◌, option_map, slice_index_or, slice_set, unwrap_or}
 use Rattle.std.specs.Borrow.{Bor}
 use Rattle.camac_lang.specs.Tree.{Statement, Service}
 use Rattle.camac_lang.specs.declared.tree.Stmt.{Stmt}
@@ -23,7 +23,7 @@ use Rattle.camac_names.specs.Linked.{bit_of_service}
 use Rattle.camac_machine.specs.Store.{variables_in, registers_in, held_at}
 use Rattle.camac_lang.specs.Fits.{fits}
 use Rattle.camac_machine.specs.Course.{left_at, words_sent, data_of}
-use Rattle.camac_machine.specs.Rest.{address_of, Operation, makes, reads, locks, transfers, awaited, follows, Owner, nothing, releases, for_loop, while_loop, returns, Open, left_of, rest_in, says}
+use Rattle.camac_machine.specs.Rest.{address_of, Operation, makes, reads, locks, transfers, pauses, is_pause, is_paused, awaited, follows, Owner, nothing, releases, for_loop, while_loop, returns, Open, left_of, rest_in, says}
 use Rattle.camac_machine.specs.Within.{Reach, reach_of, ScopeFits, Opens, OpenFit}
 use Rattle.camac_machine.specs.declared.item.Item.{Item}
 use Rattle.camac_machine.specs.declared.item.Item.TheVariants as item
@@ -32,7 +32,7 @@ use Rattle.camac_machine.specs.declared.machine.Machine.{Machine}
 use Rattle.camac_machine.specs.declared.machine.Owner as rust
 use Rattle.camac_machine.specs.declared.machine.Pending.{Pending}
 use Rattle.camac_machine.specs.declared.machine.Pending.TheVariants as pending
-use Rattle.camac_machine.specs.declared.machine.Pending.TheVariants.{Cycle, Read, Lock}
+use Rattle.camac_machine.specs.declared.machine.Pending.TheVariants.{Cycle, Read, Lock, Pause}
 use Rattle.camac_machine.specs.declared.transfer.Course.{Course}
 use Rattle.camac_machine.specs.declared.transfer.Transfer.{Transfer}
 
@@ -81,6 +81,15 @@ pending_of (Cycle k) = makes k
 pending_of (Read k x bits) = reads k x bits
 pending_of (Lock k body) = locks k (statements_of body.now)
 pending_of (pending.Transfer w) = transfers w.course w.command.f (words_sent w.table) w.tally
+pending_of Pause = pauses
+
+abbrev pub is_paused_at : Option Pending → Bool
+is_paused_at w = is_paused (option_map pending_of w)
+
+-- what an answer is wanted for
+abbrev pub asked : Option Pending → Option Pending
+asked None = None
+asked (Some w) = if is_pause (pending_of w) then None else Some w
 
 -- a transfer goes on after a cycle that it wanted, and sets one of so many variables
 abbrev pub CanFollow : ℕ → Pending → Type 0
@@ -88,6 +97,7 @@ CanFollow v (Cycle k) = Unit {0}
 CanFollow v (Read k x bits) = Unit {0}
 CanFollow v (Lock k body) = Unit {0}
 CanFollow v (pending.Transfer w) = (w.tally < v) × IsSome ((left_at w.course).next_address [])
+CanFollow v Pause = Unit {0}
 
 -- the first statement of the innermost of open blocks is taken off it
 pub record TakesFirst (old : List Frame) (first : Stmt) (new : List Frame) : Type 0 where
@@ -135,6 +145,7 @@ IsOf (makes k) w = w ≡ makes k
 IsOf (reads k x bits) w = w ≡ reads k x bits
 IsOf (locks k body) w = w ≡ locks k body
 IsOf (transfers t f table x) w = (later : Course) × (w ≡ transfers later f table x)
+IsOf pauses w = w ≡ pauses
 
 -- this statement wants the operation: begun in some state it wants one first, of which this is one
 pub record IsOperationOf (c : Context) (w : Operation) (statement : Statement) : Type 0 where
@@ -147,11 +158,12 @@ pub record IsOperationOf (c : Context) (w : Operation) (statement : Statement) :
   pub is_of : IsOf first w
 
 -- the crate in which the answer is to be used
-abbrev pub crate_of : Pending → ℕ
-crate_of (Cycle k) = k.c
-crate_of (Read k x bits) = k.c
-crate_of (Lock k body) = k
-crate_of (pending.Transfer w) = w.command.c
+abbrev pub crate_of : Pending → Option ℕ
+crate_of (Cycle k) = Some k.c
+crate_of (Read k x bits) = Some k.c
+crate_of (Lock k body) = Some k
+crate_of (pending.Transfer w) = Some w.command.c
+crate_of Pause = None
 
 -- the piece of a cycle that was made
 abbrev pub made : CycleDone → Piece
@@ -257,9 +269,10 @@ module _ {V D C : ℕ} where
       ((branch_of h.branch k).locked ≡ false) × (1 ≤ k) × (k ≤ 7) × Opens (reach h) (free h) (statements_of body.now)
   IsReady h (pending.Transfer w) =
       (w.tally < (reach h).variables) × ((left_at w.course).next_address [] ≡ Some (address_of w.command)) × (data_of w.course (words_sent w.table) ≡ Some w.command.mv)
+  IsReady h Pause = Unit {0}
 
   abbrev pub IsPending : Machine V D C → Pending → Type 0
-  IsPending h w = IsSome (crate_waits h.checked.now.plan (crate_of w)) × IsReady h w
+  IsPending h w = IsSomeAnd (crate_of w) (λ k. IsSome (crate_waits h.checked.now.plan k)) × IsReady h w
 
   abbrev pub IsFineHere : Machine V D C → Behaviour State → Type 0
   IsFineHere h b = IsFine h.checked.now.plan (bounds_of h) b
@@ -372,17 +385,21 @@ module _ {V D C : ℕ} where
     pub branch : branch_of new.branch ≡ with_lock crate_no true (branch_of old.branch)
     pub same : new ≡ record old { branch = new.branch; cost = old.cost + cost }
 
-  -- what is left stays the same, up to where an answer is wanted or no block is left
+  -- what is left stays the same, up to where an answer is wanted, to a pause, or to where no block is left
   pub record Settles (old : Machine V D C) (go : Context → Action) (pending : Option Pending) (new : Machine V D C) : Type 0 where
     pub room : HasRoom new
     pub checked : new.checked ≡ old.checked
     pub service : new.service ≡ old.service
-    pub awaits : IfSome pending (IsPending new)
-    pub begun : IfSome pending (StandsIn new)
+    pub awaits : IfSome (asked pending) (IsPending new)
+    pub begun : IfSome (asked pending) (StandsIn new)
     pub over : IfNone pending (new.frames.items ≡ [])
     pub goes :
         (answers : List Answer)
         → says new.unlocks.items (stands pending new answers) ≡ then_do (go (context_in old.checked.now) (state_of old answers)) (left_in old)
+
+  -- it pauses only after more than so many steps from this number on
+  abbrev pub PausesAfter : (from most : ℕ) → Option Pending → Machine V D C → Type 0
+  PausesAfter from most pending new = is_paused_at pending ≡ true → from + most < new.steps
 
   -- the answer was used for this, and then what is left is what the new machine has left
   pub record Takes (old : Machine V D C) (pending : Pending) (answer : Answer) (used : Item) (new : Machine V D C) : Type 0 where
@@ -391,6 +408,7 @@ module _ {V D C : ℕ} where
     pub service : new.service ≡ old.service
     pub begun : new.begun ≡ old.begun
     pub unlocks : new.unlocks ≡ old.unlocks
+    pub steps : old.steps ≤ new.steps
     pub can_follow : CanFollow (reach new).variables pending
     pub goes :
         (answers : List Answer)
@@ -407,8 +425,8 @@ module _ {V D C : ℕ} where
     pub room : HasRoom new
     pub checked : new.checked ≡ old.checked
     pub service : new.service ≡ number
-    pub awaits : IfSome pending (IsPending new)
-    pub begun : IfSome pending (StandsIn new)
+    pub awaits : IfSome (asked pending) (IsPending new)
+    pub begun : IfSome (asked pending) (StandsIn new)
     pub over : IfNone pending (new.frames.items ≡ [])
     pub goes :
         (answers : List Answer)

@@ -1,5 +1,5 @@
 -- What is left to run of a service, and of the run.
-use Rattle.std.specs.Prelude.{ℕ, ◌+◌, ◌-◌, List, [], ◌∷◌, Option, length, Bool}
+use Rattle.std.specs.Prelude.{ℕ, ◌+◌, ◌-◌, List, [], ◌∷◌, Option, Some, None, length, Bool, true, false, not}
 use Rattle.camac_lang.specs.Tree.{Condition, Block, Service}
 use Rattle.camac_branch.specs.Address.{Address, address}
 use Rattle.camac_branch.specs.Branch.{Branch, Answer}
@@ -23,12 +23,29 @@ abbrev pub address_of : Command → Address
 address_of k = address k.c k.n k.a
 
 -- what an answer is wanted for: a cycle, with a read the variable that keeps so many bits of the word; the lock of a crate over a block; the
--- next cycle of a transfer with this function, the table that it sends and the variable of its tally
+-- next cycle of a transfer with this function, the table that it sends and the variable of its tally; or a pause, which wants none
 pub data Operation : Type 0 where
   makes : Command → Operation
   reads : Command → (variable bits : ℕ) → Operation
   locks : (crate_no : ℕ) → Block → Operation
   transfers : Course → (function : ℕ) → (table : Option (List ℕ)) → (variable : ℕ) → Operation
+  pauses : Operation
+
+abbrev pub is_pause : Operation → Bool
+is_pause (makes k) = false
+is_pause (reads k x bits) = false
+is_pause (locks k body) = false
+is_pause (transfers course f table x) = false
+is_pause pauses = true
+
+-- whether a service in progress pauses, and whether it wants an answer
+abbrev pub is_paused : Option Operation → Bool
+is_paused None = false
+is_paused (Some w) = is_pause w
+
+abbrev pub is_asking : Option Operation → Bool
+is_asking None = false
+is_asking (Some w) = not (is_pause w)
 
 -- what is left of a transfer is a smaller one: with the words of its table from the tally on, and at its end the tally of all cycles.
 -- This is that after these Q more
@@ -44,6 +61,7 @@ awaited c (locks k body) s =
     given (crate_waits c.plan k) (λ waits t.
     take_lock k waits (t.branch k).locked (λ u. then_do (block_meaning c most_turns body u) (release k)) t) s
 awaited c (transfers course f table x) s = transfer_left c.plan f table (left_at course) x [] s
+awaited c pauses s = ends s
 
 -- what is left of a statement after the answer that it wanted: further cycles of a transfer, by the Q of this one
 unfoldable pub follows : Context → Operation → Action
@@ -51,6 +69,7 @@ follows c (makes k) s = ends s
 follows c (reads k x bits) s = ends s
 follows c (locks k body) s = ends s
 follows c (transfers course f table x) s = transfer_left c.plan f table (left_at course) x (s.q ∷ []) s
+follows c pauses s = ends s
 
 -- what goes on after a block: nothing but the block around it, or the release of a lock; or a `for` after the turn with this value of its
 -- variable, or a `while`, each with the turns that it may still make; or a procedure's caller, by what it sees and what that holds

@@ -12,6 +12,6 @@ mod transfer;
 mod value;
 
 pub use item::Item;
-pub use machine::{Frame, Machine, Owner, Pending, TransferCycle};
+pub use machine::{Frame, Machine, NO_PAUSE, Owner, Pending, TransferCycle};
 pub use scope::{Places, Scope};
 pub use transfer::Course;

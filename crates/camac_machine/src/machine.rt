@@ -11,7 +11,7 @@ ghost use Rattle.camac_model.specs.Fine.{most_turns};
 ghost use Rattle.camac_model.specs.Meaning.{effect};
 ghost use Rattle.camac_model.specs.State.{fresh, stepped};
 ghost use Rattle.camac_model.specs.Value.{value, truth};
-ghost use Rattle.camac_machine.specs.MachineState.{event_here, variables_here, registers_here, state_of, reach, holds, stands, free, IsFineHere, FineThen, HasRoom, wanted_if, Wants, Advances, Settles, Serves};
+ghost use Rattle.camac_machine.specs.MachineState.{event_here, variables_here, registers_here, state_of, reach, holds, stands, free, IsFineHere, FineThen, HasRoom, wanted_if, Wants, Advances, Settles, PausesAfter, Serves, is_paused_at};
 ghost use Rattle.camac_lang.specs.Fits.{fits};
 ghost use Rattle.camac_machine.specs.Store.{registers_in, held_at};
 ghost use Rattle.camac_machine.specs.Within.{Refers, PartsRefer, StatementFits};
@@ -19,6 +19,7 @@ ghost use Rattle.camac_machine.specs.Within.{Refers, PartsRefer, StatementFits};
 mod actions;
 mod answers;
 mod blocks;
+mod pausing;
 mod transfers;
 
 use self::transfers::Most;
@@ -35,6 +36,9 @@ use camac_esone::{Address, QRepeat, QStop, Scan};
 use camac_event::{EventBuffer, Usage};
 use camac_lang::{CrateCall, Expr, LamCall, Part, Stmt, limits};
 use camac_word::{CrateNo, GlBit, Word24};
+
+/// More steps than any service makes: with it none pauses.
+pub const NO_PAUSE: u32 = 4_294_967_295;
 
 /// What goes on after a block.
 #[derive(Clone, Copy)]
@@ -77,7 +81,7 @@ impl<'a> Default for Frame<'a> {
     }
 }
 
-/// What a service in progress waits for: the operation that its next answer is used for.
+/// What a service in progress waits for: the operation that its next answer is used for, or to go on.
 #[derive(Clone, Copy)]
 pub enum Pending<'a> {
     /// A cycle that keeps no word.
@@ -95,6 +99,8 @@ pub enum Pending<'a> {
     },
     /// The next cycle of a transfer.
     Transfer(TransferCycle<'a>),
+    /// No answer: it has made more steps than it may at once, and goes on when it is told to.
+    Pause,
 }
 
 /// A cycle of a transfer, with the words of the table that the transfer sends, where it sends any, and the variable of its tally.
@@ -147,9 +153,9 @@ fn address_in(registers: &[Option<Address>], register: usize) -> Address
     }
 }
 
-// Says that nothing is wanted. It is no part of `settle`, which would lay out the room of what is wanted once more at each call.
+// Says that nothing is wanted. It is no part of its callers, which would lay out the room of what is wanted once more at each call.
 #[inline(never)]
-fn wait_for_none(pending: &mut Option<Pending<'_>>)
+pub(crate) fn wait_for_none(pending: &mut Option<Pending<'_>>)
     ensures { pending.new ≡ None }
 {
     *pending = None;
@@ -245,6 +251,7 @@ impl<'a, const V: usize, const DEPTH: usize, const CAP: usize> Machine<'a, V, DE
     }
 
     // Begins a statement, and answers whether it waits for an answer: `pending` then says for what.
+    #[inline(always)]
     pub(crate) fn begin(&mut self, statement: &'a Stmt, pending: &mut Option<Pending<'a>>) -> bool
         requires room { HasRoom self.old }
         requires fits { StatementFits (reach self.old) (free self.old) (statement_of statement.now) }
@@ -370,11 +377,13 @@ impl<'a, const V: usize, const DEPTH: usize, const CAP: usize> Machine<'a, V, DE
     }
 
     // Goes on until an answer is wanted, or the service is over.
-    pub(crate) fn settle(&mut self, pending: &mut Option<Pending<'a>>)
+    #[inline(always)]
+    pub(crate) fn settle_at_once(&mut self, pending: &mut Option<Pending<'a>>)
         requires room { HasRoom self.old }
         requires quiet { self.old.unlocks.items ≡ [] }
         requires fine { (answers : List Answer) → IsFineHere self.old (stands None self.old answers) }
-        ensures { Settles self.old (λ c. ends) pending.new self.new }
+        ensures settles { Settles self.old (λ c. ends) pending.new self.new }
+        ensures awake { is_paused_at pending.new ≡ false }
     {
         while !self.frames.is_empty() {
             if self.go_on(pending) {
@@ -384,14 +393,16 @@ impl<'a, const V: usize, const DEPTH: usize, const CAP: usize> Machine<'a, V, DE
         wait_for_none(pending);
     }
 
-    /// Begins the service of this number, and goes on until it wants an answer, or is over: then nothing is wanted.
-    pub fn serve(&mut self, number: usize, pending: &mut Option<Pending<'a>>)
+    /// Begins the service of this number, and goes on until it wants an answer, or is over: then nothing is wanted. It pauses after more than `most`
+    /// steps.
+    pub fn serve(&mut self, number: usize, pending: &mut Option<Pending<'a>>, most: u32)
         requires room { HasRoom self.old }
         requires quiet { self.old.unlocks.items ≡ [] }
         requires idle { self.old.frames.items ≡ [] }
         requires fits { fits self.old.checked.now.script V DEPTH CAP ≡ true }
         requires number { number < length self.old.checked.now.script.services }
-        ensures { (v : Service) → slice_get self.old.checked.now.script.services number ≡ Some v → Serves self.old number v pending.new self.new }
+        ensures serves { (v : Service) → slice_get self.old.checked.now.script.services number ≡ Some v → Serves self.old number v pending.new self.new }
+        ensures pauses { PausesAfter 0 most pending.new self.new }
     {
         let checked = self.checked;
         checked.is_checked();
@@ -412,7 +423,7 @@ impl<'a, const V: usize, const DEPTH: usize, const CAP: usize> Machine<'a, V, DE
             rest: service.body.as_slice(),
             owner: Owner::Plain,
         });
-        self.settle(pending);
+        self.settle(pending, most);
     }
 
     /// The event of a service that is over, under this number: with its bit of the graded-L pattern and its usage.

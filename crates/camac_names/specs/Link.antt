@@ -1,5 +1,5 @@
 -- The rules of linking, in the order in which they are tested (own).
-use Rattle.std.specs.Prelude.{ℕ, Bool, false, not, ◌&&◌, List, [], ◌∷◌, ◌++◌, Option, Some, None, find, is_some, nat_eq, nat_le, option_and_then, option_map, slice_get, unwrap_or, if◌then◌else◌}
+use Rattle.std.specs.Prelude.{◌≡◌, ℕ, Bool, false, not, ◌&&◌, List, [], ◌∷◌, ◌++◌, Option, Some, None, find, is_some, nat_eq, nat_le, option_and_then, option_map, slice_get, unwrap_or, if◌then◌else◌}
 use Rattle.std.specs.List.{list_any}
 use Rattle.camac_lang.specs.Tree.{Lam, Service, Script}
 use Rattle.camac_branch.specs.Plan.{Layout, installed, gl}
@@ -17,6 +17,10 @@ unless test rule line case next = if test then next else Some (Broken rule line 
 -- where a LAM stands
 abbrev pub place_of : Lam → LinkCase
 place_of l = Place l.crate_no l.station
+
+-- L1 of a LAM
+abbrev pub lam_fault : Layout → Lam → Option LinkFault
+lam_fault plan l = unless (is_some (installed plan l.crate_no l.station)) LamNotInstalled l.line (place_of l) None
 
 -- L1 of each LAM in text order
 abbrev pub lams_fault : Layout → List Lam → Option LinkFault
@@ -76,3 +80,26 @@ services_fault plan lams earlier (v ∷ vs) =
 -- the first rule that is broken, its line and its case
 abbrev pub link_fault : Layout → Script → Option LinkFault
 link_fault plan script = or_else (lams_fault plan script.lams) (services_fault plan script.lams [] script.services)
+
+-- a fault, if there is one, before these
+abbrev pub fault_first : Option LinkFault → List LinkFault → List LinkFault
+fault_first None fs = fs
+fault_first (Some f) fs = f ∷ fs
+
+-- L1 of all LAMs, and the first rule that each service breaks, in text order
+abbrev pub lams_faults : Layout → List Lam → List LinkFault
+lams_faults plan [] = []
+lams_faults plan (l ∷ ls) = fault_first (lam_fault plan l) (lams_faults plan ls)
+
+abbrev pub services_faults : Layout → List Lam → List Service → List Service → List LinkFault
+services_faults plan lams earlier [] = []
+services_faults plan lams earlier (v ∷ vs) =
+    fault_first (service_fault plan lams earlier v) (services_faults plan lams (earlier ++ v ∷ []) vs)
+
+-- all that linking refuses: LAMs, then services
+abbrev pub link_faults : Layout → Script → List LinkFault
+link_faults plan script = lams_faults plan script.lams ++ services_faults plan script.lams [] script.services
+
+-- the first of them is the one fault of linking
+abbrev pub FirstIsLinkFault : Type 0
+FirstIsLinkFault = (plan : Layout) (script : Script) → slice_get (link_faults plan script) 0 ≡ link_fault plan script

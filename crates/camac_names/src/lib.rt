@@ -7,5 +7,5 @@ mod link;
 mod linked;
 
 pub use fault::{LinkCase, LinkFault, LinkRule};
-pub use link::resolve;
+pub use link::{link_faults, resolve};
 pub use linked::Linked;

@@ -1,17 +1,17 @@
 // Linking a script to a plan: each LAM in text order, then each service in text order.
 
-ghost use Rattle.std.specs.Prelude.{◌≡◌, ◌≢◌, ◌<◌, ◌≤◌, length, map, is_some, slice_get, [], IfOk, IfErr, Some, None};
+ghost use Rattle.std.specs.Prelude.{◌≡◌, ◌≢◌, ◌<◌, ◌≤◌, length, map, is_some, slice_get, [], IfOk, IfErr, OnOk, ◌++◌, Some, None};
 ghost use Rattle.std.specs.Result.{result_err};
 ghost use Rattle.camac_lang.specs.View.{lam_of, service_of};
 ghost use Rattle.camac_branch.specs.Plan.{IsPlan, installed, gl};
-ghost use Rattle.camac_names.specs.Link.{lams_fault, service_bit, same_station, is_there, is_served, first_line, place_of, service_fault, services_fault, link_fault};
+ghost use Rattle.camac_names.specs.Link.{lam_fault, lams_fault, lams_faults, services_faults, link_faults, service_bit, same_station, is_there, is_served, first_line, place_of, service_fault, services_fault, link_fault};
 
 use crate::fault::{LinkCase, LinkFault, LinkRule};
 use crate::linked::Linked;
 use camac_branch::Plan;
 use camac_lang::{Lam, Script, Service};
 use camac_word::{CrateNo, GlBit, Station};
-use std::alloc::Global;
+use std::alloc::{AllocError, Global};
 
 /// Links a script to a plan, of which it keeps a copy. The error is the first rule that is broken, with the line of the declaration's first
 /// token and the rule's case: L1 of each LAM in text order, then L2, L3 and L4 of each service in text order. It is L5 where memory ran out.
@@ -26,17 +26,73 @@ pub fn resolve(alloc: Global, script: Script, plan: &Plan) -> Result<Linked, Lin
     Ok(Linked { script, plan, bits })
 }
 
+/// All that linking refuses, of which the first is the error of `resolve`: L1 of each LAM in text order, then of each service in text order the
+/// first of L2, L3 and L4 that it breaks, if any. The one error is out of memory.
+pub fn link_faults(
+    alloc: Global,
+    script: &Script,
+    plan: &Plan,
+) -> Result<Vec<LinkFault>, AllocError>
+    ensures { IfOk result (λ v. v.items ≡ link_faults plan.now script.now) }
+{
+    plan.is_plan();
+    let mut faults = Vec::new(alloc);
+    push_lam_faults(&mut faults, script.lams(), plan)?;
+    push_service_faults(&mut faults, script.lams(), script.services(), plan)?;
+    Ok(faults)
+}
+
+fn push_lam_faults(faults: &mut Vec<LinkFault>, lams: &[Lam], plan: &Plan) -> Result<(), AllocError>
+    requires { IsPlan plan.now }
+    ensures { OnOk result (faults.new.items ≡ faults.old.items ++ lams_faults plan.now (map lam_of lams.now)) }
+{
+    'lams: for lam in lams {
+        if let Some(fault) = lam_fault(lam, plan) {
+            faults.push(fault)?;
+        }
+    }
+    Ok(())
+}
+
+fn push_service_faults(
+    faults: &mut Vec<LinkFault>,
+    lams: &[Lam],
+    services: &[Service],
+    plan: &Plan,
+) -> Result<(), AllocError>
+    requires { IsPlan plan.now }
+    ensures { OnOk result (faults.new.items ≡ faults.old.items ++ services_faults plan.now (map lam_of lams.now) [] (map service_of services.now)) }
+{
+    'services: for i in 0..services.len() {
+        if let Err(fault) = link_service(lams, &services[..i], &services[i], plan) {
+            faults.push(fault)?;
+        }
+    }
+    Ok(())
+}
+
 // L1 of each LAM.
 fn link_lams(lams: &[Lam], plan: &Plan) -> Result<(), LinkFault>
     requires { IsPlan plan.now }
     ensures { result_err result ≡ lams_fault plan.now (map lam_of lams.now) }
 {
     'lams: for lam in lams {
-        if !is_installed(plan, lam.crate_no, lam.station) {
-            return Err(broken(LinkRule::LamNotInstalled, lam.line, place_of(lam)));
+        if let Some(fault) = lam_fault(lam, plan) {
+            return Err(fault);
         }
     }
     Ok(())
+}
+
+// L1 of a LAM.
+fn lam_fault(lam: &Lam, plan: &Plan) -> Option<LinkFault>
+    requires { IsPlan plan.now }
+    ensures { result ≡ lam_fault plan.now (lam_of lam.now) }
+{
+    if is_installed(plan, lam.crate_no, lam.station) {
+        return None;
+    }
+    Some(broken(LinkRule::LamNotInstalled, lam.line, place_of(lam)))
 }
 
 // The bit of each service, unless a rule is broken.

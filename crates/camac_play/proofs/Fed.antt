@@ -13,13 +13,13 @@ use Rattle.camac_answer.specs.declared.fault.AnswerFault.{AnswerFault}
 use Rattle.camac_machine.specs.MachineState.{piece_of, Left}
 use Rattle.camac_machine.specs.declared.item.Item.{Item}
 use Rattle.camac_run.specs.Ends.{stop_in}
-use Rattle.camac_run.specs.Holds.{after, HoldsAfter, told_of}
+use Rattle.camac_run.specs.Holds.{after, HoldsAfter, told_after, told_of}
 use Rattle.camac_run.specs.Operation.{operation_of, wanted_after, Begins, Waits, Wants}
 use Rattle.camac_run.specs.Runner.{RunnerState, GoesOn, Stops, rest, last_words_in, state_in}
 use Rattle.camac_run.specs.declared.progress.End.{End}
 use Rattle.camac_run.specs.declared.progress.End.TheVariants as end
 use Rattle.camac_run.specs.declared.progress.Wanted.{Wanted}
-use Rattle.camac_run.proofs.Holds.{pieces-after, stop_of-after, later, going_on_holds, told_all, wants_are_wanted}
+use Rattle.camac_run.proofs.Holds.{pieces-after, stop_of-after, going_on_holds, told_all, wants_are_wanted}
 use Rattle.camac_play.specs.Play.{HasGiven, HasRead, ReadsNoMore, FailsAtWrite, Feeds, FeedsOver, with_taken}
 use Rattle.camac_play.specs.Sent.{Outputs, Sends, SendsPrefix, Sent, to_listing}
 use Rattle.camac_play.specs.Told.{most_answers, asked_text, line_of, pieces_sent, open_text, called_for, ending_of}
@@ -251,15 +251,15 @@ module _ (t : Telling) (plan : Layout) (script : Script) (left now : Option Read
         -- what was sent of all pieces is what the answers before this one call for, and what it did
         pub as_called : pieces_sent (line_of t script) 1 done' ≡ called_for t plan script fed.taken ++ text_sent
         as_called =
-            pieces_sent-append (line_of t script) 1 done (piece_of told ∷ later ks event (last_words_in runner'))
-            ∙ ap (λ (l : List ℕ). pieces_sent (line_of t script) 1 done ++ pieces_sent (line_of t script) (1 + count_of done) (piece_of told ∷ later ks event l)) (sym same_words)
+            pieces_sent-append (line_of t script) 1 done (piece_of told ∷ told_after ks event (last_words_in runner'))
+            ∙ ap (λ (l : List ℕ). pieces_sent (line_of t script) 1 done ++ pieces_sent (line_of t script) (1 + count_of done) (piece_of told ∷ told_after ks event l)) (sym same_words)
             ∙ ap (λ (l : List Sent). pieces_sent (line_of t script) 1 done ++ l) (answer_sent t script (1 + count_of done) o told ks event words told_is numbers)
             ∙ sym (append_assoc (pieces_sent (line_of t script) 1 done) asked text_sent)
             ∙ ap (λ (l : List Sent). l ++ text_sent) (sym called_now)
 
         pub uses_then : uses done' ≡ length taken
         uses_then =
-            let sum = uses-append done (piece_of told ∷ later ks event (last_words_in runner')) in
+            let sum = uses-append done (piece_of told ∷ told_after ks event (last_words_in runner')) in
             let one = answer_uses o told ks event (last_words_in runner') told_is in
             let len = length-append fed.taken (answer ∷ []) in
             let used = fed.used in
@@ -273,7 +273,7 @@ module _ (t : Telling) (plan : Layout) (script : Script) (left now : Option Read
           holds = holds';
           sent = subst (λ (l : List Sent). Sends a d l) (sym as_called) (Sends-trans a c d (called_for t plan script fed.taken) text_sent sends_all sends);
           counted = answer_counts told ks event (last_words_in runner') count n none some (next_number event runner.events count runner'.events g.next counted)
-              ∙ ap (λ (k : ℕ). k + count_of (piece_of told ∷ later ks event (last_words_in runner'))) fed.counted ∙ sym (count-append done (piece_of told ∷ later ks event (last_words_in runner')));
+              ∙ ap (λ (k : ℕ). k + count_of (piece_of told ∷ told_after ks event (last_words_in runner'))) fed.counted ∙ sym (count-append done (piece_of told ∷ told_after ks event (last_words_in runner')));
           used = uses_then;
           given = given_then;
           follows = inr (fed.taken, answer, text_sent, refl, as_called);

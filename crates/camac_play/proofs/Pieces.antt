@@ -11,8 +11,7 @@ use Rattle.camac_machine.specs.MachineState.{piece_of, Left}
 use Rattle.camac_run.specs.Operation.{operation_of}
 use Rattle.camac_run.specs.declared.progress.Wanted.{Wanted}
 use Rattle.camac_run.specs.declared.progress.Wanted.TheVariants as wanted
-use Rattle.camac_run.specs.Holds.{event_pieces}
-use Rattle.camac_run.proofs.Holds.{later}
+use Rattle.camac_run.specs.Holds.{event_pieces, told_after}
 use Rattle.camac_play.specs.Sent.{Sent, to_listing, to_events}
 use Rattle.camac_play.specs.Told.{asked_text, item_line, line_of, record_text, number_after, piece_sent, pieces_sent, event_record}
 use Rattle.camac_play.specs.declared.telling.Telling.{Telling}
@@ -120,13 +119,13 @@ module _ (t : Telling) (script : Script) where
   told_sent told ks event words = to_listing (item_line t script (piece_of told) ++ unlock_texts ks) ++ to_events (event_record event words)
 
   pub answer_sent : (n : ℕ) (o : Wanted) (told : Item) (ks : List ℕ) (event : Option Left) (words : List ℕ) → operation_of (piece_of told) ≡ Some o → IfSome event (λ e. e.0 ≡ n)
-      → pieces_sent line n (piece_of told ∷ later ks event words) ≡ to_listing (asked_text t o) ++ told_sent told ks event words
+      → pieces_sent line n (piece_of told ∷ told_after ks event words) ≡ to_listing (asked_text t o) ++ told_sent told ks event words
   answer_sent n o told ks event words is h =
       let asked = to_listing (asked_text t o) in
       let item' : List ℕ = item_line t script (piece_of told) in
       let free = to_listing (unlock_texts ks) in
       let left = to_events (event_record event words) in
-      first_sent n told (later ks event words)
+      first_sent n told (told_after ks event words)
       ∙ ap (λ (l : List Sent). to_listing (line (piece_of told)) ++ l) (released_sent n ks (event_pieces event words) ∙ ap (λ (l : List Sent). free ++ l) (event_sent n event words h))
       ∙ ap (λ (l : List Sent). l ++ (free ++ left)) (ap to_listing (line_splits t script told o is) ∙ to_listing-append (asked_text t o) item')
       ∙ append_assoc asked (to_listing item') (free ++ left)
@@ -142,19 +141,19 @@ event_counts (Some e) words n m a b h = omega (arith, b, h)
 
 -- the number of events after an answer
 pub answer_counts : (told : Item) (ks : List ℕ) (event : Option Left) (words : List ℕ) (n m : ℕ) → IfNone event (m ≡ n) → IfSome event (λ e. m ≡ e.0) → IfSome event (λ e. e.0 ≡ n + 1)
-    → m ≡ n + count_of (piece_of told ∷ later ks event words)
+    → m ≡ n + count_of (piece_of told ∷ told_after ks event words)
 answer_counts told ks event words n m a b h =
-    omega (arith, event_counts event words n m a b h, released_quiet ks (event_pieces event words), quiet_event told, length-append (event_in (piece_of told)) (events_in (later ks event words)))
+    omega (arith, event_counts event words n m a b h, released_quiet ks (event_pieces event words), quiet_event told, length-append (event_in (piece_of told)) (events_in (told_after ks event words)))
 
 pub uses-append : (ps qs : List Piece) → uses (ps ++ qs) ≡ uses ps + uses qs
 uses-append [] qs = omega arith
 uses-append (p ∷ ps) qs = let m = uses-append ps qs in omega (arith, m)
 
-later_uses : (ks : List ℕ) (event : Option Left) (words : List ℕ) → uses (later ks event words) ≡ 0
+later_uses : (ks : List ℕ) (event : Option Left) (words : List ℕ) → uses (told_after ks event words) ≡ 0
 later_uses [] None words = refl
 later_uses [] (Some e) words = refl
 later_uses (k ∷ ks) event words = let m = later_uses ks event words in omega (arith, m)
 
 -- an answer is used once
-pub answer_uses : (o : Wanted) (told : Item) (ks : List ℕ) (event : Option Left) (words : List ℕ) → operation_of (piece_of told) ≡ Some o → uses (piece_of told ∷ later ks event words) ≡ 1
+pub answer_uses : (o : Wanted) (told : Item) (ks : List ℕ) (event : Option Left) (words : List ℕ) → operation_of (piece_of told) ≡ Some o → uses (piece_of told ∷ told_after ks event words) ≡ 1
 answer_uses o told ks event words is = let one = (asked_is told o is).1 in let none = later_uses ks event words in omega (arith, one, none)

@@ -1,7 +1,8 @@
 // The loop that feeds a run its answers.
 
-ghost use Rattle.std.specs.Prelude.{◌≡◌, []};
+ghost use Rattle.std.specs.Prelude.{◌≡◌, [], false};
 ghost use Rattle.camac_model.specs.Behaviour.{stop_of};
+ghost use Rattle.camac_machine.specs.Rest.{is_paused};
 ghost use Rattle.camac_run.specs.Ends.{stop_in};
 ghost use Rattle.camac_run.specs.Runner.{rest};
 ghost use Rattle.camac_play.specs.Play.{FeedsIn, is_read_fault, is_write_fault};
@@ -56,6 +57,7 @@ pub fn feed<I: RunIo>(
 
 // How a run ends where no answer is left.
 fn end_of(runner: &FullRunner<'_>) -> End
+    requires { is_paused runner.now.pending ≡ false }
     ensures { stop_in result ≡ stop_of (rest runner.now []) }
 {
     if runner.in_service() {

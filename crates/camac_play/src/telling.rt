@@ -1,8 +1,9 @@
 // How a run tells what it does, and what is written at an answer and at the end.
 
-ghost use Rattle.std.specs.Prelude.{◌≡◌, ◌≤◌, ◌<◌, ◌^◌, ◌++◌, length, is_err, IfSome, IfNone, None};
+ghost use Rattle.std.specs.Prelude.{◌≡◌, ◌≤◌, ◌<◌, ◌^◌, ◌++◌, length, is_err, IfSome, IfNone, None, false};
 ghost use Rattle.camac_report.specs.Items.{unlock_texts};
 ghost use Rattle.camac_machine.specs.MachineState.{piece_of};
+ghost use Rattle.camac_machine.specs.Rest.{is_paused};
 ghost use Rattle.camac_play.specs.RunIo.{OnlyLists, OnlyRecords};
 ghost use Rattle.camac_play.specs.Told.{most_answers, item_line, ending_text, Asks, event_record};
 ghost use Rattle.camac_word.specs.Writing.{Writes};
@@ -47,6 +48,7 @@ pub fn ask<I: RunIo>(
     io: &mut I,
 ) -> Result<(), WriteFault>
     requires first { runner.now.overrun ≡ None }
+    requires awake { is_paused runner.now.pending ≡ false }
     ensures asks { Asks telling runner.now (I.state io.old).listed (I.state io.new).listed result }
     ensures only { OnlyLists (I.state io.old) (I.state io.new) (is_err result) }
 {

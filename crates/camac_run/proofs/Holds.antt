@@ -1,5 +1,5 @@
 -- What a runner holds after answers, and what it wants then.
-use Rattle.std.proofs.Common.{◌≡◌, ℕ, ◌<◌, List, [], ◌∷◌, ◌++◌, length, map, Option, Some, None, refl, sym, ap, ◌∙◌, append_assoc, append-nil, arith}
+use Rattle.std.proofs.Common.{◌≡◌, ℕ, ◌<◌, List, [], ◌∷◌, ◌++◌, length, Option, Some, None, refl, sym, ap, ◌∙◌, append_assoc, append-nil, arith}
 use Rattle.std.specs.Prelude.{slice_get, option_and_then}
 use Rattle.camac_lang.specs.Tree.{Script}
 use Rattle.camac_branch.specs.Branch.{Answer}
@@ -8,7 +8,7 @@ use Rattle.camac_model.specs.Behaviour.{Behaviour, does, ends, stops, Piece, loc
 use Rattle.camac_model.specs.Run.{the_run}
 use Rattle.camac_machine.specs.MachineState.{Left, piece_of}
 use Rattle.camac_machine.specs.Rest.{says}
-use Rattle.camac_run.specs.Holds.{after, HoldsAfter, event_pieces, GoingOnHolds, AllIsTold, WantsAreWanted}
+use Rattle.camac_run.specs.Holds.{after, HoldsAfter, event_pieces, told_after, GoingOnHolds, ResumingHolds, AllIsTold, WantsAreWanted}
 use Rattle.camac_run.specs.Operation.{Begins, Waits, operation_of, quiet_answer}
 use Rattle.camac_run.specs.Runner.{RunnerState, rest, with_event, last_words_in}
 use Rattle.camac_run.specs.declared.progress.Wanted.{Wanted}
@@ -30,27 +30,31 @@ waits_quietly (does p b) h = absurd h
 waits_quietly (ends x) h = refl
 waits_quietly (stops w s) h = refl
 
--- what comes after an answer's item: the locks that are released, and the event
-abbrev pub later : List ℕ → Option Left → List ℕ → List Piece
-later ks event words = map lock_released ks ++ event_pieces event words
-
 with_event-after : (event : Option Left) (words : List ℕ) (b : Behaviour (Unit {0})) → with_event event words b ≡ after (event_pieces event words) b
 with_event-after None words b = refl
 with_event-after (Some e) words b = refl
 
-pub says-after : (ks : List ℕ) (event : Option Left) (words : List ℕ) (b : Behaviour (Unit {0})) → says ks (with_event event words b) ≡ after (later ks event words) b
+pub says-after : (ks : List ℕ) (event : Option Left) (words : List ℕ) (b : Behaviour (Unit {0})) → says ks (with_event event words b) ≡ after (told_after ks event words) b
 says-after [] event words b = with_event-after event words b
 says-after (k ∷ ks) event words b = ap (λ (x : Behaviour (Unit {0})). does (lock_released k) x) (says-after ks event words b)
 
 abbrev pub going_on_holds : GoingOnHolds
 going_on_holds plan script answers a told old new item unlocks event h g =
-    let ps : List Piece = later unlocks event (last_words_in new) in
+    let ps : List Piece = told_after unlocks event (last_words_in new) in
     record {
       goes = λ (more' : List Answer).
           ap (the_run plan script) (append_assoc answers (a ∷ []) more') ∙ h.goes (a ∷ more')
           ∙ ap (after told) (g.goes more' ∙ ap (λ (x : Behaviour (Unit {0})). does (piece_of item) x) (says-after unlocks event (last_words_in new) (rest new more')))
           ∙ after-append told (piece_of item ∷ ps) (rest new more');
     }
+
+abbrev pub resuming_holds : ResumingHolds
+resuming_holds plan script answers told old new unlocks event h g = record {
+  goes = λ (more' : List Answer).
+      h.goes more'
+      ∙ ap (after told) (g.goes more' ∙ says-after unlocks event (last_words_in new) (rest new more'))
+      ∙ after-append told (told_after unlocks event (last_words_in new)) (rest new more');
+}
 
 -- with no wait the operation is made
 made : {A : Type 0} (o : Wanted) (b : Behaviour A) → Begins o quiet_answer b → (p : Piece) × (rest : Behaviour A) × (b ≡ does p rest) × (operation_of p ≡ Some o)

@@ -12,3 +12,5 @@ pub mod Operation
 pub mod Holds
 pub mod Early
 pub mod Abandoned
+pub mod Coming
+pub mod Steps

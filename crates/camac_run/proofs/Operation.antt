@@ -1,5 +1,5 @@
 -- What a machine wants its next answer for, whatever that is.
-use Rattle.std.proofs.Common.{◌≡◌, ◌∙◌, ℕ, zero, suc, ◌+◌, ◌<◌, List, [], ◌∷◌, Bool, true, false, Option, Some, None, refl, sym, subst, arith}
+use Rattle.std.proofs.Common.{◌≡◌, ◌∙◌, ℕ, zero, suc, ◌+◌, ◌<◌, List, [], ◌∷◌, Bool, true, false, Option, Some, None, refl, sym, subst, ap, arith, inr}
 use Rattle.std.proofs.lemmas.Bool.{false≢true}
 use Rattle.std.specs.Prelude.{IsSome, IfSome, is_some, unwrap_or}
 use Rattle.camac_lang.specs.View.{statements_of}
@@ -22,8 +22,8 @@ use Rattle.camac_model.specs.Fine.{most_turns}
 use Rattle.camac_model.specs.Meaning.{block_meaning}
 use Rattle.camac_model.specs.Transfer.{keep_word, transfer}
 use Rattle.camac_machine.specs.Course.{left_at, words_from, words_sent}
-use Rattle.camac_machine.specs.MachineState.{context_in, left_in, stands, state_of, pending_of, IsPending, IsFineHere, bounds_of, bit_at}
-use Rattle.camac_machine.specs.Rest.{address_of, awaited, onward, served}
+use Rattle.camac_machine.specs.MachineState.{context_in, left_in, stands, state_of, pending_of, is_paused_at, asked, IsPending, IsFineHere, bounds_of, bit_at}
+use Rattle.camac_machine.specs.Rest.{is_pause, address_of, awaited, onward, served}
 use Rattle.camac_run.specs.Runner.{rest}
 use Rattle.camac_run.specs.Sound.{runner_state}
 use Rattle.camac_run.specs.Operation.{Begins, IsWaiting, Waits, Wants, operation, operation_of, quiet_answer}
@@ -32,14 +32,15 @@ use Rattle.camac_run.specs.declared.progress.Wanted.{Wanted}
 use Rattle.camac_run.specs.declared.progress.Wanted.TheVariants as wanted
 use Rattle.camac_machine.specs.declared.machine.Machine.{Machine}
 use Rattle.camac_machine.specs.declared.machine.Pending.{Pending}
-use Rattle.camac_machine.specs.declared.machine.Pending.TheVariants.{Cycle, Read, Lock, Transfer}
+use Rattle.camac_machine.specs.declared.machine.Pending.TheVariants.{Cycle, Read, Lock, Transfer, Pause}
 use Rattle.camac_run.proofs.Told.{rest_short, rest_over}
+use Rattle.camac_machine.proofs.Pauses.{asked_of}
 use Rattle.camac_machine.proofs.Takes.{cycle_goes, cycle_halts}
 use Rattle.camac_machine.proofs.Taken.{lock_goes, lock_halts}
 use Rattle.camac_machine.proofs.Transfers.{transfer_goes}
 
 -- no wait is always permitted
-some_wait : (l : Bool) (waits w : ℕ) → permitted l waits w ≡ false → 0 < w
+pub some_wait : (l : Bool) (waits w : ℕ) → permitted l waits w ≡ false → 0 < w
 some_wait l waits zero h = absurd (false≢true (sym h))
 some_wait l waits (suc n) h = omega arith
 
@@ -73,7 +74,7 @@ module _ (plan : Layout) (c : ℕ) (body : Action) (s : State) (a : Answer) (ans
   lock_begins = lock_by (is_permitted plan s.branch c a.wait) refl
 
 module _ {V D C : ℕ} (h : Machine V D C) (a : Answer) (answers : List Answer) where
-  first_begins : (w : Pending) → IsPending h w → Begins (operation w) a (awaited (context_in h.checked.now) (pending_of w) (state_of h (a ∷ answers)))
+  first_begins : (w : Pending) → IfSome (asked (Some w)) (IsPending h) → IfSome (operation w) (λ o. Begins o a (awaited (context_in h.checked.now) (pending_of w) (state_of h (a ∷ answers))))
   unfolding awaited
   first_begins (Cycle k) p = cycle_begins h.checked.now.plan k (λ r. ends) (state_of h (a ∷ answers)) a answers p.0
   first_begins (Read k x bits) p =
@@ -88,20 +89,26 @@ module _ {V D C : ℕ} (h : Machine V D C) (a : Answer) (answers : List Answer) 
       subst (Begins (wanted.Cycle w.command) a)
       (sym (transfer_goes plan w.command.f words (left_at w.course).next_address finish [] (address_of w.command) w.command.mv p.1.1 p.1.2 a answers (state_of h (a ∷ answers))))
       (cycle_begins plan w.command (λ r t'. transfer plan w.command.f words (left_at w.course).next_address finish (r.q ∷ []) answers (stepped (keep_word words (width plan (address_of w.command) w.command.f) r t'))) (state_of h (a ∷ answers)) a answers p.0)
+  first_begins Pause p = tt
 
-  rest_begins : (w : Pending) → IsPending h w → Begins (operation w) a (served (context_in h.checked.now) h.checked.now.script.services (bit_at h.checked.now h.service) (stands (Some w) h (a ∷ answers)))
-  unfolding served
-  rest_begins w p =
-      begins_then (operation w) a (stands (Some w) h (a ∷ answers)) _
-      (begins_then (operation w) a (awaited (context_in h.checked.now) (pending_of w) (state_of h (a ∷ answers))) (left_in h) (first_begins w p))
+  module _ (w : Pending) (o : Wanted) (wants : operation w ≡ Some o) (p : IfSome (asked (Some w)) (IsPending h)) where
+    stands_begins : Begins o a (stands (Some w) h (a ∷ answers))
+    stands_begins =
+        let first = first_begins w p in
+        let f = rw wants at first in
+        begins_then o a (awaited (context_in h.checked.now) (pending_of w) (state_of h (a ∷ answers))) (left_in h) f
 
-  module _ (fed n : ℕ) (has : Bool) (o : Option Overrun) (d : Crates) where
+    rest_begins : Begins o a (served (context_in h.checked.now) h.checked.now.script.services (bit_at h.checked.now h.service) (stands (Some w) h (a ∷ answers)))
+    unfolding served
+    rest_begins = begins_then o a (stands (Some w) h (a ∷ answers)) _ stands_begins
+
+  module _ (fed n : ℕ) (has : Bool) (o : Option Overrun) (d : Crates) (m : ℕ) where
     -- an answer that is wanted is used for what is wanted
-    pub wanted_begins : (pending : Option Pending) (w : Pending) → pending ≡ Some w → IfSome pending (IsPending h) → Begins (operation w) a (rest (runner_state h pending fed n has o d) (a ∷ answers))
-    wanted_begins pending w e p = let q : IsPending h w = rw e at p in rw e (rest_begins w q)
+    pub wanted_begins : (pending : Option Pending) (w : Pending) (x : Wanted) → operation w ≡ Some x → pending ≡ Some w → IfSome (asked pending) (IsPending h) → Begins x a (rest (runner_state h pending fed n has o d m) (a ∷ answers))
+    wanted_begins pending w x wants e p = let q : IfSome (asked (Some w)) (IsPending h) = rw e at p in rw e (rest_begins w x wants q)
 
     -- and where no service is in progress, for a graded-L operation
-    pub idle_begins : (pending : Option Pending) → pending ≡ None → Begins wanted.Demand a (rest (runner_state h pending fed n has o d) (a ∷ answers))
+    pub idle_begins : (pending : Option Pending) → pending ≡ None → Begins wanted.Demand a (rest (runner_state h pending fed n has o d m) (a ∷ answers))
     unfolding onward
     idle_begins pending e = rw e refl
 
@@ -127,39 +134,84 @@ begun_safe plan held k o (stops (overrun c w) s) h f free = let no : 0 < 0 = h.2
 begun_safe plan held k o (stops wrong s) h f free = absurd h
 begun_safe plan held k o (stops more s) h f free = absurd h
 
+-- what is wanted tells whether it pauses
+awake_of : (w : Pending) (x : Wanted) → operation w ≡ Some x → is_pause (pending_of w) ≡ false
+awake_of (Cycle k) x e = refl
+awake_of (Read k y bits) x e = refl
+awake_of (Lock k body) x e = refl
+awake_of (Transfer w) x e = refl
+awake_of Pause x e = absurd (cc)
+
+pauses_of : (w : Pending) → operation w ≡ None → is_pause (pending_of w) ≡ true
+pauses_of (Cycle k) e = absurd (cc)
+pauses_of (Read k x bits) e = absurd (cc)
+pauses_of (Lock k body) e = absurd (cc)
+pauses_of (Transfer w) e = absurd (cc)
+pauses_of Pause e = refl
+
+pub none_paused : (w : Pending) → is_pause (pending_of w) ≡ true → operation w ≡ None
+none_paused (Cycle k) e = absurd (false≢true e)
+none_paused (Read k x bits) e = absurd (false≢true e)
+none_paused (Lock k body) e = absurd (false≢true e)
+none_paused (Transfer w) e = absurd (false≢true e)
+none_paused Pause e = refl
+
+wanted_of : (w : Pending) → is_pause (pending_of w) ≡ false → (x : Wanted) × (operation w ≡ Some x)
+wanted_of (Cycle k) e = (wanted.Cycle k, refl)
+wanted_of (Read k x bits) e = (wanted.Cycle k, refl)
+wanted_of (Lock k body) e = (wanted.Lock k, refl)
+wanted_of (Transfer w) e = (wanted.Cycle w.command, refl)
+wanted_of Pause e = absurd (false≢true (sym e))
+
 -- a lock that is wanted is of a free crate
-free_lock : {V D C : ℕ} (h : Machine V D C) (w : Pending) (pending : Option Pending) (fed n : ℕ) (has : Bool) (o : Option Overrun) (d : Crates) → IsPending h w → (c : ℕ) → operation w ≡ wanted.Lock c
-    → held_in (runner_state h pending fed n has o d) c ≡ false
-free_lock h (Cycle k) pending fed n has o d p c e = absurd (cc)
-free_lock h (Read k x bits) pending fed n has o d p c e = absurd (cc)
-free_lock h (Lock m body) pending fed n has o d p c e = let same : m ≡ c = cc in subst (λ j. held_in (runner_state h pending fed n has o d) j ≡ false) same p.1.0
-free_lock h (Transfer w) pending fed n has o d p c e = absurd (cc)
+free_lock : {V D C : ℕ} (h : Machine V D C) (w : Pending) (pending : Option Pending) (fed n : ℕ) (has : Bool) (o : Option Overrun) (d : Crates) (m : ℕ) → IsPending h w → (c : ℕ) → operation w ≡ Some (wanted.Lock c)
+    → held_in (runner_state h pending fed n has o d m) c ≡ false
+free_lock h (Cycle k) pending fed n has o d m p c e = absurd (cc)
+free_lock h (Read k x bits) pending fed n has o d m p c e = absurd (cc)
+free_lock h (Lock k body) pending fed n has o d m p c e = let same : k ≡ c = cc in subst (λ j. held_in (runner_state h pending fed n has o d m) j ≡ false) same p.1.0
+free_lock h (Transfer w) pending fed n has o d m p c e = absurd (cc)
+free_lock h Pause pending fed n has o d m p c e = absurd p.0
 
-pub can_send : {V D C : ℕ} (h : Machine V D C) (w : Pending) (pending : Option Pending) (fed n : ℕ) (has : Bool) (o : Option Overrun) (d : Crates) → pending ≡ Some w → IfSome pending (IsPending h)
-    → IfSome pending (λ v. (answers : List Answer) → IsFineHere h (stands (Some v) h answers)) → IsSafeRequest h.checked.now.plan (held_in (runner_state h pending fed n has o d)) (operation w)
-can_send h w pending fed n has o d e p fine =
-    let q : IsPending h w = rw e at p in
-    let f : (answers : List Answer) → IsFineHere h (stands (Some w) h answers) = rw e at fine in
-    begun_safe h.checked.now.plan (held_in (runner_state h pending fed n has o d)) (bounds_of h) (operation w) (stands (Some w) h (quiet_answer ∷ []))
-    (begins_then (operation w) quiet_answer (awaited (context_in h.checked.now) (pending_of w) (state_of h (quiet_answer ∷ []))) (left_in h) (first_begins h quiet_answer [] w q))
-    (f (quiet_answer ∷ [])) (free_lock h w pending fed n has o d q)
+pub can_send : {V D C : ℕ} (h : Machine V D C) (w : Pending) (pending : Option Pending) (fed n : ℕ) (has : Bool) (o : Option Overrun) (d : Crates) (m : ℕ) → pending ≡ Some w → IfSome (asked pending) (IsPending h)
+    → IfSome pending (λ v. (answers : List Answer) → IsFineHere h (stands (Some v) h answers)) → IfSome (operation w) (IsSafeRequest h.checked.now.plan (held_in (runner_state h pending fed n has o d m)))
+can_send h w pending fed n has o d m e p fine = go (operation w) refl
+  where
+    q : IfSome (asked (Some w)) (IsPending h)
+    q = rw e at p
 
--- a runner whose waits were all permitted wants an answer
-module _ {V D C : ℕ} (h : Machine V D C) (fed n : ℕ) (has : Bool) (o : Option Overrun) (d : Crates) (first : o ≡ None) where
-  pub wants_some : (pending : Option Pending) (w : Pending) → pending ≡ Some w → IfSome pending (IsPending h) → Wants (runner_state h pending fed n has o d) (Some (operation w))
-  wants_some pending w e p = (
+    f : (answers : List Answer) → IsFineHere h (stands (Some w) h answers)
+    f = rw e at fine
+
+    go : (x : Option Wanted) → operation w ≡ x → IfSome x (IsSafeRequest h.checked.now.plan (held_in (runner_state h pending fed n has o d m)))
+    go None is = tt
+    go (Some x) is =
+        begun_safe h.checked.now.plan (held_in (runner_state h pending fed n has o d m)) (bounds_of h) x (stands (Some w) h (quiet_answer ∷ []))
+        (stands_begins h quiet_answer [] w x is q) (f (quiet_answer ∷ []))
+        (λ c same. free_lock h w pending fed n has o d m (asked_of w (IsPending h) (awake_of w x is) q) c (is ∙ ap Some same))
+
+-- a runner whose waits were all permitted wants an answer, unless it pauses
+module _ {V D C : ℕ} (h : Machine V D C) (fed n : ℕ) (has : Bool) (o : Option Overrun) (d : Crates) (m : ℕ) (first : o ≡ None) where
+  wants_this : (pending : Option Pending) (w : Pending) (x : Wanted) → operation w ≡ Some x → pending ≡ Some w → IfSome (asked pending) (IsPending h) → Wants (runner_state h pending fed n has o d m) (Some x)
+  wants_this pending w x wants e p = (
     first,
-    subst (λ (b : Behaviour (Unit {0})). Waits b) (sym (rest_short h pending w fed n has o d e p)) tt,
-    λ a answers. wanted_begins h a answers fed n has o d pending w e p,
+    subst (λ (b : Behaviour (Unit {0})). Waits b) (sym (rest_short h pending w fed n has o d m e (ap is_paused_at e ∙ awake_of w x wants) p)) tt,
+    λ a answers. wanted_begins h a answers fed n has o d m pending w x wants e p,
   )
 
-  pub wants_none : (pending : Option Pending) → pending ≡ None → Wants (runner_state h pending fed n has o d) (Some wanted.Demand)
+  pub wants_some : (pending : Option Pending) (w : Pending) → pending ≡ Some w → IfSome (asked pending) (IsPending h) → Wants (runner_state h pending fed n has o d m) (operation w)
+  wants_some pending w e p = go (operation w) refl
+    where
+      go : (x : Option Wanted) → operation w ≡ x → Wants (runner_state h pending fed n has o d m) x
+      go None is = inr (ap is_paused_at e ∙ pauses_of w is)
+      go (Some x) is = wants_this pending w x is e p
+
+  pub wants_none : (pending : Option Pending) → pending ≡ None → Wants (runner_state h pending fed n has o d m) (Some wanted.Demand)
   wants_none pending e = (
     first,
-    subst (λ (b : Behaviour (Unit {0})). Waits b) (sym (rest_over h pending fed n has o d e)) tt,
-    λ a answers. idle_begins h a answers fed n has o d pending e,
+    subst (λ (b : Behaviour (Unit {0})). Waits b) (sym (rest_over h pending fed n has o d m e)) tt,
+    λ a answers. idle_begins h a answers fed n has o d m pending e,
   )
 
-  pub is_waiting : (pending : Option Pending) → IfSome pending (IsPending h) → IsWaiting (runner_state h pending fed n has o d)
-  is_waiting None p = (wanted.Demand, wants_none None refl)
-  is_waiting (Some w) p = (operation w, wants_some (Some w) w refl p)
+  pub is_waiting : (pending : Option Pending) → is_paused_at pending ≡ false → IfSome (asked pending) (IsPending h) → IsWaiting (runner_state h pending fed n has o d m)
+  is_waiting None awake p = (wanted.Demand, wants_none None refl)
+  is_waiting (Some w) awake p = let x = wanted_of w awake in (x.0, wants_this (Some w) w x.0 x.1 refl p)

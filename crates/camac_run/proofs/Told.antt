@@ -1,6 +1,6 @@
 -- What an answer told of a runner, and what is left.
 use Rattle.std.proofs.Common.{◌≡◌, ℕ, ◌+◌, ◌<◌, ◌≤◌, List, [], ◌∷◌, length, Option, Some, None, Bool, true, false, refl, sym, ap, subst, ◌∙◌, arith}
-use Rattle.std.specs.Prelude.{slice_get, option_map, IfSome, IfNone, OnSome, IsTrue, IsSome, IsSomeAnd}
+use Rattle.std.specs.Prelude.{slice_get, option_map, IfSome, IfNone, OnSome, IsTrue, IsSomeAnd, not}
 use Rattle.std.specs.Borrow.{Bor}
 use Rattle.std.proofs.lemmas.Bool.{false≢true}
 use Rattle.camac_lang.specs.Scope.{is_well_formed}
@@ -22,42 +22,60 @@ use Rattle.camac_machine.specs.declared.item.Item.{Item}
 use Rattle.camac_machine.specs.declared.machine.Machine.{Machine}
 use Rattle.camac_machine.specs.declared.machine.Pending.{Pending}
 use Rattle.camac_machine.specs.declared.machine.Pending.TheVariants as pending
-use Rattle.camac_machine.specs.declared.machine.Pending.TheVariants.{Cycle, Read, Lock}
-use Rattle.camac_machine.specs.MachineState.{bounds_at, bounds_of, opens_in, locked_among, context_in, state_of, left_in, stands, pending_of, FineThen, IsFineHere, HasRoom, IsPending, IsOperationOf, StandsIn, Takes, Settles, Serves, Left, bit_at, event_here}
-use Rattle.camac_machine.specs.Rest.{follows, rest_in, says, served}
+use Rattle.camac_machine.specs.declared.machine.Pending.TheVariants.{Cycle, Read, Lock, Pause}
+use Rattle.camac_machine.specs.MachineState.{bounds_at, bounds_of, opens_in, locked_among, context_in, state_of, left_in, stands, pending_of, after_pending, asked, is_paused_at, FineThen, IsFineHere, HasRoom, IsPending, IsOperationOf, StandsIn, Takes, Settles, Serves, Left, bit_at, event_here}
+use Rattle.camac_machine.specs.Rest.{is_pause, is_paused, is_asking, follows, rest_in, says, served}
 use Rattle.camac_run.specs.Place.{IsPlace}
 use Rattle.camac_run.specs.declared.place.Place.{Place}
-use Rattle.camac_run.specs.Runner.{RunnerState, rest, last_words_in, with_event}
+use Rattle.camac_run.specs.Runner.{RunnerState, rest, last_words_in, with_event, steps_before, KeepsLimit, NeverPauses}
 use Rattle.camac_run.specs.Sound.{runner_state, IsSound}
 use Rattle.camac_machine.proofs.Bounds.{fine_at}
-use Rattle.camac_machine.proofs.Fine.{fine_says}
+use Rattle.camac_machine.proofs.Fine.{fine_says, keeps_rest}
 use Rattle.camac_machine.proofs.Frames.{fine_along}
 use Rattle.camac_machine.proofs.Locks.{among_few}
 use Rattle.camac_run.proofs.Serving.{served_says, served_stops, onward_over}
+use Rattle.camac_machine.proofs.Courses.{pause_alone}
+use Rattle.camac_machine.proofs.Pauses.{asked_of, stands_paused}
 use Rattle.camac_machine.proofs.Takes.{waits_first}
+
+-- what is so is so where something is wanted
+pub each_some : {A : Type 0} (o : Option A) (P : Type 0) → P → IfSome o (λ w. P)
+each_some None P p = tt
+each_some (Some w) P p = p
+
+not_true : (b : Bool) → not b ≡ true → b ≡ false
+not_true true e = absurd (false≢true e)
+not_true false e = refl
+
+-- where it does not pause, an answer is wanted
+pub asked_is : (o : Option Pending) (w : Pending) (P : Pending → Type 0) → o ≡ Some w → is_paused_at o ≡ false → IfSome (asked o) P → P w
+asked_is o w P e awake p =
+    let a = rw e at awake in
+    let q = rw e at p in
+    asked_of w P a q
 
 module _ {V D C : ℕ} where
   -- the event of a service that is over is told and counted, and nothing else changes
-  module _ (new : Machine V D C) (next' : Option Pending) (event : Option Left) (fed n : ℕ) (has : Bool) (o : Option Overrun) (d : Crates) (s : RunnerState) where
+  module _ (new : Machine V D C) (next' : Option Pending) (event : Option Left) (fed n : ℕ) (has : Bool) (o : Option Overrun) (d : Crates) (m : ℕ) (s : RunnerState) where
     abbrev pub IsCounted : Type 0
-    IsCounted = IfNone (option_map pending_of next') ((event ≡ Some (event_here new (n + 1))) × (s ≡ record (runner_state new next' fed n has o d) { events = n + 1; has_event = true }))
+    IsCounted = IfNone (option_map pending_of next') ((event ≡ Some (event_here new (n + 1))) × (s ≡ record (runner_state new next' fed n has o d m) { events = n + 1; has_event = true }))
 
     abbrev pub IsAsBefore : Type 0
-    IsAsBefore = OnSome (option_map pending_of next') ((event ≡ None) × (s ≡ record (runner_state new next' fed n has o d) { has_event = false }))
+    IsAsBefore = OnSome (option_map pending_of next') ((event ≡ None) × (s ≡ record (runner_state new next' fed n has o d m) { has_event = false }))
 
   -- where nothing is wanted the event is told, and else what is left is that of the machine
-  pub told : (new : Machine V D C) (next' : Option Pending) (event : Option Left) (fed n : ℕ) (has : Bool) (o : Option Overrun) (d : Crates) (s : RunnerState) (answers : List Answer)
-      → IfNone next' (new.frames.items ≡ []) → IsCounted new next' event fed n has o d s → IsAsBefore new next' event fed n has o d s
+  pub told : (new : Machine V D C) (next' : Option Pending) (event : Option Left) (fed n : ℕ) (has : Bool) (o : Option Overrun) (d : Crates) (m : ℕ) (s : RunnerState) (answers : List Answer)
+      → IfNone next' (new.frames.items ≡ []) → IsCounted new next' event fed n has o d m s → IsAsBefore new next' event fed n has o d m s
       → served (context_in new.checked.now) new.checked.now.script.services (bit_at new.checked.now new.service) (stands next' new answers) ≡ with_event event (last_words_in s) (rest s answers)
   unfolding served rest_in
-  told new None event fed n has o d s answers f a b = rw (f, a.0, a.1) refl
-  told new (Some w) event fed n has o d s answers f a b = rw (b.0, b.1) refl
+  told new None event fed n has o d m s answers f a b = rw (f, a.0, a.1) refl
+  told new (Some w) event fed n has o d m s answers f a b = rw (b.0, b.1) refl
 
-  pub counted : (new : Machine V D C) (next' : Option Pending) (event : Option Left) (fed n : ℕ) (has : Bool) (o : Option Overrun) (d : Crates) (s : RunnerState)
-      → new.missed ≤ new.cost → IsCounted new next' event fed n has o d s → IsAsBefore new next' event fed n has o d s
+  pub counted : (new : Machine V D C) (next' : Option Pending) (event : Option Left) (fed n : ℕ) (has : Bool) (o : Option Overrun) (d : Crates) (m : ℕ) (s : RunnerState)
+      → new.missed ≤ new.cost → IsCounted new next' event fed n has o d m s → IsAsBefore new next' event fed n has o d m s
       → IfNone event (s.events ≡ n) × IfSome event (λ e. (e.0 ≡ n + 1) × (s.events ≡ e.0) × (e.2.missed ≤ e.2.cycles)) × IfNone event (last_words_in s ≡ []) × (s.fed ≡ fed) × (s.overrun ≡ o) × (s.checked ≡ new.checked.now) × IfSome s.pending (λ w. s.at_demand ≡ d)
-  counted new None event fed n has o d s few a b = rw (a.0, a.1) (tt, (refl, refl, few), tt, refl, refl, refl, tt)
-  counted new (Some w) event fed n has o d s few a b = rw (b.0, b.1) (refl, tt, refl, refl, refl, refl, refl)
+  counted new None event fed n has o d m s few a b = rw (a.0, a.1) (tt, (refl, refl, few), tt, refl, refl, refl, tt)
+  counted new (Some w) event fed n has o d m s few a b = rw (b.0, b.1) (refl, tt, refl, refl, refl, refl, refl)
 
   -- a machine whose releases are told
   pub room_told : (h : Machine V D C) (none : ArrayVec ℕ) → none.items ≡ [] → HasRoom h → HasRoom (record h { unlocks = none })
@@ -79,22 +97,24 @@ module _ {V D C : ℕ} where
         unlocks = omega (arith, few, n);
       }
 
-  pub sound_after : (old new : Machine V D C) (none : ArrayVec ℕ) (before next' : Option Pending) (fed count i : ℕ) (d e' : Crates) → none.items ≡ [] → IsSound old before fed count d → IfSome next' (λ w. (c : ℕ) → (branch_of e' c).locked ≡ false)
-      → HasRoom new → new.checked ≡ old.checked → new.service ≡ i → i < length old.checked.now.script.services → IfSome next' (IsPending new) → IfSome next' (StandsIn new) → IfNone next' (new.frames.items ≡ [])
-      → ((answers : List Answer) → IsFineHere new (stands next' new answers)) → IsSound (record new { unlocks = none }) next' (fed + 1) count e'
-  sound_after old new none before next' fed count i d e' quiet s free room e service below is_next begun over fine = record {
+  pub sound_after : (old new : Machine V D C) (none : ArrayVec ℕ) (before next' : Option Pending) (fed later count i : ℕ) (d e' : Crates) → none.items ≡ [] → IsSound old before fed count d → count < later → later ≤ 4294967295 → IfSome next' (λ w. (c : ℕ) → (branch_of e' c).locked ≡ false)
+      → HasRoom new → new.checked ≡ old.checked → new.service ≡ i → i < length old.checked.now.script.services → IfSome (asked next') (IsPending new) → IfSome (asked next') (StandsIn new) → IfNone next' (new.frames.items ≡ [])
+      → ((answers : List Answer) → IsFineHere new (stands next' new answers)) → IsSound (record new { unlocks = none }) next' later count e'
+  sound_after old new none before next' fed later count i d e' quiet s few most free room e service below is_next begun over fine = record {
     room = room_told new none quiet room;
     quiet = quiet;
     checked = subst (λ (b : Bor CheckedScript). IsChecked b.now) (sym e) s.checked;
     formed = subst (λ (b : Bor CheckedScript). IsTrue (is_well_formed b.now.script)) (sym e) s.formed;
     fits = subst (λ (b : Bor CheckedScript). fits b.now.script V D C ≡ true) (sym e) s.fits;
-    awaits = ready next' is_next;
-    begun = still next' begun;
+    awaits = ready (asked next') is_next;
+    begun = still (asked next') begun;
     idle = over;
     service = there next';
     fine = is_fine next' fine;
     free = free;
-    events = let few = s.events in omega (arith, few);
+    events = omega (arith, few);
+    most = most;
+    under = each_some next' (count < later) few;
   }
     where
       there : (o : Option Pending) → IfSome o (λ w. new.service < length new.checked.now.script.services)
@@ -109,6 +129,7 @@ module _ {V D C : ℕ} where
       ready (Some (Read k x bits)) f = f
       ready (Some (Lock k body)) f = f
       ready (Some (pending.Transfer w)) f = f
+      ready (Some Pause) f = f
 
       still : (o : Option Pending) → IfSome o (StandsIn new) → IfSome o (StandsIn (record new { unlocks = none }))
       still None f = tt
@@ -134,26 +155,28 @@ module _ {V D C : ℕ} where
     fine = tt;
     free = tt;
     events = s.events;
+    most = s.most;
+    under = tt;
   }
 
-  along_told : (new : Machine V D C) (ck : Bor CheckedScript) (i bit : ℕ) (next' : Option Pending) (event : Option Left) (fed n : ℕ) (has : Bool) (o : Option Overrun) (d : Crates) (s : RunnerState) (answers : List Answer)
+  along_told : (new : Machine V D C) (ck : Bor CheckedScript) (i bit : ℕ) (next' : Option Pending) (event : Option Left) (fed n : ℕ) (has : Bool) (o : Option Overrun) (d : Crates) (m : ℕ) (s : RunnerState) (answers : List Answer)
       → new.checked ≡ ck → new.service ≡ i → bit_at ck.now i ≡ bit
-      → IfNone next' (new.frames.items ≡ []) → IsCounted new next' event fed n has o d s → IsAsBefore new next' event fed n has o d s
+      → IfNone next' (new.frames.items ≡ []) → IsCounted new next' event fed n has o d m s → IsAsBefore new next' event fed n has o d m s
       → served (context_in ck.now) ck.now.script.services bit (stands next' new answers) ≡ with_event event (last_words_in s) (rest s answers)
-  along_told new ck i bit next' event fed n has o d s answers e1 e2 e3 f a b =
+  along_told new ck i bit next' event fed n has o d m s answers e1 e2 e3 f a b =
       ap (λ k. served (context_in ck.now) ck.now.script.services k (stands next' new answers)) (sym e3)
       ∙ ap (λ j. served (context_in ck.now) ck.now.script.services (bit_at ck.now j) (stands next' new answers)) (sym e2)
       ∙ ap (λ (z : Bor CheckedScript). served (context_in z.now) z.now.script.services (bit_at z.now new.service) (stands next' new answers)) (sym e1)
-      ∙ told new next' event fed n has o d s answers f a b
+      ∙ told new next' event fed n has o d m s answers f a b
 
   -- the same along what an answer leaves as it was
-  pub told_along : (new : Machine V D C) (ck : Bor CheckedScript) (i bit : ℕ) (next' : Option Pending) (event : Option Left) (fed n : ℕ) (has : Bool) (o : Option Overrun) (d : Crates) (s : RunnerState) (answers : List Answer)
+  pub told_along : (new : Machine V D C) (ck : Bor CheckedScript) (i bit : ℕ) (next' : Option Pending) (event : Option Left) (fed n : ℕ) (has : Bool) (o : Option Overrun) (d : Crates) (m : ℕ) (s : RunnerState) (answers : List Answer)
       → new.checked ≡ ck → new.service ≡ i → bit_at ck.now i ≡ bit
-      → IfNone next' (new.frames.items ≡ []) → IsCounted new next' event fed n has o d s → IsAsBefore new next' event fed n has o d s
+      → IfNone next' (new.frames.items ≡ []) → IsCounted new next' event fed n has o d m s → IsAsBefore new next' event fed n has o d m s
       → (us : List ℕ) → served (context_in ck.now) ck.now.script.services bit (says us (stands next' new answers)) ≡ says us (with_event event (last_words_in s) (rest s answers))
-  told_along new ck i bit next' event fed n has o d s answers e1 e2 e3 f a b us =
+  told_along new ck i bit next' event fed n has o d m s answers e1 e2 e3 f a b us =
       served_says (context_in ck.now) ck.now.script.services bit us (stands next' new answers)
-      ∙ ap (says us) (along_told new ck i bit next' event fed n has o d s answers e1 e2 e3 f a b)
+      ∙ ap (says us) (along_told new ck i bit next' event fed n has o d m s answers e1 e2 e3 f a b)
 
   fine_told : (new : Machine V D C) (b : Behaviour State) → IsFineHere new (says new.unlocks.items b) → IsFineHere new b
   fine_told new b f = fine_says new.checked.now.plan (bounds_of new) new.unlocks.items b f
@@ -168,8 +191,9 @@ module _ {V D C : ℕ} where
       (fine_along new (record old { service = i }) s.checked s.service (says new.unlocks.items (stands next' new answers)) meaning (s.goes answers) fine)
 
   -- an answer that is taken leaves the statement
-  pub stays_in : (old mid : Machine V D C) (w : Pending) → mid.begun ≡ old.begun → mid.checked ≡ old.checked → StandsIn old w → StandsIn mid w
-  stays_in old mid w e f s =
+  pub stays_in : (old mid : Machine V D C) (o : Option Pending) → mid.begun ≡ old.begun → mid.checked ≡ old.checked → IfSome o (StandsIn old) → IfSome o (StandsIn mid)
+  stays_in old mid None e f s = tt
+  stays_in old mid (Some w) e f s =
       let P : Option (Bor Stmt) → Bor CheckedScript → Type 0 = λ o k. IsSomeAnd o (λ (b : Bor Stmt). IsOperationOf (context_in k.now) (pending_of w) (statement_of b.now)) in
       subst (λ o. P o mid.checked) (sym e) (subst (λ k. P old.begun k) (sym f) s)
 
@@ -180,36 +204,43 @@ module _ {V D C : ℕ} where
       let all = subst (λ x. IsFineHere old x) (t.goes answers) (fine (a ∷ answers)) in
       fine_along mid old t.checked t.service b b refl all.1
 
+  -- a pause leaves what is left
+  pub pause_goes : (h : Machine V D C) (answers : List Answer) → stands (Some Pause) h answers ≡ then_do (after_pending (context_in h.checked.now) (Some Pause) (state_of h answers)) (left_in h)
+  pause_goes h answers = stands_paused h answers ∙ ap (λ b. then_do b (left_in h)) (sym (pause_alone h answers))
+
+  pub pause_fine : (h : Machine V D C) → ((answers : List Answer) → IsFineHere h (stands (Some Pause) h answers)) → FineThen h (λ c. after_pending c (Some Pause))
+  pause_fine h fine answers = subst (λ b. IsFineHere h b) (pause_goes h answers) (fine answers)
+
   pub settle_fine : (mid new : Machine V D C) (go : Context → Action) (next' : Option Pending) → FineThen mid go → Settles mid go next' new → (answers : List Answer) → IsFineHere new (stands next' new answers)
   settle_fine mid new go next' fine s answers =
       fine_told new (stands next' new answers)
       (fine_along new mid s.checked s.service (says new.unlocks.items (stands next' new answers)) (then_do (go (context_in mid.checked.now) (state_of mid answers)) (left_in mid)) (s.goes answers) (fine answers))
 
   -- where a service is in progress, a statement was begun in it, which is the place
-  pub begun_some : (h : Machine V D C) (pending : Option Pending) → IsSome (option_map pending_of pending) → IfSome pending (StandsIn h) → h.begun ≡ None → ⊥
+  pub begun_some : (h : Machine V D C) (pending : Option Pending) → is_asking (option_map pending_of pending) ≡ true → IfSome (asked pending) (StandsIn h) → h.begun ≡ None → ⊥
   begun_some h None some s f = absurd (false≢true some)
-  begun_some h (Some w) some s f = let t = rw f at s in t
+  begun_some h (Some w) some s f =
+      let t = asked_of w (StandsIn h) (not_true (is_pause (pending_of w)) some) s in
+      let u = rw f at t in u
 
-  pub is_place : (h : Machine V D C) (pending : Option Pending) (b : Bor Stmt) (fed n : ℕ) (has : Bool) (o : Option Overrun) (d : Crates) (place : Place) → IsSome (option_map pending_of pending) → h.begun ≡ Some b → IfSome pending (StandsIn h) → place.service ≡ h.service → place.line ≡ line_of (statement_of b.now)
-      → IsPlace (runner_state h pending fed n has o d) place
-  is_place h None b fed n has o d place some f s p q = absurd (false≢true some)
-  is_place h (Some w) b fed n has o d place some f s p q = let t = rw f at s in record { service = p; line = rw f (q, t) }
+  pub is_place : (h : Machine V D C) (pending : Option Pending) (b : Bor Stmt) (fed n : ℕ) (has : Bool) (o : Option Overrun) (d : Crates) (m : ℕ) (place : Place) → is_asking (option_map pending_of pending) ≡ true → h.begun ≡ Some b → IfSome (asked pending) (StandsIn h) → place.service ≡ h.service → place.line ≡ line_of (statement_of b.now)
+      → IsPlace (runner_state h pending fed n has o d m) place
+  is_place h None b fed n has o d m place some f s p q = absurd (false≢true some)
+  is_place h (Some w) b fed n has o d m place some f s p q =
+      let t = asked_of w (StandsIn h) (not_true (is_pause (pending_of w)) some) s in
+      let u = rw f at t in
+      record { service = p; line = rw f (q, u) }
 
   -- with no answer, a run is short in the service in progress, or over
-  pub rest_short : (h : Machine V D C) (pending : Option Pending) (w : Pending) (fed n : ℕ) (has : Bool) (o : Option Overrun) (d : Crates) → pending ≡ Some w → IfSome pending (IsPending h) → rest (runner_state h pending fed n has o d) [] ≡ stops short (state_of h [])
-  rest_short h pending w fed n has o d e p =
-      let q : IsPending h w = rw e at p in
+  pub rest_short : (h : Machine V D C) (pending : Option Pending) (w : Pending) (fed n : ℕ) (has : Bool) (o : Option Overrun) (d : Crates) (m : ℕ) → pending ≡ Some w → is_paused_at pending ≡ false → IfSome (asked pending) (IsPending h) → rest (runner_state h pending fed n has o d m) [] ≡ stops short (state_of h [])
+  rest_short h pending w fed n has o d m e awake p =
+      let q : IsPending h w = asked_is pending w (IsPending h) e awake p in
       let c = context_in h.checked.now in
       rw e (ap (λ b. served c h.checked.now.script.services (bit_at h.checked.now h.service) (then_do b (rest_in c (opens_in h)))) (waits_first h w q)
       ∙ served_stops c h.checked.now.script.services (bit_at h.checked.now h.service) short (state_of h []))
 
-  pub rest_over : (h : Machine V D C) (pending : Option Pending) (fed n : ℕ) (has : Bool) (o : Option Overrun) (d : Crates) → pending ≡ None → rest (runner_state h pending fed n has o d) [] ≡ ends tt
-  rest_over h pending fed n has o d e = rw e (onward_over (context_in h.checked.now) h.checked.now.script.services (branch_of h.branch))
-
--- what is so is so where something is wanted
-pub each_some : {A : Type 0} (o : Option A) (P : Type 0) → P → IfSome o (λ w. P)
-each_some None P p = tt
-each_some (Some w) P p = p
+  pub rest_over : (h : Machine V D C) (pending : Option Pending) (fed n : ℕ) (has : Bool) (o : Option Overrun) (d : Crates) (m : ℕ) → pending ≡ None → rest (runner_state h pending fed n has o d m) [] ≡ ends tt
+  rest_over h pending fed n has o d m e = rw e (onward_over (context_in h.checked.now) h.checked.now.script.services (branch_of h.branch))
 
 pub along_some : {A B : Type 0} (o : Option A) (x y z : B) → y ≡ z → IfSome o (λ w. x ≡ y) → IfSome o (λ w. x ≡ z)
 along_some None x y z e f = tt
@@ -224,6 +255,46 @@ none_wanted f None e = refl
 none_wanted f (Some a) e = absurd (cc)
 
 -- a service in progress is within its bounds
-pub steps_within : {V D C : ℕ} (h : Machine V D C) (w : Pending) → IsPending h w → ((answers : List Answer) → IsFineHere h (stands (Some w) h answers)) → h.steps ≤ (bounds_of h).steps
-steps_within h w p fine =
+waits_within : {V D C : ℕ} (h : Machine V D C) (w : Pending) → IsPending h w → ((answers : List Answer) → IsFineHere h (stands (Some w) h answers)) → h.steps ≤ (bounds_of h).steps
+waits_within h w p fine =
     let f = subst (λ b. IsFineHere h (then_do b (rest_in (context_in h.checked.now) (opens_in h)))) (waits_first h w p) (fine []) in f.1.steps
+
+pub steps_within : {V D C : ℕ} (h : Machine V D C) (w : Pending) → IfSome (asked (Some w)) (IsPending h) → ((answers : List Answer) → IsFineHere h (stands (Some w) h answers)) → h.steps ≤ (bounds_of h).steps
+steps_within h (Cycle k) p fine = waits_within h (Cycle k) p fine
+steps_within h (Read k x bits) p fine = waits_within h (Read k x bits) p fine
+steps_within h (Lock k body) p fine = waits_within h (Lock k body) p fine
+steps_within h (pending.Transfer w) p fine = waits_within h (pending.Transfer w) p fine
+steps_within h Pause p fine =
+    (keeps_rest h.checked.now.plan (bounds_of h) h.checked.now.script _ (state_of h []) (subst (λ b. IsFineHere h b) (stands_paused h []) (fine []))).steps
+
+-- the limit after steps that were made
+pub keeps_limit : {V D C : ℕ} (old : RunnerState) (new : Machine V D C) (next' : Option Pending) (event : Option Left) (fed n : ℕ) (has : Bool) (o : Option Overrun) (d : Crates) (m : ℕ) (s : RunnerState)
+    → HasRoom new → m ≡ old.limit → (is_paused_at next' ≡ true → steps_before old.pending old + old.limit < new.steps)
+    → IfSome (asked next') (IsPending new) → ((answers : List Answer) → IsFineHere new (stands next' new answers))
+    → IsCounted new next' event fed n has o d m s → IsAsBefore new next' event fed n has o d m s → KeepsLimit old s
+keeps_limit old new None event fed n has o d m s room same late p fine a b =
+    rw (a.1) (record { limit = same; late = λ e. absurd (false≢true e); within = λ e. absurd (false≢true e); least = λ e. absurd (false≢true e) })
+keeps_limit old new (Some w) event fed n has o d m s room same late p fine a b =
+    rw (b.1) (record { limit = same; late = late; within = λ e. steps_within new w p fine; least = λ e. room.steps })
+
+-- one that does not pause keeps it
+pub keeps_awake : (old new : RunnerState) → new.limit ≡ old.limit → is_paused new.pending ≡ false → KeepsLimit old new
+keeps_awake old new same awake = record {
+  limit = same;
+  late = λ e. absurd (false≢true (sym awake ∙ e));
+  within = λ e. absurd (false≢true (sym awake ∙ e));
+  least = λ e. absurd (false≢true (sym awake ∙ e));
+}
+
+-- with no limit it never pauses
+pub never_again : (old new : RunnerState) → KeepsLimit old new → NeverPauses old → NeverPauses new
+never_again old new k never = record { limit = k.limit ∙ never.limit; awake = go (is_paused new.pending) refl }
+  where
+    go : (b : Bool) → is_paused new.pending ≡ b → is_paused new.pending ≡ false
+    go false e = e
+    go true e =
+        let late = k.late e in
+        let within = k.within e in
+        let least = k.least e in
+        let most = never.limit in
+        absurd (omega (arith, late, within, least, most))

@@ -8,7 +8,7 @@ use Rattle.camac_model.specs.Run.{the_run}
 use Rattle.camac_machine.specs.MachineState.{Left, piece_of}
 use Rattle.camac_machine.specs.declared.item.Item.{Item}
 use Rattle.camac_run.specs.Operation.{IsWaiting, Wants, wanted_after}
-use Rattle.camac_run.specs.Runner.{RunnerState, rest, last_words_in, GoesOn}
+use Rattle.camac_run.specs.Runner.{RunnerState, rest, last_words_in, GoesOn, Resumes}
 use Rattle.camac_run.specs.declared.progress.Wanted.{Wanted}
 
 -- pieces, and then the rest
@@ -25,9 +25,13 @@ abbrev pub event_pieces : Option Left → List ℕ → List Piece
 event_pieces None words = []
 event_pieces (Some e) words = event_left (record { bit = e.1; cycles = e.2.cycles; missed = e.2.missed; words = words }) ∷ []
 
--- what is told of an answer: its item, the locks that are released, and the event
+-- what is told of a pause: the locks that are released, and the event
+abbrev pub told_after : List ℕ → Option Left → (words : List ℕ) → List Piece
+told_after unlocks event words = map lock_released unlocks ++ event_pieces event words
+
+-- what is told of an answer: its item, and the same
 abbrev pub told_of : Item → List ℕ → Option Left → (words : List ℕ) → List Piece
-told_of item unlocks event words = piece_of item ∷ (map lock_released unlocks ++ event_pieces event words)
+told_of item unlocks event words = piece_of item ∷ told_after unlocks event words
 
 -- with what is told of an answer that is used the runner holds what is left after it
 abbrev pub GoingOnHolds : Type 0
@@ -35,6 +39,13 @@ GoingOnHolds =
     (plan : Layout) (script : Script) (answers : List Answer) (a : Answer) (told : List Piece) (old new : RunnerState) (item : Item) (unlocks : List ℕ) (event : Option Left)
     → HoldsAfter plan script answers told old → GoesOn old a item unlocks event new
     → HoldsAfter plan script (answers ++ a ∷ []) (told ++ told_of item unlocks event (last_words_in new)) new
+
+-- so it does after a pause: a run that pauses tells the same pieces as one that does not
+abbrev pub ResumingHolds : Type 0
+ResumingHolds =
+    (plan : Layout) (script : Script) (answers : List Answer) (told : List Piece) (old new : RunnerState) (unlocks : List ℕ) (event : Option Left)
+    → HoldsAfter plan script answers told old → Resumes old unlocks event new
+    → HoldsAfter plan script answers (told ++ told_after unlocks event (last_words_in new)) new
 
 -- as long as the runner waits for an answer, what was told are the pieces of the run on the answers so far
 abbrev pub AllIsTold : Type 0

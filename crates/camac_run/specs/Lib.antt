@@ -10,3 +10,5 @@ pub mod Operation
 pub mod Holds
 pub mod Locks
 pub mod Abandoned
+pub mod Ahead
+pub mod Sure

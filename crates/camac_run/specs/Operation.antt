@@ -1,5 +1,5 @@
 -- What a run wants its next answer for.
-use Rattle.std.specs.Prelude.{◌≡◌, ℕ, ◌<◌, List, [], ◌∷◌, ◌++◌, length, Option, Some, None, IsSome, false, option_and_then, slice_get}
+use Rattle.std.specs.Prelude.{◌≡◌, ℕ, ◌<◌, List, [], ◌∷◌, ◌++◌, length, Option, Some, None, IsSome, false, option_and_then, slice_get, true, ◌⊎◌}
 use Rattle.camac_lang.specs.Tree.{Script}
 use Rattle.camac_branch.specs.Branch.{Answer}
 use Rattle.camac_branch.specs.Plan.{Layout}
@@ -8,6 +8,7 @@ use Rattle.camac_model.specs.Run.{the_run}
 use Rattle.camac_run.specs.Runner.{RunnerState, rest}
 use Rattle.camac_run.specs.declared.progress.Wanted.{Wanted}
 use Rattle.camac_run.specs.declared.progress.Wanted.TheVariants.{Demand, Cycle, Lock}
+use Rattle.camac_machine.specs.Rest.{is_paused}
 use Rattle.camac_machine.specs.declared.machine.Pending.{Pending}
 use Rattle.camac_machine.specs.declared.machine.Pending.TheVariants as waits_for
 
@@ -59,18 +60,19 @@ Waits (stops wrong s) = ⊥
 Waits (stops more s) = ⊥
 
 -- Whatever the next answer is, and those after it, it is used for this operation, and nothing is done without one. A run wants none after
--- a wait that was not permitted.
+-- a wait that was not permitted, and none while it pauses.
 abbrev pub Wants : RunnerState → Option Wanted → Type 0
 Wants h (Some o) = (h.overrun ≡ None) × Waits (rest h []) × ((a : Answer) (answers : List Answer) → Begins o a (rest h (a ∷ answers)))
-Wants h None = IsSome h.overrun
+Wants h None = IsSome h.overrun ⊎ (is_paused h.pending ≡ true)
 
 -- it wants one for some operation
 abbrev pub IsWaiting : RunnerState → Type 0
 IsWaiting h = (o : Wanted) × Wants h (Some o)
 
--- the operation that a service in progress waits for
-abbrev pub operation : Pending → Wanted
-operation (waits_for.Cycle k) = Cycle k
-operation (waits_for.Read k x bits) = Cycle k
-operation (waits_for.Lock c body) = Lock c
-operation (waits_for.Transfer w) = Cycle w.command
+-- the operation that a service in progress waits for; none where it pauses
+abbrev pub operation : Pending → Option Wanted
+operation (waits_for.Cycle k) = Some (Cycle k)
+operation (waits_for.Read k x bits) = Some (Cycle k)
+operation (waits_for.Lock c body) = Some (Lock c)
+operation (waits_for.Transfer w) = Some (Cycle w.command)
+operation waits_for.Pause = None

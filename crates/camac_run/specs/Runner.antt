@@ -1,5 +1,5 @@
 -- What a runner holds, and what it has left to run.
-use Rattle.std.specs.Prelude.{◌≡◌, ℕ, ◌+◌, ◌≤◌, List, [], ◌∷◌, Option, Some, None, Bool, IfSome, IfNone, if◌then◌else◌}
+use Rattle.std.specs.Prelude.{◌≡◌, ℕ, ◌+◌, ◌<◌, ◌≤◌, List, [], ◌∷◌, Option, Some, None, Bool, true, false, IfSome, IfNone, if◌then◌else◌}
 use Rattle.camac_branch.specs.Address.{Address}
 use Rattle.camac_branch.specs.Branch.{Answer}
 use Rattle.camac_branch.specs.Crates.{Crates, branch_of}
@@ -7,12 +7,13 @@ use Rattle.camac_branch.specs.declared.answer.Overrun.{Overrun}
 use Rattle.camac_checked.specs.Checked.{CheckedScript}
 use Rattle.camac_lang.specs.Tree.{Statement}
 use Rattle.camac_model.specs.State.{State}
+use Rattle.camac_model.specs.Value.{greatest}
 use Rattle.camac_model.specs.Behaviour.{Behaviour, does, ends, stops, event_left, overrun as overruns, then_do}
 use Rattle.camac_machine.specs.declared.item.Item.{Item}
 use Rattle.camac_run.specs.declared.progress.Progress.{Progress}
 use Rattle.camac_run.specs.declared.progress.Progress.TheVariants as progress
-use Rattle.camac_machine.specs.MachineState.{Left, bit_at, context_in, piece_of}
-use Rattle.camac_machine.specs.Rest.{Operation, awaited, Open, rest_in, says, onward, served}
+use Rattle.camac_machine.specs.MachineState.{Left, bit_at, bounds_at, context_in, piece_of}
+use Rattle.camac_machine.specs.Rest.{Operation, is_paused, awaited, Open, rest_in, says, onward, served}
 use Rattle.camac_machine.specs.Store.{variables_in, registers_in}
 
 pub record RunnerState : Type 0 where
@@ -43,6 +44,8 @@ pub record RunnerState : Type 0 where
   pub overrun : Option Overrun
   -- the crates as they were at the demand that called the service in progress
   pub at_demand : Crates
+  -- how many steps it makes at once, before it may pause
+  pub limit : ℕ
 
 abbrev pub state_in : RunnerState → List Answer → State
 state_in h answers = record {
@@ -109,6 +112,35 @@ pub record Stops (old : RunnerState) (answer : Answer) (o : Overrun) (new : Runn
       → rest old (answer ∷ answers) ≡ stops (overruns o.c o.wait) (state_in old (answer ∷ answers)))
   pub again : IfSome old.overrun (λ earlier. o ≡ earlier)
   pub same : new ≡ record old { overrun = Some o }
+
+-- after a pause these locks were released, and a service may have ended
+pub record Resumes (old : RunnerState) (unlocks : List ℕ) (event : Option Left) (new : RunnerState) : Type 0 where
+  pub goes : (answers : List Answer) → rest old answers ≡ says unlocks (with_event event (last_words_in new) (rest new answers))
+  pub fed : new.fed ≡ old.fed
+  pub same : IfNone event (new.events ≡ old.events)
+  pub next : IfSome event (λ e. (e.0 ≡ old.events + 1) × (new.events ≡ e.0) × (e.2.missed ≤ e.2.cycles))
+  pub none : IfNone event (last_words_in new ≡ [])
+  pub overrun : new.overrun ≡ old.overrun
+  pub checked : new.checked ≡ old.checked
+  pub at_demand : IfSome new.pending (λ w. new.at_demand ≡ old.at_demand)
+
+-- the steps that the service in progress has made; one that is yet to be called has made none
+abbrev pub steps_before : Option Operation → RunnerState → ℕ
+steps_before None h = 0
+steps_before (Some w) h = h.steps
+
+-- The limit stays, and a service pauses only after more steps than that. These are some of the steps of its bounds: with a limit from them on it
+-- never pauses.
+pub record KeepsLimit (old new : RunnerState) : Type 0 where
+  pub limit : new.limit ≡ old.limit
+  pub late : is_paused new.pending ≡ true → steps_before old.pending old + old.limit < new.steps
+  pub within : is_paused new.pending ≡ true → new.steps ≤ (bounds_at new.checked new.service).steps
+  pub least : is_paused new.pending ≡ true → (bounds_at new.checked new.service).steps ≤ greatest
+
+-- it has no limit, and does not pause
+pub record NeverPauses (h : RunnerState) : Type 0 where
+  pub limit : h.limit ≡ greatest
+  pub awake : is_paused h.pending ≡ false
 
 abbrev pub Progresses : RunnerState → Answer → Progress → RunnerState → Type 0
 Progresses old answer (progress.Went item unlocks event) new = GoesOn old answer item unlocks.items event new

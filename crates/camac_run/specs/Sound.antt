@@ -11,13 +11,13 @@ use Rattle.camac_checked.specs.Checked.{IsChecked}
 use Rattle.camac_lang.specs.Fits.{fits}
 use Rattle.camac_machine.specs.declared.machine.Machine.{Machine}
 use Rattle.camac_machine.specs.declared.machine.Pending.{Pending}
-use Rattle.camac_machine.specs.MachineState.{opens_in, pending_of, stands, IsFineHere, HasRoom, IsPending, StandsIn}
+use Rattle.camac_machine.specs.MachineState.{opens_in, pending_of, asked, stands, IsFineHere, HasRoom, IsPending, StandsIn}
 use Rattle.camac_machine.specs.Store.{held_at}
 use Rattle.camac_run.specs.Runner.{RunnerState}
 
 module _ {V D C : ℕ} where
-  abbrev pub runner_state : Machine V D C → Option Pending → ℕ → ℕ → Bool → Option Overrun → Crates → RunnerState
-  runner_state h pending fed events has_event overrun at_demand = record {
+  abbrev pub runner_state : Machine V D C → Option Pending → ℕ → ℕ → Bool → Option Overrun → Crates → ℕ → RunnerState
+  runner_state h pending fed events has_event overrun at_demand limit = record {
     checked = h.checked.now;
     service = h.service;
     blocks = opens_in h;
@@ -37,6 +37,7 @@ module _ {V D C : ℕ} where
     has_event = has_event;
     overrun = overrun;
     at_demand = at_demand;
+    limit = limit;
   }
 
   pub record IsSound (h : Machine V D C) (pending : Option Pending) (fed count : ℕ) (at_demand : Crates) : Type 0 where
@@ -45,10 +46,13 @@ module _ {V D C : ℕ} where
     pub checked : IsChecked h.checked.now
     pub formed : IsTrue (is_well_formed h.checked.now.script)
     pub fits : fits h.checked.now.script V D C ≡ true
-    pub awaits : IfSome pending (IsPending h)
-    pub begun : IfSome pending (StandsIn h)
+    pub awaits : IfSome (asked pending) (IsPending h)
+    pub begun : IfSome (asked pending) (StandsIn h)
     pub idle : IfNone pending (h.frames.items ≡ [])
     pub service : IfSome pending (λ w. h.service < length h.checked.now.script.services)
     pub fine : IfSome pending (λ w. (answers : List Answer) → IsFineHere h (stands (Some w) h answers))
     pub free : IfSome pending (λ w. (c : ℕ) → (branch_of at_demand c).locked ≡ false)
     pub events : count ≤ fed
+    pub most : fed ≤ 4294967295
+    -- the event of the service in progress is still to come
+    pub under : IfSome pending (λ w. count < fed)

@@ -1,7 +1,8 @@
 // Laws of every checked script: the headline, and what a runner holds and wants.
 
 ghost use Rattle.camac_run.specs.Abandoned.{AbandoningHolds};
-ghost use Rattle.camac_run.specs.Holds.{AllIsTold, GoingOnHolds, WantsAreWanted};
+ghost use Rattle.camac_run.specs.Ahead.{AheadIsMade, BeginningsAreAhead};
+ghost use Rattle.camac_run.specs.Holds.{AllIsTold, GoingOnHolds, ResumingHolds, WantsAreWanted};
 ghost use Rattle.camac_run.specs.Headline.{RunsAlways, RunsByHeadline, LeavesFewEvents};
 ghost use Rattle.camac_run.specs.Requested.{RequestsAreSafe};
 
@@ -28,10 +29,11 @@ pub fn requests_are_safe(checked: &Checked)
 }
 
 /// What a runner has told of the answers that it used is the beginning of the run on all answers that may follow, and it holds the rest: so it
-/// is at its start, where nothing is told, and after each answer. What was told are then all pieces of the run on the answers so far, and
-/// what the runner wants is what the run wants after them.
+/// is at its start, where nothing is told, and after each answer and each pause. Where it waits for an answer, what was told are all pieces of the
+/// run on the answers so far, whatever its limit is, and what the runner wants is what the run wants after them.
 pub fn runner_holds_the_rest()
     ensures goes_on { GoingOnHolds }
+    ensures resumes { ResumingHolds }
     ensures told { AllIsTold }
     ensures wanted { WantsAreWanted }
 {}
@@ -39,4 +41,11 @@ pub fn runner_holds_the_rest()
 /// What is left after a service was abandoned is what the run had left at the demand that called it.
 pub fn abandoning_holds()
     ensures { AbandoningHolds }
+{}
+
+/// The run makes the operations that were told ahead, one for each answer, in their order, and no others; it wants each of them before its
+/// answer, and until the last answer no lockout is released and no event left. A caller may ask for fewer: any beginning of them is ahead, too.
+pub fn ahead_is_made()
+    ensures made { AheadIsMade }
+    ensures beginnings { BeginningsAreAhead }
 {}

@@ -2,6 +2,7 @@
 //! and what is promised of it and of its event file.
 #![tactic(auto)]
 
+mod ahead;
 mod items;
 mod laws;
 mod leaving;
@@ -11,9 +12,12 @@ mod progress;
 mod runner;
 mod service;
 
+pub use ahead::{AHEAD, Ahead};
 pub use camac_machine::Item;
 pub use items::Items;
-pub use laws::{abandoning_holds, requests_are_safe, runner_holds_the_rest, runs_by_headline};
+pub use laws::{
+    abandoning_holds, ahead_is_made, requests_are_safe, runner_holds_the_rest, runs_by_headline,
+};
 pub use log::{Log, run};
 pub use place::Place;
 pub use progress::{End, Progress, Wanted};

@@ -1,6 +1,6 @@
 // A run over a whole list of answers.
 
-ghost use Rattle.std.specs.Prelude.{◌≡◌, ◌<◌, ◌≤◌, ◌++◌, length, true, IfOk, OnOk, IfSome, []};
+ghost use Rattle.std.specs.Prelude.{◌≡◌, ◌<◌, ◌≤◌, ◌++◌, length, true, false, IfOk, OnOk, IfSome, []};
 ghost use Rattle.camac_event.specs.Spelling.{spelling};
 ghost use Rattle.camac_event.specs.declared.event.Version.TheVariants.{Two};
 ghost use Rattle.camac_run.specs.Ends.{stop_in};
@@ -8,6 +8,7 @@ ghost use Rattle.camac_run.specs.Headline.{Headline};
 ghost use Rattle.camac_run.specs.Log.{IsLogOf, left_entries, unlock_items};
 ghost use Rattle.camac_model.specs.Behaviour.{items, events, stop_of};
 ghost use Rattle.camac_model.specs.Run.{the_run};
+ghost use Rattle.camac_machine.specs.Rest.{is_paused};
 ghost use Rattle.camac_run.specs.Runner.{rest};
 
 use crate::items::Items;
@@ -100,6 +101,7 @@ fn add_event(
 
 // How a run ends where no answer is left.
 fn end_of(runner: &FullRunner<'_>) -> End
+    requires { is_paused runner.now.pending ≡ false }
     ensures stop { stop_in result ≡ stop_of (rest runner.now []) }
     ensures quiet_items { items (rest runner.now []) ≡ [] }
     ensures quiet_events { events (rest runner.now []) ≡ [] }

@@ -41,3 +41,9 @@ pub enum Wanted {
     /// The lockout of auxiliary controllers in a crate (own, after IEEE 675).
     Lock(CrateNo),
 }
+
+impl Default for Wanted {
+    fn default() -> Wanted {
+        Wanted::Demand
+    }
+}

@@ -2,17 +2,21 @@
 
 ghost use Rattle.std.specs.Prelude.{◌≡◌, ◌+◌, ◌<◌, ◌≤◌, List, [], length, true, Some, None, false, is_some, IsSome, IfSome, IfNone, OnSome, if◌then◌else◌};
 ghost use Rattle.camac_branch.specs.Branch.{Answer};
-ghost use Rattle.camac_machine.specs.MachineState.{bounds_at};
+ghost use Rattle.camac_machine.specs.MachineState.{bounds_at, pending_of};
+ghost use Rattle.camac_machine.specs.Rest.{is_asking, is_pause, is_paused};
 ghost use Rattle.camac_lang.specs.Fits.{fits};
 ghost use Rattle.camac_model.specs.Behaviour.{stops, short, ends};
 ghost use Rattle.camac_model.specs.Run.{the_run};
-ghost use Rattle.camac_run.specs.Runner.{state_in, rest, last_words_in, event_in, Progresses, steps_of, words_of};
+ghost use Rattle.camac_run.specs.Runner.{state_in, rest, last_words_in, event_in, KeepsLimit, NeverPauses, Progresses, Resumes, steps_of, words_of};
 ghost use Rattle.camac_run.specs.Abandoned.{Abandons};
+ghost use Rattle.camac_run.specs.Ahead.{IsAhead};
 ghost use Rattle.camac_run.specs.Holds.{HoldsAfter};
 ghost use Rattle.camac_run.specs.Operation.{IsWaiting, Wants, operation};
 ghost use Rattle.camac_run.specs.Place.{IsPlace};
 ghost use Rattle.camac_run.specs.Requested.{IsSafeRequest, held_in};
+ghost use Rattle.camac_run.specs.Sure.{cycle_of};
 
+use crate::ahead::{Ahead, add_following};
 use crate::leaving::leave_service;
 use crate::place::Place;
 use crate::progress::{Progress, Wanted};
@@ -22,7 +26,7 @@ use camac_branch::{Answer, Branch, Overrun, demand};
 use camac_checked::Checked;
 use camac_event::Usage;
 use camac_lang::limits;
-use camac_machine::{Item, Machine, Pending};
+use camac_machine::{Item, Machine, NO_PAUSE, Pending};
 use camac_word::{CrateNo, GlBit, Word24};
 use std::marker::Model;
 
@@ -41,6 +45,8 @@ pub struct Runner<'a, const V: usize, const DEPTH: usize, const CAP: usize> {
     overrun: Option<Overrun>,
     // the crates as they were at the demand that called the service in progress
     at_demand: Branch,
+    // how many steps it makes at once, before it may pause
+    limit: u32,
 }
 
 /// A runner with room for every script that is checked: the program's.
@@ -62,7 +68,7 @@ impl<'a, const V: usize, const DEPTH: usize, const CAP: usize> Model for Runner<
 
     ghost coded = { Prim.hlevel (codes, checked_coded, want_coded, open_coded, statement_coded) };
 
-    ghost view = { λ r. runner_state r.machine r.pending r.fed r.events r.has_event r.overrun r.at_demand };
+    ghost view = { λ r. runner_state r.machine r.pending r.fed r.events r.has_event r.overrun r.at_demand r.limit };
 
     ghost invariant = { λ r. IsSound r.machine r.pending r.fed r.events r.at_demand };
 }
@@ -78,6 +84,7 @@ impl<'a, const V: usize, const DEPTH: usize, const CAP: usize> Runner<'a, V, DEP
         ensures events { result.events ≡ 0 }
         ensures overrun { result.overrun ≡ None }
         ensures quiet { last_words_in result ≡ [] }
+        ensures never { NeverPauses result }
     {
         checked.is_checked();
         checked.script().well_formed();
@@ -89,15 +96,26 @@ impl<'a, const V: usize, const DEPTH: usize, const CAP: usize> Runner<'a, V, DEP
             has_event: false,
             overrun: None,
             at_demand: Branch::start(),
+            limit: NO_PAUSE,
         }
     }
 
+    /// Sets how many steps the run makes at once: after more, in one answer or after a pause, it pauses. With 4,294,967,295, as at the start, it never
+    /// does. A run that pauses goes on to do so.
+    pub fn limit_steps(&mut self, most: u32)
+        ensures { self.new ≡ record self.old { limit = most } }
+    {
+        self.limit = most;
+    }
+
     /// Takes an answer, the 4,294,967,295th at most, and returns what it was used for. It takes no memory. From the first wait on that is not permitted, it returns that
-    /// wait, and nothing else changes.
+    /// wait, and nothing else changes. After more steps than its limit the run pauses, and what is told is what it did up to there.
     #[inline(always)]
     pub fn next(&mut self, answer: Answer) -> Progress
-        requires { self.old.fed < 4294967295 }
-        ensures { Progresses self.old answer result self.new }
+        requires fed { self.old.fed < 4294967295 }
+        requires awake { is_paused self.old.pending ≡ false }
+        ensures progresses { Progresses self.old answer result self.new }
+        ensures keeps { KeepsLimit self.old self.new }
     {
         if let Some(overrun) = self.overrun {
             return Progress::Overrun(overrun);
@@ -114,7 +132,8 @@ impl<'a, const V: usize, const DEPTH: usize, const CAP: usize> Runner<'a, V, DEP
         requires fed { self.old.fed < 4294967295 }
         requires first { self.old.overrun ≡ None }
         requires idle { self.old.pending ≡ None }
-        ensures { Progresses self.old answer result self.new }
+        ensures progresses { Progresses self.old answer result self.new }
+        ensures keeps { KeepsLimit self.old self.new }
     {
         let checked = self.machine.checked;
         let pattern = demand(&self.machine.branch, checked.plan(), answer);
@@ -130,7 +149,8 @@ impl<'a, const V: usize, const DEPTH: usize, const CAP: usize> Runner<'a, V, DEP
             }
             Some(called) => {
                 self.at_demand = self.machine.branch.copy();
-                self.machine.serve(called.number, &mut self.pending);
+                self.machine
+                    .serve(called.number, &mut self.pending, self.limit);
                 let unlocks = self.machine.unlocks.take();
                 let event = self.close();
                 Progress::Went {
@@ -148,7 +168,9 @@ impl<'a, const V: usize, const DEPTH: usize, const CAP: usize> Runner<'a, V, DEP
         requires fed { self.old.fed < 4294967295 }
         requires first { self.old.overrun ≡ None }
         requires pending { IsSome self.old.pending }
-        ensures { Progresses self.old answer result self.new }
+        requires awake { is_paused self.old.pending ≡ false }
+        ensures progresses { Progresses self.old answer result self.new }
+        ensures keeps { KeepsLimit self.old self.new }
     {
         let taken = match &self.pending {
             Some(pending) => self.machine.take(pending, answer),
@@ -156,7 +178,7 @@ impl<'a, const V: usize, const DEPTH: usize, const CAP: usize> Runner<'a, V, DEP
         };
         match taken {
             Ok(item) => {
-                self.machine.go_further(&mut self.pending);
+                self.machine.go_further(&mut self.pending, self.limit);
                 self.fed += 1;
                 let unlocks = self.machine.unlocks.take();
                 let event = self.close();
@@ -172,6 +194,29 @@ impl<'a, const V: usize, const DEPTH: usize, const CAP: usize> Runner<'a, V, DEP
                 progress
             }
         }
+    }
+
+    /// Whether the run pauses: it wants no answer, but to go on.
+    pub fn is_paused(&self) -> bool
+        ensures { result ≡ is_paused self.now.pending }
+    {
+        match &self.pending {
+            None => false,
+            Some(pending) => is_pause(pending),
+        }
+    }
+
+    /// Goes on after a pause, and may pause again. Returns the crates whose lockout was released, and the event if the service ended.
+    pub fn go_on(&mut self) -> (ArrayVec<CrateNo, 7>, Option<(u32, GlBit, Usage)>)
+        requires { is_paused self.old.pending ≡ true }
+        ensures resumes { Resumes self.old result.0.items result.1 self.new }
+        ensures keeps { KeepsLimit self.old self.new }
+    {
+        let most = self.limit;
+        self.machine.go_further(&mut self.pending, most);
+        let unlocks = self.machine.unlocks.take();
+        let event = self.close();
+        (unlocks, event)
     }
 
     // Counts the event of a service that is over, and tells it.
@@ -217,42 +262,76 @@ impl<'a, const V: usize, const DEPTH: usize, const CAP: usize> Runner<'a, V, DEP
     }
 
     /// The operation that the next answer is for, whatever that answer is; without one the run does nothing more. None after a wait that was
-    /// not permitted. A lock that is wanted is of a crate of the plan which is not locked.
+    /// not permitted, and while the run pauses. A lock that is wanted is of a crate of the plan which is not locked.
     pub fn wants(&self) -> Option<Wanted>
         ensures wants { Wants self.now result }
+        ensures paused { is_paused self.now.pending ≡ true → result ≡ None }
         ensures safe { IfSome result (IsSafeRequest self.now.checked.plan (held_in self.now)) }
     {
         if self.overrun.is_some() {
             return None;
         }
         match &self.pending {
-            Some(pending) => Some(operation(pending)),
+            Some(pending) => operation(pending),
             None => Some(Wanted::Demand),
         }
     }
 
-    /// The law that a run whose waits were all permitted wants an answer.
+    /// The operations that come next, whatever is answered: what the run wants now, and the cycles that surely follow it, `AHEAD` at most. None after
+    /// a wait that was not permitted, and while the run pauses.
+    pub fn ahead(&self) -> Ahead
+        ensures { IsAhead self.now result.items }
+    {
+        let mut ahead = Ahead::new();
+        let Some(first) = self.wants() else {
+            return ahead;
+        };
+        ahead.push(first);
+        let Some(pending) = &self.pending else {
+            return ahead;
+        };
+        if !is_one_cycle(pending) {
+            return ahead;
+        }
+        add_following(&self.machine, pending, &mut ahead);
+        ahead
+    }
+
+    /// The law that a run whose waits were all permitted wants an answer, unless it pauses.
     pub fn is_waiting(&self)
-        requires { self.now.overrun ≡ None }
+        requires first { self.now.overrun ≡ None }
+        requires awake { is_paused self.now.pending ≡ false }
         ensures { IsWaiting self.now }
     {
         let _ = &self.pending;
     }
 
-    /// Where the service in progress stands: the statement whose operation the next answer is for. None where no service is in progress.
+    /// Where the service in progress stands: the statement whose operation the next answer is for. None where no service is in progress, or where it
+    /// pauses.
     pub fn at(&self) -> Option<Place>
         ensures place { IfSome result (IsPlace self.now) }
-        ensures some { is_some result ≡ is_some self.now.pending }
+        ensures some { is_some result ≡ is_asking self.now.pending }
     {
-        match self.pending {
-            None => None,
-            Some(_) => Some(self.place()),
+        if self.is_asking() {
+            Some(self.place())
+        } else {
+            None
         }
     }
 
-    // The same where a service is in progress.
+    // Whether an answer is wanted in a service.
+    fn is_asking(&self) -> bool
+        ensures { result ≡ is_asking self.now.pending }
+    {
+        match &self.pending {
+            None => false,
+            Some(pending) => !is_pause(pending),
+        }
+    }
+
+    // The same where an answer is wanted in a service.
     fn place(&self) -> Place
-        requires { IsSome self.now.pending }
+        requires { is_asking self.now.pending ≡ true }
         ensures { IsPlace self.now result }
     {
         match self.machine.begun {
@@ -264,14 +343,29 @@ impl<'a, const V: usize, const DEPTH: usize, const CAP: usize> Runner<'a, V, DEP
         }
     }
 
-    /// Whether a service is in progress.
+    /// Whether a service is in progress. Without a further answer the run then stops in it, unless it pauses.
     pub fn in_service(&self) -> bool
-        ensures { rest self.now [] ≡ (if result then stops short (state_in self.now []) else ends tt) }
+        ensures some { result ≡ is_some self.now.pending }
+        ensures rest { is_paused self.now.pending ≡ false → rest self.now [] ≡ (if result then stops short (state_in self.now []) else ends tt) }
     {
         match self.pending {
             Some(_) => true,
             None => false,
         }
+    }
+
+    /// Whether a wait was not permitted.
+    pub fn is_over(&self) -> bool
+        ensures { result ≡ is_some self.now.overrun }
+    {
+        self.overrun.is_some()
+    }
+
+    /// How many steps the run makes at once.
+    pub fn limit(&self) -> u32
+        ensures { result ≡ self.now.limit }
+    {
+        self.limit
     }
 
     /// How many answers were used.
@@ -283,7 +377,8 @@ impl<'a, const V: usize, const DEPTH: usize, const CAP: usize> Runner<'a, V, DEP
 
     /// How many words the event of the service in progress has, 0 where none is.
     pub fn event_words(&self) -> usize
-        ensures { result ≡ length (words_of (rest self.now [])) }
+        ensures so_far { IsSome self.now.pending → result ≡ length self.now.words }
+        ensures words { is_paused self.now.pending ≡ false → result ≡ length (words_of (rest self.now [])) }
     {
         match self.pending {
             Some(_) => self.machine.words().len(),
@@ -293,7 +388,8 @@ impl<'a, const V: usize, const DEPTH: usize, const CAP: usize> Runner<'a, V, DEP
 
     /// How many steps the service in progress has made, 0 where none is.
     pub fn steps(&self) -> u32
-        ensures steps { result ≡ steps_of (rest self.now []) }
+        ensures so_far { IsSome self.now.pending → result ≡ self.now.steps }
+        ensures steps { is_paused self.now.pending ≡ false → result ≡ steps_of (rest self.now []) }
         ensures within { result ≤ (bounds_at self.now.checked self.now.service).steps }
     {
         match self.pending {
@@ -315,15 +411,42 @@ impl<'a, const V: usize, const DEPTH: usize, const CAP: usize> Runner<'a, V, DEP
     }
 }
 
-// The operation that is waited for.
-fn operation(pending: &Pending) -> Wanted
+// The operation that is waited for; none in a pause.
+fn operation(pending: &Pending) -> Option<Wanted>
     ensures { result ≡ operation pending.now }
 {
     match pending {
-        Pending::Cycle(command) => Wanted::Cycle(*command),
-        Pending::Read { command, .. } => Wanted::Cycle(*command),
-        Pending::Lock { crate_no, .. } => Wanted::Lock(*crate_no),
-        Pending::Transfer(transfer) => Wanted::Cycle(transfer.command),
+        Pending::Cycle(command) => Some(Wanted::Cycle(*command)),
+        Pending::Read { command, .. } => Some(Wanted::Cycle(*command)),
+        Pending::Lock { crate_no, .. } => Some(Wanted::Lock(*crate_no)),
+        Pending::Transfer(transfer) => Some(Wanted::Cycle(transfer.command)),
+        Pending::Pause => None,
+    }
+}
+
+// Whether no answer is waited for.
+fn is_pause(pending: &Pending) -> bool
+    ensures { result ≡ is_pause (pending_of pending.now) }
+{
+    match pending {
+        Pending::Cycle(_) => false,
+        Pending::Read { .. } => false,
+        Pending::Lock { .. } => false,
+        Pending::Transfer(_) => false,
+        Pending::Pause => true,
+    }
+}
+
+// Whether a single cycle is waited for.
+fn is_one_cycle(pending: &Pending) -> bool
+    ensures { result ≡ is_some (cycle_of (pending_of pending.now)) }
+{
+    match pending {
+        Pending::Cycle(_) => true,
+        Pending::Read { .. } => true,
+        Pending::Lock { .. } => false,
+        Pending::Transfer(_) => false,
+        Pending::Pause => false,
     }
 }
 

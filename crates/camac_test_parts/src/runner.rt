@@ -31,6 +31,7 @@ fn expect_at(
 
 fn feed(rt: &impl Abort, runner: &mut Runner<1, 1, 1>, answer: Answer) -> Progress {
     assert!(rt; runner.fed() < 1_000_000);
+    assert!(rt; !runner.is_paused());
     runner.next(answer)
 }
 
@@ -109,6 +110,27 @@ fn expect_straight_line(rt: &impl Abort, checked: &Checked) -> Result<(), Fail> 
 fn runner_straight_line(rt: HostRuntime) -> Result<(), Fail> {
     let checked = straight_line(rt.alloc())?;
     expect_straight_line(&rt, &checked)
+}
+
+// It pauses after a step, and wants nothing until it has gone on.
+fn expect_pause(rt: &impl Abort, checked: &Checked) -> Result<(), Fail> {
+    assert!(rt; checked.fits(1, 1, 1));
+    let mut runner = Runner::<1, 1, 1>::start(checked);
+    runner.limit_steps(0);
+    feed(rt, &mut runner, answer(false, 0, 0, 4)?);
+    assert!(rt; runner.wants() == None);
+    assert!(rt; runner.steps() == 1);
+    assert!(rt; runner.is_paused());
+    let (unlocks, event) = runner.go_on();
+    assert!(rt; unlocks.is_empty());
+    assert!(rt; event.is_none());
+    expect_wanted_read(rt, runner.wants())
+}
+
+#[test]
+fn runner_pause(rt: HostRuntime) -> Result<(), Fail> {
+    let checked = straight_line(rt.alloc())?;
+    expect_pause(&rt, &checked)
 }
 
 // After a wait that is not permitted nothing is wanted.

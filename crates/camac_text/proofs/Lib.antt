@@ -14,3 +14,4 @@ pub mod LocalTables
 pub mod LocalProcedures
 pub mod LocalDeclarations
 pub mod Faults
+pub mod Judged

@@ -3,10 +3,11 @@ use Rattle.std.specs.Prelude.{ℕ, List, Result, Ok, Err}
 use Rattle.camac_lang.specs.Tree.{Script}
 use Rattle.camac_tokens.specs.declared.token.Token.{Token}
 use Rattle.camac_tokens.specs.Fault.{Fault}
+use Rattle.camac_tokens.specs.Left.{Ahead}
 use Rattle.camac_tokens.specs.Scanning.{tokens_of, last_line}
 use Rattle.camac_text_cursor.specs.Reading.{State}
 use Rattle.camac_text_cursor.specs.Declaring.{tree_so_far}
-use Rattle.camac_text_cursor.specs.Parser.{unread}
+use Rattle.camac_text_cursor.specs.Parser.{unread, line_in}
 use Rattle.camac_text.specs.Declarations.{declarations_at}
 
 -- the state in which a script begins
@@ -28,3 +29,12 @@ tree_after (Err e) end_line = Err e
 -- The tree of a text, or its first fault: those of the tokens come first.
 unfoldable pub script_of : List ℕ → Result Script Fault
 script_of text = tree_after (tokens_of text) (last_line text)
+
+-- the state in which what is ahead in a text is read
+abbrev pub unread_in : Ahead → State
+unread_in a = unread a.tokens (line_in a.end)
+
+-- whether there is no token fault, else the first one
+abbrev pub judged : Result (List Token) Fault → Result (Unit {0}) Fault
+judged (Ok tokens) = Ok tt
+judged (Err e) = Err e

@@ -1,17 +1,21 @@
 // From the text of a script to its tree.
 
 ghost use Rattle.camac_tokens.specs.Fault.{Answers};
+ghost use Rattle.camac_tokens.specs.Left.{ahead_of};
+ghost use Rattle.camac_tokens.specs.Scanning.{tokens_of};
+ghost use Rattle.camac_text_cursor.specs.Parser.{Gives};
+ghost use Rattle.camac_text.specs.Declarations.{declarations_at};
 ghost use Rattle.camac_text.specs.Places.{HasFault, FaultIs};
-ghost use Rattle.camac_text.specs.Parser.{script_of};
+ghost use Rattle.camac_text.specs.Parser.{unread_in, judged, script_of};
 
 use crate::declarations::declarations;
 use camac_lang::Script;
 use camac_text_cursor::{Choices, Parser};
-use camac_tokens::{TextFault, TokensLeft};
+use camac_tokens::{TextFault, TokensLeft, end_of};
 use std::alloc::Global;
 
-// A fault of a token comes before each fault of the grammar, wherever the two stand. So the tokens are cut twice, first for their faults alone, and
-// kept nowhere: a list of them took more memory than all else in a check.
+// A fault of a token comes before each fault of the grammar, wherever the two stand. Tokens are judged as they are read, and kept nowhere: a list of them
+// took more memory than all else in a check. So they are read once more, to the end, unless the grammar took all of them.
 
 /// The script that a text spells.
 ///
@@ -38,10 +42,28 @@ pub fn parse_expecting(
 ) -> Result<Script, TextFault>
     ensures { Answers result (script_of text.now) }
 {
-    let (tokens, end) = TokensLeft::with_end(text)?;
-    let mut parser = Parser::new(alloc, tokens, end);
+    let mut parser = Parser::new(alloc, TokensLeft::new(text));
     let read = declarations(&mut parser);
+    judge_tokens(text, &read, &parser)?;
     *expected = parser.missed();
     read?;
     Ok(parser.into_script())
+}
+
+// Whether a text that was read so has no token fault, else its first one. What was read to the text's end has none.
+fn judge_tokens(
+    text: &[u8],
+    read: &Result<(), TextFault>,
+    parser: &Parser<'_>,
+) -> Result<(), TextFault>
+    requires { Gives (λ _. tt) read.now parser.now (declarations_at (unread_in (ahead_of text.now))) }
+    ensures { Answers result (judged (tokens_of text.now)) }
+{
+    match read {
+        Ok(()) if parser.is_at_end() => Ok(()),
+        _ => {
+            end_of(text)?;
+            Ok(())
+        }
+    }
 }

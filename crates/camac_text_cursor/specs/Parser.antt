@@ -7,10 +7,15 @@ use Rattle.camac_text_cursor.specs.declared.cursor.Parser.{Parser}
 use Rattle.camac_tokens.specs.Fault.{Fault, Fails}
 use Rattle.camac_text_cursor.specs.Reading.{State}
 
+-- the line of a text's end, or 0, the line of nothing, where a token fault ends the tokens
+abbrev pub line_in : Result ℕ Fault → ℕ
+line_in (Ok line) = line
+line_in (Err e) = 0
+
 abbrev pub state : Parser → State
 state p = record {
-  rest = p.rest;
-  end_line = p.end_line;
+  rest = p.rest.tokens;
+  end_line = line_in p.rest.end;
   order = map item_of p.order.items;
   tables = map table_of p.tables.items;
   lams = map lam_of p.lams.items;

@@ -1,11 +1,11 @@
 // The parser's state, and its steps over single tokens.
 
-ghost use Rattle.std.specs.Prelude.{◌≡◌, [], false, option_copied};
+ghost use Rattle.std.specs.Prelude.{◌≡◌, [], false, not, ◌&&◌, ◌==◌, is_none, option_copied};
 ghost use Rattle.camac_tokens.specs.Fault.{Fails};
 ghost use Rattle.camac_text_cursor.specs.Reading.{line_of, left_of, kind_of, after_first};
 ghost use Rattle.camac_text_cursor.specs.Readers.{begin, is_keyword, is_sign, is_name, is_number, expect, expect_sign, name_here, number_here, any_number, branch_number, function_number, sub_address_number};
 ghost use Rattle.camac_text_cursor.specs.Choice.{takes};
-ghost use Rattle.camac_text_cursor.specs.Parser.{state, unread, Gives};
+ghost use Rattle.camac_text_cursor.specs.Parser.{state, unread, line_in, Gives};
 ghost use Rattle.camac_tokens.specs.declared.fault.TextCase.TheVariants.{Unexpected};
 
 use crate::choice::{Choice, Choices};
@@ -21,8 +21,6 @@ use std::mem::replace;
 pub struct Parser<'a> {
     pub(crate) alloc: Global,
     rest: TokensLeft<'a>,
-    // The line of the text's end.
-    end_line: u32,
     pub(crate) order: Vec<Item>,
     pub(crate) tables: Vec<Table>,
     pub(crate) lams: Vec<Lam>,
@@ -50,14 +48,13 @@ pub struct Parser<'a> {
 }
 
 impl<'a> Parser<'a> {
-    /// A parser of these tokens, with no declarations yet. The text ends on this line, from 1.
-    pub fn new(alloc: Global, rest: TokensLeft<'a>, end_line: u32) -> Self
-        ensures { state result ≡ unread rest.entry end_line }
+    /// A parser of these tokens, with no declarations yet.
+    pub fn new(alloc: Global, rest: TokensLeft<'a>) -> Self
+        ensures { state result ≡ unread rest.entry.tokens (line_in rest.entry.end) }
     {
         Parser {
             alloc,
             rest,
-            end_line,
             order: Vec::new(alloc),
             tables: Vec::new(alloc),
             lams: Vec::new(alloc),
@@ -119,14 +116,21 @@ impl Parser<'_> {
         }
     }
 
-    /// The line of the next token, or of the text's end.
+    /// The line of the next token, or of the text's end. It is 0 where a token fault ends the tokens.
     pub fn line_here(&self) -> u32
-        ensures { result ≡ line_of (state self.now).rest self.now.end_line }
+        ensures { result ≡ line_of (state self.now).rest (state self.now).end_line }
     {
         match self.rest.first() {
             Some(token) => token.line,
-            None => self.end_line,
+            None => self.rest.end().unwrap_or(0),
         }
+    }
+
+    /// Whether the text's end stands next, and no token fault.
+    pub fn is_at_end(&self) -> bool
+        ensures { result ≡ (is_none (kind_of (state self.now).rest) && not ((state self.now).end_line == 0)) }
+    {
+        self.rest.first().is_none() && self.line_here() != 0
     }
 
     /// How many bytes of the text stand from the first byte of the next token on, 0 at the text's end.
@@ -141,7 +145,7 @@ impl Parser<'_> {
 
     /// A fault at the next token.
     pub fn fault(&self, case: TextCase) -> TextFault
-        ensures { result ≡ TextFault.Broken case (line_of (state self.now).rest self.now.end_line) (left_of (state self.now).rest) }
+        ensures { result ≡ TextFault.Broken case (line_of (state self.now).rest (state self.now).end_line) (left_of (state self.now).rest) }
     {
         TextFault::Broken {
             case,
@@ -162,7 +166,7 @@ impl Parser<'_> {
     #[inline(never)]
     pub fn unexpected(&self, choice: Choice) -> TextFault
         requires { takes choice (kind_of (state self.now).rest) ≡ false }
-        ensures { result ≡ TextFault.Broken Unexpected (line_of (state self.now).rest self.now.end_line) (left_of (state self.now).rest) }
+        ensures { result ≡ TextFault.Broken Unexpected (line_of (state self.now).rest (state self.now).end_line) (left_of (state self.now).rest) }
     {
         self.miss(choice);
         self.fault(TextCase::Unexpected)

@@ -160,7 +160,7 @@ impl Parser<'_> {
 
     /// The fault of a name that is not declared as the kind that is wanted.
     fn undeclared(&self, wanted: NameKind, name: &Name) -> TextFault
-        ensures { result ≡ TextFault.Broken (Undeclared wanted (found_here wanted name.now (state self.now))) (line_of (state self.now).rest self.now.end_line) (left_of (state self.now).rest) }
+        ensures { result ≡ TextFault.Broken (Undeclared wanted (found_here wanted name.now (state self.now))) (line_of (state self.now).rest (state self.now).end_line) (left_of (state self.now).rest) }
     {
         let found = self.found_here(wanted, name);
         self.fault(TextCase::Undeclared { wanted, found })

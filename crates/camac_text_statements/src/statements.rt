@@ -87,7 +87,7 @@ fn statement(parser: &mut Parser<'_>, room: u32) -> Result<Stmt, TextFault>
 fn no_statement(parser: &Parser<'_>) -> TextFault
     requires statement { takes choice.Statement (kind_of (state parser.now).rest) ≡ false }
     requires name { takes choice.Name (kind_of (state parser.now).rest) ≡ false }
-    ensures { result ≡ TextFault.Broken Unexpected (line_of (state parser.now).rest parser.now.end_line) (left_of (state parser.now).rest) }
+    ensures { result ≡ TextFault.Broken Unexpected (line_of (state parser.now).rest (state parser.now).end_line) (left_of (state parser.now).rest) }
 {
     parser.miss(Choice::Statement);
     parser.unexpected(Choice::Name)

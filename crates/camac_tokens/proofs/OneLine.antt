@@ -85,7 +85,3 @@ feeds_split (suc n) (x ∷ xs) =
 
 pub feeds_behind : (n : ℕ) (xs : List ℕ) → line_feeds (take n xs) ≡ 0 → line_feeds (drop n xs) ≡ line_feeds xs
 feeds_behind n xs none = omega (arith, none, feeds_split n xs)
-
-pub no_bytes : (xs : List ℕ) → length xs ≡ 0 → line_feeds xs ≡ 0
-no_bytes [] e = refl
-no_bytes (x ∷ xs) e = absurd (omega arith)

@@ -1,8 +1,7 @@
 -- Laws of the scanner's definitions.
-use Rattle.std.proofs.Common.{◌≡◌, ℕ, zero, suc, ◌+◌, ◌-◌, ◌*◌, ◌≤◌, ◌<◌, Bool, true, false, ◌&&◌, cond, ltb, eqb, count_by, fold, List, [], ◌∷◌, ◌++◌, length, take, drop, Option, Some, None, IsSome, Result, Ok, Err, refl, sym, ap, subst, ◌∙◌, append_assoc, length-drop, arith}
+use Rattle.std.proofs.Common.{◌≡◌, ℕ, zero, suc, ◌+◌, ◌-◌, ◌*◌, ◌≤◌, ◌<◌, Bool, true, false, ◌&&◌, cond, ltb, eqb, count_by, fold, List, [], ◌∷◌, ◌++◌, length, take, drop, Option, Some, None, IsSome, Result, Ok, Err, refl, sym, ap, subst, ◌∙◌, length-drop, arith}
 use Rattle.std.specs.Prelude.{take_while, slice_index}
 use Rattle.std.specs.Char.{is_ascii_digit, is_ascii_alphabetic}
-use Rattle.std.proofs.lemmas.List.{append-nil}
 use Rattle.std.proofs.lemmas.Bool.{and_parts, eqb-true, le-ltb}
 use Rattle.std.proofs.lemmas.List.Sums.{take_while-cons, sum_by-cons}
 use Rattle.camac_tokens.specs.declared.token.Token.{Token}
@@ -154,19 +153,20 @@ pub lines_step : (t : Bool) (line c : ℕ) → cond t (line + 1) line + c ≡ li
 lines_step true line c = omega arith
 lines_step false line c = omega arith
 
-skip : (n line : ℕ) (bs : List ℕ) → tokens_from n line bs ≡ tokens_from 0 (line + line_feeds (take n bs)) (drop n bs)
+-- what is read after bytes that belong to what stands before them begins behind these
+pub skip : {A : Type 0} (read : ℕ → ℕ → List ℕ → A) → ((n line m : ℕ) → read n line [] ≡ read 0 m []) → ((n line b : ℕ) (bs : List ℕ) → read (suc n) line (b ∷ bs) ≡ read n (line_after line b) bs)
+    → (n line : ℕ) (bs : List ℕ) → read n line bs ≡ read 0 (line + line_feeds (take n bs)) (drop n bs)
+skip read none step zero line bs = ap (λ (l : ℕ). read 0 l bs) (omega arith)
+skip read none step (suc n) line [] = none (suc n) line (line + 0)
+skip read none step (suc n) line (b ∷ bs) = step n line b bs ∙ skip read none step n (line_after line b) bs ∙ ap (λ (l : ℕ). read 0 l (drop n bs)) (lines_step (eqb b 10) line (line_feeds (take n bs)) ∙ ap (λ (k : ℕ). line + k) (sym (feeds-cons b (take n bs))))
+
+skip_tokens : (n line : ℕ) (bs : List ℕ) → tokens_from n line bs ≡ tokens_from 0 (line + line_feeds (take n bs)) (drop n bs)
 unfolding tokens_from
-skip zero line bs = ap (λ (l : ℕ). tokens_from 0 l bs) (omega arith)
-skip (suc n) line [] = refl
-skip (suc n) line (b ∷ bs) = skip n (line_after line b) bs ∙ ap (λ (l : ℕ). tokens_from 0 l (drop n bs)) (lines_step (eqb b 10) line (line_feeds (take n bs)) ∙ ap (λ (k : ℕ). line + k) (sym (feeds-cons b (take n bs))))
+skip_tokens n line bs = skip tokens_from (λ m l k. refl) (λ m l b cs. refl) n line bs
 
 abbrev pub with_all : List Token → Result (List Token) Fault → Result (List Token) Fault
 with_all start (Ok ts) = Ok (start ++ ts)
 with_all start (Err e) = Err e
-
-all_join : (a b : List Token) (r : Result (List Token) Fault) → with_all a (with_all b r) ≡ with_all (a ++ b) r
-all_join a b (Ok ts) = ap (λ (w : List Token). let r : Result (List Token) Fault = Ok w in r) (sym (append_assoc a b ts))
-all_join a b (Err e) = refl
 
 first_all : (t : Token) (r : Result (List Token) Fault) → with_first t r ≡ with_all (t ∷ []) r
 first_all t (Ok ts) = refl
@@ -180,45 +180,15 @@ none_all (Err e) = refl
 pub start_step : (f : Start) (b line : ℕ) (bs : List ℕ) → wrong f ≡ None → 0 < size f → tokens_by f line (length (b ∷ bs)) (λ n. tokens_from n (line_after line b) bs) ≡ with_all (added f (line_number line) (length (b ∷ bs))) (tokens_from 0 (line + line_feeds (take (size f) (b ∷ bs))) (drop (size f) (b ∷ bs)))
 unfolding tokens_from
 start_step (start.Gap zero) b line bs good some = absurd (omega arith)
-start_step (start.Gap (suc n)) b line bs good some = ap (λ (k : ℕ). tokens_from k (line_after line b) bs) (omega arith) ∙ skip (suc n) line (b ∷ bs) ∙ none_all _
+start_step (start.Gap (suc n)) b line bs good some = ap (λ (k : ℕ). tokens_from k (line_after line b) bs) (omega arith) ∙ skip_tokens (suc n) line (b ∷ bs) ∙ none_all _
 start_step (start.Found k zero) b line bs good some = absurd (omega arith)
-start_step (start.Found k (suc n)) b line bs good some = ap (λ (m : ℕ). with_first (record { kind = k; line = line_number line; left = length (b ∷ bs) }) (tokens_from m (line_after line b) bs)) (omega arith) ∙ ap (with_first (record { kind = k; line = line_number line; left = length (b ∷ bs) })) (skip (suc n) line (b ∷ bs)) ∙ first_all _ _
+start_step (start.Found k (suc n)) b line bs good some = ap (λ (m : ℕ). with_first (record { kind = k; line = line_number line; left = length (b ∷ bs) }) (tokens_from m (line_after line b) bs)) (omega arith) ∙ ap (with_first (record { kind = k; line = line_number line; left = length (b ∷ bs) })) (skip_tokens (suc n) line (b ∷ bs)) ∙ first_all _ _
 start_step (start.Wrong case) b line bs good some = absurd cc
-
-pub sizes : (rest : List ℕ) → 0 < length rest → Sized (start_of (slice_index rest 0) rest) (length rest)
-sizes [] h = absurd (omega arith)
-sizes (b ∷ bs) h = sized_start b bs
-
-pub goes : (xs : List Token) (line : ℕ) (rest : List ℕ) (total : Result (List Token) Fault) → 0 < length rest → wrong (start_of (slice_index rest 0) rest) ≡ None → with_all xs (tokens_from 0 line rest) ≡ total → with_all (xs ++ added (start_of (slice_index rest 0) rest) (line_number line) (length rest)) (tokens_from 0 (line + line_feeds (take (size (start_of (slice_index rest 0) rest)) rest)) (drop (size (start_of (slice_index rest 0) rest)) rest)) ≡ total
-unfolding tokens_from
-goes xs line [] total some good so_far = absurd (omega arith)
-goes xs line (b ∷ bs) total some good so_far =
-    let f = start_of b (b ∷ bs) in
-    sym (all_join xs (added f (line_number line) (length (b ∷ bs))) _) ∙ ap (with_all xs) (sym (start_step f b line bs good (sized_start b bs good).0)) ∙ so_far
 
 pub wrong_is : (f : Start) (case : TextCase) → wrong f ≡ Some case → f ≡ start.Wrong case
 wrong_is (start.Wrong c) case e = ap start.Wrong cc
 wrong_is (start.Gap n) case e = absurd cc
 wrong_is (start.Found k n) case e = absurd cc
-
-pub fails : (xs : List Token) (line : ℕ) (rest : List ℕ) (total : Result (List Token) Fault) (case : TextCase) → 0 < length rest → wrong (start_of (slice_index rest 0) rest) ≡ Some case → with_all xs (tokens_from 0 line rest) ≡ total → total ≡ Err (record { case = case; line = line_number line; left = length rest })
-unfolding tokens_from
-fails xs line [] total case some bad so_far = absurd (omega arith)
-fails xs line (b ∷ bs) total case some bad so_far = sym so_far ∙ ap (λ (f : Start). with_all xs (tokens_by f line (length (b ∷ bs)) (λ n. tokens_from n (line_after line b) bs))) (wrong_is (start_of b (b ∷ bs)) case bad)
-
-pub ends : (xs : List Token) (line : ℕ) (rest : List ℕ) (total : Result (List Token) Fault) → length rest ≡ 0 → with_all xs (tokens_from 0 line rest) ≡ total → total ≡ Ok xs
-unfolding tokens_from
-ends xs line [] total none so_far = sym so_far ∙ ap (λ (w : List Token). let r : Result (List Token) Fault = Ok w in r) (append-nil xs)
-ends xs line (b ∷ bs) total none so_far = absurd (omega arith)
-
-feeds_step : (t : Bool) (c d e : ℕ) → c + d ≤ e → (cond t 1 0 + c) + d ≤ suc e
-feeds_step true c d e h = omega arith
-feeds_step false c d e h = omega arith
-
-pub feeds_le : (n : ℕ) (xs : List ℕ) → line_feeds (take n xs) + length (drop n xs) ≤ length xs
-feeds_le zero xs = omega arith
-feeds_le (suc n) [] = omega arith
-feeds_le (suc n) (x ∷ xs) = subst (λ (k : ℕ). k + length (drop n xs) ≤ suc (length xs)) (sym (feeds-cons x (take n xs))) (feeds_step (eqb x 10) (line_feeds (take n xs)) (length (drop n xs)) (length xs) (feeds_le n xs))
 
 pub some_left : (n : ℕ) → eqb n 0 ≡ false → 0 < n
 some_left zero e = absurd cc

@@ -1,23 +1,17 @@
 -- What is left of the tokens of a text, step by step.
-use Rattle.std.proofs.Common.{◌≡◌, ℕ, zero, suc, ◌+◌, ◌≤◌, ◌<◌, Bool, true, false, not, cond, ltb, eqb, List, [], ◌∷◌, ◌++◌, length, take, drop, Option, Some, None, Result, Ok, Err, refl, sym, ap, subst, ◌∙◌, length-drop, arith}
+use Rattle.std.proofs.Common.{◌≡◌, ℕ, zero, suc, ◌+◌, ◌-◌, ◌≤◌, ◌<◌, Bool, true, false, not, cond, eqb, List, [], ◌∷◌, ◌++◌, length, take, drop, Option, Some, None, Result, Ok, Err, refl, sym, ap, subst, ◌∙◌, length-drop, arith}
 use Rattle.std.specs.Prelude.{take_while, slice_index}
-use Rattle.std.specs.Char.{is_ascii_digit, is_ascii_alphabetic}
-use Rattle.std.proofs.lemmas.Bool.{lt-ltb, le-ltb, eqb-true, ne_eqb}
-use Rattle.camac_tokens.specs.declared.token.Keyword.{Keyword}
-use Rattle.camac_tokens.specs.declared.token.Sign.{Sign}
+use Rattle.std.proofs.lemmas.List.{append-nil}
+use Rattle.std.proofs.lemmas.Bool.{eqb-true, ne_eqb}
 use Rattle.camac_tokens.specs.declared.token.Token.{Token}
 use Rattle.camac_tokens.specs.declared.token.TokenKind.{TokenKind}
 use Rattle.camac_tokens.specs.Start.{Start}
 use Rattle.camac_tokens.specs.Start as start
 use Rattle.camac_tokens.specs.declared.fault.TextCase.{TextCase}
-use Rattle.camac_tokens.specs.declared.fault.Limit.TheVariants.{NameBytes}
-use Rattle.camac_tokens.specs.declared.fault.TextCase.TheVariants as told
 use Rattle.camac_tokens.specs.Fault.{Fault}
-use Rattle.camac_tokens.specs.Words.{keyword}
-use Rattle.camac_tokens.specs.Scanning.{is_name_byte, is_blank, is_no_line_feed, decimal_value, keyword_or, pair_at, single_at, pair_or_single, start_of, size, added, wrong, tokens_by, tokens_from, line_after, line_number}
-use Rattle.camac_tokens.specs.Left.{list_of, next_and, BeginsNoGap, IsPastGaps, IsPut, IsExtent}
-use Rattle.camac_tokens.proofs.Spellings.{no_long_keyword}
-use Rattle.camac_tokens.proofs.Scans.{line_feeds, feeds-cons, lines_step, take_run, run_some, with_all, none_all, start_step, sized_start, goes}
+use Rattle.camac_tokens.specs.Scanning.{is_blank, is_no_line_feed, start_of, size, wrong, with_first, tokens_by, tokens_from, line_after, line_number, tokens_of, last_line}
+use Rattle.camac_tokens.specs.Left.{before_by, tokens_before, end_by, end_from, Ahead, ahead_from, ahead_of, with_next, IsStop, IsPastGaps, IsPut}
+use Rattle.camac_tokens.proofs.Scans.{line_feeds, feeds-cons, lines_step, take_run, run_some, skip, with_all, none_all, start_step, sized_start, wrong_is}
 use Rattle.camac_tokens.proofs.OneLine.{run_feeds, OnOneLine, start_on_one_line, feeds_behind}
 
 on : {A : Type 0} (t : Bool) (x y : A) → t ≡ true → cond t x y ≡ x
@@ -28,13 +22,16 @@ off : {A : Type 0} (t : Bool) (x y : A) → t ≡ false → cond t x y ≡ y
 off true x y e = absurd cc
 off false x y e = refl
 
+same_line : (line n : ℕ) → n ≡ 0 → line + n ≡ line
+same_line line n e = omega (arith, e)
+
 -- ---- gaps
 
 blank_is : (b : ℕ) (bs : List ℕ) → is_blank b ≡ true → start_of b (b ∷ bs) ≡ start.Gap 1
 unfolding start_of
 blank_is b bs is = on (is_blank b) _ _ is
 
-pub blank_past : (b line : ℕ) (bs : List ℕ) → is_blank b ≡ true → tokens_from 0 (line_after line b) bs ≡ tokens_from 0 line (b ∷ bs)
+blank_past : (b line : ℕ) (bs : List ℕ) → is_blank b ≡ true → tokens_from 0 (line_after line b) bs ≡ tokens_from 0 line (b ∷ bs)
 unfolding tokens_from
 blank_past b line bs is = sym (ap (λ (f : Start). tokens_by f line (length (b ∷ bs)) (λ skip. tokens_from skip (line_after line b) bs)) (blank_is b bs is))
 
@@ -67,12 +64,65 @@ comment_past b line bs is =
     ∙ ap (λ (l : ℕ). tokens_from 0 l (drop (length (take_while is_no_line_feed (b ∷ bs))) (b ∷ bs))) same
     )
 
+-- ---- the tokens before the first token fault
+
+before_step : (b line : ℕ) (bs : List ℕ) (f : Start) → start_of b (b ∷ bs) ≡ f → tokens_before 0 line (b ∷ bs) ≡ before_by f line (length (b ∷ bs)) (λ n. tokens_before n (line_after line b) bs)
+unfolding tokens_before
+before_step b line bs f is = ap (λ (g : Start). before_by g line (length (b ∷ bs)) (λ n. tokens_before n (line_after line b) bs)) is
+
+-- those after what stands at the start, which takes n bytes and no line feed
+before_behind : (n b line : ℕ) (bs : List ℕ) → 0 < n → line_feeds (take n (b ∷ bs)) ≡ 0 → tokens_before (n - 1) (line_after line b) bs ≡ tokens_before 0 line (drop n (b ∷ bs))
+unfolding tokens_before
+before_behind zero b line bs some none = absurd (omega arith)
+before_behind (suc n) b line bs some none =
+    ap (λ (k : ℕ). tokens_before k (line_after line b) bs) (omega arith)
+    ∙ skip tokens_before (λ m l k. refl) (λ m l c cs. refl) (suc n) line (b ∷ bs)
+    ∙ ap (λ (l : ℕ). tokens_before 0 l (drop n bs)) (same_line line _ none)
+
+blank_before : (b line : ℕ) (bs : List ℕ) → is_blank b ≡ true → tokens_before 0 (line_after line b) bs ≡ tokens_before 0 line (b ∷ bs)
+blank_before b line bs is = sym (before_step b line bs (start.Gap 1) (blank_is b bs is))
+
+comment_before : (b line : ℕ) (bs : List ℕ) → eqb b 35 ≡ true → tokens_before 0 line (drop (length (take_while is_no_line_feed (b ∷ bs))) (b ∷ bs)) ≡ tokens_before 0 line (b ∷ bs)
+comment_before b line bs is =
+    let n : ℕ = length (take_while is_no_line_feed (b ∷ bs)) in
+    sym (before_step b line bs (start.Gap n) (comment_is b bs is) ∙ before_behind n b line bs (comment_some b bs is) (comment_feeds b bs))
+
+-- without a fault they are all
+by_all : (f : Start) (line left : ℕ) (more : ℕ → Result (List Token) Fault) (before : ℕ → List Token) → ((n : ℕ) (us : List Token) → more n ≡ Ok us → before n ≡ us)
+    → (ts : List Token) → tokens_by f line left more ≡ Ok ts → before_by f line left before ≡ ts
+by_all (start.Gap n) line left more before same ts e = same (n - 1) ts e
+by_all (start.Found k n) line left more before same ts e = first_of (more (n - 1)) refl e where
+  first_of : (r : Result (List Token) Fault) → more (n - 1) ≡ r → with_first (record { kind = k; line = line_number line; left = left }) r ≡ Ok ts → record { kind = k; line = line_number line; left = left } ∷ before (n - 1) ≡ ts
+  first_of (Ok us) at h = ap (λ (w : List Token). record { kind = k; line = line_number line; left = left } ∷ w) (same (n - 1) us at) ∙ (let both : _ ≡ ts = cc in both)
+  first_of (Err d) at h = absurd cc
+by_all (start.Wrong case) line left more before same ts e = absurd cc
+
+pub all_before : (n line : ℕ) (bs : List ℕ) (ts : List Token) → tokens_from n line bs ≡ Ok ts → tokens_before n line bs ≡ ts
+unfolding tokens_from tokens_before
+all_before n line [] ts e = cc
+all_before zero line (b ∷ bs) ts e = by_all (start_of b (b ∷ bs)) line (length (b ∷ bs)) (λ n. tokens_from n (line_after line b) bs) (λ n. tokens_before n (line_after line b) bs) (λ n us h. all_before n (line_after line b) bs us h) ts e
+all_before (suc n) line (b ∷ bs) ts e = all_before n (line_after line b) bs ts e
+
+pub whole_ahead : (text : List ℕ) (ts : List Token) → tokens_of text ≡ Ok ts → ahead_of text ≡ record { tokens = ts; end = Ok (last_line text) }
+unfolding tokens_of
+whole_ahead text ts e =
+    ap (λ (us : List Token). let a : Ahead = record { tokens = us; end = end_by (tokens_of text) (last_line text) } in a) (all_before 0 1 text ts e)
+    ∙ ap (λ (r : Result (List Token) Fault). let a : Ahead = record { tokens = ts; end = end_by r (last_line text) } in a) e
+
+-- what is ahead is the same where the tokens are, and the lines
+same_ahead : (line after : ℕ) (text rest : List ℕ) → tokens_from 0 after rest ≡ tokens_from 0 line text → tokens_before 0 after rest ≡ tokens_before 0 line text → after + line_feeds rest ≡ line + line_feeds text
+    → ahead_from after rest ≡ ahead_from line text
+same_ahead line after text rest same before feeds =
+    let lines : line_feeds rest + after ≡ line_feeds text + line = omega (arith, feeds) in
+    ap (λ (ts : List Token). let a : Ahead = record { tokens = ts; end = end_from after rest } in a) before
+    ∙ ap (λ (r : Result (List Token) Fault). let a : Ahead = record { tokens = tokens_before 0 line text; end = end_by r (line_number (line_feeds rest + after)) } in a) same
+    ∙ ap (λ (l : ℕ). let a : Ahead = record { tokens = tokens_before 0 line text; end = end_by (tokens_from 0 line text) (line_number l) } in a) lines
+
 -- the rest after a comment, and after a blank
 pub record Skips (line : ℕ) (rest : List ℕ) (after : ℕ) (n : ℕ) : Type 0 where
-  pub same : tokens_from 0 after (drop n rest) ≡ tokens_from 0 line rest
+  pub same : ahead_from after (drop n rest) ≡ ahead_from line rest
   pub lines : after + length (drop n rest) ≤ line + length rest
   pub shorter : length (drop n rest) < length rest
-  pub feeds : after + line_feeds (drop n rest) ≡ line + line_feeds rest
 
 pub comment_skips : (line : ℕ) (rest : List ℕ) → 0 < length rest → slice_index rest 0 ≡ 35 → Skips line rest line (length (take_while is_no_line_feed rest))
 comment_skips line [] some is = absurd (omega arith)
@@ -81,7 +131,11 @@ comment_skips line (b ∷ bs) some is =
     let n : ℕ = length (take_while is_no_line_feed (b ∷ bs)) in
     let left = length-drop n (b ∷ bs) in
     let some_bytes = comment_some b bs hash in
-    record { same = comment_past b line bs hash; lines = omega (arith, left); shorter = omega (arith, left, some_bytes); feeds = ap (λ (m : ℕ). line + m) (feeds_behind n (b ∷ bs) (comment_feeds b bs)) }
+    record {
+      same = same_ahead line line (b ∷ bs) (drop n (b ∷ bs)) (comment_past b line bs hash) (comment_before b line bs hash) (ap (λ (m : ℕ). line + m) (feeds_behind n (b ∷ bs) (comment_feeds b bs)));
+      lines = omega (arith, left);
+      shorter = omega (arith, left, some_bytes);
+    }
 
 line_step : (t : Bool) (line n : ℕ) → cond t (line + 1) line + n ≤ line + suc n
 line_step true line n = omega arith
@@ -89,7 +143,13 @@ line_step false line n = omega arith
 
 pub blank_skips : (line : ℕ) (rest : List ℕ) → 0 < length rest → is_blank (slice_index rest 0) ≡ true → Skips line rest (line_after line (slice_index rest 0)) 1
 blank_skips line [] some is = absurd (omega arith)
-blank_skips line (b ∷ bs) some is = record { same = blank_past b line bs is; lines = line_step (eqb b 10) line (length bs); shorter = omega arith; feeds = lines_step (eqb b 10) line (line_feeds bs) ∙ ap (λ (m : ℕ). line + m) (sym (feeds-cons b bs)) }
+blank_skips line (b ∷ bs) some is =
+    let feeds : line_after line b + line_feeds bs ≡ line + line_feeds (b ∷ bs) = lines_step (eqb b 10) line (line_feeds bs) ∙ ap (λ (m : ℕ). line + m) (sym (feeds-cons b bs)) in
+    record {
+      same = same_ahead line (line_after line b) (b ∷ bs) bs (blank_past b line bs is) (blank_before b line bs is) feeds;
+      lines = line_step (eqb b 10) line (length bs);
+      shorter = omega arith;
+    }
 
 abbrev pub spaces : ℕ → List ℕ
 spaces zero = []
@@ -110,7 +170,7 @@ spaces_skip (suc n) line (b ∷ bs) e =
     let others : take (suc n) bs ≡ spaces (suc n) = cc in
     let one = space_skips line b bs head in
     let more = spaces_skip n line bs others in
-    record { same = more.same ∙ one.same; lines = omega (arith, more.lines, one.lines); shorter = omega (arith, more.shorter); feeds = more.feeds ∙ one.feeds }
+    record { same = more.same ∙ one.same; lines = omega (arith, more.lines, one.lines); shorter = omega (arith, more.shorter) }
 
 -- ---- what begins with no gap
 
@@ -127,7 +187,7 @@ space_is_past line (a ∷ []) some is above = absurd (omega arith)
 space_is_past line (a ∷ b ∷ bs) some is above =
     let one : take 1 (a ∷ b ∷ bs) ≡ spaces 1 = ap (λ (x : ℕ). x ∷ []) is in
     let skips = spaces_skip 0 line (a ∷ b ∷ bs) one in
-    record { same = skips.same; lines = skips.lines; shorter = omega (arith, skips.shorter); begins = above_hash b above; feeds = skips.feeds }
+    record { same = skips.same; lines = skips.lines; begins = above_hash b above }
 
 -- the same of one line feed
 pub line_feed_is_past : (line : ℕ) (text : List ℕ) → 2 ≤ length text → slice_index text 0 ≡ 10 → 35 < slice_index text 1 → IsPastGaps line text (line + 1) (drop 1 text)
@@ -135,52 +195,13 @@ line_feed_is_past line [] some is above = absurd (omega arith)
 line_feed_is_past line (a ∷ []) some is above = absurd (omega arith)
 line_feed_is_past line (a ∷ b ∷ bs) some is above = rw is (
     let skips = blank_skips line (10 ∷ b ∷ bs) (omega arith) refl in
-    record { same = skips.same; lines = skips.lines; shorter = omega (arith, skips.shorter); begins = above_hash b above; feeds = skips.feeds })
-
-abbrev NoGap : Start → Type 0
-NoGap (start.Gap n) = ⊥
-NoGap (start.Found k n) = Unit {0}
-NoGap (start.Wrong case) = Unit {0}
-
-no_gap_if : (t : Bool) (f g : Start) → (t ≡ true → NoGap f) → (t ≡ false → NoGap g) → NoGap (cond t f g)
-no_gap_if true f g on off = on refl
-no_gap_if false f g on off = off refl
-
-no_gap_word : (k : Option Keyword) (text : List ℕ) → NoGap (keyword_or k text)
-no_gap_word (Some w) text = tt
-no_gap_word None text = no_gap_if (ltb 32 (length text)) _ _ (λ _. tt) (λ _. tt)
-
-no_gap_sign : (p q : Option Sign) → NoGap (pair_or_single p q)
-no_gap_sign (Some s) q = tt
-no_gap_sign None (Some s) = tt
-no_gap_sign None None = tt
-
-no_gap_start : (b : ℕ) (bs : List ℕ) → is_blank b ≡ false → eqb b 35 ≡ false → NoGap (start_of b (b ∷ bs))
-unfolding start_of
-no_gap_start b bs no_blank no_hash =
-    no_gap_if (is_blank b) _ _ (λ is. absurd (let both : true ≡ false = sym is ∙ no_blank in cc)) (λ _.
-    no_gap_if (eqb b 35) _ _ (λ is. absurd (let both : true ≡ false = sym is ∙ no_hash in cc)) (λ _.
-    no_gap_if (is_ascii_alphabetic b) _ _ (λ _. no_gap_word (keyword (take_while is_name_byte (b ∷ bs))) (take_while is_name_byte (b ∷ bs))) (λ _.
-    no_gap_if (is_ascii_digit b) _ _ (λ _. no_gap_if (ltb (decimal_value (take_while is_ascii_digit (b ∷ bs))) 4294967296) _ _ (λ _. tt) (λ _. tt)) (λ _.
-    no_gap_sign (pair_at (b ∷ bs)) (single_at (b ∷ bs))))))
+    record { same = skips.same; lines = skips.lines; begins = above_hash b above })
 
 -- ---- one token
-
-same_line : (line n : ℕ) → n ≡ 0 → line + n ≡ line
-same_line line n e = omega (arith, e)
 
 token_step : (b line : ℕ) (bs : List ℕ) (f : Start) → start_of b (b ∷ bs) ≡ f → tokens_from 0 line (b ∷ bs) ≡ tokens_by f line (length (b ∷ bs)) (λ skip. tokens_from skip (line_after line b) bs)
 unfolding tokens_from
 token_step b line bs f is = ap (λ (g : Start). tokens_by g line (length (b ∷ bs)) (λ skip. tokens_from skip (line_after line b) bs)) is
-
-wrong_is_wrong : (f : Start) (case : TextCase) → wrong f ≡ Some case → f ≡ start.Wrong case
-wrong_is_wrong (start.Gap n) case e = absurd cc
-wrong_is_wrong (start.Found k n) case e = absurd cc
-wrong_is_wrong (start.Wrong r) case e = cc
-
-no_fault : (line : ℕ) (rest : List ℕ) (case : TextCase) → 0 < length rest → tokens_from 0 line rest ≡ Ok (list_of (tokens_from 0 line rest)) → start_of (slice_index rest 0) rest ≡ start.Wrong case → ⊥
-no_fault line [] case some cut is = absurd (omega arith)
-no_fault line (b ∷ bs) case some cut is = let bad = token_step b line bs (start.Wrong case) is in let both = sym bad ∙ cut in absurd cc
 
 found_some : (b : ℕ) (bs : List ℕ) (k : TokenKind) (n : ℕ) → start_of b (b ∷ bs) ≡ start.Found k n → (0 < n) × (n ≤ length (b ∷ bs))
 found_some b bs k n is =
@@ -198,74 +219,77 @@ token_goes line (b ∷ bs) k n some is =
     ∙ start_step (start.Found k n) b line bs refl (found_some b bs k n is).0
     ∙ ap (λ (l : ℕ). with_all (record { kind = k; line = line_number line; left = length (b ∷ bs) } ∷ []) (tokens_from 0 l (drop n (b ∷ bs)))) (same_line line _ (subst (λ (f : Start). OnOneLine f (b ∷ bs)) is (start_on_one_line b bs)))
 
--- what is read after one token
-pub record Behind (t : Token) (whole rest : Result (List Token) Fault) : Type 0 where
-  pub next : t ∷ list_of rest ≡ list_of whole
-  pub cut : rest ≡ Ok (list_of rest)
+end_same : (us : List Token) (r : Result (List Token) Fault) (line : ℕ) → end_by (with_all us r) line ≡ end_by r line
+end_same us (Ok ts) line = refl
+end_same us (Err e) line = refl
 
-behind : (t : Token) (rest whole : Result (List Token) Fault) → whole ≡ with_all (t ∷ []) rest → whole ≡ Ok (list_of whole) → Behind t whole rest
-behind t (Ok ts) whole is cut = record { next = sym (ap list_of is); cut = refl }
-behind t (Err e) whole is cut = let both = sym is ∙ cut in absurd cc
-
-pub token_left : (line : ℕ) (rest : List ℕ) (k : TokenKind) (n : ℕ) → 0 < length rest → start_of (slice_index rest 0) rest ≡ start.Found k n → tokens_from 0 line rest ≡ Ok (list_of (tokens_from 0 line rest))
-    → Behind (record { kind = k; line = line_number line; left = length rest }) (tokens_from 0 line rest) (tokens_from 0 line (drop n rest))
-token_left line rest k n some is cut = behind (record { kind = k; line = line_number line; left = length rest }) _ (tokens_from 0 line rest) (token_goes line rest k n some is) cut
+-- what is ahead where a token stands: the token, and what is ahead behind it
+pub token_ahead : (line : ℕ) (rest : List ℕ) (k : TokenKind) (n : ℕ) → 0 < length rest → start_of (slice_index rest 0) rest ≡ start.Found k n
+    → with_next (Some (record { kind = k; line = line_number line; left = length rest })) line (drop n rest) ≡ ahead_from line rest
+token_ahead line [] k n some is = absurd (omega arith)
+token_ahead line (b ∷ bs) k n some is =
+    let t : Token = record { kind = k; line = line_number line; left = length (b ∷ bs) } in
+    let none : line_feeds (take n (b ∷ bs)) ≡ 0 = subst (λ (f : Start). OnOneLine f (b ∷ bs)) is (start_on_one_line b bs) in
+    let tokens : tokens_before 0 line (b ∷ bs) ≡ t ∷ tokens_before 0 line (drop n (b ∷ bs)) = before_step b line bs (start.Found k n) is ∙ ap (λ (ts : List Token). t ∷ ts) (before_behind n b line bs (found_some b bs k n is).0 none) in
+    let same : end_from line (b ∷ bs) ≡ end_from line (drop n (b ∷ bs)) =
+    ap (λ (r : Result (List Token) Fault). end_by r (line_number (line_feeds (b ∷ bs) + line))) (token_goes line (b ∷ bs) k n some is)
+    ∙ end_same (t ∷ []) (tokens_from 0 line (drop n (b ∷ bs))) (line_number (line_feeds (b ∷ bs) + line))
+    ∙ ap (λ (m : ℕ). end_by (tokens_from 0 line (drop n (b ∷ bs))) (line_number (m + line))) (sym (feeds_behind n (b ∷ bs) none)) in
+    sym (ap (λ (ts : List Token). let a : Ahead = record { tokens = ts; end = end_from line (b ∷ bs) } in a) tokens ∙ ap (λ (e : Result ℕ Fault). let a : Ahead = record { tokens = t ∷ tokens_before 0 line (drop n (b ∷ bs)); end = e } in a) same)
 
 -- what is left once a token is put in its place
 pub record PutLeft (at : ℕ) (rest : List ℕ) (next : Option Token) (n : ℕ) : Type 0 where
   pub fits : n ≤ length rest
-  pub cut : tokens_from 0 at (drop n rest) ≡ Ok (list_of (tokens_from 0 at (drop n rest)))
-  pub tokens : next_and next at (drop n rest) ≡ list_of (tokens_from 0 at rest)
+  pub ahead : with_next next at (drop n rest) ≡ ahead_from at rest
+  pub stop : IsStop next (drop n rest)
 
-pub put_left : (at : ℕ) (rest : List ℕ) (next : Option Token) (n : ℕ) → 0 < length rest → IsPut (Ok n) next (line_number at) (length rest) (start_of (slice_index rest 0) rest) → tokens_from 0 at rest ≡ Ok (list_of (tokens_from 0 at rest))
-    → PutLeft at rest next n
-put_left at rest None n some put cut = absurd put
-put_left at rest (Some t) n some put cut =
-    let left = token_left at rest t.kind n some put.0 cut in
-    record { fits = (found_size rest t.kind n some put.0).1; cut = left.cut; tokens = ap (λ (l : ℕ). record { kind = t.kind; line = l; left = t.left } ∷ list_of (tokens_from 0 at (drop n rest))) put.1 ∙ ap (λ (m : ℕ). record { kind = t.kind; line = line_number at; left = m } ∷ list_of (tokens_from 0 at (drop n rest))) put.2 ∙ left.next }
+pub put_left : (at : ℕ) (rest : List ℕ) (next : Option Token) (n : ℕ) → 0 < length rest → IsPut (Ok n) next (line_number at) (length rest) (start_of (slice_index rest 0) rest) → PutLeft at rest next n
+put_left at rest None n some put = absurd put
+put_left at rest (Some t) n some put = record {
+  fits = (found_size rest t.kind n some put.0).1;
+  ahead =
+      ap (λ (l : ℕ). with_next (Some (record { kind = t.kind; line = l; left = t.left })) at (drop n rest)) put.1
+      ∙ ap (λ (m : ℕ). with_next (Some (record { kind = t.kind; line = line_number at; left = m })) at (drop n rest)) put.2
+      ∙ token_ahead at rest t.kind n some put.0;
+  stop = tt;
+}
 
--- a text without a fault has a token at its start
-pub put_no_fault : (at : ℕ) (rest : List ℕ) (case : TextCase) (next : Option Token) → 0 < length rest → IsPut (Err case) next (line_number at) (length rest) (start_of (slice_index rest 0) rest) → tokens_from 0 at rest ≡ Ok (list_of (tokens_from 0 at rest)) → ⊥
-put_no_fault at rest case next some put cut = no_fault at rest case some cut (wrong_is_wrong (start_of (slice_index rest 0) rest) case put)
+-- ---- where no token stands
 
--- the bytes of what is no gap have no line feed
-taken_feeds : (f : Start) (text : List ℕ) → NoGap f → OnOneLine f text → line_feeds (take (size f) text) ≡ 0
-taken_feeds (start.Gap n) text no_gap one = absurd no_gap
-taken_feeds (start.Found k n) text no_gap one = one
-taken_feeds (start.Wrong case) text no_gap one = refl
+pub end_behind : (next : Option Token) (line : ℕ) (rest : List ℕ) → (with_next next line rest).end ≡ end_from line rest
+end_behind None line rest = refl
+end_behind (Some t) line rest = refl
 
--- so the bytes behind it are on the same line
-pub goes_on : (xs : List Token) (line : ℕ) (rest : List ℕ) (total : Result (List Token) Fault) → 0 < length rest → BeginsNoGap rest → wrong (start_of (slice_index rest 0) rest) ≡ None → with_all xs (tokens_from 0 line rest) ≡ total
-    → with_all (xs ++ added (start_of (slice_index rest 0) rest) (line_number line) (length rest)) (tokens_from 0 line (drop (size (start_of (slice_index rest 0) rest)) rest)) ≡ total
-goes_on xs line [] total some begins good so_far = absurd (omega arith)
-goes_on xs line (b ∷ bs) total some begins good so_far =
-    let f : Start = start_of b (b ∷ bs) in
-    ap (λ (l : ℕ). with_all (xs ++ added f (line_number line) (length (b ∷ bs))) (tokens_from 0 l (drop (size f) (b ∷ bs)))) (sym (same_line line _ (taken_feeds f (b ∷ bs) (no_gap_start b bs begins.0 begins.1) (start_on_one_line b bs))))
-    ∙ goes xs line (b ∷ bs) total some good so_far
+pub nothing_ahead : (line : ℕ) (rest : List ℕ) → length rest ≡ 0 → with_next None line rest ≡ ahead_from line rest
+unfolding tokens_before
+nothing_ahead line [] e = refl
+nothing_ahead line (b ∷ bs) e = absurd (omega arith)
 
-pub feeds_on : (rest : List ℕ) → 0 < length rest → BeginsNoGap rest → line_feeds (drop (size (start_of (slice_index rest 0) rest)) rest) ≡ line_feeds rest
-feeds_on [] some begins = absurd (omega arith)
-feeds_on (b ∷ bs) some begins =
-    let f : Start = start_of b (b ∷ bs) in
-    feeds_behind (size f) (b ∷ bs) (taken_feeds f (b ∷ bs) (no_gap_start b bs begins.0 begins.1) (start_on_one_line b bs))
+pub fault_ahead : (line : ℕ) (rest : List ℕ) (case : TextCase) → 0 < length rest → wrong (start_of (slice_index rest 0) rest) ≡ Some case → with_next None line rest ≡ ahead_from line rest
+fault_ahead line [] case some bad = absurd (omega arith)
+fault_ahead line (b ∷ bs) case some bad =
+    ap (λ (ts : List Token). let a : Ahead = record { tokens = ts; end = end_from line (b ∷ bs) } in a) (sym (before_step b line bs (start.Wrong case) (wrong_is (start_of b (b ∷ bs)) case bad)))
 
-pub none_left : (line : ℕ) (rest : List ℕ) → length rest ≡ 0 → list_of (tokens_from 0 line rest) ≡ []
+pub end_here : (line : ℕ) (rest : List ℕ) → length rest ≡ 0 → end_from line rest ≡ Ok (line_number line)
 unfolding tokens_from
-none_left line [] e = refl
-none_left line (b ∷ bs) e = absurd (omega arith)
+end_here line [] e = ap (λ (l : ℕ). let r : Result ℕ Fault = Ok (line_number l) in r) (omega arith)
+end_here line (b ∷ bs) e = absurd (omega arith)
 
--- ---- what is wrong at the start, without its token
+pub fault_here : (line : ℕ) (rest : List ℕ) (case : TextCase) → 0 < length rest → wrong (start_of (slice_index rest 0) rest) ≡ Some case
+    → end_from line rest ≡ Err (record { case = case; line = line_number line; left = length rest })
+fault_here line [] case some bad = absurd (omega arith)
+fault_here line (b ∷ bs) case some bad = ap (λ (r : Result (List Token) Fault). end_by r (line_number (line_feeds (b ∷ bs) + line))) (token_step b line bs (start.Wrong case) (wrong_is (start_of b (b ∷ bs)) case bad))
 
-long_word : (k : Option Keyword) (text : List ℕ) → k ≡ None → 32 < length text → wrong (keyword_or k text) ≡ Some (told.Limit NameBytes)
-long_word k text none long = rw (none, lt-ltb 32 (length text) long) refl
+-- ---- where the tokens end
 
--- a word that is too long is no keyword
-pub word_too_long : (text : List ℕ) → 32 < length text → wrong (keyword_or (keyword text) text) ≡ Some (told.Limit NameBytes)
-word_too_long text long = long_word (keyword text) text (no_long_keyword text (omega arith)) long
+no_fault : (r : Result (List Token) Fault) (line n : ℕ) → end_by r line ≡ Ok n → (ts : List Token) × (r ≡ Ok ts)
+no_fault (Ok ts) line n e = (ts, refl)
+no_fault (Err d) line n e = absurd cc
 
-short_word : (k : Option Keyword) (text : List ℕ) → length text ≤ 32 → IsExtent (Ok (length text)) (keyword_or k text)
-short_word (Some w) text short = (refl, refl)
-short_word None text short = rw (le-ltb 32 (length text) short) (refl, refl)
-
-pub word_fits : (text : List ℕ) → length text ≤ 32 → IsExtent (Ok (length text)) (keyword_or (keyword text) text)
-word_fits text short = short_word (keyword text) text short
+-- those that were taken are all, if the text's end is reached
+pub all_taken : (text : List ℕ) (xs left : List Token) (n : ℕ) → xs ++ left ≡ tokens_before 0 1 text → left ≡ [] → end_by (tokens_of text) (last_line text) ≡ Ok n → tokens_of text ≡ Ok xs
+unfolding tokens_of
+all_taken text xs left n before none end =
+    let whole = no_fault (tokens_of text) (last_line text) n end in
+    let same : whole.0 ≡ xs = sym (all_before 0 1 text whole.0 whole.1) ∙ sym before ∙ ap (λ (w : List Token). xs ++ w) none ∙ append-nil xs in
+    whole.1 ∙ ap (λ (w : List Token). let r : Result (List Token) Fault = Ok w in r) same

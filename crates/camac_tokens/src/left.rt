@@ -1,66 +1,62 @@
-// What is left of the tokens of a text: they are cut one by one, where they are wanted.
+// What is left of the tokens of a text: they are cut one by one, where they are wanted, and judged as they are cut.
 
-ghost use Rattle.std.specs.Prelude.{◌≡◌, ◌+◌, ◌≤◌, true, take, drop, length, slice_get, option_copied};
-ghost use Rattle.camac_tokens.specs.Scanning.{last_line, line_after, tokens_from, tokens_of};
-ghost use Rattle.camac_tokens.specs.Left.{list_of, next_and, IsLeft, AnswersTokens, AnswersWithEnd, IsPastGaps, EndOrFault, eight_spaces};
+ghost use Rattle.std.specs.Prelude.{◌≡◌, ◌+◌, ◌≤◌, [], true, List, take, drop, length, slice_get, option_copied, IfNone, Ok};
+ghost use Rattle.camac_tokens.specs.Scanning.{last_line, line_after, tokens_of};
+ghost use Rattle.camac_tokens.specs.declared.token.Token.{Token};
+ghost use Rattle.camac_tokens.specs.Left.{Ahead, ahead_from, ahead_of, end_by, with_next, IsLeft, EndIs, IsPastGaps, eight_spaces};
 
 use crate::bytes::first_eight;
-use crate::extent::extent_of;
 use crate::fault::TextFault;
 use crate::first::put_token;
 use crate::scanner::{comment_len, is_blank, line_number};
 use crate::token::Token;
 use std::marker::Model;
 
-/// What is left of the tokens of a text without a token fault (own), which contracts see as their list. It takes no memory.
+/// What is left of the tokens of a text (own): those before its first token fault, and what ends them, the line of the text's end or that fault.
+/// It takes no memory.
 #[derive(Drop)]
 pub struct TokensLeft<'a> {
     next: Option<Token>,
-    // The bytes behind the next token, and the line of the first of them.
+    // The bytes behind the next token, and the line of the first of them. If there is no next token, these bytes begin with a token fault, or there are
+    // none.
     rest: &'a [u8],
     line: usize,
 }
 
 impl<'a> Model for TokensLeft<'a> {
-    ghost use Rattle.std.specs.Prelude.{List};
-    ghost use Rattle.camac_tokens.specs.declared.token.Token.{Token};
-    ghost use Rattle.camac_tokens.specs.Left.{next_and, IsLeft};
+    ghost use Rattle.camac_tokens.specs.Left.{Ahead, with_next, IsLeft};
 
-    ghost Value = { List Token };
+    ghost Value = { Ahead };
 
-    ghost view = { λ t. next_and t.next t.line t.rest.now };
+    ghost view = { λ t. with_next t.next t.line t.rest.now };
 
-    ghost invariant = { λ t. IsLeft t.line t.rest.now };
+    ghost invariant = { λ t. IsLeft t.next t.line t.rest.now };
 }
 
 impl<'a> TokensLeft<'a> {
-    /// All tokens of a text, or its first token fault: S1, S3 or S6. The text is read once for its faults, and none of its tokens is kept.
-    /// A token's line is 1 plus the line feeds before it, from 4294967295 on that number.
-    pub fn new(text: &'a [u8]) -> Result<Self, TextFault>
-        ensures { AnswersTokens result (tokens_of text.now) }
+    /// The tokens of a text up to its first token fault: S1, S3 or S6. A token's line is 1 plus the line feeds before it, from 4294967295 on
+    /// that number.
+    pub fn new(text: &'a [u8]) -> Self
+        ensures exact { result ≡ ahead_of text.now }
+        // Without a token fault these are all tokens.
+        ensures whole { (ts : List Token) → tokens_of text.now ≡ Ok ts → result ≡ record { tokens = ts; end = Ok (last_line text.now) } }
     {
-        let (left, _) = TokensLeft::with_end(text)?;
-        Ok(left)
-    }
-
-    /// What `new` answers, and the line of the text's end, so that the text need not be read for it once more.
-    pub fn with_end(text: &'a [u8]) -> Result<(Self, u32), TextFault>
-        ensures { AnswersWithEnd result (tokens_of text.now) (last_line text.now) }
-    {
-        let end = end_line(text)?;
-        Ok((left_from(text, 1), end))
+        let mut next = None;
+        let (rest, line) = cut(&mut next, text, 1);
+        TokensLeft { next, rest, line }
     }
 
     /// The next token, unless none is left. It stays the next one.
     pub fn first(&self) -> Option<&Token>
-        ensures { option_copied result ≡ slice_get self.now 0 }
+        ensures first { option_copied result ≡ slice_get self.now.tokens 0 }
+        ensures none { IfNone result (self.now.tokens ≡ []) }
     {
         self.next.as_ref()
     }
 
     /// Leaves the next token behind, if there is one.
     pub fn advance(&mut self)
-        ensures { self.new ≡ drop 1 self.old }
+        ensures { self.new ≡ record self.old { tokens = drop 1 self.old.tokens } }
     {
         if self.next.is_some() {
             let (rest, line) = cut(&mut self.next, self.rest, self.line);
@@ -68,23 +64,41 @@ impl<'a> TokensLeft<'a> {
             self.line = line;
         }
     }
+
+    /// What ends the tokens, once none is left: the line of the text's end, from 1, or the first token fault.
+    pub fn end(&self) -> Result<u32, TextFault>
+        requires { self.now.tokens ≡ [] }
+        ensures { EndIs result self.now.end }
+    {
+        let line = line_number(self.line);
+        if self.rest.is_empty() {
+            return Ok(line);
+        }
+        let left = self.rest.len();
+        match put_token(&mut None, self.rest, line) {
+            Ok(_) => unreachable!(),
+            Err(case) => Err(TextFault::Broken { case, line, left }),
+        }
+    }
 }
 
-// The tokens of bytes that begin on a line.
-fn left_from(text: &[u8], line: usize) -> TokensLeft<'_>
-    requires { IsLeft line text.now }
-    ensures { result ≡ list_of (tokens_from 0 line text.now) }
+/// The line of a text's end, from 1, or its first token fault: S1, S3 or S6.
+pub fn end_of(text: &[u8]) -> Result<u32, TextFault>
+    ensures { EndIs result (end_by (tokens_of text.now) (last_line text.now)) }
 {
-    let mut next = None;
-    let (rest, line) = cut(&mut next, text, line);
-    TokensLeft { next, rest, line }
+    let mut left = TokensLeft::new(text);
+    while left.first().is_some() {
+        left.advance();
+    }
+    left.end()
 }
 
-// Cuts the next token off bytes that begin on a line, and answers the bytes behind it, and the line of the first of them.
+// Cuts the next token off bytes that begin on a line, and answers the bytes behind it, and the line of the first of them. Where a token fault
+// stands, it answers the bytes from there on, and there is no next token.
 fn cut<'a>(next: &mut Option<Token>, text: &'a [u8], line: usize) -> (&'a [u8], usize)
-    requires { IsLeft line text.now }
-    ensures left { IsLeft result.1 result.0.now }
-    ensures tokens { next_and next.new result.1 result.0.now ≡ list_of (tokens_from 0 line text.now) }
+    requires { line + length text.now ≤ 9223372036854775808 }
+    ensures left { IsLeft next.new result.1 result.0.now }
+    ensures ahead { with_next next.new result.1 result.0.now ≡ ahead_from line text.now }
 {
     let (rest, line) = past_gaps(text, line);
     if rest.is_empty() {
@@ -96,29 +110,11 @@ fn cut<'a>(next: &mut Option<Token>, text: &'a [u8], line: usize) -> (&'a [u8], 
             let (_, behind) = rest.split_at(size);
             (behind, line)
         }
-        Err(_) => unreachable!(),
-    }
-}
-
-// The line of a text's end, or the first token fault.
-fn end_line(text: &[u8]) -> Result<u32, TextFault>
-    ensures { EndOrFault result (tokens_of text.now) (last_line text.now) }
-{
-    let (mut rest, mut line) = past_gaps(text, 1);
-    while !rest.is_empty() {
-        match extent_of(rest) {
-            Ok(size) => {
-                let (_, after) = rest.split_at(size);
-                (rest, line) = past_gaps(after, line);
-            }
-            Err(case) => {
-                let line = line_number(line);
-                let left = rest.len();
-                return Err(TextFault::Broken { case, line, left });
-            }
+        Err(_) => {
+            *next = None;
+            (rest, line)
         }
     }
-    Ok(line_number(line))
 }
 
 // The bytes after blanks and comments, and their line. Before most tokens stands one space, or nothing.

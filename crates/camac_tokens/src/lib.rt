@@ -3,7 +3,6 @@
 #![tactic(auto)]
 
 mod bytes;
-mod extent;
 mod fault;
 mod first;
 pub mod laws;
@@ -15,8 +14,8 @@ mod words;
 
 pub use bytes::are_same;
 pub use fault::{Found, Limit, NameKind, TextCase, TextFault, TextRule};
-pub use left::TokensLeft;
-pub use scanner::{last_line, tokens};
+pub use left::{TokensLeft, end_of};
+pub use scanner::tokens;
 pub use signs::SIGNS;
 pub use token::{Keyword, Sign, Token, TokenKind};
 pub use words::KEYWORDS;

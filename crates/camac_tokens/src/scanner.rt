@@ -1,10 +1,10 @@
 // Cuts a text into tokens.
 
-ghost use Rattle.std.specs.Prelude.{◌≡◌, ◌<◌, ◌&&◌, List, length, take_while, count_by, nat_lt, ◌==◌, Some, None, if◌then◌else◌, slice_index, ◌++◌, IfOk, OnOk, IfErr};
+ghost use Rattle.std.specs.Prelude.{◌≡◌, ◌<◌, ◌&&◌, List, length, take_while, nat_lt, Some, None, if◌then◌else◌, slice_index, ◌++◌, IfOk, OnOk, IfErr};
 ghost use Rattle.std.specs.Char.{is_ascii_digit};
 ghost use Rattle.camac_tokens.specs.declared.token.Token.{Token};
 ghost use Rattle.camac_tokens.specs.Words.{keyword};
-ghost use Rattle.camac_tokens.specs.Scanning.{is_name_byte, is_blank, is_no_line_feed, decimal_value, keyword_or, number_or_fault, pair_at, single_at, pair_or_single, start_of, size, added, wrong, line_number, last_line, tokens_of};
+ghost use Rattle.camac_tokens.specs.Scanning.{is_name_byte, is_blank, is_no_line_feed, decimal_value, keyword_or, number_or_fault, pair_at, single_at, pair_or_single, start_of, size, added, wrong, line_number, tokens_of};
 ghost use Rattle.camac_tokens.specs.Cut.{IsCut, HasTokens};
 ghost use Rattle.camac_tokens.specs.Fault.{AnswersList};
 
@@ -31,7 +31,7 @@ pub fn tokens(alloc: Global, text: &[u8]) -> Result<Vec<Token>, TextFault>
 fn scan(alloc: Global, text: &[u8]) -> Result<Vec<Token>, TextFault>
     ensures { AnswersList result (tokens_of text.now) }
 {
-    let mut left = TokensLeft::new(text)?;
+    let mut left = TokensLeft::new(text);
     let mut tokens = Vec::new(alloc);
     while let Some(token) = left.first() {
         let kind = token.kind.duplicate();
@@ -44,14 +44,8 @@ fn scan(alloc: Global, text: &[u8]) -> Result<Vec<Token>, TextFault>
         })?;
         left.advance();
     }
+    left.end()?;
     Ok(tokens)
-}
-
-/// The line of a text's end, from 1.
-pub fn last_line(text: &[u8]) -> u32
-    ensures { result ≡ last_line text.now }
-{
-    line_number(line_feeds(text) + 1)
 }
 
 fn is_name_byte(b: u8) -> bool
@@ -141,12 +135,6 @@ fn has_no_line_feed(first: u8, second: u8, third: u8, fourth: u8) -> bool
     ensures { result ≡ (is_no_line_feed first && is_no_line_feed second && is_no_line_feed third && is_no_line_feed fourth) }
 {
     first != b'\n' && second != b'\n' && third != b'\n' && fourth != b'\n'
-}
-
-pub fn line_feeds(text: &[u8]) -> usize
-    ensures { result ≡ count_by (λ b. b == 10) text.now }
-{
-    text.iter().filter(|b| **b == b'\n').count()
 }
 
 pub fn line_number(line: usize) -> u32

@@ -77,6 +77,7 @@ CanEnd (job.ExplainPlan plan) = IsAnswered (CanAnswerPlan plan_ask.Explain)
 CanEnd (job.ExplainRule code) = CanExplainRule code.now
 CanEnd (job.Check plan script) = IsAnswered (CanAnswer ask.Check)
 CanEnd (job.Explain plan script) = IsAnswered (CanAnswer ask.Explain)
+CanEnd (job.ExplainBounds plan script) = IsAnswered (CanAnswer ask.ExplainBounds)
 CanEnd (job.ExplainAt line column plan script) = IsAnswered (CanAnswer (ask.ExplainAt line column))
 CanEnd (job.Bounds plan script) = IsAnswered (CanAnswer ask.Bounds)
 CanEnd (job.Costs plan script) = IsAnswered (CanAnswer ask.Costs)

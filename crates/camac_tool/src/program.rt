@@ -100,6 +100,7 @@ fn do_job<'a, R: Runtime + AllocGlobal>(
         Job::ExplainRule(code) => explain_rule(rt, failure, code),
         Job::Check(plan, script) => ask(rt, failure, Ask::Check, plan, script),
         Job::Explain(plan, script) => ask(rt, failure, Ask::Explain, plan, script),
+        Job::ExplainBounds(plan, script) => ask(rt, failure, Ask::ExplainBounds, plan, script),
         Job::ExplainAt(line, column, plan, script) => {
             ask(rt, failure, Ask::ExplainAt { line, column }, plan, script)
         }

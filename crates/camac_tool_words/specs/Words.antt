@@ -8,7 +8,7 @@ use Rattle.clap.specs.declared.builder.action.ArgAction.TheVariants.{Append, Set
 use Rattle.clap.specs.declared.error.Error.{Error}
 use Rattle.clap.specs.declared.error.kind.ErrorKind.TheVariants as kind
 use Rattle.camac_tool_words.specs.declared.words.Job.{Job}
-use Rattle.camac_tool_words.specs.declared.words.Job.TheVariants.{Plan, Commands, Check, Explain, ExplainAt, ExplainPlan, ExplainRule, Bounds, Costs, Response, Run, Drive, Events}
+use Rattle.camac_tool_words.specs.declared.words.Job.TheVariants.{Plan, Commands, Check, Explain, ExplainBounds, ExplainAt, ExplainPlan, ExplainRule, Bounds, Costs, Response, Run, Drive, Events}
 use Rattle.camac_tool_words.specs.declared.words.JobFault.{JobFault}
 use Rattle.camac_tool_words.specs.declared.words.JobFault.TheVariants.{Usage, InTwice}
 
@@ -46,7 +46,8 @@ abbrev pub check_app : App
 check_app = script_app (codes "check")
 
 abbrev pub explain_app : App
-explain_app = with_rule (with_rule (with_rule (new_app (codes "explain")) (named_rule (codes "PLAN"))) (optional_rule (codes "SCRIPT"))) (place_rule (codes "at"))
+explain_app =
+    with_rule (with_rule (with_rule (with_rule (new_app (codes "explain")) (named_rule (codes "PLAN"))) (optional_rule (codes "SCRIPT"))) (place_rule (codes "at"))) (option_rule (codes "bounds"))
 
 abbrev pub bounds_app : App
 bounds_app = script_app (codes "bounds")
@@ -81,6 +82,7 @@ name_of (Plan plan) = codes "plan"
 name_of (Commands plan) = codes "plan"
 name_of (Check plan script) = codes "check"
 name_of (Explain plan script) = codes "explain"
+name_of (ExplainBounds plan script) = codes "explain"
 name_of (ExplainAt line column plan script) = codes "explain"
 name_of (ExplainPlan plan) = codes "explain"
 name_of (ExplainRule code) = codes "explain"
@@ -97,6 +99,7 @@ ids_of (Plan plan) = codes "PLAN" ∷ []
 ids_of (Commands plan) = codes "PLAN" ∷ []
 ids_of (Check plan script) = codes "PLAN" ∷ codes "SCRIPT" ∷ []
 ids_of (Explain plan script) = codes "PLAN" ∷ codes "SCRIPT" ∷ []
+ids_of (ExplainBounds plan script) = codes "PLAN" ∷ codes "SCRIPT" ∷ []
 ids_of (ExplainAt line column plan script) = codes "PLAN" ∷ codes "SCRIPT" ∷ []
 ids_of (ExplainPlan plan) = codes "PLAN" ∷ []
 ids_of (ExplainRule code) = codes "PLAN" ∷ []
@@ -112,6 +115,7 @@ words_of (Plan plan) = plan.now ∷ []
 words_of (Commands plan) = plan.now ∷ []
 words_of (Check plan script) = plan.now ∷ script.now ∷ []
 words_of (Explain plan script) = plan.now ∷ script.now ∷ []
+words_of (ExplainBounds plan script) = plan.now ∷ script.now ∷ []
 words_of (ExplainAt line column plan script) = plan.now ∷ script.now ∷ []
 words_of (ExplainPlan plan) = plan.now ∷ []
 words_of (ExplainRule code) = code.now ∷ []
@@ -128,6 +132,7 @@ inputs_of (Plan plan) = plan.now ∷ []
 inputs_of (Commands plan) = plan.now ∷ []
 inputs_of (Check plan script) = plan.now ∷ script.now ∷ []
 inputs_of (Explain plan script) = plan.now ∷ script.now ∷ []
+inputs_of (ExplainBounds plan script) = plan.now ∷ script.now ∷ []
 inputs_of (ExplainAt line column plan script) = plan.now ∷ script.now ∷ []
 inputs_of (ExplainPlan plan) = plan.now ∷ []
 inputs_of (ExplainRule code) = []
@@ -178,16 +183,17 @@ is_on id rows = is_true (first_of id rows)
 abbrev pub values_of : Text → List Row → List Text
 values_of id rows = unwrap_or (all_of id rows) []
 
--- what tells jobs of one subcommand apart: the option of `plan`; whether `explain` is given a place, else whether it is given a script, else
--- whether its word may be a code; and what stands after the options of `response`
+-- what tells jobs of one subcommand apart: the option of `plan`; whether `explain` is given a place or asked of bounds, else whether it is given
+-- a script, else whether its word may be a code; and what stands after the options of `response`
 abbrev pub HasForm : Job → List Row → Type 0
 HasForm (Plan plan) rows = is_on (codes "commands") rows ≡ false
 HasForm (Commands plan) rows = is_on (codes "commands") rows ≡ true
-HasForm (Explain plan script) rows = first_of (codes "at") rows ≡ None
+HasForm (Explain plan script) rows = (first_of (codes "at") rows ≡ None) × (is_on (codes "bounds") rows ≡ false)
+HasForm (ExplainBounds plan script) rows = (first_of (codes "at") rows ≡ None) × (is_on (codes "bounds") rows ≡ true)
 HasForm (ExplainAt line column plan script) rows =
-    (word : Text) × (first_of (codes "at") rows ≡ Some word) × IsPlace word line column
-HasForm (ExplainPlan plan) rows = (first_of (codes "at") rows ≡ None) × (first_of (codes "SCRIPT") rows ≡ None) × (has_code_form plan.now ≡ false)
-HasForm (ExplainRule code) rows = (first_of (codes "at") rows ≡ None) × (first_of (codes "SCRIPT") rows ≡ None) × (has_code_form code.now ≡ true)
+    (is_on (codes "bounds") rows ≡ false) × (word : Text) × (first_of (codes "at") rows ≡ Some word) × IsPlace word line column
+HasForm (ExplainPlan plan) rows = (first_of (codes "at") rows ≡ None) × (is_on (codes "bounds") rows ≡ false) × (first_of (codes "SCRIPT") rows ≡ None) × (has_code_form plan.now ≡ false)
+HasForm (ExplainRule code) rows = (first_of (codes "at") rows ≡ None) × (is_on (codes "bounds") rows ≡ false) × (first_of (codes "SCRIPT") rows ≡ None) × (has_code_form code.now ≡ true)
 HasForm (Response plan script every within) rows =
     (map (λ w. w.now) every.items ≡ values_of (codes "every") rows) × (map (λ w. w.now) within.items ≡ values_of (codes "within") rows)
 HasForm _ rows = Unit {0}

@@ -149,7 +149,8 @@ fn explain_command<'a>(alloc: Global) -> Result<Command<'a>, AllocError>
     )
     .arg(named_word(alloc, "PLAN", "PLAN|CODE", texts::PLAN_OR_CODE))?
     .arg(optional_word(alloc, "SCRIPT", texts::SCRIPT))?
-    .arg(place_option(alloc, "at", texts::AT))
+    .arg(place_option(alloc, "at", texts::AT))?
+    .arg(option(alloc, "bounds", texts::EXPLAIN_BOUNDS))
 }
 
 fn bounds_command<'a>(alloc: Global) -> Result<Command<'a>, AllocError>

@@ -39,6 +39,8 @@ pub const COMMANDS: &str = "Lists the commands of each type, too";
 
 pub const AT: &str = "Prints what is known before the statement there";
 
+pub const EXPLAIN_BOUNDS: &str = "Explains what bounds refuses";
+
 pub const SCRIPT: &str = "A script: a file, or @in, standard input";
 
 pub const EVERY: &str = "Its look-at-mes come at least this many cycles apart";
@@ -99,8 +101,11 @@ Examples:
 pub const AFTER_EXPLAIN: &str =
     "Prints what check prints; without a script what plan prints. After a refusal it
 goes on with the line of the script or the place in the plan, what is wrong
-there, why the rule is there, and how to fix it. Status as check. At most one of
-the two can be @in.
+there, why the rule is there, and how to fix it. Then it prints a line 'also
+refused' for each further fault of linking, or else for each further procedure and
+service that is refused. Status as check. At most one of the two can be @in.
+
+With --bounds it explains what bounds refuses, and else prints what bounds prints.
 
 Given the code of a refusal, it prints why the rule is there, each way to fix it,
 and an example. It reads no file. A lone word of a capital letter and digits is a
@@ -114,6 +119,7 @@ set with its crates, stations and sub-addresses, and for each locked crate; or
 Examples:
   camac explain E12
   camac explain --at 6:3 plan.toml readout.script
+  camac explain --bounds plan.toml readout.script
   camac explain plan.toml
   camac explain plan.toml readout.script
   camac explain @sample @in < readout.script";

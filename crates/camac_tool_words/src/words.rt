@@ -19,6 +19,8 @@ pub enum Job<'a> {
     Commands(&'a str),
     Check(&'a str, &'a str),
     Explain(&'a str, &'a str),
+    /// Why the least headings of a script on a plan are refused.
+    ExplainBounds(&'a str, &'a str),
     /// A line and a column, from 1, a plan and a script.
     ExplainAt(u32, u32, &'a str, &'a str),
     ExplainPlan(&'a str),
@@ -71,7 +73,7 @@ pub fn read_words<'a>(alloc: Global, words: &'a [String]) -> Result<Job<'a>, Job
         // Of `explain` alone: the other words are required.
         let error = command.error(
             ErrorKind::ValueValidation,
-            "'--at <LINE:COLUMN>' needs two numbers from 1, a plan and a script",
+            "'--at <LINE:COLUMN>' needs two numbers from 1, a plan and a script; '--bounds' needs a plan and a script",
         )?;
         return Err(JobFault::Usage(error));
     };
@@ -142,8 +144,14 @@ fn explain_job<'a>(found: &ArgMatches<'a>) -> Option<Job<'a>>
 {
     let plan = value_of(found, "PLAN")?;
     if let Some(place) = value_of(found, "at") {
+        if is_on(found, "bounds") {
+            return None;
+        }
         let (line, column) = place_in(place)?;
         return Some(Job::ExplainAt(line, column, plan, value_of(found, "SCRIPT")?));
+    }
+    if is_on(found, "bounds") {
+        return Some(Job::ExplainBounds(plan, value_of(found, "SCRIPT")?));
     }
     Some(match value_of(found, "SCRIPT") {
         Some(script) => Job::Explain(plan, script),
@@ -330,6 +338,7 @@ fn input_count(job: &Job<'_>) -> usize
         Job::Plan(plan) | Job::Commands(plan) | Job::ExplainPlan(plan) => is_in(plan),
         Job::Check(plan, script)
         | Job::Explain(plan, script)
+        | Job::ExplainBounds(plan, script)
         | Job::ExplainAt(_, _, plan, script)
         | Job::Bounds(plan, script)
         | Job::Costs(plan, script)

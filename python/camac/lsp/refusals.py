@@ -32,7 +32,7 @@ class Placed(NamedTuple):
 
 
 def refusals(judged: Judged) -> List[Placed]:
-    """The first refusal, and the first of each other body of a script, where a rule of the checker refuses it."""
+    """The first refusal, and each further one: of linking, or the first of each other body of a script, where a rule of the checker refuses it."""
     if "refusals" not in judged.kept:
         judged.kept["refusals"] = list(_refusals(judged))
     found: List[Placed] = judged.kept["refusals"]
@@ -50,6 +50,8 @@ def _refusals(judged: Judged) -> Iterator[Placed]:
             return
         start, end = _place(judged, data, code, line)
         yield Placed(code, line, start, end, rule, found.sentence, found.advice)
+        if code[0] == "L":
+            yield from (Placed(it.code, it.line, *_place(judged, data, it.code, it.line), it.rule, "", ()) for it in found.also[: MOST - 1] if it.line)
         rest = _without_body(data, start) if code[0] == "E" else None
         if rest is None:
             return

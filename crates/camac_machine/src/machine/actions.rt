@@ -105,6 +105,7 @@ impl<'a, const V: usize, const DEPTH: usize, const CAP: usize> Machine<'a, V, DE
     }
 
     // `cfsa`, `cssa`. What is wanted is written in its place, here and below: it is larger than a result that is handed back quickly.
+    #[inline(always)]
     pub(crate) fn single(
         &self,
         size: WordSize,

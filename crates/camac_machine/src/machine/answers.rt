@@ -6,7 +6,7 @@ ghost use Rattle.camac_branch.specs.Crates.{branch_of, is_permitted};
 ghost use Rattle.camac_branch.specs.Plan.{crate_waits};
 ghost use Rattle.camac_lang.specs.Tree.{done};
 ghost use Rattle.camac_model.specs.State.{missed_with};
-ghost use Rattle.camac_machine.specs.MachineState.{reach, stands, IsFineHere, FineThen, HasRoom, IsPending, CanFollow, IsOf, StandsIn, pending_of, after_pending, Makes, TakesLock, IsRefused, Proceeds, Settles, Takes, Overruns};
+ghost use Rattle.camac_machine.specs.MachineState.{reach, stands, IsFineHere, FineThen, HasRoom, IsPending, CanFollow, asked, IsOf, StandsIn, pending_of, after_pending, Makes, TakesLock, IsRefused, PausesAfter, Proceeds, Settles, Takes, Overruns};
 
 use crate::command::command;
 use crate::item::Item;
@@ -157,22 +157,24 @@ impl<'a, const V: usize, const DEPTH: usize, const CAP: usize> Machine<'a, V, DE
                 self.steps += 1;
                 Ok(Item::Cycle(done))
             }
+            Pending::Pause => unreachable!(),
         }
     }
 
-    /// Goes on after the answer that was wanted, until the next one is wanted, or the service is over: with the transfer that it was wanted for, or
-    /// else with the open blocks.
+    /// Goes on after the answer that was wanted, or after a pause, until the next one is wanted, or the service is over: with the transfer that it
+    /// was wanted for, or else with the open blocks. It pauses after more than `most` steps.
     #[inline(always)]
-    pub fn go_further(&mut self, pending: &mut Option<Pending<'a>>)
+    pub fn go_further(&mut self, pending: &mut Option<Pending<'a>>, most: u32)
         requires room { HasRoom self.old }
         requires quiet { self.old.unlocks.items ≡ [] }
         requires follows { IfSome pending.old (CanFollow (reach self.old).variables) }
-        requires begun { IfSome pending.old (StandsIn self.old) }
+        requires begun { IfSome (asked pending.old) (StandsIn self.old) }
         requires fine { FineThen self.old (λ c. after_pending c pending.old) }
-        ensures { Settles self.old (λ c. after_pending c pending.old) pending.new self.new }
+        ensures settles { Settles self.old (λ c. after_pending c pending.old) pending.new self.new }
+        ensures pauses { PausesAfter self.old.steps most pending.new self.new }
     {
         if !self.follow_transfer(pending) {
-            self.settle(pending);
+            self.settle(pending, most);
         }
     }
 
@@ -185,7 +187,7 @@ impl<'a, const V: usize, const DEPTH: usize, const CAP: usize> Machine<'a, V, DE
         requires fine { FineThen self.old (λ c. after_pending c pending.old) }
         ensures cycle { result ≡ true → IsSome pending.new × Proceeds self.old (λ c. after_pending c pending.old) pending.new self.new }
         ensures tally { result ≡ false → Proceeds self.old (λ c. after_pending c pending.old) None self.new }
-        ensures same { result ≡ true → IsSomeAnd pending.old (λ w. IfSome pending.new (λ v. IsOf (pending_of w) (pending_of v))) }
+        ensures same { result ≡ true → IsSomeAnd (asked pending.old) (λ w. IfSome pending.new (λ v. IsOf (pending_of w) (pending_of v))) }
     {
         match pending {
             Some(Pending::Transfer(transfer)) => {
@@ -206,6 +208,7 @@ impl<'a, const V: usize, const DEPTH: usize, const CAP: usize> Machine<'a, V, DE
             Some(Pending::Cycle(_)) => false,
             Some(Pending::Read { .. }) => false,
             Some(Pending::Lock { .. }) => false,
+            Some(Pending::Pause) => false,
             None => false,
         }
     }

@@ -229,6 +229,7 @@ impl<'a, const V: usize, const DEPTH: usize, const CAP: usize> Machine<'a, V, DE
 
     // Begins the next statement of the innermost block, or goes on after that block. Answers whether an answer is wanted: `pending` then
     // says for what.
+    #[inline(always)]
     pub(crate) fn go_on(&mut self, pending: &mut Option<Pending<'a>>) -> bool
         requires room { HasRoom self.old }
         requires open { 1 ≤ length self.old.frames.items }

@@ -4,6 +4,7 @@ use Rattle.std.proofs.Math.Bool.{or-false}
 use Rattle.camac_run.specs.Runner.{last_words_in}
 use Rattle.camac_answer.specs.Answers.{window, IsOpen}
 use Rattle.camac_play.specs.Told.{asked_text, most_answers}
+use Rattle.camac_run.proofs.Told.{never_again}
 use Rattle.camac_play.proofs.Fed.{starts, stops_asking, ends_here, faults_here, unread_here, overruns_here, goes_on, stops_here, same_number}
 use Rattle.camac_play.proofs.Given.{one_more, next_is, left_at}
 use Rattle.camac_play.proofs.Sending.{SendsPrefix-longer, SendsPrefix-after, Sends-trans, Sends-kept, listing_sent, listing_part, events_sent, events_part}
@@ -18,6 +19,7 @@ answers-init g c = record {
   events = c.start-runner.ensures.events;
   fits = omega arith;
   first = c.start-runner.ensures.overrun;
+  never = c.start-runner.ensures.never;
   out_flag = refl;
   in_flag = refl;
   gathers = refl;
@@ -71,7 +73,7 @@ returns-in_err-tell-in-Went-clause-feeds g c =
     let is : c.in_ok-next.next ≡ Ok (Some c.in-Ok-Some.answer) = search rules in
     let n = next_is _ _ _ _ _ _ _ (Ok (Some c.in-Ok-Some.answer)) c.most_answers-limit.ensures c.in_ok-ask.ensures.only.left is c.in_ok-next.ensures.next in
     inl (stops_here c.args.telling c.args.checked.now.plan c.args.checked.now.script _ _ _ _ c.answers.runner c.answers.count i.fed q.0 q.1
-    _ (Sends-kept _ _ _ _ (listing_sent _ _ _ _ (asked_text c.args.telling q.0) c.in_ok-ask.ensures.only.records q.2) c.in_ok-next.ensures.only.listing c.in_ok-next.ensures.only.records) _ _ c.in-Ok-Some.answer n c.next.new.self c.in-Went.item c.in-Went.unlocks.items c.in-Went.event (last_words_in c.next.new.self) c.in-Went.ensures refl i.events
+    _ (Sends-kept _ _ _ _ (listing_sent _ _ _ _ (asked_text c.args.telling q.0) c.in_ok-ask.ensures.only.records q.2) c.in_ok-next.ensures.only.listing c.in_ok-next.ensures.only.records) _ _ c.in-Ok-Some.answer n c.next.new.self c.in-Went.item c.in-Went.unlocks.items c.in-Went.event (last_words_in c.next.new.self) c.in-Went.ensures.progresses refl i.events
     c.from_residual-in_err-tell-in-Went.result _ (p.1 ∙ ap Err p.2) (left_at _ _ _ _ _ (one_more _ _ i.fed.taken c.in-Ok-Some.answer refl i.number) c.in_err-tell-in-Went.ensures.only.left)
     (SendsPrefix-longer _ _ _ _ (listing_part _ _ _ _ _ c.in_err-tell-in-Went.ensures.only.records (rw c.deref.ensures.0 at c.in_err-tell-in-Went.ensures.text))))
 
@@ -83,7 +85,7 @@ returns-in_err-write_event-in-Went-clause-feeds g c =
     let is : c.in_ok-next.next ≡ Ok (Some c.in-Ok-Some.answer) = search rules in
     let n = next_is _ _ _ _ _ _ _ (Ok (Some c.in-Ok-Some.answer)) c.most_answers-limit.ensures c.in_ok-ask.ensures.only.left is c.in_ok-next.ensures.next in
     inl (stops_here c.args.telling c.args.checked.now.plan c.args.checked.now.script _ _ _ _ c.answers.runner c.answers.count i.fed q.0 q.1
-    _ (Sends-kept _ _ _ _ (listing_sent _ _ _ _ (asked_text c.args.telling q.0) c.in_ok-ask.ensures.only.records q.2) c.in_ok-next.ensures.only.listing c.in_ok-next.ensures.only.records) _ _ c.in-Ok-Some.answer n c.next.new.self c.in-Went.item c.in-Went.unlocks.items c.in-Went.event c.last_words.result.now c.in-Went.ensures c.last_words.ensures.words i.events
+    _ (Sends-kept _ _ _ _ (listing_sent _ _ _ _ (asked_text c.args.telling q.0) c.in_ok-ask.ensures.only.records q.2) c.in_ok-next.ensures.only.listing c.in_ok-next.ensures.only.records) _ _ c.in-Ok-Some.answer n c.next.new.self c.in-Went.item c.in-Went.unlocks.items c.in-Went.event c.last_words.result.now c.in-Went.ensures.progresses c.last_words.ensures.words i.events
     c.from_residual-in_err-write_event-in-Went.result _ (p.1 ∙ ap Err p.2)
     (left_at _ _ _ _ _ (one_more _ _ i.fed.taken c.in-Ok-Some.answer refl i.number) (c.in_err-write_event-in-Went.ensures.only.left ∙ c.in_ok-tell-in-Went.ensures.only.left))
     (SendsPrefix-after _ _ _ _ _ (listing_sent _ _ _ _ _ c.in_ok-tell-in-Went.ensures.only.records (rw c.deref.ensures.0 at c.in_ok-tell-in-Went.ensures.text))
@@ -96,7 +98,7 @@ returns-in-Overrun-clause-feeds g c =
     let is : c.in_ok-next.next ≡ Ok (Some c.in-Ok-Some.answer) = search rules in
     let n = next_is _ _ _ _ _ _ _ (Ok (Some c.in-Ok-Some.answer)) c.most_answers-limit.ensures c.in_ok-ask.ensures.only.left is c.in_ok-next.ensures.next in
     inl (overruns_here c.args.telling c.args.checked.now.plan c.args.checked.now.script _ _ _ _ c.answers.runner c.answers.count i.fed q.0 q.1
-    _ (Sends-kept _ _ _ _ (listing_sent _ _ _ _ (asked_text c.args.telling q.0) c.in_ok-ask.ensures.only.records q.2) c.in_ok-next.ensures.only.listing c.in_ok-next.ensures.only.records) _ _ c.in-Ok-Some.answer n c.in-Overrun.overrun c.next.new.self c.in-Overrun.ensures
+    _ (Sends-kept _ _ _ _ (listing_sent _ _ _ _ (asked_text c.args.telling q.0) c.in_ok-ask.ensures.only.records q.2) c.in_ok-next.ensures.only.listing c.in_ok-next.ensures.only.records) _ _ c.in-Ok-Some.answer n c.in-Overrun.overrun c.next.new.self c.in-Overrun.ensures.progresses
     (left_at _ _ _ _ _ (one_more _ _ i.fed.taken c.in-Ok-Some.answer refl i.number) refl))
 
 pub answers-preserved : goal.answers-preserved
@@ -109,16 +111,17 @@ answers-preserved g c =
       fed = goes_on c.args.telling c.args.checked.now.plan c.args.checked.now.script _ _ _ _ c.answers.runner c.answers.count i.fed q.0 q.1
           _ (Sends-kept _ _ _ _ (listing_sent _ _ _ _ (asked_text c.args.telling q.0) c.in_ok-ask.ensures.only.records q.2) c.in_ok-next.ensures.only.listing c.in_ok-next.ensures.only.records)
           _ (g.I.RunIo.state c.next_answer.new.io).remaining c.in-Ok-Some.answer
-          (rw (c.in_ok-write_event-in-Went.ensures.only.left ∙ c.in_ok-tell-in-Went.ensures.only.left) n) c.next.new.self c.in-Went.item c.in-Went.unlocks.items c.in-Went.event c.last_words.result.now c.in-Went.ensures c.last_words.ensures.words i.events
+          (rw (c.in_ok-write_event-in-Went.ensures.only.left ∙ c.in_ok-tell-in-Went.ensures.only.left) n) c.next.new.self c.in-Went.item c.in-Went.unlocks.items c.in-Went.event c.last_words.result.now c.in-Went.ensures.progresses c.last_words.ensures.words i.events
           _ c.count_after-count.result c.count_after-count.ensures.same c.count_after-count.ensures.next
           (Sends-trans _ _ _ _ _ (listing_sent _ _ _ _ _ c.in_ok-tell-in-Went.ensures.only.records (rw c.deref.ensures.0 at c.in_ok-tell-in-Went.ensures.text))
           (events_sent _ _ _ _ _ c.in_ok-write_event-in-Went.ensures.only.listing c.in_ok-write_event-in-Went.ensures.text));
       number = one_more _ _ i.fed.taken c.in-Ok-Some.answer refl i.number;
-      counted = c.in-Went.ensures.fed ∙ ap (λ n. n + 1) i.counted;
+      counted = c.in-Went.ensures.progresses.fed ∙ ap (λ n. n + 1) i.counted;
       few = (let few = (rw is at c.in_ok-next.ensures.few) refl in omega (arith, few, c.most_answers-limit.ensures));
-      events = same_number c.in-Went.event c.answers.runner.events c.answers.count c.next.new.self.events c.count_after-count.result c.in-Went.ensures.same c.in-Went.ensures.next i.events c.count_after-count.ensures.same c.count_after-count.ensures.next;
+      events = same_number c.in-Went.event c.answers.runner.events c.answers.count c.next.new.self.events c.count_after-count.result c.in-Went.ensures.progresses.same c.in-Went.ensures.progresses.next i.events c.count_after-count.ensures.same c.count_after-count.ensures.next;
       fits = c.count_after-count.ensures.fits;
-      first = c.in-Went.ensures.overrun;
+      first = c.in-Went.ensures.progresses.overrun;
+      never = never_again c.answers.runner c.next.new.self c.next.ensures.keeps i.never;
       out_flag =
           c.in_ok-write_event-in-Went.ensures.only.out_failed ∙ or-false _ ∙ c.in_ok-tell-in-Went.ensures.only.out_failed ∙ or-false _ ∙ c.in_ok-next.ensures.only.out_failed ∙ or-false _
           ∙ c.in_ok-ask.ensures.only.out_failed ∙ or-false _ ∙ i.out_flag;

@@ -1,5 +1,6 @@
 use Rattle.std.proofs.Common.{◌≡◌, ◌≤◌, ◌<◌, ◌-◌, ◌^◌, None, length}
 use Rattle.camac_answer.specs.Answers.{left_in}
+use Rattle.camac_run.specs.Runner.{NeverPauses}
 use Rattle.camac_play.specs.Play.{left_of}
 use Rattle.camac_play.specs.RunIo.{sent_in}
 use Rattle.camac_play.specs.Told.{most_answers}
@@ -16,6 +17,7 @@ invariant-answers g l = record {
   events : l.runner.events ≡ l.count;
   fits : l.count < 2 ^ 32;
   first : l.runner.overrun ≡ None;
+  never : NeverPauses l.runner;
   out_flag : (g.I.RunIo.state l.io).write_failed ≡ (g.I.RunIo.state l.fn.io).write_failed;
   in_flag : (g.I.RunIo.state l.io).read_failed ≡ (g.I.RunIo.state l.fn.io).read_failed;
   gathers : (g.I.RunIo.state l.io).gathers ≡ (g.I.RunIo.state l.fn.io).gathers;

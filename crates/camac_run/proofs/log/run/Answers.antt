@@ -3,12 +3,13 @@ use Rattle.camac_event.specs.Spelling.{Listing}
 use Rattle.camac_model.specs.Run.{the_run}
 use Rattle.camac_run.specs.Runner.{rest}
 use Rattle.camac_run.proofs.Logged.{goes_here, items_told, events_told, stop_told, few_left, stopped, used_up, is_log, by_log}
+use Rattle.camac_run.proofs.Told.{never_again}
 use Rattle.camac_run.proofs.log.run.Goals as goal
 
 pub answers-preserved : goal.answers-preserved
 answers-preserved c =
     let inv = c.answers.invariant in
-    let went = c.in-Went.ensures in
+    let went = c.in-Went.ensures.progresses in
     let i = c.answers.answer-index in
     let answers = c.args.answers.now in
     let whole = the_run c.args.checked.now.plan c.args.checked.now.script answers in
@@ -21,6 +22,7 @@ answers-preserved c =
     record {
       fed = went.fed ∙ ap (λ n. n + 1) inv.fed;
       first = went.overrun;
+      never = never_again c.answers.runner c.next.new.self c.next.ensures.keeps inv.never;
       version = ap (λ (l : Listing). l.version) kept;
       few = few_left c.answers.events.events c.add_event.new.events.events c.in-Went.event _ i added inv.few;
       same_items = items_told whole old new c.in-Went.item c.in-Went.unlocks.items c.in-Went.event _ goes c.answers.items c.push.new.self c.add_unlocks.new.items inv.same_items c.in_ok-push-in-Went.ensures (rw c.deref.ensures.0 at c.in_ok-add_unlocks-in-Went.ensures);
@@ -34,7 +36,7 @@ returns-in-Overrun c =
     let i = c.answers.answer-index in
     let k = c.args.checked.now in
     let answers = c.args.answers.now in
-    let over = stopped c.answers.runner c.next.new.self c.answer-item.result c.in-Overrun.overrun inv.first c.in-Overrun.ensures answers i c.answers-test.true c.answer-item.is in
+    let over = stopped c.answers.runner c.next.new.self c.answer-item.result c.in-Overrun.overrun inv.first c.in-Overrun.ensures.progresses answers i c.answers-test.true c.answer-item.is in
     let log = is_log _ (the_run k.plan k.script answers) (rest c.answers.runner (drop i answers)) inv.version inv.same_items inv.same_events inv.same_stop over in
     record {
       log = log;

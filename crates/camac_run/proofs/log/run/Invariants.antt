@@ -4,7 +4,7 @@ use Rattle.camac_event.specs.declared.event.Version.TheVariants.{Two}
 use Rattle.camac_model.specs.Behaviour.{items, stop_of}
 use Rattle.camac_model.specs.Run.{the_run}
 use Rattle.camac_machine.specs.MachineState.{piece_of}
-use Rattle.camac_run.specs.Runner.{rest}
+use Rattle.camac_run.specs.Runner.{rest, NeverPauses}
 use Rattle.camac_run.specs.Headline.{entries_in}
 use Rattle.camac_run.proofs.log.run.Given as goal
 
@@ -16,6 +16,7 @@ invariant-answers l =
     record {
       fed : l.runner.fed ≡ l.answer-index;
       first : l.runner.overrun ≡ None;
+      never : NeverPauses l.runner;
       version : l.events.version ≡ Two;
       few : length l.events.events ≤ l.answer-index;
       same_items : items whole ≡ map piece_of l.items ++ items left;

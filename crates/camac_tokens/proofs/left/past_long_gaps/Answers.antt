@@ -11,12 +11,12 @@ loop-byte-preserved-then-byte-eq35 c =
     let some : 0 < length rest = some_left (length rest) (sym c.is_empty.ensures ∙ c.loop-byte-test.true) in
     let skips = comment_skips c.loop-byte.at rest some c.if-byte-eq35.true in
     let back : c.split_at.result.1.now ≡ drop (length (take_while is_no_line_feed rest)) rest = c.split_at.ensures.back ∙ ap (λ (n : ℕ). drop n rest) c.comment_len.ensures in
-    rw back (record { same = skips.same ∙ c.loop-byte.invariant.same; lines = omega (arith, skips.lines, c.loop-byte.invariant.lines); shorter = omega (arith, skips.shorter, c.loop-byte.invariant.shorter); feeds = skips.feeds ∙ c.loop-byte.invariant.feeds })
+    rw back (record { same = skips.same ∙ c.loop-byte.invariant.same; lines = omega (arith, skips.lines, c.loop-byte.invariant.lines) })
 
 pub loop-byte-preserved-then-begins_with_eight_spaces : goal.loop-byte-preserved-then-begins_with_eight_spaces
 loop-byte-preserved-then-begins_with_eight_spaces c =
     let skips = spaces_skip 7 c.loop-byte.at c.loop-byte.rest.now (c.begins_with_eight_spaces.ensures c.if-begins_with_eight_spaces.true) in
-    rw c.split_at-then-begins_with_eight_spaces.ensures.back (record { same = skips.same ∙ c.loop-byte.invariant.same; lines = omega (arith, skips.lines, c.loop-byte.invariant.lines); shorter = omega (arith, skips.shorter, c.loop-byte.invariant.shorter); feeds = skips.feeds ∙ c.loop-byte.invariant.feeds })
+    rw c.split_at-then-begins_with_eight_spaces.ensures.back (record { same = skips.same ∙ c.loop-byte.invariant.same; lines = omega (arith, skips.lines, c.loop-byte.invariant.lines) })
 
 pub loop-byte-preserved : goal.loop-byte-preserved
 loop-byte-preserved c =
@@ -24,4 +24,4 @@ loop-byte-preserved c =
     let some : 0 < length rest = some_left (length rest) (sym c.is_empty.ensures ∙ c.loop-byte-test.true) in
     let blank : is_blank (slice_index rest 0) ≡ true = sym c.is_blank.ensures ∙ c.if-is_blank.true in
     let skips = blank_skips c.loop-byte.at rest some blank in
-    rw (c.split_at-then-is_blank.ensures.back, c.line_after-at.ensures) (record { same = skips.same ∙ c.loop-byte.invariant.same; lines = omega (arith, skips.lines, c.loop-byte.invariant.lines); shorter = omega (arith, skips.shorter, c.loop-byte.invariant.shorter); feeds = skips.feeds ∙ c.loop-byte.invariant.feeds })
+    rw (c.split_at-then-is_blank.ensures.back, c.line_after-at.ensures) (record { same = skips.same ∙ c.loop-byte.invariant.same; lines = omega (arith, skips.lines, c.loop-byte.invariant.lines) })

@@ -1,9 +1,9 @@
 use Rattle.std.proofs.Common.{refl, ap}
 use Rattle.std.specs.Prelude.{None}
-use Rattle.camac_machine.specs.declared.machine.Pending.TheVariants.{Cycle, Read, Lock}
+use Rattle.camac_machine.specs.declared.machine.Pending.TheVariants.{Cycle, Read, Lock, Pause}
 use Rattle.camac_machine.specs.Course.{words_sent}
 use Rattle.camac_machine.specs.Rest.{transfers}
-use Rattle.camac_machine.proofs.Courses.{further_fine, further_proceeds, cycle_alone, read_alone, lock_alone, alone_proceeds}
+use Rattle.camac_machine.proofs.Courses.{further_fine, further_proceeds, cycle_alone, read_alone, lock_alone, pause_alone, alone_proceeds}
 use Rattle.camac_machine.proofs.machine.Machine.follow_transfer.Goals as goal
 
 pub next_cycle-requires : goal.next_cycle-requires
@@ -48,3 +48,9 @@ returns-in-Some-Lock-clause-tally g c = λ no.
     let w = c.in-Some-Lock in
     let h = c.args.self.now in
     rw (w.is, w.field-0-is) (alone_proceeds h (Lock w.field-0-0 w.field-0-1) (lock_alone h w.field-0-0 w.field-0-1) c.requires.room)
+
+pub returns-in-Some-Pause-clause-tally : goal.returns-in-Some-Pause-clause-tally
+returns-in-Some-Pause-clause-tally g c = λ no.
+    let w = c.in-Some-Pause in
+    let h = c.args.self.now in
+    rw (w.is, w.field-0-is) (alone_proceeds h Pause (pause_alone h) c.requires.room)

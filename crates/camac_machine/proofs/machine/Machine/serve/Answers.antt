@@ -91,8 +91,8 @@ settle-requires g c =
     let both = subst P (sym same) (room, fine) in
     (search rules, (both.0, (c.requires.quiet, both.1)))
 
-pub returns : goal.returns
-returns g c = λ s at.
+pub returns-clause-serves : goal.returns-clause-serves
+returns-clause-serves g c = λ s at.
     let h = c.args.self.now in
     let k = h.checked.now in
     let i = c.args.number in
@@ -108,14 +108,14 @@ returns g c = λ s at.
     let body : statements_of c.as_slice.result.now ≡ s.body = ap statements_of c.as_slice.ensures.value ∙ ap (λ (t : Service). t.body) own in
     let items : fs.items ≡ f ∷ [] = c.push.ensures.items ∙ ap (λ (gs : List Frame). gs ++ f ∷ []) c.requires.idle in
     record {
-      room = c.settle.ensures.room;
-      checked = c.settle.ensures.checked;
-      service = c.settle.ensures.service;
-      awaits = c.settle.ensures.awaits;
-      begun = c.settle.ensures.begun;
-      over = c.settle.ensures.over;
+      room = c.settle.ensures.settles.room;
+      checked = c.settle.ensures.settles.checked;
+      service = c.settle.ensures.settles.service;
+      awaits = c.settle.ensures.settles.awaits;
+      begun = c.settle.ensures.settles.begun;
+      over = c.settle.ensures.settles.over;
       goes = λ answers.
-          c.settle.ensures.goes answers
+          c.settle.ensures.settles.goes answers
           ∙ ap (λ (words : List ℕ). stands {V = g.row.V} {D = g.row.DEPTH} {C = g.row.CAP} None (record (begun h i sc fs ws qs) { words = words }) answers) c.clear.ensures
           ∙ goes_begun h i sc fs ws qs c.wipe.ensures.wiped c.wipe-2.ensures.wiped f s items refl c.requires.idle body c.requires.room answers;
     }

@@ -39,3 +39,6 @@ pub returns-in_ok-done-in-Transfer-clause-took : goal.returns-in_ok-done-in-Tran
 returns-in_ok-done-in-Transfer-clause-took g c =
     let w = c.in-Transfer in
     rw w.is (takes_transfer c.args.self.now w.transfer.command w.transfer.course w.transfer.table w.transfer.tally c.args.answer (rw w.is at c.requires.pending) (rw w.is at c.requires.fine) c.requires.room c.make.new.self c.in_ok-done-in-Transfer.done c.in_ok-done-in-Transfer.ensures.made c.put_read.new.self c.put_read.ensures.same c.put_read.ensures.words)
+
+pub unreachable-requires : goal.unreachable-requires
+unreachable-requires g c = let p = rw c.in-Pause.is at c.requires.pending in absurd p.0

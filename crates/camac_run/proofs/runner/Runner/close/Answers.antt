@@ -23,6 +23,8 @@ invariant_of-self g c =
       fine = inv.fine;
       free = inv.free;
       events = omega (arith, few);
+      most = inv.most;
+      under = rw c.in-None.is tt;
     }
 
 pub returns-in-None-clause-ended : goal.returns-in-None-clause-ended

@@ -1,5 +1,5 @@
-use Rattle.std.proofs.Common.{refl, sym, subst}
-use Rattle.std.specs.Prelude.{IsSome}
+use Rattle.std.proofs.Common.{◌≡◌, true, refl, sym, subst}
+use Rattle.camac_machine.specs.Rest.{is_asking}
 use Rattle.camac_run.specs.Runner.{RunnerState}
 use Rattle.camac_run.proofs.Told.{begun_some, is_place}
 use Rattle.camac_run.proofs.runner.Runner.place.Goals as goal
@@ -8,9 +8,9 @@ pub returns : goal.returns
 returns g c =
     let r = c.self.inside in
     rw (← c.self.view_is)
-    (is_place r.machine r.pending c.in-Some.begun r.fed r.events r.has_event r.overrun r.at_demand _ (subst (λ (h : RunnerState). IsSome h.pending) (sym c.self.view_is) c.requires) c.in-Some.is c.self.invariant.begun refl c.line.ensures)
+    (is_place r.machine r.pending c.in-Some.begun r.fed r.events r.has_event r.overrun r.at_demand r.limit _ (subst (λ (h : RunnerState). is_asking h.pending ≡ true) (sym c.self.view_is) c.requires) c.in-Some.is c.self.invariant.begun refl c.line.ensures)
 
 pub unreachable-requires : goal.unreachable-requires
 unreachable-requires g c =
     let r = c.self.inside in
-    begun_some r.machine r.pending (subst (λ (h : RunnerState). IsSome h.pending) (sym c.self.view_is) c.requires) c.self.invariant.begun c.in-None.is
+    begun_some r.machine r.pending (subst (λ (h : RunnerState). is_asking h.pending ≡ true) (sym c.self.view_is) c.requires) c.self.invariant.begun c.in-None.is

@@ -36,6 +36,8 @@ invariant_of-result g c =
       fine = tt;
       free = tt;
       events = omega arith;
+      most = omega arith;
+      under = tt;
     }
 
 pub returns-clause-rest : goal.returns-clause-rest
@@ -60,3 +62,6 @@ returns-clause-quiet g c = refl
 
 pub returns-clause-holds : goal.returns-clause-holds
 returns-clause-holds g c = record { goes = λ more. sym (returns-clause-rest g c more) }
+
+pub returns-clause-never : goal.returns-clause-never
+returns-clause-never g c = record { limit = refl; awake = refl }

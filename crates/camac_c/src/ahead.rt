@@ -1,0 +1,57 @@
+// The operations that come next, whatever is answered.
+
+ghost use Rattle.std.specs.Prelude.{◌≡◌, ◌≤◌, length};
+ghost use Rattle.camac_c.specs.Ahead.{fields_of, numbers_ahead};
+ghost use Rattle.camac_c.specs.Talk.{AnswersBytes};
+ghost use Rattle.camac_c.specs.declared.plain.Ask.TheVariants as ask;
+
+use crate::handle::Handle;
+use crate::plain::{Ask, CamacWant, NO_WANT};
+use crate::session::tell_operation;
+use arrayvec::ArrayVec;
+use camac_run::Wanted;
+use std::alloc::Global;
+
+/// The numbers of a want.
+const FIELDS: usize = 7;
+
+/// Those of the most operations that are told ahead, 64.
+const NUMBERS: usize = 448;
+
+/// The operations that come next, whatever is answered: of each its kind, crate, station, sub-address, function, data and word, in the form of words.
+/// Returns how many numbers these are.
+#[tactic(auto, using(crate::proofs::Calls::bytes_answer))]
+#[unsafe(no_mangle)]
+pub extern "C" fn camac_raw_ahead(alloc: Global, handle: &mut Handle, bytes: &mut [u8]) -> usize
+    ensures { AnswersBytes handle.old.value ask.Ahead handle.new.value bytes.old bytes.new result }
+{
+    handle.ask(alloc, Ask::Ahead, bytes).count
+}
+
+/// The numbers of operations, one after another.
+pub fn numbers_ahead(ahead: &[Wanted]) -> ArrayVec<u32, { NUMBERS }>
+    requires { length ahead.now ≤ 64 }
+    ensures { result.items ≡ numbers_ahead ahead.now }
+{
+    let mut numbers = ArrayVec::new();
+    'ahead: for wanted in ahead {
+        let mut want = NO_WANT;
+        tell_operation(*wanted, &mut want);
+        numbers.try_extend_from_slice(&fields_of(want)).unwrap();
+    }
+    numbers
+}
+
+fn fields_of(want: CamacWant) -> [u32; FIELDS]
+    ensures { result ≡ fields_of want }
+{
+    [
+        u32::from(want.kind),
+        u32::from(want.c),
+        u32::from(want.n),
+        u32::from(want.a),
+        u32::from(want.f),
+        u32::from(want.data),
+        want.word,
+    ]
+}

@@ -1,0 +1,239 @@
+-- What statements surely do.
+use Rattle.std.proofs.Common.{add-one, append-nil, append_assoc, ◌-◌, ◌≡◌, ◌∙◌, ℕ, suc, zero, ◌+◌, ◌<◌, ◌≤◌, List, [], ◌∷◌, ◌++◌, length, drop, take, map, set, get_or, true, Option, Some, None, inl, inr, refl, sym, ap, subst, arith}
+use Rattle.std.specs.Prelude.{is_some, IfSome, slice_get, slice_index_or}
+use Rattle.std.proofs.lemmas.Bool.{false≢true}
+use Rattle.std.specs.Borrow.{Bor}
+use Rattle.camac_branch.specs.Address.{Address, address}
+use Rattle.camac_branch.specs.Allowed.{width}
+use Rattle.camac_branch.specs.Branch.{Answer}
+use Rattle.camac_branch.specs.declared.answer.Command.{Command}
+use Rattle.camac_esone.specs.Calls.{command_at, crate_address, crate_function, lam_function}
+use Rattle.camac_func.specs.declared.data.DataMove.TheVariants as moved
+use Rattle.camac_lang.specs.Tree.{done, Expression, Statement, Move, no_data, into, from, assign, set_register, single, put, crate_call, lam_call}
+use Rattle.camac_lang.specs.View.{statement_of, statements_of}
+use Rattle.camac_lang.specs.declared.tree.Stmt.{Stmt}
+use Rattle.camac_lang.specs.declared.word.CrateCall.{CrateCall}
+use Rattle.camac_lang.specs.declared.word.LamCall.{LamCall}
+use Rattle.camac_lang.specs.declared.word.WordSize.{WordSize}
+use Rattle.camac_lang.specs.declared.word.WordSize.TheVariants.{Full}
+use Rattle.camac_model.specs.Behaviour.{Action, ends, given, unless_wrong}
+use Rattle.camac_model.specs.Cycle.{cycle, sized}
+use Rattle.camac_model.specs.Fine.{most_turns}
+use Rattle.camac_model.specs.Meaning.{Context, act, effect, fits_size}
+use Rattle.camac_model.specs.State.{State, Variables, Registers, set_at, with_variable, with_register, with_word}
+use Rattle.camac_model.specs.Value.{value}
+use Rattle.camac_machine.specs.MachineState.{open_of, owner_of}
+use Rattle.camac_machine.specs.Rest.{makes, reads, awaited, for_loop, Open}
+use Rattle.camac_machine.specs.declared.machine.Frame.{Frame}
+use Rattle.camac_machine.specs.declared.machine.Owner as rust_owner
+use Rattle.camac_machine.specs.declared.machine.Owner.TheVariants as rust
+use Rattle.camac_machine.specs.Store.{held_at, registers_in, variables_in}
+use Rattle.camac_machine.specs.declared.scope.Places.{Places}
+use Rattle.camac_machine.proofs.Lists.{split_last}
+use Rattle.camac_run.specs.Sure.{KnowsVariables, KnowsRegisters, IsKnown, HasValue, on, MakesCycle, PassesFrom, NeedsNone, IsSure, sure_of, IsStep, Extends, Adds}
+use Rattle.camac_run.specs.declared.ahead.Sure.{Sure}
+use Rattle.camac_run.specs.declared.ahead.Sure.TheVariants as sure
+use Rattle.camac_run.specs.declared.progress.Wanted.{Wanted}
+use Rattle.camac_run.specs.declared.progress.Wanted.TheVariants as wanted
+use Rattle.camac_run.proofs.Coming.{knows_held, knows_set, statement_step, turn_step}
+
+pub map_some : {A : Type 0} (o : Option A) (P Q : A → Type 0) → ((v : A) → P v → Q v) → IfSome o P → IfSome o Q
+map_some None P Q f h = tt
+map_some (Some v) P Q f h = f v h
+
+pub some_of : {A : Type 0} (o : Option A) → is_some o ≡ true → (v : A) × (o ≡ Some v)
+some_of None e = absurd (false≢true e)
+some_of (Some v) e = (v, refl)
+
+pub last_is : {A : Type 0} (xs : List A) (last : A) → 1 ≤ length xs → last ≡ get_or xs (length xs - 1) last → (before : List A) × (xs ≡ before ++ last ∷ [])
+last_is xs last some is =
+    let r = split_last (length xs - 1) xs last (omega arith) in (r.0, r.1 ∙ ap (λ y. r.0 ++ y ∷ []) (sym is))
+
+-- ---- values
+
+pub variables_known : (p : Places) (values : List ℕ) (known : List (Option ℕ)) → known ≡ held_at p (map Some values) → KnowsVariables known (variables_in (held_at p values))
+variables_known p values known is = subst (λ (ks : List (Option ℕ)). KnowsVariables ks (variables_in (held_at p values))) (sym is) (knows_held p values)
+
+pub registers_known : (known held : List (Option Address)) (all : Registers) → known ≡ held → all ≡ registers_in held → KnowsRegisters known all
+registers_known known held all e is i v there = ap (λ (g : Registers). g i) is ∙ ap (λ (l : List (Option Address)). get_or l i None) (sym e) ∙ there
+
+-- what was read is not known
+pub read_known : (known : List (Option ℕ)) (f g : Variables) (x v : ℕ) → g ≡ set_at x v f → KnowsVariables known f → KnowsVariables (set known x None) g
+read_known known f g x v is k =
+    subst (λ (vs : Variables). KnowsVariables (set known x None) vs) (sym is) (knows_set (λ i. i) known f x None v k (λ i e. absurd (cc)))
+
+-- ---- statements with a cycle
+
+module _ (c : Context) (known : List (Option ℕ)) (registers : List (Option Address)) (k : Command) where
+  -- a cycle that keeps no word
+  sent_makes : (st : Statement) → ((s : State) → IsKnown known registers s → effect c most_turns st s ≡ awaited c (makes k) s) → MakesCycle c known registers st k known
+  sent_makes st begins = record {
+    operation = makes k;
+    is_cycle = refl;
+    begins = begins;
+    known = λ f g h e. subst (λ (vs : Variables). KnowsVariables known vs) (sym e) h;
+  }
+
+  pub lam_makes : (call : LamCall) (l : ℕ) (at : Address) → slice_get c.lams l ≡ Some at → k ≡ command_at at (lam_function call) moved.None → MakesCycle c known registers (lam_call 0 call l) k known
+  unfolding awaited
+  lam_makes call l at there is = sent_makes (lam_call 0 call l) (λ s kn.
+      ap (λ o. given o (λ a. act c.plan a (lam_function call) Full no_data) s) there ∙ ap (λ j. awaited c (makes j) s) (sym is))
+
+  pub crate_makes : (call : CrateCall) (e : Expression) (n : ℕ) → HasValue known e n → k ≡ command_at (crate_address call n) (crate_function call) moved.None → MakesCycle c known registers (crate_call 0 call e) k known
+  unfolding awaited
+  crate_makes call e n has is = sent_makes (crate_call 0 call e) (λ s kn.
+      ap (λ o. given o (λ d. act c.plan (crate_address call d) (crate_function call) Full no_data) s) (has s.variables kn.variables_are) ∙ ap (λ j. awaited c (makes j) s) (sym is))
+
+  module _ (size : WordSize) (f r : ℕ) (at : Address) (there : slice_index_or registers r None ≡ Some at) where
+    -- the register holds the address
+    at_address : (m : Move) (s : State) → IsKnown known registers s → effect c most_turns (single 0 size f r m) s ≡ act c.plan at f size m s
+    at_address m s kn = ap (λ o. given o (λ a. act c.plan a f size m) s) (kn.registers_are r at there)
+
+    pub control_makes : k ≡ command_at at f moved.None → MakesCycle c known registers (single 0 size f r no_data) k known
+    unfolding awaited
+    control_makes is = sent_makes (single 0 size f r no_data) (λ s kn. at_address no_data s kn ∙ ap (λ j. awaited c (makes j) s) (sym is))
+
+    pub write_makes : (e : Expression) (word : ℕ) → HasValue known e word → fits_size size word ≡ true → k ≡ command_at at f (moved.Out word) → MakesCycle c known registers (single 0 size f r (from e)) k known
+    unfolding awaited
+    write_makes e word has fits is = sent_makes (single 0 size f r (from e)) (λ s kn.
+        at_address (from e) s kn
+        ∙ ap (λ o. given o (λ v. unless_wrong (fits_size size v) (λ t. cycle c.plan at f (moved.Out v) t.answers (λ r. ends) t)) s) (has s.variables kn.variables_are)
+        ∙ ap (λ b. unless_wrong b (λ t. cycle c.plan at f (moved.Out word) t.answers (λ r. ends) t) s) fits ∙ ap (λ j. awaited c (makes j) s) (sym is))
+
+    pub read_makes : (x : ℕ) → k ≡ command_at at f moved.In → MakesCycle c known registers (single 0 size f r (into x)) k (set known x None)
+    unfolding awaited
+    read_makes x is = record {
+      operation = reads k x (sized size (width c.plan at f));
+      is_cycle = refl;
+      begins = λ s kn. at_address (into x) s kn ∙ ap (λ j. awaited c (reads j x (sized size (width c.plan at f))) s) (sym is);
+      known = λ g h kn a. read_known known g h x a.0 a.1 kn;
+    }
+
+-- the same of what a statement gives, if it gives something
+pub sure_is : (c : Context) (known : List (Option ℕ)) (registers : List (Option Address)) (st : Statement) (o : Option Command) (after : List (Option ℕ)) → IfSome o (λ k. MakesCycle c known registers st k after) → IsSure c known registers st (sure_of o) after registers
+sure_is c known registers st None after h = tt
+sure_is c known registers st (Some k) after h = (refl, h)
+
+-- ---- statements without a cycle
+
+module _ (c : Context) (known : List (Option ℕ)) (registers : List (Option Address)) where
+  pub put_needs_none : (line : ℕ) (e : Expression) → NeedsNone c known registers (put line e) known registers
+  put_needs_none line e s kn = go (value e s.variables) refl
+    where
+      go : (o : Option ℕ) → value e s.variables ≡ o → PassesFrom s (effect c most_turns (put line e)) known registers
+      go None is = inl (λ answers. ap (λ p. given p (λ v t. ends (with_word v t)) (on answers s)) is)
+      go (Some v) is =
+          inr (with_word v s, record { variables_are = kn.variables_are; registers_are = kn.registers_are }, λ answers. ap (λ p. given p (λ v t. ends (with_word v t)) (on answers s)) is)
+
+  pub assign_needs_none : (line x : ℕ) (e : Expression) (o : Option ℕ) → IfSome o (HasValue known e) → NeedsNone c known registers (assign line x e) (set known x o) registers
+  assign_needs_none line x e o has s kn = go (value e s.variables) refl
+    where
+      is_it : (o : Option ℕ) (v : ℕ) → IfSome o (HasValue known e) → value e s.variables ≡ Some v → (w : ℕ) → o ≡ Some w → v ≡ w
+      is_it None v h is w q = absurd (cc)
+      is_it (Some u) v h is w q = let a : Some u ≡ Some v = sym (h s.variables kn.variables_are) ∙ is in cc
+
+      go : (p : Option ℕ) → value e s.variables ≡ p → PassesFrom s (effect c most_turns (assign line x e)) (set known x o) registers
+      go None is = inl (λ answers. ap (λ p. given p (λ v t. ends (with_variable x v t)) (on answers s)) is)
+      go (Some v) is =
+          inr (
+            with_variable x v s,
+            record { variables_are = knows_set (λ v. v) known s.variables x o v kn.variables_are (is_it o v has is); registers_are = kn.registers_are },
+            λ answers. ap (λ p. given p (λ v t. ends (with_variable x v t)) (on answers s)) is,
+          )
+
+  module _ (line r : ℕ) (e1 e2 e3 : Expression) where
+    abbrev pub HasAddress : Address → Type 0
+    HasAddress at = HasValue known e1 at.crate_no × HasValue known e2 at.station × HasValue known e3 at.sub_address
+
+    abbrev sets : Option ℕ → Option ℕ → Option ℕ → Action
+    sets p1 p2 p3 = given p1 (λ x. given p2 (λ y. given p3 (λ z t. ends (with_register r (address x y z) t))))
+
+    module _ (s : State) (kn : IsKnown known registers s) where
+      same_at : (o : Option Address) (x y z : ℕ) → IfSome o HasAddress → value e1 s.variables ≡ Some x → value e2 s.variables ≡ Some y → value e3 s.variables ≡ Some z → (at : Address) → o ≡ Some at → Some (address x y z) ≡ Some at
+      same_at None x y z h i1 i2 i3 at q = absurd (cc)
+      same_at (Some a) x y z h i1 i2 i3 at q =
+          let k = kn.variables_are in
+          let a1 : Some a.crate_no ≡ Some x = sym (h.0 s.variables k) ∙ i1 in
+          let a2 : Some a.station ≡ Some y = sym (h.1 s.variables k) ∙ i2 in
+          let a3 : Some a.sub_address ≡ Some z = sym (h.2 s.variables k) ∙ i3 in
+          ap Some (same a x y z (some_same a.crate_no x a1) (some_same a.station y a2) (some_same a.sub_address z a3)) ∙ q
+        where
+          some_same : (u v : ℕ) → Some u ≡ Some v → u ≡ v
+          some_same u v e = cc
+
+          same : (a : Address) (x y z : ℕ) → a.crate_no ≡ x → a.station ≡ y → a.sub_address ≡ z → address x y z ≡ a
+          same a x y z p q r = rw (← p, ← q, ← r) refl
+
+    pub register_needs_none : (o : Option Address) → IfSome o HasAddress → NeedsNone c known registers (set_register line r e1 e2 e3) known (set registers r o)
+    register_needs_none o has s kn = go (value e1 s.variables) (value e2 s.variables) (value e3 s.variables) refl refl refl
+      where
+        by : (p1 p2 p3 : Option ℕ) (answers : List Answer) → value e1 s.variables ≡ p1 → value e2 s.variables ≡ p2 → value e3 s.variables ≡ p3 → effect c most_turns (set_register line r e1 e2 e3) (on answers s) ≡ sets p1 p2 p3 (on answers s)
+        by p1 p2 p3 answers i1 i2 i3 = rw (← i1, ← i2, ← i3) refl
+
+        go : (p1 p2 p3 : Option ℕ) → value e1 s.variables ≡ p1 → value e2 s.variables ≡ p2 → value e3 s.variables ≡ p3 → PassesFrom s (effect c most_turns (set_register line r e1 e2 e3)) known (set registers r o)
+        go None p2 p3 i1 i2 i3 = inl (λ answers. by None p2 p3 answers i1 i2 i3)
+        go (Some x) None p3 i1 i2 i3 = inl (λ answers. by (Some x) None p3 answers i1 i2 i3)
+        go (Some x) (Some y) None i1 i2 i3 = inl (λ answers. by (Some x) (Some y) None answers i1 i2 i3)
+        go (Some x) (Some y) (Some z) i1 i2 i3 =
+            inr (
+              with_register r (address x y z) s,
+              record { variables_are = kn.variables_are; registers_are = knows_set Some registers s.registers r o (Some (address x y z)) kn.registers_are (same_at s kn o x y z has i1 i2 i3) },
+              λ answers. by (Some x) (Some y) (Some z) answers i1 i2 i3,
+            )
+
+-- the line of a statement does not count
+pub relined : (c : Context) (known : List (Option ℕ)) (registers : List (Option Address)) (st st' : Statement) (k : Command) (after : List (Option ℕ)) → ((s : State) → effect c most_turns st' s ≡ effect c most_turns st s) → MakesCycle c known registers st k after → MakesCycle c known registers st' k after
+relined c known registers st st' k after same m = record {
+  operation = m.operation;
+  is_cycle = m.is_cycle;
+  begins = λ s kn. same s ∙ m.begins s kn;
+  known = m.known;
+}
+
+-- ---- the steps of a frame
+
+module _ (c : Context) (us : List ℕ) (qs : List (Option Address)) (frame : Frame) where
+  pub advance_is : (first : Stmt) (more : List Stmt) (variables variables' : List (Option ℕ)) (registers registers' : List (Option Address)) (its : Sure) → frame.rest.now ≡ first ∷ more → IsSure c variables registers (statement_of first) its variables' registers'
+      → IsStep c (open_of us qs frame) variables registers its (record { block = statements_of more; owner = owner_of us qs frame.owner }) variables' registers'
+  advance_is first more variables variables' registers registers' its is sure =
+      subst (λ (ss : List Stmt). IsStep c (record { block = statements_of ss; owner = owner_of us qs frame.owner }) variables registers its (record { block = statements_of more; owner = owner_of us qs frame.owner }) variables' registers') (sym is)
+      (statement_step c (statement_of first) (statements_of more) (owner_of us qs frame.owner) variables registers variables' registers' its sure)
+
+  pub turn_is : (x v w n m : ℕ) (body : Bor (List Stmt)) (variables variables' : List (Option ℕ)) (registers : List (Option Address)) → frame.rest.now ≡ [] → frame.owner ≡ rust.For x v w n body → v < w → m ≡ n - 1 → variables' ≡ set variables x (Some (v + 1))
+      → IsStep c (open_of us qs frame) variables registers sure.NeedsNone (open_of us qs (record { rest = body; owner = rust.For x (v + 1) w m body })) variables' registers
+  turn_is x v w n m body variables variables' registers over its less fewer known =
+      subst (λ (ss : List Stmt). IsStep c (record { block = statements_of ss; owner = owner_of us qs frame.owner }) variables registers sure.NeedsNone (open_of us qs (record { rest = body; owner = rust.For x (v + 1) w m body })) variables' registers) (sym over)
+      (subst (λ (o : rust_owner.Owner). IsStep c (record { block = done; owner = owner_of us qs o }) variables registers sure.NeedsNone (open_of us qs (record { rest = body; owner = rust.For x (v + 1) w m body })) variables' registers) (sym its)
+      (subst (λ j. IsStep c (record { block = done; owner = for_loop x v w n (statements_of body.now) }) variables registers sure.NeedsNone (record { block = statements_of body.now; owner = for_loop x (v + 1) w j (statements_of body.now) }) variables' registers) (sym fewer)
+      (subst (λ (ks : List (Option ℕ)). IsStep c (record { block = done; owner = for_loop x v w n (statements_of body.now) }) variables registers sure.NeedsNone (record { block = statements_of body.now; owner = for_loop x (v + 1) w (n - 1) (statements_of body.now) }) ks registers) (sym known)
+      (turn_step c x v w n (statements_of body.now) variables registers less))))
+
+module _ (c : Context) (o o' : Open) (variables variables' : List (Option ℕ)) (registers registers' : List (Option Address)) (old new : List Wanted) (its : Sure) (step : IsStep c o variables registers its o' variables' registers') where
+  pub adds_cycle : (k : Command) → its ≡ sure.Makes k → new ≡ old ++ wanted.Cycle k ∷ [] → Extends c o variables registers old o' variables' registers' new
+  adds_cycle k is e os a =
+      let s : IsStep c o variables registers (sure.Makes k) o' variables' registers' = subst (λ (i : Sure). IsStep c o variables registers i o' variables' registers') is step in
+      (wanted.Cycle k ∷ os, ap (λ (l : List Wanted). l ++ os) e ∙ append_assoc old (wanted.Cycle k ∷ []) os, s os a)
+
+  pub adds_none : its ≡ sure.NeedsNone → new ≡ old → Extends c o variables registers old o' variables' registers' new
+  adds_none is e os a =
+      let s : IsStep c o variables registers sure.NeedsNone o' variables' registers' = subst (λ (i : Sure). IsStep c o variables registers i o' variables' registers') is step in
+      (os, ap (λ (l : List Wanted). l ++ os) e, s os a)
+
+-- nothing at the end of a block's known steps
+pub no_more : (c : Context) (o o' : Open) (variables variables' : List (Option ℕ)) (registers registers' : List (Option Address)) (old new new' : List Wanted) → Extends c o variables registers old o' variables' registers' new → new' ≡ new → Adds c o variables registers old new'
+no_more c o o' variables variables' registers registers' old new new' e same =
+    let r = e [] (λ bounds around s k fine leave. tt) in (r.0, same ∙ sym (append-nil new) ∙ r.1, r.2)
+
+-- ---- a list that is filled
+
+pub fill_next : (values : List ℕ) (i : ℕ) (known : List (Option ℕ)) (d : ℕ) → i < length values → length known ≡ length values
+    → set (map Some (take i values) ++ drop i known) i (Some (get_or values i d)) ≡ map Some (take (suc i) values) ++ drop (suc i) known
+fill_next [] i known d less same = absurd (omega (arith, less))
+fill_next (v ∷ values) i [] d less same = absurd (omega (arith, same))
+fill_next (v ∷ values) zero (k ∷ known) d less same = refl
+fill_next (v ∷ values) (suc i) (k ∷ known) d less same = ap (λ l. Some v ∷ l) (fill_next values i known d (omega (arith, less)) (omega (arith, same)))
+
+pub fill_on : (values : List ℕ) (i : ℕ) (known : List (Option ℕ)) (d : ℕ) → i < length values → length known ≡ length values
+    → set (map Some (take i values) ++ drop i known) i (Some (get_or values i d)) ≡ map Some (take (i + 1) values) ++ drop (i + 1) known
+fill_on values i known d less same =
+    fill_next values i known d less same ∙ ap (λ j. map Some (take j values) ++ drop j known) (sym (add-one i))

@@ -1,0 +1,26 @@
+use Rattle.std.proofs.Common.{◌≡◌, ◌∙◌, List, [], ◌∷◌, ◌++◌, Option, sym, ap, append-nil}
+use Rattle.camac_branch.specs.Address.{Address}
+use Rattle.camac_machine.specs.MachineState.{variables_here}
+use Rattle.camac_machine.specs.Store.{held_at}
+use Rattle.camac_run.proofs.Coming.{innermost_leads}
+use Rattle.camac_run.proofs.Steps.{last_is, registers_known, variables_known}
+use Rattle.camac_run.proofs.ahead.add_following.Goals as goal
+
+pub returns-in_default : goal.returns-in_default
+returns-in_default g c = ([], sym (append-nil c.args.ahead.now.items), λ t e v fine leave. tt)
+
+pub returns-in-len1-up : goal.returns-in-len1-up
+returns-in-len1-up g c =
+    let h = c.args.machine.now in
+    let last = c.innermost-item.result in
+    let split = last_is c.as_slice.result.now last c.in-len1-up.len_at_least c.innermost-item.is in
+    let is : h.frames.items ≡ split.0 ++ last ∷ [] = sym c.as_slice.ensures.value ∙ split.1 in
+    let r = c.add_cycles.ensures h.variables h.registers in (
+      r.0,
+      r.1,
+      λ t e v.
+          innermost_leads h split.0 last _ _ r.0 is r.2 t (record {
+            variables_are = c.forget_read.ensures (variables_here h) t.variables (variables_known h.scope.variables h.variables _ (ap (λ (l : List (Option _)). held_at h.scope.variables l) c.know_all.ensures)) v;
+            registers_are = registers_known _ (held_at h.scope.registers h.registers) t.registers (ap (λ (l : List (Option Address)). held_at h.scope.registers l) c.copy_from_slice.ensures.after) e;
+          }),
+    )

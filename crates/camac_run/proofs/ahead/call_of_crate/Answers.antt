@@ -1,0 +1,11 @@
+use Rattle.std.proofs.Common.{subst, sym}
+use Rattle.camac_lang.specs.View.{expression_of}
+use Rattle.camac_run.specs.Sure.{HasValue}
+use Rattle.camac_run.proofs.Steps.{crate_makes}
+use Rattle.camac_run.proofs.ahead.call_of_crate.Goals as goal
+
+pub returns : goal.returns
+returns c =
+    let known = c.args.known.now in
+    let e = expression_of c.args.crate_no.now in
+    λ c' registers. crate_makes c' known registers c.crate_call.result c.args.call e c.in_ok-c.c (subst (HasValue known e) (sym c.in_ok-c.ensures.kept) c.in_ok-value_of.ensures) c.crate_call.ensures

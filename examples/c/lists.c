@@ -1,0 +1,81 @@
+/* lists.c: plays a script over a controller that makes lists of operations, as one on USB or Ethernet does: a transfer takes 100 microseconds,
+ * whatever is in it, and an operation one more. The controller is simulated here, without hardware. First each operation is a transfer of its own, and
+ * then what camac_ahead tells.
+ *
+ *     cc lists.c $(pkg-config --cflags --libs camac) -o lists && ./lists PLAN SCRIPT */
+#define _POSIX_C_SOURCE 200809L
+#include <camac/camac.h>
+#include <stdio.h>
+#include <stdlib.h>
+#include <time.h>
+
+#define TRANSFER 100e-6
+#define OPERATION 1e-6
+#define DEMANDS 500
+
+static double now(void) {
+    struct timespec its;
+    clock_gettime(CLOCK_MONOTONIC, &its);
+    return (double)its.tv_sec + 1e-9 * (double)its.tv_nsec;
+}
+
+/* Makes a list of operations in one transfer. Each look-at-me of the plan is up, and each word is 0x123. */
+static void transfer(const camac_want *list, camac_answer *answers, size_t count) {
+    const double end = now() + TRANSFER + OPERATION * (double)count;
+    for (size_t i = 0; i < count; i++) {
+        const camac_answer nothing = CAMAC_ANSWER;
+        answers[i] = nothing;
+        answers[i].x = answers[i].q = 1;
+        answers[i].gl = list[i].kind == CAMAC_DEMAND ? 0xffffff : 0;
+        answers[i].word = 0x123;
+    }
+    while (now() < end) {}
+}
+
+/* Plays so many demands and their services, with lists of at most `room` operations. Prints how many operations a second are made. */
+static int play(camac_session *s, size_t room, const char *kind) {
+    camac_want list[CAMAC_AHEAD] = {CAMAC_WANT};
+    camac_answer answers[CAMAC_AHEAD];
+    camac_progress progress[CAMAC_AHEAD] = {CAMAC_PROGRESS};
+    size_t count, taken, operations = 0, transfers = 0;
+    const double begin = now();
+    for (int demands = 0;; transfers++, operations += taken) {
+        count = camac_ahead(s, list, room);
+        if (count && list[0].kind == CAMAC_DEMAND && demands++ == DEMANDS) break;
+        transfer(list, answers, count);
+        const int code = camac_next_many(s, answers, progress, count, &taken);
+        if (code != CAMAC_OK) return code;
+    }
+    printf("%s: %zu operations in %zu transfers, %.0f a second\n", kind, operations, transfers, (double)operations / (now() - begin));
+    return CAMAC_OK;
+}
+
+static char *read_file(const char *path, size_t *size) {
+    FILE *file = fopen(path, "rb");
+    char *bytes = malloc(CAMAC_TEXT_BYTES + 1);
+    *size = file && bytes ? fread(bytes, 1, CAMAC_TEXT_BYTES + 1, file) : 0;
+    if (!file || !bytes || ferror(file)) {
+        perror(path);
+        exit(3);
+    }
+    fclose(file);
+    return bytes;
+}
+
+int main(int count, char **words) {
+    static char text[65536];
+    camac_session s = CAMAC_NONE;
+    size_t plan_size, script_size, size;
+    if (count != 3) return fprintf(stderr, "usage: lists PLAN SCRIPT\n"), 2;
+    char *plan = read_file(words[1], &plan_size), *script = read_file(words[2], &script_size);
+    int code = camac_open(&s, plan, plan_size, script, script_size, text, sizeof text, &size);
+    if (code == CAMAC_REFUSED) fwrite(text, 1, size < sizeof text ? size : sizeof text, stdout);
+    if (code == CAMAC_OK) code = play(&s, 1, "one by one");
+    if (code == CAMAC_OK) code = camac_rewind(&s);
+    if (code == CAMAC_OK) code = play(&s, CAMAC_AHEAD, "in lists");
+    camac_close(&s);
+    free(plan);
+    free(script);
+    if (code > CAMAC_REFUSED) fprintf(stderr, "%s\n", camac_code_text(code));
+    return code;
+}

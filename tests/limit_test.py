@@ -1,0 +1,156 @@
+#!/usr/bin/env python3
+"""Runs that make no more than so many steps at once, through the Python module over the library for C: a run that pauses tells what `camac run`
+tells, and is left as another.
+
+usage: tests/limit_test.py [-v] [TEST ..]     from any folder; takes some seconds
+
+It needs gcc and the archive that tests/support/of_c.py names, else all is left out. The program is crates/camac/out/camac (cd crates/camac && rt run
+makes it), or what the environment variable CAMAC_PROGRAM names.
+"""
+import os
+import sys
+import time
+import unittest
+
+from support import of_c
+from support.live import PROGRAM, TOP, Case
+from camac import Answer, UsageFault, library
+
+SAMPLE = (TOP / "examples/sample_plan.toml").read_bytes()
+# It makes 131,072 steps before its first cycle, and some hundred between two others, where it holds a lock.
+LOOPS = """cdlam adc 1 1 5 12
+var i j v
+service adc within 40 cycles event 4 words {
+  for i = 1 to 65535 { v = i }
+  cdreg a 1 1 5 0
+  cfsa 0 a -> v
+  if q { put v }
+  lock 1 {
+    for i = 1 to 3 {
+      cfsa 0 a -> v
+      for j = 1 to 100 { if v == 0 { v = j } }
+    }
+    for i = 1 to 30 { v = i }
+  }
+  for i = 1 to 30 { v = i }
+  put i
+}
+"""
+DEMAND, LOCK, CYCLE = Answer(gl=4), Answer(), Answer(1, 1, 0x123)
+ANSWERS = [Answer(), DEMAND, CYCLE, LOCK, CYCLE, CYCLE, CYCLE, Answer(), DEMAND, CYCLE]
+
+
+def setUpModule():
+    os.environ.update({"CAMAC_PROGRAM": PROGRAM, **of_c.environment()})
+
+
+class Limited(Case):
+    def session(self, most, script=LOOPS):
+        session = library.Session(SAMPLE, script)
+        self.addCleanup(session.close)
+        session.limit_steps(most)
+        return session
+
+    def played(self, session):
+        """The listing and the event file of the run on all answers, what each answer and each pause released, and how often it paused."""
+        listing, events, released, pauses = "", b"", [], 0
+        for answer in ANSWERS:
+            its = session.next(answer)
+            while True:
+                listing, events = listing + session.item(), events + session.record()
+                released += its.unlocked
+                if not session.is_busy():
+                    break
+                its, pauses = session.go_on(), pauses + 1
+        return listing, events, released, pauses
+
+    def test_a_run_that_pauses_tells_the_same(self):
+        text = "".join(f"{int(x)} {int(q)} {word:06x} {wait:x} {gl:06x}\n" for x, q, word, wait, gl in ANSWERS)
+        wanted, file = library.run(SAMPLE, LOOPS, text)
+        self.assertEqual(wanted.text.splitlines()[-1], "short events 1")
+        steps = self.session(0).services()[0].steps
+        for most in (1, 7, 1000, 65535, steps, library.NO_LIMIT):
+            listing, events, released, pauses = self.played(self.session(most))
+            self.assertEqual(listing, "".join(wanted.text.splitlines(True)[:-1]))
+            self.assertEqual((file[8:], released), (events, [1]))
+            self.assertLessEqual(pauses, 2 * steps // (most + 1))
+            self.assertEqual(pauses > 0, most < steps)
+
+    def test_after_each_step(self):
+        straight = "cdlam adc 1 1 5 12\nvar v\nservice adc within 3 cycles event 1 words {\n  v = 1\n  v = 2\n  v = 3\n  put v\n}\n"
+        session = self.session(0, straight)
+        told = session.next(DEMAND)
+        self.assertEqual((told.kind, told.service, told.event), (library.DEMAND, 1, 0))
+        for event in (0, 0, 0, 1):
+            self.assertTrue(session.is_busy())
+            its = session.go_on()
+            self.assertEqual((its.kind, its.event), (0, event))
+        self.assertEqual((session.is_busy(), session.words(), session.wants().kind), (False, (3,), library.DEMAND))
+
+    def told(self, session):
+        return session.item(), session.record(), session.words(), session.held(), session.answers_left(), session.where()
+
+    def test_a_pause_wants_no_answer(self):
+        session = self.session(1000)
+        session.next(DEMAND)
+        told = self.told(session)
+        for call in (session.wants, lambda: session.next(CYCLE), lambda: session.step(CYCLE)):
+            with self.assertRaises(UsageFault) as found:
+                call()
+            self.assertEqual(str(found.exception), "the run pauses, and wants no answer")
+        self.assertEqual(self.told(session), told)
+        self.assertEqual((told[4], told[5]), (4_294_967_295 - 1, None))
+
+    def test_going_on_without_a_pause_changes_nothing(self):
+        session = self.session(1000)
+        session.next(Answer())
+        told = self.told(session)
+        its = session.go_on()
+        self.assertEqual((its.kind, its.unlocked, its.event, self.told(session)), (0, (), 0, told))
+
+    def test_a_service_that_pauses_may_be_left(self):
+        session = self.session(library.NO_LIMIT)
+        for answer in (DEMAND, CYCLE, LOCK):
+            session.next(answer)
+        session.limit_steps(20)
+        session.next(CYCLE)
+        self.assertTrue(session.is_busy())
+        self.assertEqual((session.held(), session.abandon(), session.held()), ((1,), (1,), ()))
+        self.assertEqual((session.is_busy(), session.wants().kind, session.where()), (False, library.DEMAND, None))
+
+    def test_a_limit_may_change_and_stays(self):
+        session = self.session(1000)
+        session.next(DEMAND)
+        session.limit_steps()
+        self.assertTrue(session.is_busy())
+        session.go_on()
+        self.assertEqual((session.is_busy(), session.wants().kind), (False, library.CYCLE))
+        session.limit_steps(1000)
+        session.rewind()
+        session.next(DEMAND)
+        self.assertTrue(session.is_busy())
+        for most in (-1, 1 << 32):
+            with self.assertRaises(UsageFault):
+                session.limit_steps(most)
+
+    def test_one_call_is_short(self):
+        nested = "cdlam adc 1 1 5 12\nvar i j k v\nservice adc within 0 cycles event 0 words {\n  for i = 1 to 10000 { for j = 1 to 10000 { v = j } }\n}\n"
+        session = self.session(10_000, nested)
+        session.next(DEMAND)
+        longest = 0.0
+        for _ in range(100):
+            began = time.perf_counter()
+            session.go_on()
+            longest = max(longest, time.perf_counter() - began)
+        self.assertTrue(session.is_busy())
+        # 10,000 steps take 0.1 to 2 milliseconds
+        self.assertLess(longest, 0.2)
+
+
+if __name__ == "__main__":
+    if not os.access(PROGRAM, os.X_OK):
+        sys.exit(f"{PROGRAM} is not there: cd crates/camac && rt run makes it, or CAMAC_PROGRAM names another")
+    if of_c.lacking():
+        print(f"left out: {of_c.lacking()}")
+        sys.exit()
+    unittest.main()
