@@ -309,11 +309,11 @@ module _ {V D C : ℕ} (h : Machine V D C) where
       subst (λ (r : List Answer → Behaviour (Unit {0})). AreAhead os r) (sym (fun_ext (λ answers. ap (λ (b : Behaviour State). then_do b leave) (whole (on answers t)))))
       (ahead (bounds_of h) around t known (λ answers. subst (λ (b : Behaviour State). IsFineHere h b) (whole (on answers t)) (fine answers)) leave)
 
-  pub following_ahead : (w : Pending) (k : Command) (os : List Wanted) (fed n : ℕ) (has : Bool) (o : Option Overrun) (d : Crates) → cycle_of (pending_of w) ≡ Some k → ((answers : List Answer) → IsFineHere h (stands (Some w) h answers))
+  pub following_ahead : (w : Pending) (k : Command) (os : List Wanted) (fed n : ℕ) (has : Bool) (o : Option Overrun) (d : Crates) (limit : ℕ) → cycle_of (pending_of w) ≡ Some k → ((answers : List Answer) → IsFineHere h (stands (Some w) h answers))
       → ((t : State) → t.registers ≡ registers_here h → After (pending_of w) (variables_here h) t.variables → LeadsTo ctx (bounds_of h) (left_in h) t os)
-      → AreAhead (wanted.Cycle k ∷ os) (rest (runner_state h (Some w) fed n has o d))
+      → AreAhead (wanted.Cycle k ∷ os) (rest (runner_state h (Some w) fed n has o d limit))
   unfolding served
-  following_ahead w k os fed n has o d e fine ahead =
+  following_ahead w k os fed n has o d limit e fine ahead =
       let leave : State → Behaviour (Unit {0}) = λ s. does (event_left (event_of (bit_at h.checked.now h.service) s)) (onward ctx h.checked.now.script.services s.branch s.answers) in
       subst (λ (r : List Answer → Behaviour (Unit {0})). AreAhead (wanted.Cycle k ∷ os) r)
       (sym (fun_ext (λ answers. then_assoc (awaited ctx (pending_of w) (state_of h answers)) (left_in h) leave)))
@@ -335,7 +335,7 @@ pub none_ahead : (h : RunnerState) (os : List Wanted) → os ≡ [] → Wants h 
 none_ahead h os is w = record { ahead = subst (λ (l : List Wanted). AreAhead l (rest h)) (sym is) tt; some = some h.overrun w; none = none h.overrun }
   where
     some : (o : Option Overrun) → IsSome o ⊎ (is_paused h.pending ≡ true) → IfNone o (is_paused h.pending ≡ false → 1 ≤ length os)
-    some None (inl over) = absurd over
+    some None (inl over) = absurd (false≢true over)
     some None (inr paused) = λ awake. absurd (false≢true (sym awake ∙ paused))
     some (Some o) over = tt
 

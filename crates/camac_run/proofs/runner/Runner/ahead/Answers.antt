@@ -21,8 +21,8 @@ returns g c =
     let its = some_of (cycle_of (pending_of w)) (sym c.is_one_cycle.ensures ∙ c.if-not-is_one_cycle.false) in
     let a = c.add_following.ensures in
     let fine = rw c.in-Some-pending.is at c.self.invariant.fine in
-    let all = following_ahead r.machine w its.0 a.0 r.fed r.events r.has_event r.overrun r.at_demand its.1 fine a.2 in
-    let view : runner_state r.machine r.pending r.fed r.events r.has_event r.overrun r.at_demand ≡ c.args.self.now = c.self.view_is in
-    let here = subst (λ (h : RunnerState). AreAhead (wanted.Cycle its.0 ∷ a.0) (rest h)) (ap (λ p. runner_state r.machine p r.fed r.events r.has_event r.overrun r.at_demand) (sym c.in-Some-pending.is) ∙ view) all in
+    let all = following_ahead r.machine w its.0 a.0 r.fed r.events r.has_event r.overrun r.at_demand r.limit its.1 fine a.2 in
+    let view : runner_state r.machine r.pending r.fed r.events r.has_event r.overrun r.at_demand r.limit ≡ c.args.self.now = c.self.view_is in
+    let here = subst (λ (h : RunnerState). AreAhead (wanted.Cycle its.0 ∷ a.0) (rest h)) (ap (λ p. runner_state r.machine p r.fed r.events r.has_event r.overrun r.at_demand r.limit) (sym c.in-Some-pending.is) ∙ view) all in
     let new : c.add_following.new.ahead.items ≡ c.in-Some.first ∷ a.0 = a.1 ∙ ap (λ (l : List Wanted). l ++ a.0) (c.push.ensures.items ∙ ap (λ (l : List Wanted). l ++ c.in-Some.first ∷ []) c.new-ahead.ensures) in
     is_ahead c.args.self.now c.in-Some.first a.0 c.add_following.new.ahead.items c.in-Some.ensures.wants new (more_ahead c.args.self.now c.in-Some.first (wanted.Cycle its.0) a.0 c.in-Some.ensures.wants here)
