@@ -130,7 +130,7 @@ MISTAKES = [
     ("a block too many", service("if q { " * 16), "S6", 4, "The limit is passed at `{`: at most 16 brackets and braces are open at once, calls counted."),
     ("the wrong crate", "cdlam adc 1 2 5 12\n", "L1", 1, "The LAM `adc` is at crate 2, station 5, where the plan has no module."),
     ("a service on a station without bit", "cdlam reg 1 1 6 0\nservice reg within 3 cycles event 1 words { }\n", "L2", 2, "The LAM `reg` is at crate 1, station 6, which has no GL bit in the plan."),
-    ("an event above the buffer", service(heading="within 3 cycles event 5000 words"), "L4", 3, "The heading allows 5000 event words, and the plan's buffer holds 4096."),
+    ("an event above the buffer", service(heading="within 3 cycles event 5000 words"), "L4", 3, "The event may have 5000 words, and the plan's buffer holds 4096."),
     ("the wrong station", service("cdreg r 1 1 7 0", "cfsa 0 r -> v"), "E1", 5, "The plan has no module at crate 1, station 7."),
     ("a crate that is not in the plan", service("cdreg r 1 3 5 0", "cfsa 0 r -> v"), "E1", 5, "The plan has no crate 3."),
     ("a command that the module has not", service("cdreg r 1 1 5 0", "cfsa 2 r -> v"), "E2", 5, "The plan declares no F2 at crate 1, station 5, A0."),

@@ -104,7 +104,7 @@ link_sentence_of s rule (link.Place c n) =
 link_sentence_of s rule (link.Served c n line) =
     says (codes "Crate " ∷ decimal c ∷ codes ", station " ∷ decimal n ∷ codes " has a service already, on line " ∷ decimal line ∷ codes "." ∷ [])
 link_sentence_of s rule (link.Words allowed buffer) =
-    says (codes "The heading allows " ∷ decimal allowed ∷ codes " event words, and the plan's buffer holds " ∷ decimal buffer ∷ codes "." ∷ [])
+    says (codes "The event may have " ∷ decimal allowed ∷ codes " words, and the plan's buffer holds " ∷ decimal buffer ∷ codes "." ∷ [])
 
 abbrev pub check_sentence_of : Script → CheckRule → Case → Option (List ℕ)
 check_sentence_of s rule case.Malformed = None

@@ -50,7 +50,7 @@ pub fn link_sentence(
             "Crate {crate_no}, station {station} has a service already, on line {line}."
         ).map(Some),
         LinkCase::Words { allowed, buffer } => format!(in alloc;
-            "The heading allows {allowed} event words, and the plan's buffer holds {buffer}."
+            "The event may have {allowed} words, and the plan's buffer holds {buffer}."
         ).map(Some),
     }
 }
