@@ -233,9 +233,8 @@ int camac_next_many(camac_session *s, const camac_answer *answer, camac_progress
     for (size_t i = 0; i < count; i++) {
         if (i) NEXT(progress, size), answer = (const void *)((const char *)answer + answer->size);
         code = camac_next(s, answer, progress);
-        if (code != CAMAC_OK) break;
-        ++*taken;
-        if (progress->event) break;
+        if (code == CAMAC_OK || (code == CAMAC_BUSY && progress->kind)) ++*taken;
+        if (code != CAMAC_OK || progress->event) break;
     }
     return code;
 }

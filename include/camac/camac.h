@@ -218,8 +218,8 @@ CAMAC_CALL camac_next(camac_session *s, const camac_answer *answer, camac_progre
  * permitted ends the run before the rest. The size of want[0] counts for all, and is written into the others. */
 size_t camac_ahead(const camac_session *s, camac_want *want, size_t room);
 
-/* camac_next of one answer after the other, up to one that is not taken, whose code it gives, or that leaves an event: its words and its record can
- * be read then. *taken is how many were taken, and progress[*taken] tells of the one that was not. The size of progress[0] counts for all, and is
+/* camac_next of one answer after the other, up to one that is not taken, whose code it gives, that leaves an event, whose words and record can be read
+ * then, or after which the run pauses, at CAMAC_BUSY. *taken is how many were taken, and progress[*taken] tells of the one that was not. The size of progress[0] counts for all, and is
  * written into the others; each answer has its own. */
 CAMAC_CALL camac_next_many(camac_session *s, const camac_answer *answer, camac_progress *progress, size_t count, size_t *taken);
 

@@ -210,7 +210,7 @@ public:
         return progress;
     }
 
-    // The same of one answer after the other, up to one that leaves an event: what each did that was taken. Throws where the first is not taken; a
+    // The same of one answer after the other, up to one that leaves an event or makes the run pause: what each did that was taken. Throws where the first is not taken; a
     // later one ends the list.
     std::vector<camac_progress> next(const std::vector<camac_answer> &answers) {
         std::vector<camac_progress> did(answers.size(), camac_progress CAMAC_PROGRESS);
@@ -222,7 +222,7 @@ public:
         return did;
     }
 
-    // The same, and what the next answer is for, at one crossing.
+    // Takes an answer as `next` does, and tells what the next one is for, at one crossing.
     camac_progress step(const camac_answer &answer, camac_want &want) {
         camac_progress progress = CAMAC_PROGRESS;
         taken(camac_step(&its, &answer, &progress, &want), progress);

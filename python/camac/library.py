@@ -286,7 +286,7 @@ class Session:
         return list(wants[: self._calls.camac_ahead(self._at, wants, room)])
 
     def next_many(self, answers: Iterable[Answer]) -> List[Progress]:
-        """`next` of one answer after the other, up to one that leaves an event, ends the run by an overrun or is not taken. Returns what each did, the
+        """`next` of one answer after the other, up to one that leaves an event, ends the run by an overrun, makes it pause or is not taken. Returns what each did, the
         overrun too. Raises what `next` raises if the first is not taken."""
         given = list(answers)
         size, taken = ctypes.sizeof(native.AnswerStruct), c_size_t()
@@ -297,7 +297,7 @@ class Session:
             native.write_answer(its, i * size + native.BEHIND_SIZE, word, gl, x, q, wait)
         code = self._calls.camac_next_many(self._at, its, did, len(given), byref(taken))
         if not taken.value:
-            _check_taken(code)
+            _check_taken(code, did[0])
         return list(did[: taken.value + (code == OVERRUN)])
 
     def next(self, answer: Answer) -> Progress:

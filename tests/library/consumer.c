@@ -79,8 +79,8 @@ static void abandon(camac_session *s, camac_want *want, uint32_t room) {
     if (want->kind != CAMAC_DEMAND) fail("no demand is wanted");
 }
 
-/* Goes on while the run pauses, and puts what it tells. */
-static int go_on(camac_session *s, int code, camac_want *want, FILE *listing, FILE *events, uint32_t *count) {
+/* Goes on while both runs pause, and puts what it tells. */
+static int go_on(camac_session *s, camac_session *lists, int code, camac_want *want, FILE *listing, FILE *events, uint32_t *count) {
     const camac_answer answer = CAMAC_ANSWER;
     camac_progress did = CAMAC_PROGRESS;
     if (code != CAMAC_BUSY) return code;
@@ -91,6 +91,7 @@ static int go_on(camac_session *s, int code, camac_want *want, FILE *listing, FI
         put(listing, item, s);
         put(events, camac_record, s);
         if (did.event) *count = did.event;
+        EXPECT(code, camac_go_on(lists, &did));
     }
     return code == CAMAC_OK ? camac_wants(s, want) : code;
 }
@@ -133,7 +134,7 @@ static void hand_in(int code, const camac_session *one) {
     camac_progress did[CAMAC_AHEAD] = {CAMAC_PROGRESS};
     size_t taken;
     EXPECT(code, camac_next_many(&list.s, list.answers, did, list.used, &taken));
-    if (taken != list.used - (code != CAMAC_OK) || memcmp(did, list.did, list.used * sizeof *did)) fail("a list does something else");
+    if (taken != list.used - (code == CAMAC_OVERRUN) || memcmp(did, list.did, list.used * sizeof *did)) fail("a list does something else");
     same(item, one);
     same(camac_record, one);
     list.lists++, list.all += list.used;
@@ -167,7 +168,7 @@ static void play(camac_session *s, const char *folder, long k, const text *scrip
         if ((code == CAMAC_OK || code == CAMAC_BUSY) && camac_answers_left(s) != before - i - 1) fail("%u answers are left", (unsigned)camac_answers_left(s));
         if (did.event) count = did.event;
         if (did.kind == CAMAC_DEMAND) service = did.service;
-        code = go_on(s, code, &want, listing, events, &count);
+        code = go_on(s, &list.s, code, &want, listing, events, &count);
         if (code != CAMAC_OK || want.kind == CAMAC_DEMAND || chance(&seed, 20)) continue;
         if (list.used) hand_in(CAMAC_OK, s);
         EXPECT(CAMAC_OK, camac_abandon(&list.s, NULL, 0, NULL));
@@ -197,7 +198,9 @@ int main(int words_count, char **words) {
             if (camac_next(&s, &answer, &did) > CAMAC_OVERRUN) fail("an answer is not taken");
         }
         EXPECT(CAMAC_OK, camac_rewind(&s));
-        EXPECT(CAMAC_OK, camac_limit_steps(&s, chance(&seed, 2) ? CAMAC_NO_LIMIT : chance(&seed, 20)));
+        const uint32_t most = chance(&seed, 2) ? CAMAC_NO_LIMIT : chance(&seed, 20);
+        EXPECT(CAMAC_OK, camac_limit_steps(&s, most));
+        EXPECT(CAMAC_OK, camac_limit_steps(&list.s, most));
         play(&s, words[1], k, &script);
         camac_close(&s);
         camac_close(&list.s);
