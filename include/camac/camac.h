@@ -213,7 +213,7 @@ CAMAC_CALL camac_wants(const camac_session *s, camac_want *want);
 CAMAC_CALL camac_next(camac_session *s, const camac_answer *answer, camac_progress *progress);
 
 /* The operations that come next, whatever is answered: a controller that makes lists of commands makes them in one transfer. Writes as many as there
- * is room for, and answers how many: one at least where the run goes on, and CAMAC_AHEAD at most. 0 where the run is over or the session is none. The
+ * is room for, and answers how many: one at least where the run goes on, and CAMAC_AHEAD at most. 0 where the run is over or pauses, or the session is none. The
  * first is that of camac_wants. Until the answer of the last one is taken, no lockout is to be released and no event left. A wait that is not
  * permitted ends the run before the rest. The size of want[0] counts for all, and is written into the others. */
 size_t camac_ahead(const camac_session *s, camac_want *want, size_t room);
