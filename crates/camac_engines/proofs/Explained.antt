@@ -1,15 +1,16 @@
 -- An explanation of what was judged is one of what the text says.
 use Rattle.std.proofs.Common.{◌≡◌, ℕ, List, Option, Some, None, sym, subst, refl}
-use Rattle.std.specs.Prelude.{Result, Ok, Err}
+use Rattle.std.specs.Prelude.{IfOk, Result, Ok, Err}
+use Rattle.std.specs.Global.{Vec}
 use Rattle.camac_branch.specs.Plan.{Layout}
 use Rattle.camac_plan.specs.declared.fault.PlanRule.{PlanRule}
 use Rattle.camac_lines.specs.declared.refusal.Refusal.TheVariants as refusal
-use Rattle.camac_explain.specs.Explanation.{IsPlanExplanation}
+use Rattle.camac_explain.specs.Explanation.{IsPlanExplanation, explanation_of}
 use Rattle.camac_explain.specs.Finding.{refusal_of}
 use Rattle.camac_explain.specs.declared.finding.Finding.{Finding}
 use Rattle.camac_engines.specs.Accepted.{Accepted, Accepts}
 use Rattle.camac_engines.specs.Engine.{IsWritten, Shows}
-use Rattle.camac_engines.specs.Explain.{ExplainedBy, ExplainedIf, PlanExplained, ReportsMore}
+use Rattle.camac_engines.specs.Explain.{Explained, ExplainedBy, ExplainedIf, PlanExplained, ReportsMore}
 use Rattle.camac_engines.specs.Report.{Report, refused, refused_and, report_plan}
 use Rattle.camac_engines.specs.declared.fault.ToolFault.{ToolFault}
 use Rattle.camac_engines.specs.declared.fault.ToolFault.TheVariants as fault
@@ -35,6 +36,11 @@ explained Explains plan j a told shown o p r same is h =
     written_as (ReportsMore (ExplainedBy Explains j) shown) (ReportsMore (ExplainedIf Explains a) told) o p r
     (λ outcome whole more. subst (λ (q : Report). ReportsMore (ExplainedIf Explains a) q outcome whole) (sym same)
     (same_more (ExplainedBy Explains j) (ExplainedIf Explains a) (follows Explains plan j a is) shown outcome whole more)) h
+
+-- with the sentence that was handed in
+pub explained_with : {E : Type 0} (text : List ℕ) (f : Finding) (of_text : Option (List ℕ)) (r : Result (Vec ℕ) E) → IfOk r (λ v. v.items ≡ explanation_of text f of_text) → IfOk r (λ v. Explained text f v.items)
+explained_with text f of_text (Ok v) is = (of_text, is)
+explained_with text f of_text (Err e) is = tt
 
 -- a refusal with the lines that explain it
 pub refusal_explained : (Explains : Finding → List ℕ → Type 0) (more : List ℕ) (f : Finding) (o p : Option (List ℕ)) (r : Result Outcome ToolFault) → Explains f more
