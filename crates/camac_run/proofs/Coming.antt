@@ -3,7 +3,7 @@ use Rattle.std.proofs.Common.{append_assoc, ◌≡◌, ◌∙◌, ℕ, zero, suc
 use Rattle.std.proofs.lemmas.Bool.{false≢true, cases_eq, cases_lt, ne_eqb}
 use Rattle.std.proofs.lemmas.List.{drop-map, get_or_past, take-map}
 use Rattle.std.proofs.Math.Path.{fun_ext}
-use Rattle.std.specs.Prelude.{◌⊎◌, IfNone, IfSome, IsSome, slice_get}
+use Rattle.std.specs.Prelude.{IsSome, slice_get}
 use Rattle.camac_branch.specs.Branch.{Answer, Reply, reply_to}
 use Rattle.camac_branch.specs.Crates.{Crates, is_permitted}
 use Rattle.camac_branch.specs.Plan.{Layout, crate_waits}
@@ -19,7 +19,7 @@ use Rattle.camac_model.specs.Run.{event_of}
 use Rattle.camac_model.specs.State.{State, Registers, Variables, set_at, stepped, with_variable}
 use Rattle.camac_model.proofs.Runs.{then_assoc}
 use Rattle.camac_machine.specs.MachineState.{Left, bit_at, bounds_of, context_in, left_in, open_in, pending_of, registers_here, variables_here, stands, state_of, piece_of, IsFineHere}
-use Rattle.camac_machine.specs.Rest.{address_of, Operation, makes, reads, locks, transfers, pauses, is_paused, awaited, owed, rest_in, says, served, onward, Owner, for_loop, Open, left_of}
+use Rattle.camac_machine.specs.Rest.{address_of, Operation, makes, reads, locks, transfers, pauses, awaited, owed, rest_in, says, served, onward, Owner, for_loop, Open, left_of}
 use Rattle.camac_machine.specs.Store.{held_at, size, variables_in}
 use Rattle.camac_machine.specs.declared.scope.Places.{Places}
 use Rattle.camac_machine.specs.declared.item.Item.{Item}
@@ -329,16 +329,3 @@ is_ahead h o os new w same a =
     let some : 1 ≤ length (o ∷ os) = omega arith in
     let some' : 1 ≤ length new = subst (λ (l : List Wanted). 1 ≤ length l) (sym same) some in
     record { ahead = subst (λ (l : List Wanted). AreAhead l (rest h)) (sym same) a; some = rw w.0 (λ awake. some'); none = rw w.0 tt }
-
--- nothing, where no answer is wanted
-pub none_ahead : (h : RunnerState) (os : List Wanted) → os ≡ [] → Wants h None → IsAhead h os
-none_ahead h os is w = record { ahead = subst (λ (l : List Wanted). AreAhead l (rest h)) (sym is) tt; some = some h.overrun w; none = none h.overrun }
-  where
-    some : (o : Option Overrun) → IsSome o ⊎ (is_paused h.pending ≡ true) → IfNone o (is_paused h.pending ≡ false → 1 ≤ length os)
-    some None (inl over) = absurd (false≢true over)
-    some None (inr paused) = λ awake. absurd (false≢true (sym awake ∙ paused))
-    some (Some o) over = tt
-
-    none : (o : Option Overrun) → IfSome o (λ p. os ≡ [])
-    none None = tt
-    none (Some o) = is
