@@ -4,6 +4,7 @@ use Rattle.std.specs.Prelude.{Option, Some, None, min, reverse}
 use Rattle.camac_run.specs.Runner.{last_words_in}
 use Rattle.camac_branch.specs.declared.answer.Overrun.{Overrun}
 use Rattle.camac_c.specs.Abandoned.{LeavesUnless}
+use Rattle.camac_c.specs.Ahead.{numbers_ahead}
 use Rattle.camac_c.specs.Filled.{filled, filled_words, over, over_words}
 use Rattle.camac_c.specs.Last.{last_lines, last_record}
 use Rattle.camac_c.specs.Place.{numbers_of_place}
@@ -42,6 +43,7 @@ written : (v after : Option Session) (a : Ask) (none told : Told) (ws : List ℕ
 written None after a none told ws h = h.1
 written (Some s) None a none told ws h = absurd h
 written (Some s) (Some after) ask.Wants none told ws h = h.0
+written (Some s) (Some after) ask.Ahead none told ws h = h.1.2.0 ∙ filled_words_none (numbers_ahead h.1.0)
 written (Some s) (Some after) (ask.Next a) none told ws h = h.0
 written (Some s) (Some after) (ask.Step a) none told ws h = h.0
 written (Some s) (Some after) ask.Words none told ws h = h.1.0 ∙ filled_words_none (last_words_in s.runner)
