@@ -29,7 +29,7 @@ pub extern "C" fn camac_raw_ahead(alloc: Global, handle: &mut Handle, bytes: &mu
 }
 
 /// The numbers of operations, one after another.
-pub fn numbers_ahead(ahead: &[Wanted]) -> ArrayVec<u32, { NUMBERS }>
+pub fn numbers_ahead(ahead: &[Wanted]) -> ArrayVec<u32, NUMBERS>
     requires { length ahead.now ≤ 64 }
     ensures { result.items ≡ numbers_ahead ahead.now }
 {
