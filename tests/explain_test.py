@@ -204,12 +204,12 @@ FIXES = [
     ("a number that no loop may have", service("k = 5", "while k > 0 turns 100000 by k { k = k - 1 }"), "write at most 65535 ", service("k = 5", "while k > 0 turns 65535 by k { k = k - 1 }")),
     ("a few words", service("put 1", heading="within 0 cycles event 0 words"), "write a larger number after `event`", service("put 1", heading="within 0 cycles event 1 words")),
     ("words without end", deep("put 1"), "keep fewer words: ", service("put 1")),
-    ("a difference to the last reading", service("cdreg r 1 1 6 0", "for i = 1 to 3 {", "cfsa 0 r -> v", "t = v - k", "k = v", "}"), "a loop forgets what its body writes: let it `keep` the right side ", service("cdreg r 1 1 6 0", "for i = 1 to 3 keep k in 0..16777215 {", "cfsa 0 r -> v", "t = v + 16777215 - k", "k = v", "}")),
-    ("a count in a loop", service("for i = 1 to 3 { k = k + i }"), "a loop forgets what its body writes: let it `keep` the variable in a range, or bound the variable ", service("for i = 1 to 3 keep k in 0..99 { if k < 97 { k = k + i } }")),
+    ("a difference to the last reading", service("cdreg r 1 1 6 0", "for i = 1 to 3 {", "cfsa 0 r -> v", "t = v - k", "k = v", "}"), "a loop forgets what its body writes: let it `keep` such a right side ", service("cdreg r 1 1 6 0", "for i = 1 to 3 keep k in 0..16777215 {", "cfsa 0 r -> v", "t = v + 16777215 - k", "k = v", "}")),
+    ("a count in a loop", service("for i = 1 to 3 { k = k + i }"), "bound the variable by `if` or `%` before. A loop forgets what its body writes: ", service("for i = 1 to 3 keep k in 0..99 { if k < 97 { k = k + i } }")),
     ("a value too wide", service("cdreg a 1 1 5 0", "cdreg r 1 1 6 0", "cfsa 0 a -> v", "cfsa 16 r <- v"), "bound the value by `%` or `if`, write ", service("cdreg a 1 1 5 0", "cdreg r 1 1 6 0", "cfsa 0 a -> v", "cfsa 16 r <- v % 256")),
-    ("a value that a loop forgets", service("cdreg r 1 1 6 0", "for i = 1 to 3 { cfsa 16 r <- k", "k = i }"), "a loop forgets what its body writes: let it `keep` the variable in a range, or bound the value ", service("cdreg r 1 1 6 0", "for i = 1 to 3 keep k in 0..3 { cfsa 16 r <- k", "k = i }")),
+    ("a value that a loop forgets", service("cdreg r 1 1 6 0", "for i = 1 to 3 { cfsa 16 r <- k", "k = i }"), "bound the value by `%` or `if`. A loop forgets what its body writes: ", service("cdreg r 1 1 6 0", "for i = 1 to 3 keep k in 0..3 { cfsa 16 r <- k", "k = i }")),
     ("a word too wide", service("v = 16777216", "put v"), "bound the value by `% 16777216`, or by an `if` ", service("v = 16777216", "put v % 16777216")),
-    ("a word that a loop forgets", service("for i = 1 to 3 { put k", "k = i }"), "a loop forgets what its body writes: write `keep v in 0..16777215` ", service("for i = 1 to 3 keep k in 0..16777215 { put k", "k = i }")),
+    ("a word that a loop forgets", service("for i = 1 to 3 { put k", "k = i }"), "bound the value by `% 16777216` or `if`. A loop forgets what its body writes: for such a variable write `keep v in 0..16777215` ", service("for i = 1 to 3 keep k in 0..16777215 { put k", "k = i }")),
     ("a few cycles of a procedure", procedure("call get(0)", numbers="within 2 cycles event 1 words steps 3"), "write a larger number after `within`, as `camac bounds` prints it, or make fewer cycles.", procedure("call get(0)")),
     ("a few cycles", service("cclc adc", heading="within 2 cycles event 0 words"), "write a larger number after `within`", service("cclc adc", heading="within 3 cycles event 0 words")),
     ("cycles without end", deep("cclc adc"), "make fewer cycles, ", service("cclc adc")),
@@ -370,7 +370,8 @@ class Explain(Room):
         """The page shows the table of what the language does not have."""
         source = (TOP / "crates/camac_explain_text/src/absent.rt").read_text()
         text = r'"((?:[^"\\]|\\.)*)"'
-        table = [(words.replace('\\"', '"').split(), write) for words, write in re.findall(rf"\(\s*{text},\s*{text},?\s*\)", source)]
+        rows = [it.partition("write: ") for it in source.split("    Row {\n")[1:]]
+        table = [([it.replace('\\"', '"') for it in re.findall(text, words)], re.match(text, write)[1]) for words, _, write in rows]
         self.assertGreater(len(table), 35)
         shown = [f"| {', '.join(f'`{it}`' for it in words)} | {write} |".replace("`|", "`\\|").replace("||", "|\\|") for words, write in table]
         part = (TOP / "docs/LANGUAGE.md").read_text().partition("## What the language does not have")[2]
@@ -464,6 +465,23 @@ class Explain(Room):
         order = re.findall(r"Keyword::(\w+)", re.search(r"KEYWORDS: [^=]*= \[(.*?)\];", table, re.S)[1])
         spelling = dict(re.findall(r'Keyword::(\w+) => "(\w+)"', table))
         self.assertEqual([spelling[it] for it in order], words)
+
+    def test_bounds(self):
+        """What no heading allows is told as that with --bounds, where all headings have their greatest numbers."""
+        names = [f"n{i}" for i in range(5)]
+        loops = "".join(f"for {it} = 1 to 65535 {{ " for it in names) + "} " * len(names)
+        long = f"proc p({', '.join(f'{it} in 0..65535' for it in names)}) within 0 cycles event 0 words steps 1 {{ {loops}}}\n"
+        rows = (
+            (deep("put 1"), "E11", "The service may keep more than 18446744073709551615 event words, and a heading allows at most 4294967295."),
+            (deep("cclc adc"), "E12", "The service may take more than 18446744073709551615 dataway cycles, and a heading allows at most 4294967295."),
+            (long, "E18", "The procedure may take more than 18446744073709551615 steps, and a heading allows at most 4294967295."),
+        )
+        for script, rule, said in rows:
+            with self.subTest(rule=rule):
+                status, text = self.call("explain", "--bounds", "@sample", "@in", given=script)
+                first, _, sentence, *rest = text.splitlines()
+                self.assertEqual((status, first.partition(" line")[0], sentence), (1, f"refused {rule}", said))
+                self.assert_told(rule, *rest)
 
     def test_accepted(self):
         self.assertEqual(self.explain(""), ["accepted"])

@@ -22,8 +22,10 @@ from camac.lsp.actions import OF_LOOPS, _of_refusal
 from camac.lsp.documents import Text
 from camac.lsp.refusals import refusals
 from camac.lsp.workspace import Judge, Judged
+from camac.reader import read_script
 from camac.texts import SAMPLE, plan_text
 from camac.tokens import tokens_of
+from camac.tree import Loop, all_in
 
 sys.path.insert(0, str(TOP / "tools"))
 
@@ -51,9 +53,6 @@ TROUBLES = [
     "while k > 0 turns 3 by t { k = k - 1 }", "for i = 1 to 3 keep k in 1..5 { k = 2 }", "for i = 0 to 9 keep k in 0..5 { k = k + 1 }", "for i = 1 to 9 { t = t + 1 } put i - t", "cfsa 0 r -> t put t * t",
     "for i = 1 to 9 { cfsa 0 r -> t k = k + t } put k", "cfsa 0 r -> t cfsa 0 r -> k put t + k", "cfsa 0 r -> t cfsa 16 r <- t + 1", "cssa 16 r <- 70000", "call get(i - 1)", "put t - 1",
 ]
-# Of these kinds of fixes not all help today. The number is how many of a hundred do at least. `put i + 4294967295` has the fix of a loop that is not there; a
-# variable that is kept, and that its loop does not write, is not found by --keeps; nor is one that has to stay above the right side of a difference.
-PARTLY = {"E16 --keeps": 0, "E8 --keeps": 60, "E4 --keeps": 80}
 # The least number of kinds that are tried: else explanations have other texts than this test looks for.
 LEAST_KINDS = 28
 
@@ -109,7 +108,7 @@ class Refused:
         yield from self.of_text(text, advice)
         yield from self.of_statement(text, advice)
         yield from self.of_ranges(text)
-        if "--keeps` finds" in advice and its.code in OF_LOOPS:
+        if "--keeps` finds" in advice and its.code in OF_LOOPS and self.is_of_a_loop():
             found = propose(self.judge.file, self.data, self.judge.program)
             edits = tuple(edit for one in found.proposals for edit in one.edits)
             yield f"{its.code} --keeps", edits
@@ -169,10 +168,11 @@ class Refused:
             call = re.fullmatch(r"(call \w+ ?)\(([^,]*)\)", text)
             if call and least == "0":
                 yield "E21 bound by %", (Edit(its.start, its.end, f"{call[1]}(({call[2]}) % {int(most) + 1})"),)
-            found = re.search(rf"\b{name} in {least} ?\.\. ?{most}\b", self.data.decode())
+            called = re.match(r"call\s+(\w+)", text)[1]
+            found = re.search(rf"\bproc\s+{called}\b[^{{]*?\b({name} in {least} ?\.\. ?{most})\b", self.data.decode())
             if found:
                 wide = f"{name} in {min(int(low), int(least))}..{max(int(high or low), int(most))}"
-                yield "E21 widen the range", (Edit(*found.span(), wide),)
+                yield "E21 widen the range", (Edit(*found.span(1), wide),)
         entry = re.match(r"Before the loop `(\w+)` may be (\d+)(?: to (\d+))?, and it is kept in (\d+) to (\d+)", sentence)
         if entry:
             name, low, high, least, most = entry.groups()
@@ -180,8 +180,33 @@ class Refused:
                 yield "E8 set it before", (Edit(its.start, its.start, f"{name} = {least} "),)
                 wide = f"{name} in {min(int(low), int(least))}..{max(int(high or low), int(most))}"
                 kept = re.compile(rf"\b{name}\s+in\s+{least}\s*\.\.\s*{most}\b").search(self.data.decode(), its.start)
+                yield from self.of_unwritten(name)
                 if kept:
                     yield "E8 widen the range", (Edit(*kept.span(), wide),)
+
+    def of_unwritten(self, name):
+        """What a loop keeps, and does not write, is left out."""
+        for loop in self.loops():
+            names = [it.name for it in loop.keeps]
+            if loop.start == self.first.start and name in names and name not in loop.written:
+                at = names.index(name)
+                start = loop.keeps[at - 1].end if at else loop.keep if len(names) == 1 else loop.keeps[0].start
+                end = loop.keeps[1].start if at == 0 and len(names) > 1 else loop.keeps[at].end
+                yield "E8 leave it out", (Edit(start, end, ""),)
+
+    def loops(self):
+        """The loops of the body that is refused."""
+        starts = [it for it in read_script(self.data).bodies if it.start <= self.first.start]
+        return [it for it in all_in(starts[-1].statements if starts else ()) if isinstance(it, Loop)]
+
+    def is_of_a_loop(self):
+        """Whether the loop itself writes the variable that it keeps, or a loop up to the line writes one of the statement and does not keep it."""
+        its = self.first
+        if its.code in ("E8", "E9"):
+            kept = re.search(r"`(\w+)`", its.sentence)[1]
+            return any(kept in it.written for it in self.loops() if it.start == its.start)
+        names = {*re.findall(r"\w+", self.data[its.start : its.end].decode())}
+        return any(names & it.written - {kept.name for kept in it.keeps} for it in self.loops() if it.start <= its.start)
 
     def is_in_procedure(self):
         block = self.judged.names.block_at(self.first.start)
@@ -221,7 +246,7 @@ class Fixes(Case):
         self.assertGreaterEqual(len(tried), LEAST_KINDS)
         for kind in sorted(tried):
             with self.subTest(kind=kind):
-                self.assertGreaterEqual(100 * helped[kind], PARTLY.get(kind, 100) * tried[kind], shown(failed[kind][0]) if kind in failed else "")
+                self.assertEqual(helped[kind], tried[kind], shown(failed[kind][0]) if kind in failed else "")
 
 
 def shown(case):

@@ -226,8 +226,8 @@ CAMAC_CALL camac_next_many(camac_session *s, const camac_answer *answer, camac_p
 /* camac_next, and where that is CAMAC_OK, camac_wants after it, at one crossing. At any other code *want is zeros. */
 CAMAC_CALL camac_step(camac_session *s, const camac_answer *answer, camac_progress *progress, camac_want *want);
 
-/* Sets how many steps the run makes at once, in one answer or after a pause: after more it pauses. 0 is a pause after each step. At first there is
- * no limit, CAMAC_NO_LIMIT; camac_rewind keeps it. A run that pauses goes on to do so. */
+/* Sets how many steps the run makes at once, in one answer or after a pause: after more it pauses, at most three more. 0 is a pause after each
+ * step or two. At first there is no limit, CAMAC_NO_LIMIT; camac_rewind keeps it. A run that pauses goes on to do so. */
 CAMAC_CALL camac_limit_steps(camac_session *s, uint32_t most);
 
 /* Goes on after a pause. CAMAC_OK: an answer is wanted again. CAMAC_BUSY: it pauses again. *progress tells the lockouts to release, and the event if

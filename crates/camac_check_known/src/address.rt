@@ -1,8 +1,8 @@
 // Which addresses of a region are installed, and how wide a command is there.
 
-ghost use Rattle.std.specs.Prelude.{◌≡◌, ◌<◌, ◌≤◌, ◌-◌, ◌+◌, min, is_some, unwrap_or, IfOk, IfSome};
+ghost use Rattle.std.specs.Prelude.{◌≡◌, ◌<◌, ◌≤◌, ◌-◌, is_some, unwrap_or, IfOk, IfSome};
 ghost use Rattle.camac_branch.specs.Plan.{IsPlan, crate_waits};
-ghost use Rattle.camac_rules.specs.Walks.{first_failing, greatest_from, hull_from};
+ghost use Rattle.camac_rules.specs.Walks.{count_below, first_failing, greatest_from};
 ghost use Rattle.camac_rules.specs.Addresses.{crate_end, station_end, in_plan, is_station, all_in, are_stations_in, are_stations, station_widths, crate_widths, region_widths, missing, undeclared, command_widths, waits_in, cycle_cost};
 ghost use Rattle.camac_rules.specs.Refusal.{required, given};
 ghost use Rattle.camac_rules.specs.declared.rule.CheckRule.TheVariants.{StationNotInstalled, CommandNotDeclared};
@@ -13,6 +13,7 @@ use crate::around::Around;
 use crate::fault::CheckFault;
 use crate::known::Region;
 use crate::missing::{missing, undeclared};
+use crate::walk::{end_of, first_failing, hull_from};
 use camac_branch::Plan;
 use camac_range::Range;
 use camac_rules::CheckRule;
@@ -67,7 +68,7 @@ fn declared_widths(plan: &Plan, line: u32, f: Function, g: Region) -> Result<Ran
 pub fn cycle_cost(plan: &Plan, around: &Around, crates: Range) -> u64
     ensures { result ≡ cycle_cost plan.now around.now.locked crates }
 {
-    1 + u64::from(waits_from(plan, around, crates.lo(), end_of(crates, CRATE_END)))
+    1 + u64::from(waits_from(plan, around, crates.lo(), end_of(crates.hi(), CRATE_END)))
 }
 
 /// Whether a range is one number, which is that of a crate of the plan.
@@ -89,40 +90,22 @@ pub(crate) fn is_in_plan(plan: &Plan, c: u32) -> bool
     }
 }
 
-// The end of the numbers of a range that are below an end.
-pub(crate) fn end_of(range: Range, end: u32) -> u32
-    ensures end { result ≡ min (range.hi + 1) end }
-    ensures below { result ≤ end }
-{
-    if range.hi() < end {
-        range.hi() + 1
-    } else {
-        end
-    }
-}
-
 #[tactic(auto, using(crate::proofs::Walks::all_found))]
 fn are_stations(plan: &Plan, g: Region) -> bool
     ensures { result ≡ are_stations plan.now g }
 {
-    let crates = g.crates();
-    crates.hi() < CRATE_END
-        && crate_without(plan, g.stations(), crates.lo(), end_of(crates, CRATE_END)).is_none()
+    g.crates().hi() < CRATE_END && crate_without(plan, g).is_none()
 }
 
-// The first of these crates that has not all of the stations.
-#[tactic(auto, using(crate::proofs::Walks::first_steps))]
-pub(crate) fn crate_without(plan: &Plan, stations: Range, c: u32, end: u32) -> Option<u32>
-    requires { end ≤ 8 }
-    ensures { result ≡ first_failing (are_stations_in plan.now stations) c (end - c) }
+// The first of its crates that has not all of its stations.
+pub(crate) fn crate_without(plan: &Plan, g: Region) -> Option<u32>
+    ensures { result ≡ first_failing (are_stations_in plan.now g.stations) g.crates.lo (count_below crate_end g.crates) }
 {
-    if c >= end {
-        return None;
-    }
-    if are_stations_in(plan, stations, c) {
-        return crate_without(plan, stations, c + 1, end);
-    }
-    Some(c)
+    let crates = g.crates();
+    let stations = g.stations();
+    first_failing(crates.lo(), end_of(crates.hi(), CRATE_END), |c| {
+        are_stations_in(plan, stations, c)
+    })
 }
 
 // Whether a crate has all stations of a range.
@@ -136,22 +119,16 @@ fn are_stations_in(plan: &Plan, stations: Range, c: u32) -> bool
     };
     plan.waits(crate_no).is_some()
         && stations.hi() < STATION_END
-        && station_missing(plan, crate_no, stations.lo(), end_of(stations, STATION_END)).is_none()
+        && station_missing(plan, stations, crate_no).is_none()
 }
 
-// The first of these stations of a crate that is not there.
-#[tactic(auto, using(crate::proofs::Walks::first_steps))]
-pub(crate) fn station_missing(plan: &Plan, c: CrateNo, n: u32, end: u32) -> Option<u32>
-    requires { end ≤ 32 }
-    ensures { result ≡ first_failing (is_station plan.now c) n (end - n) }
+// The first station of a range that a crate has not.
+pub(crate) fn station_missing(plan: &Plan, stations: Range, c: CrateNo) -> Option<u32>
+    ensures { result ≡ first_failing (is_station plan.now c) stations.lo (count_below station_end stations) }
 {
-    if n >= end {
-        return None;
-    }
-    if is_station(plan, c, n) {
-        return station_missing(plan, c, n + 1, end);
-    }
-    Some(n)
+    first_failing(stations.lo(), end_of(stations.hi(), STATION_END), |n| {
+        is_station(plan, c, n)
+    })
 }
 
 /// Whether a station has a module, or the controller answers for it.
@@ -169,24 +146,9 @@ fn region_widths(plan: &Plan, f: Function, g: Region) -> Option<Range>
     ensures { result ≡ region_widths plan.now f g }
 {
     let crates = g.crates();
-    crate_widths_from(plan, f, g, crates.lo(), end_of(crates, CRATE_END))
-}
-
-// The widths in all these crates.
-#[tactic(auto, using(crate::proofs::Walks::hull_steps))]
-fn crate_widths_from(plan: &Plan, f: Function, g: Region, c: u32, end: u32) -> Option<Range>
-    requires { end ≤ 8 }
-    ensures { result ≡ hull_from (crate_widths plan.now f g.sub_addresses g.stations) c (end - c) }
-{
-    if c >= end {
-        return None;
-    }
-    let first = crate_widths(plan, f, g, c)?;
-    if c + 1 >= end {
-        return Some(first);
-    }
-    let rest = crate_widths_from(plan, f, g, c + 1, end)?;
-    Some(first.hull(rest))
+    hull_from(crates.lo(), end_of(crates.hi(), CRATE_END), |c| {
+        crate_widths(plan, f, g, c)
+    })
 }
 
 // The widths in a crate.
@@ -197,38 +159,9 @@ pub(crate) fn crate_widths(plan: &Plan, f: Function, g: Region, c: u32) -> Optio
 {
     let stations = g.stations();
     let crate_no = CrateNo::new(c)?;
-    station_widths_from(
-        plan,
-        f,
-        g.sub_addresses(),
-        crate_no,
-        stations.lo(),
-        end_of(stations, STATION_END),
-    )
-}
-
-// The widths at all these stations of a crate.
-#[tactic(auto, using(crate::proofs::Walks::hull_steps))]
-fn station_widths_from(
-    plan: &Plan,
-    f: Function,
-    sub_addresses: Range,
-    c: CrateNo,
-    n: u32,
-    end: u32,
-) -> Option<Range>
-    requires { end ≤ 32 }
-    ensures { result ≡ hull_from (station_widths plan.now f sub_addresses c) n (end - n) }
-{
-    if n >= end {
-        return None;
-    }
-    let first = station_widths(plan, f, sub_addresses, c, n)?;
-    if n + 1 >= end {
-        return Some(first);
-    }
-    let rest = station_widths_from(plan, f, sub_addresses, c, n + 1, end)?;
-    Some(first.hull(rest))
+    hull_from(stations.lo(), end_of(stations.hi(), STATION_END), |n| {
+        station_widths(plan, f, g.sub_addresses(), crate_no, n)
+    })
 }
 
 /// The least and the greatest width of a command at the sub-addresses of a range, if a station declares it at all of them.
@@ -255,14 +188,15 @@ pub fn station_widths(
 
 // The greatest number of auxiliary cycles before one in some of these crates.
 #[tactic(auto, using(crate::proofs::Walks::greatest_steps))]
-fn waits_from(plan: &Plan, around: &Around, c: u32, end: u32) -> u8
+fn waits_from(plan: &Plan, around: &Around, from: u32, end: u32) -> u8
     requires { end ≤ 8 }
-    ensures { result ≡ greatest_from (waits_in plan.now around.now.locked) c (end - c) }
+    ensures { result ≡ greatest_from (waits_in plan.now around.now.locked) from (end - from) }
 {
-    if c >= end {
-        return 0;
+    let mut greatest = 0;
+    for c in from..end {
+        greatest = waits_in(plan, around, c).max(greatest);
     }
-    waits_in(plan, around, c).max(waits_from(plan, around, c + 1, end))
+    greatest
 }
 
 // The auxiliary cycles that may come before one in a crate.

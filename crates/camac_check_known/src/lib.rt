@@ -11,6 +11,7 @@ mod fault;
 mod joined;
 mod known;
 mod missing;
+mod walk;
 
 pub use address::{
     STATION_END, command_widths, cycle_cost, is_crate, is_station, station_widths, waits_of,
@@ -23,3 +24,4 @@ pub use fault::{CheckFault, numbers_of, required};
 pub use joined::join;
 pub use known::{Facts, Region, between, range_in};
 pub use missing::{is_declared, not_installed, undeclared_at};
+pub use walk::{end_of, first_failing};

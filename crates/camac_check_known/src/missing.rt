@@ -1,15 +1,16 @@
 // The first address of a region that is not installed, or has not the command.
 
-ghost use Rattle.std.specs.Prelude.{◌≡◌, ◌<◌, ◌≤◌, ◌-◌, is_some};
+ghost use Rattle.std.specs.Prelude.{◌≡◌, is_some};
 ghost use Rattle.camac_range.specs.Interval.{interval};
-ghost use Rattle.camac_rules.specs.Walks.{first_failing};
-ghost use Rattle.camac_rules.specs.Addresses.{station_widths, crate_widths, has_command, not_installed, missing_in, missing, undeclared_at, undeclared_in, undeclared};
+ghost use Rattle.camac_rules.specs.Walks.{count_below, first_failing};
+ghost use Rattle.camac_rules.specs.Addresses.{crate_end, station_end, station_widths, crate_widths, not_installed, missing_in, missing, undeclared_at, undeclared_in, undeclared};
 
 use crate::address::{
-    CRATE_END, STATION_END, SUB_ADDRESS_END, crate_widths, crate_without, end_of, is_in_plan,
+    CRATE_END, STATION_END, SUB_ADDRESS_END, crate_widths, crate_without, is_in_plan,
     station_missing, station_widths,
 };
 use crate::known::Region;
+use crate::walk::{end_of, first_failing};
 use camac_branch::Plan;
 use camac_range::Range;
 use camac_rules::Case;
@@ -37,8 +38,7 @@ fn missing_in(plan: &Plan, stations: Range, c: u32) -> Case
     let Some(crate_no) = CrateNo::new(c) else {
         return Case::NoCrate { crate_no: c };
     };
-    let end = end_of(stations, STATION_END);
-    let first = station_missing(plan, crate_no, stations.lo(), end);
+    let first = station_missing(plan, stations, crate_no);
     not_installed(plan, c, first.unwrap_or(stations.lo().max(STATION_END)))
 }
 
@@ -46,13 +46,8 @@ fn missing_in(plan: &Plan, stations: Range, c: u32) -> Case
 pub fn missing(plan: &Plan, g: Region) -> Case
     ensures { result ≡ missing plan.now g }
 {
-    let crates = g.crates();
-    let first = crate_without(plan, g.stations(), crates.lo(), end_of(crates, CRATE_END));
-    missing_in(
-        plan,
-        g.stations(),
-        first.unwrap_or(crates.lo().max(CRATE_END)),
-    )
+    let past = g.crates().lo().max(CRATE_END);
+    missing_in(plan, g.stations(), crate_without(plan, g).unwrap_or(past))
 }
 
 /// Whether a station declares a command at all these sub-addresses, for any numbers.
@@ -70,30 +65,12 @@ pub fn is_declared(plan: &Plan, f: Function, sub_addresses: Range, c: u32, n: u3
     }
 }
 
-// The first of these sub-addresses of a station that has not the command.
-#[tactic(auto, using(crate::proofs::Walks::first_steps))]
-fn sub_address_without(plan: &Plan, f: Function, c: u32, n: u32, a: u32, end: u32) -> Option<u32>
-    ensures { result ≡ first_failing (has_command plan.now f c n) a (end - a) }
-{
-    if a >= end {
-        return None;
-    }
-    if is_declared(plan, f, Range::only(a), c, n) {
-        return sub_address_without(plan, f, c, n, a + 1, end);
-    }
-    Some(a)
-}
-
 /// The first sub-address of a station, from one to another, that has not the command.
 pub fn undeclared_at(plan: &Plan, f: Function, first: u32, last: u32, c: u32, n: u32) -> Case
     ensures { result ≡ undeclared_at plan.now f (interval first last) c n }
 {
-    let end = if last < SUB_ADDRESS_END {
-        last + 1
-    } else {
-        SUB_ADDRESS_END
-    };
-    let found = sub_address_without(plan, f, c, n, first, end);
+    let end = end_of(last, SUB_ADDRESS_END);
+    let found = first_failing(first, end, |a| is_declared(plan, f, Range::only(a), c, n));
     Case::NoCommand {
         function: f.get(),
         crate_no: c,
@@ -103,49 +80,37 @@ pub fn undeclared_at(plan: &Plan, f: Function, first: u32, last: u32, c: u32, n:
 }
 
 // The first of these stations that does not declare the command at all the sub-addresses.
-#[tactic(auto, using(crate::proofs::Walks::first_steps))]
 fn station_without(
     plan: &Plan,
     f: Function,
     sub_addresses: Range,
+    stations: Range,
     c: u32,
-    n: u32,
-    end: u32,
 ) -> Option<u32>
-    ensures { result ≡ first_failing (λ m. is_some (station_widths plan.now f sub_addresses c m)) n (end - n) }
+    ensures { result ≡ first_failing (λ m. is_some (station_widths plan.now f sub_addresses c m)) stations.lo (count_below station_end stations) }
 {
-    if n >= end {
-        return None;
-    }
-    if is_declared(plan, f, sub_addresses, c, n) {
-        return station_without(plan, f, sub_addresses, c, n + 1, end);
-    }
-    Some(n)
+    first_failing(stations.lo(), end_of(stations.hi(), STATION_END), |n| {
+        is_declared(plan, f, sub_addresses, c, n)
+    })
 }
 
 // The first address of these stations that has not the command.
 fn undeclared_in(plan: &Plan, f: Function, sub_addresses: Range, stations: Range, c: u32) -> Case
     ensures { result ≡ undeclared_in plan.now f sub_addresses stations c }
 {
-    let end = end_of(stations, STATION_END);
-    let first = station_without(plan, f, sub_addresses, c, stations.lo(), end);
+    let first = station_without(plan, f, sub_addresses, stations, c);
     let n = first.unwrap_or(stations.lo().max(STATION_END));
     undeclared_at(plan, f, sub_addresses.lo(), sub_addresses.hi(), c, n)
 }
 
-// The first of these crates that does not declare the command at all of the region.
-#[tactic(auto, using(crate::proofs::Walks::first_steps))]
-fn crate_undeclared(plan: &Plan, f: Function, g: Region, c: u32, end: u32) -> Option<u32>
-    requires { end ≤ 8 }
-    ensures { result ≡ first_failing (λ d. is_some (crate_widths plan.now f g.sub_addresses g.stations d)) c (end - c) }
+// The first of its crates that does not declare the command at all of a region.
+fn crate_undeclared(plan: &Plan, f: Function, g: Region) -> Option<u32>
+    ensures { result ≡ first_failing (λ d. is_some (crate_widths plan.now f g.sub_addresses g.stations d)) g.crates.lo (count_below crate_end g.crates) }
 {
-    if c >= end {
-        return None;
-    }
-    if crate_widths(plan, f, g, c).is_some() {
-        return crate_undeclared(plan, f, g, c + 1, end);
-    }
-    Some(c)
+    let crates = g.crates();
+    first_failing(crates.lo(), end_of(crates.hi(), CRATE_END), |c| {
+        crate_widths(plan, f, g, c).is_some()
+    })
 }
 
 /// The first address of a region that has not the command.
@@ -153,7 +118,7 @@ pub fn undeclared(plan: &Plan, f: Function, g: Region) -> Case
     ensures { result ≡ undeclared plan.now f g }
 {
     let crates = g.crates();
-    let first = crate_undeclared(plan, f, g, crates.lo(), end_of(crates, CRATE_END));
+    let first = crate_undeclared(plan, f, g);
     let c = first.unwrap_or(crates.lo().max(CRATE_END));
     undeclared_in(plan, f, g.sub_addresses(), g.stations(), c)
 }

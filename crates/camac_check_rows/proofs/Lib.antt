@@ -1,4 +1,3 @@
-pub mod Lams
 pub mod Trees
 pub mod Kept
 pub mod Passed

@@ -4,7 +4,6 @@ ghost use Rattle.std.specs.Prelude.{◌≡◌, ◌<◌, ◌+◌, ◌-◌, ◌^�
 ghost use Rattle.camac_lang.specs.Tree.{line_of};
 ghost use Rattle.camac_lang.specs.View.{expression_of, statement_of};
 ghost use Rattle.camac_range.specs.Interval.{only};
-ghost use Rattle.camac_rules.specs.Calls.{lam_region};
 ghost use Rattle.camac_check_simple.specs.Gives.{by_code};
 ghost use Rattle.camac_rules.specs.Costs.{costs, no_costs};
 ghost use Rattle.camac_check_rows.specs.Rows.{times_at};
@@ -12,7 +11,7 @@ ghost use Rattle.camac_check_rows.specs.Statements.{at_region, between, crate_de
 
 use crate::row::{Detail, Kind, Row};
 use camac_check_known::{CheckFault, Costs, Facts, Region, range_of};
-use camac_check_simple::Context;
+use camac_check_simple::{Context, lam_region};
 use camac_lang::{CrateCall, Expr, LamCall, Stmt, WordSize};
 use camac_range::Range;
 use std::alloc::AllocError;
@@ -200,18 +199,5 @@ fn crate_detail(line: u32, crate_no: &Expr, known: Option<&Facts>) -> Result<Det
         Ok(range) => Ok(Detail::Crates(range)),
         Err(CheckFault::Broken { .. }) => Ok(Detail::Nothing),
         Err(CheckFault::OutOfMemory) => Err(AllocError),
-    }
-}
-
-fn lam_region(context: &Context, lam: usize) -> Option<Region>
-    ensures { result ≡ lam_region (by_code context.now) lam }
-{
-    match context.lams.get(lam) {
-        Some(lam) => Some(Region::new(
-            Range::only(lam.crate_no),
-            Range::only(lam.station),
-            Range::only(lam.sub_address.get()),
-        )),
-        None => None,
     }
 }

@@ -1,15 +1,11 @@
 -- The address of a LAM by its number, as the rules see it and as the code does.
-use Rattle.std.proofs.Common.{◌≡◌, ℕ, ◌<◌, ◌≤◌, List, length, get_or, map, Option, Some, None, Result, Ok, Err, sym, ap, ◌∙◌}
+use Rattle.std.proofs.Common.{◌≡◌, ℕ, ◌<◌, ◌≤◌, List, length, get_or, map, Option, Some, None, sym, ap, ◌∙◌}
 use Rattle.std.specs.Prelude.{option_map, slice_get}
 use Rattle.std.proofs.lemmas.Option.{slice_get-map, slice_get-get_or, slice_get_past}
 use Rattle.camac_lang.specs.declared.script.Lam.{Lam}
 use Rattle.camac_lang.specs.View.{lam_of}
 use Rattle.camac_range.specs.Interval.{Interval, only}
 use Rattle.camac_model.specs.Meaning.{lam_address}
-use Rattle.camac_rules.specs.declared.case.Case.{Case}
-use Rattle.camac_rules.specs.declared.rule.CheckRule.{CheckRule}
-use Rattle.camac_rules.specs.Fault.{Fault, broken}
-use Rattle.camac_rules.specs.Refusal.{given}
 use Rattle.camac_rules.specs.Known.{Region, region}
 use Rattle.camac_rules.specs.Calls.{single_region}
 
@@ -22,14 +18,11 @@ found ls i None e =
 found ls i (Some l) e =
     ap (option_map single_region) (slice_get-map lam_address (map lam_of ls) i ∙ ap (option_map lam_address) (slice_get-map lam_of ls i ∙ ap (option_map lam_of) e))
 
-pub lam_there : (ls : List Lam) (i : ℕ) (l : Lam) (rule : CheckRule) (line : ℕ) (case : Case) → i < length ls → l ≡ get_or ls i l → given (at ls i) rule line case ≡ Ok (single_region (lam_address (lam_of l)))
-unfolding given
-lam_there ls i l rule line case lt is =
-    ap (λ o. given o rule line case) (found ls i (Some l) (slice_get-get_or ls i l lt ∙ ap (λ x. Some x) (sym is)))
+pub lam_there : (ls : List Lam) (i : ℕ) (l : Lam) → i < length ls → l ≡ get_or ls i l → at ls i ≡ Some (single_region (lam_address (lam_of l)))
+lam_there ls i l lt is = found ls i (Some l) (slice_get-get_or ls i l lt ∙ ap (λ x. Some x) (sym is))
 
-pub no_lam : (ls : List Lam) (i : ℕ) (rule : CheckRule) (line : ℕ) (case : Case) → length ls ≤ i → given (at ls i) rule line case ≡ Err (broken rule line case)
-unfolding given
-no_lam ls i rule line case le = ap (λ o. given o rule line case) (found ls i None (slice_get_past ls i le))
+pub no_lam : (ls : List Lam) (i : ℕ) → length ls ≤ i → at ls i ≡ None
+no_lam ls i le = found ls i None (slice_get_past ls i le)
 
-pub same_region : (g : Region) (a b c : Interval) (x y z s : ℕ) → g ≡ region a b c → a ≡ only x → b ≡ only y → c ≡ only z → z ≡ s → ◌≡◌ {A = Result Region Fault} (Ok (region (only x) (only y) (only s))) (Ok g)
+pub same_region : (g : Region) (a b c : Interval) (x y z s : ℕ) → g ≡ region a b c → a ≡ only x → b ≡ only y → c ≡ only z → z ≡ s → ◌≡◌ {A = Option Region} (Some (region (only x) (only y) (only s))) (Some g)
 same_region g a b c x y z s e f h k l = cc

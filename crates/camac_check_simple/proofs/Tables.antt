@@ -1,13 +1,9 @@
 -- A table's words by its number, as the rules see them and as the code does.
-use Rattle.std.proofs.Common.{◌≡◌, ℕ, ◌^◌, ◌<◌, ◌≤◌, List, length, get_or, map, Some, None, sym, ap, ◌∙◌, arith}
+use Rattle.std.proofs.Common.{◌≡◌, ℕ, ◌<◌, ◌≤◌, List, length, get_or, map, Some, None, sym, ap, ◌∙◌}
 use Rattle.std.specs.Prelude.{option_map, slice_get}
-use Rattle.std.proofs.lemmas.Nat.{pow_below}
 use Rattle.std.proofs.lemmas.Option.{slice_get-map, slice_get-get_or, slice_get_past}
 use Rattle.camac_lang.specs.declared.script.Table.{Table}
 use Rattle.camac_lang.specs.View.{table_of}
-
-pub power_below : (w : ℕ) → w ≤ 24 → 2 ^ w < 2 ^ 32
-power_below w h = pow_below w 32 (omega arith)
 
 pub words_there : (ts : List Table) (i : ℕ) (t : Table) → i < length ts → t ≡ get_or ts i t → slice_get (map (λ t. t.words) (map table_of ts)) i ≡ Some t.words.items
 words_there ts i t lt is =

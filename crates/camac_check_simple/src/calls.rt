@@ -109,16 +109,22 @@ pub fn lam_call(
 fn address_of(context: &Context, lam: usize, line: u32) -> Result<Region, CheckFault>
     ensures { Gives (λ g. g) result (given (lam_region (by_code context.now) lam) CheckRule.StationNotInstalled line Case.Malformed) }
 {
+    match lam_region(context, lam) {
+        Some(region) => Ok(region),
+        None => Err(CheckFault::broken(CheckRule::StationNotInstalled, line, Case::Malformed)),
+    }
+}
+
+/// The address of a LAM by its number in the script, if there is one.
+pub fn lam_region(context: &Context, lam: usize) -> Option<Region>
+    ensures { result ≡ lam_region (by_code context.now) lam }
+{
     match context.lams.get(lam) {
-        Some(lam) => Ok(Region::new(
+        Some(lam) => Some(Region::new(
             Range::only(lam.crate_no),
             Range::only(lam.station),
             Range::only(lam.sub_address.get()),
         )),
-        None => Err(CheckFault::Broken {
-            rule: CheckRule::StationNotInstalled,
-            line,
-            case: Case::Malformed,
-        }),
+        None => None,
     }
 }

@@ -200,44 +200,17 @@ fn sized(size: WordSize, width: u32) -> u32
 }
 
 // E5 where a write of this size can't send each number of a range at these widths.
+#[tactic(auto, using(crate::proofs::Steps::power_below, crate::proofs::Steps::fits_sized))]
 fn value_fits(size: WordSize, values: Range, widths: Range, line: u32) -> Result<(), CheckFault>
     requires { widths.hi ≤ 24 }
     ensures { Gives (λ u. tt) result (required (nat_lt values.hi (2 ^ widths.lo) && fits_size size values.hi) CheckRule.ValueTooWide line (Case.Width values.hi (sized size widths.lo))) }
 {
     let greatest = values.hi();
-    let least = widths.lo();
-    let bits = sized(size, least);
+    let bits = sized(size, widths.lo());
     required(
-        fits(size, values, widths),
+        greatest < 2u32.pow(bits),
         CheckRule::ValueTooWide,
         line,
         Case::Width { greatest, bits },
     )
-}
-
-// Whether a write of this size can send each number of a range at these widths.
-fn fits(size: WordSize, values: Range, widths: Range) -> bool
-    requires { widths.hi ≤ 24 }
-    ensures { result ≡ (nat_lt values.hi (2 ^ widths.lo) && fits_size size values.hi) }
-{
-    let greatest = values.hi();
-    let least = widths.lo();
-    fits_width(greatest, least) && fits_size(size, greatest)
-}
-
-#[tactic(auto, using(crate::proofs::Steps::power_below))]
-fn fits_width(value: u32, width: u32) -> bool
-    requires { width ≤ 24 }
-    ensures { result ≡ nat_lt value (2 ^ width) }
-{
-    value < 2u32.pow(width)
-}
-
-fn fits_size(size: WordSize, value: u32) -> bool
-    ensures { result ≡ fits_size size value }
-{
-    match size {
-        WordSize::Full => true,
-        WordSize::Short => value <= 65535,
-    }
 }

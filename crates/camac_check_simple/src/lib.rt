@@ -11,7 +11,7 @@ mod table;
 mod transfer;
 mod window;
 
-pub use calls::{crate_call, lam_call, lock_crate};
+pub use calls::{crate_call, lam_call, lam_region, lock_crate};
 pub use context::{Context, Place};
 pub use cycle::single;
 pub use plain::{assign, put, set_register};

@@ -38,7 +38,7 @@ pub fn words_fit(tables: &[Table], table: Option<usize>, width: u32) -> bool
     }
 }
 
-#[tactic(auto, using(crate::proofs::Tables::power_below))]
+#[tactic(auto, using(crate::proofs::Steps::power_below))]
 fn all_fit(words: &[Word24], width: u32) -> bool
     requires { width ≤ 24 }
     ensures { result ≡ each (λ v. nat_lt v (2 ^ width)) words.now }

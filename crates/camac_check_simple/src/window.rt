@@ -1,6 +1,6 @@
 // The window of a scan: all stations and sub-addresses from a first to a final one.
 
-ghost use Rattle.std.specs.Prelude.{◌≡◌, ◌≤◌, ◌<◌, ◌-◌, ◌+◌, min};
+ghost use Rattle.std.specs.Prelude.{◌≡◌, ◌<◌};
 ghost use Rattle.camac_rules.specs.Addresses.{station_end};
 ghost use Rattle.camac_rules.specs.Transfers.{is_one_crate, has_sub_addresses};
 ghost use Rattle.camac_rules.specs.Walks.{count_below, first_failing};
@@ -9,7 +9,8 @@ ghost use Rattle.camac_check_simple.specs.Stations.{has_station, installed_at, d
 
 use camac_branch::Plan;
 use camac_check_known::{
-    Region, STATION_END, is_declared, is_station, not_installed, undeclared_at,
+    Region, STATION_END, end_of, first_failing, is_declared, is_station, not_installed,
+    undeclared_at,
 };
 use camac_range::Range;
 use camac_rules::Case;
@@ -67,9 +68,11 @@ impl Window {
     fn first_missing(self, plan: &Plan) -> Option<u32>
         ensures { result ≡ first_failing (installed_at plan.now self) self.first_station (count_below station_end (stations_of self)) }
     {
-        let first = self.first_station;
-        let end = self.end();
-        missing_from(plan, self, first, end)
+        first_failing(
+            self.first_station,
+            end_of(self.last_station, STATION_END),
+            |n| { installed_at(plan, self, n) },
+        )
     }
 
     /// Its first station that is not installed.
@@ -93,9 +96,11 @@ impl Window {
     fn first_undeclared(self, plan: &Plan, f: Function) -> Option<u32>
         ensures { result ≡ first_failing (declared_at plan.now f self) self.first_station (count_below station_end (stations_of self)) }
     {
-        let first = self.first_station;
-        let end = self.end();
-        undeclared_from(plan, f, self, first, end)
+        first_failing(
+            self.first_station,
+            end_of(self.last_station, STATION_END),
+            |n| { declared_at(plan, f, self, n) },
+        )
     }
 
     /// Its first address that has not the command.
@@ -106,18 +111,6 @@ impl Window {
         let n = self.first_undeclared(plan, f).unwrap_or(past);
         let (first, last) = self.sub_addresses_at(n);
         undeclared_at(plan, f, first, last, self.crate_no, n)
-    }
-
-    // The end of its stations, as far as there are any.
-    fn end(self) -> u32
-        ensures end { result ≡ min (self.last_station + 1) station_end }
-        ensures below { result ≤ 32 }
-    {
-        if self.last_station < STATION_END {
-            self.last_station + 1
-        } else {
-            STATION_END
-        }
     }
 
     /// The most cycles of a scan of at most so many words: each Q=0 goes on to the next station.
@@ -191,21 +184,6 @@ pub fn has_sub_addresses(g: Region) -> bool
     g.sub_addresses().hi() < 16
 }
 
-// The first of these stations that is not installed.
-#[tactic(auto, using(camac_check_known::proofs::Walks::first_steps))]
-fn missing_from(plan: &Plan, w: Window, n: u32, end: u32) -> Option<u32>
-    requires { end ≤ 32 }
-    ensures { result ≡ first_failing (installed_at plan.now w) n (end - n) }
-{
-    if n >= end {
-        return None;
-    }
-    if installed_at(plan, w, n) {
-        return missing_from(plan, w, n + 1, end);
-    }
-    Some(n)
-}
-
 fn installed_at(plan: &Plan, w: Window, n: u32) -> bool
     requires { n < 32 }
     ensures { result ≡ installed_at plan.now w n }
@@ -223,21 +201,6 @@ fn has_station(plan: &Plan, c: u32, n: u32) -> bool
         Some(crate_no) => plan.waits(crate_no).is_some() && is_station(plan, crate_no, n),
         None => false,
     }
-}
-
-// The first of these stations that does not declare a command.
-#[tactic(auto, using(camac_check_known::proofs::Walks::first_steps))]
-fn undeclared_from(plan: &Plan, f: Function, w: Window, n: u32, end: u32) -> Option<u32>
-    requires { end ≤ 32 }
-    ensures { result ≡ first_failing (declared_at plan.now f w) n (end - n) }
-{
-    if n >= end {
-        return None;
-    }
-    if declared_at(plan, f, w, n) {
-        return undeclared_from(plan, f, w, n + 1, end);
-    }
-    Some(n)
 }
 
 fn declared_at(plan: &Plan, f: Function, w: Window, n: u32) -> bool

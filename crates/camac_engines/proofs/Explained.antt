@@ -3,6 +3,7 @@ use Rattle.std.proofs.Common.{◌≡◌, ℕ, List, Option, Some, None, sym, sub
 use Rattle.std.specs.Prelude.{IfOk, Result, Ok, Err}
 use Rattle.std.specs.Global.{Vec}
 use Rattle.camac_branch.specs.Plan.{Layout}
+use Rattle.camac_plan.specs.declared.fault.PlanCase.{PlanCase}
 use Rattle.camac_plan.specs.declared.fault.PlanRule.{PlanRule}
 use Rattle.camac_lines.specs.declared.refusal.Refusal.TheVariants as refusal
 use Rattle.camac_explain.specs.Explanation.{IsPlanExplanation, explanation_of}
@@ -10,7 +11,7 @@ use Rattle.camac_explain.specs.Finding.{refusal_of}
 use Rattle.camac_explain.specs.declared.finding.Finding.{Finding}
 use Rattle.camac_engines.specs.Accepted.{Accepted, Accepts}
 use Rattle.camac_engines.specs.Engine.{IsWritten, Shows}
-use Rattle.camac_engines.specs.Explain.{Explained, ExplainedBy, ExplainedIf, PlanExplained, ReportsMore}
+use Rattle.camac_engines.specs.Explain.{Explained, ExplainedBy, ExplainedIf, IsOfText, PlanExplained, ReportsMore}
 use Rattle.camac_engines.specs.Report.{Report, refused, refused_and, report_plan}
 use Rattle.camac_engines.specs.declared.fault.ToolFault.{ToolFault}
 use Rattle.camac_engines.specs.declared.fault.ToolFault.TheVariants as fault
@@ -38,9 +39,9 @@ explained Explains plan j a told shown o p r same is h =
     (same_more (ExplainedBy Explains j) (ExplainedIf Explains a) (follows Explains plan j a is) shown outcome whole more)) h
 
 -- with the sentence that was handed in
-pub explained_with : {E : Type 0} (text : List ℕ) (f : Finding) (of_text : Option (List ℕ)) (r : Result (Vec ℕ) E) → IfOk r (λ v. v.items ≡ explanation_of text f of_text) → IfOk r (λ v. Explained text f v.items)
-explained_with text f of_text (Ok v) is = (of_text, is)
-explained_with text f of_text (Err e) is = tt
+pub explained_with : {E : Type 0} (text : List ℕ) (f : Finding) (of_text : Option (List ℕ)) (r : Result (Vec ℕ) E) → IsOfText text f of_text → IfOk r (λ v. v.items ≡ explanation_of text f of_text) → IfOk r (λ v. Explained text f v.items)
+explained_with text f of_text (Ok v) said is = (of_text, said, is)
+explained_with text f of_text (Err e) said is = tt
 
 -- a refusal with the lines that explain it
 pub refusal_explained : (Explains : Finding → List ℕ → Type 0) (more : List ℕ) (f : Finding) (o p : Option (List ℕ)) (r : Result Outcome ToolFault) → Explains f more
@@ -51,10 +52,10 @@ refusal_explained Explains more f o p (Err fault.Memory) is h = absurd h
 refusal_explained Explains more f o p (Err fault.Read) is h = absurd h
 refusal_explained Explains more f o p (Err fault.TooLong) is h = absurd h
 
-pub plan_explained : (more : List ℕ) (rule : PlanRule) (o p : Option (List ℕ)) (r : Result Outcome ToolFault) → IsPlanExplanation rule more
+pub plan_explained : (text : List ℕ) (case : PlanCase) (more : List ℕ) (rule : PlanRule) (o p : Option (List ℕ)) (r : Result Outcome ToolFault) → IsPlanExplanation text rule case more
     → Shows (refused_and (refusal.Plan rule) more) o p r → IsWritten (ReportsMore (PlanExplained (Err rule)) (report_plan (Err rule))) o p r
-plan_explained more rule o p (Ok outcome) is h = (_, (h.0, (more, is, refl)), h.1)
-plan_explained more rule o p (Err fault.Write) is h = (_, _, (refl, (more, is, refl)), h)
-plan_explained more rule o p (Err fault.Memory) is h = absurd h
-plan_explained more rule o p (Err fault.Read) is h = absurd h
-plan_explained more rule o p (Err fault.TooLong) is h = absurd h
+plan_explained text case more rule o p (Ok outcome) is h = (_, (h.0, (more, (text, case, is), refl)), h.1)
+plan_explained text case more rule o p (Err fault.Write) is h = (_, _, (refl, (more, (text, case, is), refl)), h)
+plan_explained text case more rule o p (Err fault.Memory) is h = absurd h
+plan_explained text case more rule o p (Err fault.Read) is h = absurd h
+plan_explained text case more rule o p (Err fault.TooLong) is h = absurd h

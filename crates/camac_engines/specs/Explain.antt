@@ -1,9 +1,12 @@
 -- What `camac explain` tells of a plan and a script.
 use Rattle.std.specs.Prelude.{◌≡◌, ℕ, List, ◌++◌, Option, Some, None, Result, Ok, Err}
 use Rattle.camac_branch.specs.Plan.{Layout}
+use Rattle.camac_plan.specs.declared.fault.PlanCase.{PlanCase}
 use Rattle.camac_plan.specs.declared.fault.PlanRule.{PlanRule}
 use Rattle.camac_explain.specs.Explanation.{IsPlanExplanation, explanation_of}
 use Rattle.camac_explain.specs.declared.finding.Finding.{Finding}
+use Rattle.camac_explain.specs.declared.finding.Finding.TheVariants as finding
+use Rattle.camac_explain_text.specs.Text.{IsTextSentence}
 use Rattle.camac_engines.specs.Accepted.{Accepted}
 use Rattle.camac_engines.specs.Refusals.{all_refusals, also_text}
 use Rattle.camac_engines.specs.Report.{Report}
@@ -12,9 +15,14 @@ use Rattle.camac_engines.specs.declared.judging.Judged.TheVariants as judged
 use Rattle.camac_engines.specs.declared.outcome.Outcome.{Outcome}
 use Rattle.camac_engines.specs.declared.outcome.Outcome.TheVariants.{Good, Refused}
 
--- the lines that explain what was found in a script's text, with some sentence or none of a rule of the text itself
+-- the sentence of a rule of the text itself; of another rule `explanation_of` has its own
+abbrev pub IsOfText : List ℕ → Finding → Option (List ℕ) → Type 0
+IsOfText text (finding.Text rule line left) of_text = IsTextSentence text of_text
+IsOfText text f of_text = of_text ≡ None
+
+-- the lines that explain what was found in a script's text
 abbrev pub Explained : List ℕ → Finding → List ℕ → Type 0
-Explained text f more = (of_text : Option (List ℕ)) × (more ≡ explanation_of text f of_text)
+Explained text f more = (of_text : Option (List ℕ)) × IsOfText text f of_text × (more ≡ explanation_of text f of_text)
 
 -- and then a line for each further refusal
 abbrev pub AllExplained : Layout → List ℕ → Finding → List ℕ → Type 0
@@ -29,9 +37,9 @@ abbrev pub ExplainedBy : (Explains : Finding → List ℕ → Type 0) → Judged
 ExplainedBy Explains (judged.Refused f) more = Explains f more
 ExplainedBy Explains (judged.Accepted c) more = ⊥
 
--- those that explain a plan's refusal
+-- those that explain a plan's refusal, by a case of its rule in some text
 abbrev pub PlanExplained : Result Layout PlanRule → List ℕ → Type 0
-PlanExplained (Err rule) more = IsPlanExplanation rule more
+PlanExplained (Err rule) more = (text : List ℕ) × (case : PlanCase) × IsPlanExplanation text rule case more
 PlanExplained (Ok plan) more = ⊥
 
 -- after the text of a refusal comes what explains it

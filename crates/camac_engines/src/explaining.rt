@@ -1,9 +1,9 @@
 // Explains a refusal.
 
-ghost use Rattle.std.specs.Prelude.{◌≡◌, ◌||◌, ◌++◌, Err, IfOk, is_err};
+ghost use Rattle.std.specs.Prelude.{◌≡◌, ◌||◌, ◌++◌, Err, IfOk, is_err, option_map, string_bytes};
 ghost use Rattle.camac_lines.specs.Refusal.{refusal_text};
 ghost use Rattle.camac_engines.specs.Engine.{IsWritten, Shows, is_write_fault};
-ghost use Rattle.camac_engines.specs.Explain.{AllExplained, Explained, ExplainedBy, PlanExplained, ReportsMore};
+ghost use Rattle.camac_engines.specs.Explain.{AllExplained, Explained, ExplainedBy, IsOfText, PlanExplained, ReportsMore};
 ghost use Rattle.camac_engines.specs.Headings.{headings_report_of};
 ghost use Rattle.camac_engines.specs.Report.{refused_and, report_of, report_plan};
 ghost use Rattle.camac_word.specs.Watched.{inner_of, has_failed};
@@ -97,7 +97,9 @@ fn sentence_of_text(
     alloc: Global,
     text: &[u8],
     finding: Finding,
-) -> Result<Option<String>, AllocError> {
+) -> Result<Option<String>, AllocError>
+    ensures { IfOk result (λ s. IsOfText text.now finding (option_map string_bytes s)) }
+{
     match finding {
         Finding::Text { .. } => text_sentence(alloc, text),
         Finding::Plan(_) | Finding::Link { .. } | Finding::Check { .. } => Ok(None),

@@ -137,8 +137,8 @@ is_side_forgotten case = false
 
 abbrev pub operation_mend : Case → List ℕ
 operation_mend case =
-    if is_right_forgotten case then codes "a loop forgets what its body writes: let it `keep` the right side in a range; then add its greatest number first, as in `v + 4095 - w`, and test the result by `if`. `camac-check --keeps` finds what a loop has to keep."
-    else if is_side_forgotten case then codes "a loop forgets what its body writes: let it `keep` the variable in a range, or bound the variable by `if` or `%` before. `camac-check --keeps` finds what a loop has to keep."
+    if is_right_forgotten case then codes "a loop forgets what its body writes: let it `keep` such a right side in a range, as `camac-check --keeps` finds it; then add its greatest number first, as in `v + 4095 - w`, and test the result by `if`."
+    else if is_side_forgotten case then codes "bound the variable by `if` or `%` before. A loop forgets what its body writes: let it `keep` such a variable in a range, as `camac-check --keeps` finds it."
     else known_mend case
 
 -- E5, E16: of a value that may be any number
@@ -149,12 +149,12 @@ is_any case = false
 
 abbrev pub width_mend : Case → List ℕ
 width_mend case =
-    if is_any case then codes "a loop forgets what its body writes: let it `keep` the variable in a range, or bound the value by `%` or `if`. `camac-check --keeps` finds what a loop has to keep."
+    if is_any case then codes "bound the value by `%` or `if`. A loop forgets what its body writes: let it `keep` such a variable in a range, as `camac-check --keeps` finds it."
     else codes "bound the value by `%` or `if`, write a smaller word into the table, or correct the `width` in the plan."
 
 abbrev pub word_mend : Case → List ℕ
 word_mend case =
-    if is_any case then codes "a loop forgets what its body writes: write `keep v in 0..16777215` after its head, or bound the value by `% 16777216` or `if`. `camac-check --keeps` finds what a loop has to keep."
+    if is_any case then codes "bound the value by `% 16777216` or `if`. A loop forgets what its body writes: for such a variable write `keep v in 0..16777215` after its head, as `camac-check --keeps` finds it."
     else codes "bound the value by `% 16777216`, or by an `if` on a variable that has it; let a loop `keep` it in a range, or put it as two words."
 
 -- E10: a larger number after `turns`, where that is allowed
@@ -219,7 +219,7 @@ check_told check.MeasureBroken case =
     (codes "write one `m = m - 1` into the body itself, in no `if` and no inner loop, and let nothing else write `m`.")
 check_told check.KeepFailsAtEntry case =
     told (codes "a kept variable is in its range when the loop begins, for all values that it may have.")
-    (codes "set the variable before the loop, or widen its range after `keep`. `camac-check --keeps` finds what a loop has to keep.")
+    (codes "set the variable before the loop, widen its range after `keep`, or leave out a variable that the body does not write. For one that it writes, `camac-check --keeps` finds the range.")
 check_told check.KeepFailsAfterTurn case =
     told (codes "a kept variable is in its range again after each turn, for all values that it may have.")
     (codes "a sum grows in each turn, so a wider range is refused again: add only where an `if` leaves room, as in `if k <= 49140 - 4095 { k = k + v }`. A value that is set again needs a bound or a wider range. `camac-check --keeps` finds what a loop has to keep.")

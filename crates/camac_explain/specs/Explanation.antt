@@ -4,8 +4,10 @@ use Rattle.camac_lang.specs.Tree.{Script}
 use Rattle.camac_lines.specs.Codes.{plan_code}
 use Rattle.camac_lines.specs.Refusal.{code_of}
 use Rattle.camac_tokens.specs.Fault.{Fault}
+use Rattle.camac_plan.specs.declared.fault.PlanCase.{PlanCase}
 use Rattle.camac_plan.specs.declared.fault.PlanRule.{PlanRule}
 use Rattle.camac_text.specs.Parser.{script_of}
+use Rattle.camac_explain_plan.specs.Sentence.{IsPlanSentence}
 use Rattle.camac_explain.specs.Advice.{Told, plan_told, text_told, link_told, check_told}
 use Rattle.camac_explain.specs.Finding.{refusal_of}
 use Rattle.camac_explain.specs.Sentence.{link_sentence_of, check_sentence_of}
@@ -50,6 +52,7 @@ explanation source sentence told code = source ++ sentence_line sentence ++ advi
 abbrev pub explanation_of : (text : List ℕ) → Finding → (of_text : Option (List ℕ)) → List ℕ
 explanation_of text f of_text = explanation (source_of text f) (sentence_of text f of_text) (told_of f) (code_of (refusal_of f)).0
 
--- of a plan's refusal, with some sentence or none
-abbrev pub IsPlanExplanation : PlanRule → List ℕ → Type 0
-IsPlanExplanation rule bytes = (sentence : Option (List ℕ)) × (bytes ≡ explanation [] sentence (plan_told rule) (plan_code rule).0)
+-- of a refused plan, by its rule in this case
+abbrev pub IsPlanExplanation : (text : List ℕ) → PlanRule → PlanCase → List ℕ → Type 0
+IsPlanExplanation text rule case bytes =
+    (sentence : Option (List ℕ)) × IsPlanSentence text case sentence × (bytes ≡ explanation [] sentence (plan_told rule) (plan_code rule).0)

@@ -8,6 +8,7 @@ use Rattle.camac_names.specs.declared.fault.LinkCase.{LinkCase}
 use Rattle.camac_names.specs.declared.fault.LinkCase.TheVariants as link
 use Rattle.camac_names.specs.declared.fault.LinkRule.{LinkRule}
 use Rattle.camac_names.specs.declared.fault.LinkRule.TheVariants.{LamNotInstalled}
+use Rattle.camac_range.specs.Number.{greatest}
 use Rattle.camac_rules.specs.declared.case.Body.{Body}
 use Rattle.camac_rules.specs.declared.case.Body.TheVariants.{Procedure, Service}
 use Rattle.camac_rules.specs.declared.case.Case.{Case}
@@ -63,6 +64,11 @@ unit_of TooManyWords = codes "event words"
 unit_of TooManyCycles = codes "dataway cycles"
 unit_of _ = codes "steps"
 
+-- what its heading allows, or any heading, of which none allows more than the greatest number
+abbrev pub limit_text : (allowed : ℕ) → List ℕ
+limit_text allowed =
+    if nat_eq allowed greatest then codes "and a heading allows at most " ++ decimal allowed else codes "its heading allows " ++ decimal allowed
+
 -- the steps of a service, which no number of its heading bounds
 abbrev pub is_service_steps : CheckRule → Body → Bool
 is_service_steps TooManySteps (Service lam) = true
@@ -73,7 +79,7 @@ budget_text rule body needed allowed =
     if is_service_steps rule body
     then concat (codes "The service may take " ∷ cost needed ∷ codes " steps, and " ∷ decimal allowed ∷ codes " are allowed." ∷ [])
     else concat (codes "The " ∷ who body ∷ codes " may " ∷ takes rule ∷ codes " " ∷ cost needed ∷ codes " " ∷ unit_of rule
-    ∷ codes ", its heading allows " ∷ decimal allowed ∷ codes "." ∷ [])
+    ∷ codes ", " ∷ limit_text allowed ∷ codes "." ∷ [])
 
 abbrev pub direction_text : ℕ → (acts moves : List ℕ) → List ℕ
 direction_text f acts moves = concat (codes "F" ∷ decimal f ∷ codes " " ∷ acts ∷ codes ", and the statement " ∷ moves ∷ codes "." ∷ [])

@@ -174,7 +174,7 @@ pub fn check_advice(rule: CheckRule, case: Case) -> Advice
         ),
         CheckRule::KeepFailsAtEntry => (
             "a kept variable is in its range when the loop begins, for all values that it may have.",
-            "set the variable before the loop, or widen its range after `keep`. `camac-check --keeps` finds what a loop has to keep.",
+            "set the variable before the loop, widen its range after `keep`, or leave out a variable that the body does not write. For one that it writes, `camac-check --keeps` finds the range.",
         ),
         CheckRule::KeepFailsAfterTurn => (
             "a kept variable is in its range again after each turn, for all values that it may have.",
@@ -245,9 +245,9 @@ fn operation_mend(case: Case) -> &'static str
     ensures { result.now ≡ operation_mend case }
 {
     if is_right_forgotten(case) {
-        "a loop forgets what its body writes: let it `keep` the right side in a range; then add its greatest number first, as in `v + 4095 - w`, and test the result by `if`. `camac-check --keeps` finds what a loop has to keep."
+        "a loop forgets what its body writes: let it `keep` such a right side in a range, as `camac-check --keeps` finds it; then add its greatest number first, as in `v + 4095 - w`, and test the result by `if`."
     } else if is_side_forgotten(case) {
-        "a loop forgets what its body writes: let it `keep` the variable in a range, or bound the variable by `if` or `%` before. `camac-check --keeps` finds what a loop has to keep."
+        "bound the variable by `if` or `%` before. A loop forgets what its body writes: let it `keep` such a variable in a range, as `camac-check --keeps` finds it."
     } else if is_difference(case) {
         "ranges know no relation between two variables: add the greatest number of the right side first, as in `v + 4095 - w`, and test the result by `if`."
     } else {
@@ -310,7 +310,7 @@ fn width_mend(case: Case) -> &'static str
     ensures { result.now ≡ width_mend case }
 {
     if is_any(case) {
-        "a loop forgets what its body writes: let it `keep` the variable in a range, or bound the value by `%` or `if`. `camac-check --keeps` finds what a loop has to keep."
+        "bound the value by `%` or `if`. A loop forgets what its body writes: let it `keep` such a variable in a range, as `camac-check --keeps` finds it."
     } else {
         "bound the value by `%` or `if`, write a smaller word into the table, or correct the `width` in the plan."
     }
@@ -321,7 +321,7 @@ fn word_mend(case: Case) -> &'static str
     ensures { result.now ≡ word_mend case }
 {
     if is_any(case) {
-        "a loop forgets what its body writes: write `keep v in 0..16777215` after its head, or bound the value by `% 16777216` or `if`. `camac-check --keeps` finds what a loop has to keep."
+        "bound the value by `% 16777216` or `if`. A loop forgets what its body writes: for such a variable write `keep v in 0..16777215` after its head, as `camac-check --keeps` finds it."
     } else {
         "bound the value by `% 16777216`, or by an `if` on a variable that has it; let a loop `keep` it in a range, or put it as two words."
     }

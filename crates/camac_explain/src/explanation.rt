@@ -10,9 +10,9 @@ ghost use Rattle.camac_explain.specs.Source.{source_of};
 use crate::advice::{Advice, check_advice, link_advice, plan_advice, text_advice};
 use crate::finding::Finding;
 use crate::names::Names;
-use crate::plan::plan_sentence;
 use crate::sentence::{check_sentence, link_sentence};
 use crate::source::{push_shown, push_source};
+use camac_explain_plan::plan_sentence;
 use camac_lines::Refusal;
 use camac_names::{LinkCase, LinkRule};
 use camac_plan::{PlanCase, PlanRule};
@@ -26,7 +26,7 @@ pub fn explain_plan(
     rule: PlanRule,
     case: PlanCase,
 ) -> Result<Vec<u8>, AllocError>
-    ensures { IfOk result (λ v. IsPlanExplanation rule v.items) }
+    ensures { IfOk result (λ v. IsPlanExplanation text.now rule case v.items) }
 {
     let mut lines = Vec::new(alloc);
     let sentence = plan_sentence(alloc, text, case)?;

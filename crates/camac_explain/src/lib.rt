@@ -6,7 +6,6 @@ mod example;
 mod explanation;
 mod finding;
 mod names;
-mod plan;
 mod rule;
 mod sentence;
 mod source;

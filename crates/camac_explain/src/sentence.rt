@@ -3,7 +3,7 @@
 ghost use Rattle.std.specs.Prelude.{◌≡◌, Some, IfOk, option_map, string_bytes};
 ghost use Rattle.camac_lines.specs.Words.{quoted};
 ghost use Rattle.camac_names.specs.declared.fault.LinkCase.TheVariants.{Place};
-ghost use Rattle.camac_explain.specs.Sentence.{argument_text, budget_text, direction_text, kept_text, is_service_steps, check_sentence_of, cost, does, link_sentence_of, sign_of, span, takes, unit_of, when, who};
+ghost use Rattle.camac_explain.specs.Sentence.{argument_text, budget_text, direction_text, kept_text, is_service_steps, check_sentence_of, cost, does, limit_text, link_sentence_of, sign_of, span, takes, unit_of, when, who};
 
 use crate::names::Names;
 use camac_func::FunctionClass;
@@ -270,6 +270,21 @@ impl fmt::Display for Cost {
     }
 }
 
+// What a heading allows. The greatest number is what any heading allows at most.
+#[derive(Clone, Copy)]
+struct Limit(u32);
+
+impl fmt::Display for Limit {
+    ghost output = { λ l. Some (limit_text l.0) };
+
+    fn fmt<W: fmt::Write>(&self, f: &mut fmt::Formatter<W>) -> fmt::Result {
+        match self.0 {
+            u32::MAX => write!(f, "and a heading allows at most {}", self.0),
+            _ => write!(f, "its heading allows {}", self.0),
+        }
+    }
+}
+
 fn budget_sentence(
     alloc: Global,
     rule: CheckRule,
@@ -284,7 +299,8 @@ fn budget_sentence(
         format!(in alloc; "The service may take {needed} steps, and {allowed} are allowed.")
     } else {
         let (who, takes, unit) = (who(body), takes(rule), unit_of(rule));
-        format!(in alloc; "The {who} may {takes} {needed} {unit}, its heading allows {allowed}.")
+        let limit = Limit(allowed);
+        format!(in alloc; "The {who} may {takes} {needed} {unit}, {limit}.")
     }
 }
 

@@ -1,5 +1,9 @@
 // What stands before a place of a script.
 
+ghost use Rattle.std.specs.Prelude.{◌≡◌, ◌-◌, ◌==◌, length, nat_lt, not, option_copied, option_map, slice_get};
+ghost use Rattle.camac_tokens.specs.declared.token.Sign.TheVariants as sign;
+ghost use Rattle.camac_explain_text.specs.Before.{called_in, count_of, is_sign, word_of};
+
 use crate::expected::{begins_declaration, begins_statement};
 use camac_lang::Name;
 use camac_lines::is_near;
@@ -7,12 +11,11 @@ use camac_text::NameKind;
 use camac_tokens::{Keyword, Sign, TokenKind, TokensLeft};
 use std::alloc::{AllocError, Global};
 
-/// A name, what it is declared as, and the line on which it stands first.
+/// A name, and what it is declared as.
 #[derive(Drop)]
 pub struct Declared {
     pub name: Name,
     pub kind: NameKind,
-    pub line: u32,
     /// Of a procedure that has ended: how many parameters it has.
     pub parameters: usize,
 }
@@ -54,12 +57,16 @@ impl Before {
     }
 
     /// The first word of the declaration or the statement in hand.
-    pub fn first_word(&self) -> Option<Keyword> {
+    pub fn first_word(&self) -> Option<Keyword>
+        ensures { result ≡ word_of (slice_get self.now.phrase.items 0) }
+    {
         word_of(self.phrase.first())
     }
 
     /// The procedure that the statement in hand calls.
-    pub fn called(&self) -> Option<&[u8]> {
+    pub fn called(&self) -> Option<&[u8]>
+        ensures { option_map (λ n. n.now) result ≡ called_in self.now.phrase.items }
+    {
         match self.phrase.as_slice() {
             [TokenKind::Keyword(Keyword::Call), TokenKind::Name(name), ..] => {
                 Some(name.as_bytes())
@@ -82,24 +89,23 @@ impl Before {
     }
 
     /// Whether it ends in brackets, and so in an expression.
-    pub fn is_in_brackets(&self) -> bool {
-        self.count(Sign::LeftBracket) > self.count(Sign::RightBracket)
-    }
-
-    // How often a sign stands in the phrase.
-    fn count(&self, wanted: Sign) -> usize {
-        let is_wanted =
-            |kind: &&TokenKind| matches!(kind, TokenKind::Sign(sign) if *sign == wanted);
-        self.phrase.iter().filter(is_wanted).count()
+    pub fn is_in_brackets(&self) -> bool
+        ensures { result ≡ nat_lt (count_of sign.RightBracket self.now.phrase.items) (count_of sign.LeftBracket self.now.phrase.items) }
+    {
+        count_of(&self.phrase, Sign::LeftBracket) > count_of(&self.phrase, Sign::RightBracket)
     }
 
     /// Whether it ends in a body.
-    pub fn in_body(&self) -> bool {
+    pub fn in_body(&self) -> bool
+        ensures { result ≡ not (length self.now.blocks.items == 0) }
+    {
         !self.blocks.is_empty()
     }
 
     /// The line of the last `{` that is open.
-    pub fn open_line(&self) -> Option<u32> {
+    pub fn open_line(&self) -> Option<u32>
+        ensures { result ≡ slice_get self.now.blocks.items (length self.now.blocks.items - 1) }
+    {
         self.blocks.last().copied()
     }
 
@@ -140,7 +146,7 @@ impl Before {
             TokenKind::Sign(Sign::Equals) => self.begin_assignment()?,
             TokenKind::Sign(_) | TokenKind::Number(_) => {}
             TokenKind::Keyword(word) => self.begin(*word),
-            TokenKind::Name(name) => self.declare(name, line)?,
+            TokenKind::Name(name) => self.declare(name)?,
         }
         self.phrase.push(kind.duplicate())?;
         Ok(())
@@ -169,7 +175,7 @@ impl Before {
         Ok(())
     }
 
-    fn declare(&mut self, name: &Name, line: u32) -> Result<(), AllocError> {
+    fn declare(&mut self, name: &Name) -> Result<(), AllocError> {
         let Some(kind) = self.kind_declared_next() else {
             return Ok(());
         };
@@ -177,7 +183,6 @@ impl Before {
             self.names.push(Declared {
                 name: name.duplicate(),
                 kind,
-                line,
                 parameters: 0,
             })?;
         }
@@ -232,8 +237,32 @@ impl Before {
     }
 }
 
+// How often a sign stands in a phrase.
+fn count_of(phrase: &[TokenKind], wanted: Sign) -> usize
+    ensures { result ≡ count_of wanted phrase.now }
+{
+    let mut count = 0;
+    'kinds: for kind in phrase {
+        if is_sign(kind, wanted) {
+            count += 1;
+        }
+    }
+    count
+}
+
+fn is_sign(kind: &TokenKind, wanted: Sign) -> bool
+    ensures { result ≡ is_sign wanted kind.now }
+{
+    match kind {
+        TokenKind::Sign(sign) => *sign == wanted,
+        _ => false,
+    }
+}
+
 /// The word of the language that a token is.
-pub fn word_of(kind: Option<&TokenKind>) -> Option<Keyword> {
+pub fn word_of(kind: Option<&TokenKind>) -> Option<Keyword>
+    ensures { result ≡ word_of (option_copied kind.entry) }
+{
     match kind {
         Some(TokenKind::Keyword(word)) => Some(*word),
         _ => None,

@@ -1,8 +1,17 @@
 // The token at which a fault shows.
 
+ghost use Rattle.std.specs.Prelude.{◌≡◌, IfOk, IfSome, Some, [], ◌∷◌, length, option_map, take, take_while};
+ghost use Rattle.std.specs.Char.{is_ascii_digit};
+ghost use Rattle.camac_tokens.specs.Scanning.{is_name_byte, pair_at};
+ghost use Rattle.camac_tokens.specs.Words.{pair_signs, spelled_in};
+ghost use Rattle.camac_explain_text.specs.Absent.{absent_of, absent_sign, absent_word};
+ghost use Rattle.camac_explain_text.specs.Declaring.{tokens_in};
+ghost use Rattle.camac_explain_text.specs.Found.{begun_length, kind_at, rest_of, sign_length, text_before, word_at, word_length};
+
 use crate::absent::{Absent, absent_sign, absent_word};
 use crate::before::{Before, word_of};
-use camac_text::{Choice, Choices, NameKind, TextCase, TextFault, TokenKind, TokensLeft};
+use crate::declaring::tokens_in;
+use camac_text::{Choice, Choices, NameKind, Token, TokenKind, TokensLeft};
 use camac_tokens::Keyword;
 use std::alloc::{AllocError, Global};
 
@@ -13,10 +22,11 @@ pub struct Found<'a> {
     pub word: &'a [u8],
     /// None where it is no token of the language.
     pub kind: Option<TokenKind>,
-    /// The texts before it, from it on, and behind it.
+    /// The texts before it, and from it on.
     pub text: &'a [u8],
     pub rest: &'a [u8],
-    pub behind: &'a [u8],
+    /// Those before it.
+    pub tokens: Vec<Token>,
     pub before: Before,
     /// What may stand in its place.
     pub expected: Choices,
@@ -29,19 +39,28 @@ impl<'a> Found<'a> {
         text: &'a [u8],
         left: usize,
         expected: Choices,
-    ) -> Result<Self, AllocError> {
-        let (text, rest) = text.split_at(text.len().saturating_sub(left));
-        let (word, kind) = token_at(rest);
+    ) -> Result<Self, AllocError>
+        ensures word { IfOk result (λ f. f.word.now ≡ word_at (rest_of left text.now)) }
+        ensures kind { IfOk result (λ f. f.kind ≡ kind_at (rest_of left text.now)) }
+        ensures text { IfOk result (λ f. f.text.now ≡ text_before left text.now) }
+        ensures tokens { IfOk result (λ f. f.tokens.items ≡ tokens_in (text_before left text.now)) }
+        ensures rest { IfOk result (λ f. f.rest.now ≡ rest_of left text.now) }
+    {
+        let rest = rest_of(text, left);
+        let text = text_before(text, left);
+        let (word, kind) = (word_at(rest), kind_at(rest));
         // A fault of a token is the first of its text, and needs nothing of what stands before.
         let is_known = kind.is_some() || word.is_empty();
         let read = if is_known { text } else { &text[..0] };
+        let before = Before::new(alloc, read)?;
+        let tokens = tokens_in(alloc, text)?;
         Ok(Found {
             word,
             kind,
             text,
             rest,
-            behind: &rest[word.len().min(rest.len())..],
-            before: Before::new(alloc, read)?,
+            tokens,
+            before,
             expected,
         })
     }
@@ -73,7 +92,8 @@ impl<'a> Found<'a> {
 
     /// Whether these bytes stand behind it, after blanks.
     pub fn is_before(&self, bytes: &[u8]) -> bool {
-        self.behind.trim_ascii_start().starts_with(bytes)
+        let behind = self.rest.get(self.word.len()..).unwrap_or(b"");
+        behind.trim_ascii_start().starts_with(bytes)
     }
 
     /// Whether a statement may begin in its place.
@@ -86,15 +106,17 @@ impl<'a> Found<'a> {
         self.is_before(b"=") && !self.is_before(b"==")
     }
 
-    /// The sign of another language that stands here. It is longer than a token of the language.
-    pub fn absent_sign(&self) -> Option<Absent<'static>> {
-        let absent = absent_sign(self.text, self.rest)?;
-        let is_longer = self.kind.is_none() || absent.spelled.len() > 1;
-        is_longer.then_some(absent)
+    /// The sign of another language that stands here.
+    pub fn absent_sign(&self) -> Option<Absent<'static>>
+        ensures { option_map absent_of result ≡ absent_sign self.now.text.now self.now.rest.now }
+    {
+        absent_sign(self.text, self.rest)
     }
 
     /// The word of another language that it is, unless the script declares it.
-    pub fn absent_word(&self) -> Option<Absent<'a>> {
+    pub fn absent_word(&self) -> Option<Absent<'a>>
+        ensures { IfSome result (λ a. absent_word self.now.word.now ≡ Some (absent_of a)) }
+    {
         let is_name = matches!(self.kind, Some(TokenKind::Name(_)));
         if is_name && self.before.declared(self.word).is_none() {
             absent_word(self.word)
@@ -118,39 +140,105 @@ impl<'a> Found<'a> {
     }
 }
 
-/// The bytes at which a fault shows, from which a text goes on, and their kind where they are a token. Where they are none, a token fault
-/// shows there: the bytes are a name or a number that is too long, or one that begins no token.
-pub fn token_at(text: &[u8]) -> (&[u8], Option<TokenKind>) {
+/// A text from the place on where so many bytes are left.
+pub fn rest_of(text: &[u8], left: usize) -> &[u8]
+    ensures { result.now ≡ rest_of left text.now }
+{
+    &text[text.len().saturating_sub(left)..]
+}
+
+fn text_before(text: &[u8], left: usize) -> &[u8]
+    ensures { result.now ≡ text_before left text.now }
+{
+    &text[..text.len().saturating_sub(left)]
+}
+
+/// The word, the number, the sign or the one byte with which a text begins.
+fn word_at(text: &[u8]) -> &[u8]
+    ensures { result.now ≡ word_at text.now }
+{
+    prefix(text, word_length(text))
+}
+
+/// The first bytes of a text, at most so many.
+#[tactic(auto, using(std::proofs::lemmas::List::take_min))]
+pub fn prefix(text: &[u8], most: usize) -> &[u8]
+    ensures { result.now ≡ take most text.now }
+{
+    &text[..most.min(text.len())]
+}
+
+fn word_length(text: &[u8]) -> usize
+    ensures { result ≡ word_length text.now }
+{
+    match text {
+        [first, ..] => begun_length(*first, text),
+        [] => 0,
+    }
+}
+
+fn begun_length(first: u8, text: &[u8]) -> usize
+    ensures { result ≡ begun_length first text.now }
+{
+    if first.is_ascii_alphabetic() {
+        name_length(text)
+    } else if first.is_ascii_digit() {
+        digits_length(text)
+    } else {
+        sign_length(text)
+    }
+}
+
+fn name_length(text: &[u8]) -> usize
+    ensures { result ≡ length (take_while is_name_byte text.now) }
+{
+    text.iter().take_while(|b| is_name_byte(**b)).count()
+}
+
+fn digits_length(text: &[u8]) -> usize
+    ensures { result ≡ length (take_while is_ascii_digit text.now) }
+{
+    text.iter().take_while(|b| b.is_ascii_digit()).count()
+}
+
+fn sign_length(text: &[u8]) -> usize
+    ensures { result ≡ sign_length (pair_at text.now) }
+{
+    match text {
+        [first, second, ..] => pair_length(*first, *second),
+        _ => 1,
+    }
+}
+
+// Two bytes may be a sign.
+fn pair_length(first: u8, second: u8) -> usize
+    ensures { result ≡ sign_length (spelled_in pair_signs (first ∷ second ∷ [])) }
+{
+    match (first, second) {
+        (b'<', b'=') => 2,
+        (b'>', b'=') => 2,
+        (b'=', b'=') => 2,
+        (b'!', b'=') => 2,
+        (b'-', b'>') => 2,
+        (b'<', b'-') => 2,
+        (b'.', b'.') => 2,
+        _ => 1,
+    }
+}
+
+/// The kind of the first token of a text, unless none is left, or what is no token stands there.
+pub fn kind_at(text: &[u8]) -> Option<TokenKind>
+    ensures { result ≡ kind_at text.now }
+{
     let tokens = TokensLeft::new(text);
-    let (size, kind) = match tokens.first() {
-        Some(token) => (size_of(&token.kind, text), Some(token.kind.duplicate())),
-        None => match tokens.end() {
-            Err(TextFault::Broken { case, .. }) => (size_of_fault(case, text), None),
-            _ => (0, None),
-        },
-    };
-    (&text[..size.min(text.len())], kind)
-}
-
-// The number of bytes at the start of a text that are no token.
-fn size_of_fault(case: TextCase, text: &[u8]) -> usize {
-    match case {
-        TextCase::Byte => 1,
-        TextCase::Number { .. } => text.iter().take_while(|b| b.is_ascii_digit()).count(),
-        _ => text.iter().take_while(|b| is_name_byte(**b)).count(),
+    match tokens.first() {
+        Some(token) => Some(token.kind.duplicate()),
+        None => None,
     }
 }
 
-// The number of bytes of the token at the start of a text.
-fn size_of(kind: &TokenKind, text: &[u8]) -> usize {
-    match kind {
-        TokenKind::Name(name) => name.as_bytes().len(),
-        TokenKind::Number(_) => text.iter().take_while(|b| b.is_ascii_digit()).count(),
-        TokenKind::Keyword(word) => word.spelling().len(),
-        TokenKind::Sign(sign) => sign.spelling().len(),
-    }
-}
-
-fn is_name_byte(byte: u8) -> bool {
-    byte.is_ascii_alphanumeric() || byte == b'_'
+fn is_name_byte(byte: u8) -> bool
+    ensures { result ≡ is_name_byte byte }
+{
+    byte.is_ascii_alphabetic() || byte.is_ascii_digit() || byte == b'_'
 }

@@ -1,5 +1,9 @@
 // What may be meant where a text is refused.
 
+ghost use Rattle.std.specs.Prelude.{◌≡◌, Some};
+ghost use Rattle.camac_lines.specs.Words.{shown_text};
+ghost use Rattle.camac_explain_text.specs.Hint.{arguments_of, call_text, hint_text};
+
 use crate::absent::Absent;
 use crate::expected::{begins_declaration, begins_statement};
 use crate::found::Found;
@@ -41,8 +45,10 @@ pub enum Hint<'a> {
 }
 
 impl fmt::Display for Hint<'_> {
+    ghost output = { λ h. Some (hint_text h) };
+
     fn fmt<W: fmt::Write>(&self, f: &mut fmt::Formatter<W>) -> fmt::Result {
-        match self {
+        match *self {
             Hint::Told(told) => write!(f, "{told}"),
             Hint::Meant(word) => write!(f, "Did you mean `{word}`?"),
             Hint::MeantName(name) => write!(f, "Did you mean {}?", Quote(name)),
@@ -55,12 +61,8 @@ impl fmt::Display for Hint<'_> {
                 "`{word}` belongs outside of services and procedures, and the `{{` of line {line} is still open."
             ),
             Hint::Takes { procedure, count } => {
-                let noun = if *count == 1 { "argument" } else { "arguments" };
-                write!(
-                    f,
-                    "The procedure {} takes {count} {noun}.",
-                    Quote(procedure)
-                )
+                let (procedure, noun) = (Quote(procedure), arguments_of(count));
+                write!(f, "The procedure {procedure} takes {count} {noun}.")
             }
             Hint::Brackets(name) => { write!(f, "Write arguments in brackets: {}.", Call(name)) }
             Hint::Called(name) => write!(f, "A procedure is called by {}.", Call(name)),
@@ -72,10 +74,10 @@ impl fmt::Display for Hint<'_> {
             Hint::Address(name) => write!(
                 f,
                 "A register holds an address: `cfsa 0 {} -> v` reads from it into `v`.",
-                str::from_utf8(name).unwrap_or("?")
+                shown_text(name)
             ),
             Hint::NoArrow(name) => {
-                let name = str::from_utf8(name).unwrap_or("?");
+                let name = shown_text(name);
                 write!(
                     f,
                     "Before `{name}` an arrow is missing: `-> {name}` reads, `<- {name}` writes."
@@ -94,13 +96,31 @@ impl fmt::Display for Hint<'_> {
     }
 }
 
+fn arguments_of(count: usize) -> &'static str
+    ensures { result.now ≡ arguments_of count }
+{
+    if count == 1 { "argument" } else { "arguments" }
+}
+
+// Bytes as they are, or a `?` where they are no text.
+fn shown_text(bytes: &[u8]) -> &str
+    ensures { result.now ≡ shown_text bytes.now }
+{
+    match str::from_utf8(bytes) {
+        Ok(text) => text,
+        Err(_) => "?",
+    }
+}
+
 // How a procedure is called.
 #[derive(Clone, Copy)]
 struct Call<'a>(&'a [u8]);
 
 impl fmt::Display for Call<'_> {
+    ghost output = { λ c. Some (call_text c.0.now) };
+
     fn fmt<W: fmt::Write>(&self, f: &mut fmt::Formatter<W>) -> fmt::Result {
-        write!(f, "`call {}(..)`", str::from_utf8(self.0).unwrap_or("?"))
+        write!(f, "`call {}(..)`", shown_text(self.0))
     }
 }
 

@@ -4,6 +4,7 @@
 
 mod absent;
 mod before;
+mod declaring;
 mod expected;
 mod found;
 mod hint;

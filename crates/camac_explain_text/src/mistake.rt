@@ -7,14 +7,6 @@ use crate::hint::{Hint, word_before};
 use camac_text::{Choice, NameKind, TokenKind};
 use camac_tokens::{Keyword, Sign};
 
-/// What is to be known of a byte that begins no token.
-pub fn told_of_byte(byte: u8) -> Option<&'static str> {
-    match byte {
-        b'_' => Some("A name begins with a letter."),
-        _ => None,
-    }
-}
-
 /// What is to be known of a name of one kind in the place of another.
 pub fn told_of_kind(wanted: NameKind, found: NameKind) -> Option<&'static str> {
     match (wanted, found) {
@@ -33,8 +25,11 @@ pub fn own_sentence<'a>(found: &'a Found<'_>) -> Option<Hint<'a>> {
     if let Some(absent) = found.absent_word() {
         return Some(Hint::Absent(absent));
     }
+    // A sign of the language may begin as one of another, as `..` does.
     if let (Some(TokenKind::Sign(_)), Some(absent)) = (&found.kind, found.absent_sign()) {
-        return Some(Hint::Absent(absent));
+        if absent.spelled.len() > 1 {
+            return Some(Hint::Absent(absent));
+        }
     }
     let keyword = found.keyword()?;
     let word = keyword.spelling();

@@ -1,47 +1,84 @@
 // The sentence on a text's fault.
 
+ghost use Rattle.std.specs.Prelude.{◌≡◌, Some, None, IfOk, option_map, string_bytes};
+ghost use Rattle.std.specs.Str.{is_utf8};
+ghost use Rattle.camac_explain_text.specs.Absent.{absent_of, absent_text};
+ghost use Rattle.camac_explain_text.specs.Hint.{hint_text};
+ghost use Rattle.camac_explain_text.specs.Text.{IsFaultTold, IsTextSentence, begins_like_a_plan, is_buffer};
+ghost use Rattle.camac_explain_text.specs.Sentence.{arguments_text, IsMissing, IsOtherKind, IsTaken, IsTold, IsUndeclared, byte_text, character, character_size, first_byte, missing_text, noun, number_text, or_empty, other_byte_text, other_text, taken_text, with_hint};
+
+use crate::absent::{Absent, absent_sign};
+use crate::declaring::{called_before, declared_line};
 use crate::expected::expected_of;
-use crate::found::Found;
+use crate::found::{Found, kind_at, prefix, rest_of};
 use crate::hint::{Hint, kind_hint, name_hint, unexpected_hint, word_before};
 use crate::limit::limit_told;
-use crate::mistake::{outside_of_bodies, own_sentence, told_of_byte};
+use crate::mistake::{outside_of_bodies, own_sentence};
 use camac_lines::{Quote, before_item};
-use camac_text::{Choices, NameKind, TextCase, TextFault, parse_expecting};
+use camac_text::{Choices, NameKind, TextCase, TextFault, TokenKind, parse_expecting};
 use std::alloc::{AllocError, Global};
 
 const PLAN_FIRST: &str = "This begins like a plan: PLAN comes first, then SCRIPT.";
 
 /// What the first rule that a text breaks knew, and what may be meant. None where the text is a script.
-pub fn text_sentence(alloc: Global, text: &[u8]) -> Result<Option<String>, AllocError> {
+#[tactic(auto, using(crate::proofs::Told::of_script, crate::proofs::Told::of_fault))]
+pub fn text_sentence(alloc: Global, text: &[u8]) -> Result<Option<String>, AllocError>
+    ensures { IfOk result (λ s. IsTextSentence text.now (option_map string_bytes s)) }
+{
     let mut expected = Choices::none();
     match parse_expecting(alloc, text, &mut expected) {
         Ok(_script) => Ok(None),
         Err(TextFault::OutOfMemory) => Err(AllocError),
-        Err(TextFault::Broken { .. }) if begins_like_a_plan(text) => Ok(Some(String::from_str(
-            alloc, PLAN_FIRST,
-        )?)),
         Err(TextFault::Broken { case, left, .. }) => {
-            let found = Found::new(alloc, text, left, expected)?;
-            Ok(Some(case_told(alloc, &found, case)?))
+            let sentence = fault_told(alloc, text, case, left, expected)?;
+            Ok(Some(sentence))
         }
     }
 }
 
-// Whether a text's first line that is neither empty nor a comment is one of a plan.
-fn begins_like_a_plan(text: &[u8]) -> bool {
-    for line in text.split(|byte| *byte == b'\n') {
-        let line = line.trim_ascii();
-        if !line.is_empty() && !line.starts_with(b"#") {
-            return line.starts_with(b"[") || line.starts_with(b"buffer");
-        }
+// Of a text in which so many bytes are left from the fault on.
+#[tactic(auto, using(crate::proofs::Told::at_place))]
+fn fault_told(
+    alloc: Global,
+    text: &[u8],
+    case: TextCase,
+    left: usize,
+    expected: Choices,
+) -> Result<String, AllocError>
+    ensures { IfOk result (λ s. IsFaultTold (begins_like_a_plan left text.now) text.now case left (string_bytes s)) }
+{
+    if begins_like_a_plan(text, left) {
+        return String::from_str(alloc, PLAN_FIRST);
     }
-    false
+    let found = Found::new(alloc, text, left, expected)?;
+    case_told(alloc, &found, case)
 }
 
-fn case_told(alloc: Global, found: &Found<'_>, case: TextCase) -> Result<String, AllocError> {
+// Whether a text begins with the word `buffer` or, where a fault is first, with a `[` there.
+fn begins_like_a_plan(text: &[u8], left: usize) -> bool
+    ensures { result ≡ begins_like_a_plan left text.now }
+{
+    match kind_at(text) {
+        Some(kind) => is_buffer(&kind),
+        None => rest_of(text, left).starts_with(b"["),
+    }
+}
+
+fn is_buffer(kind: &TokenKind) -> bool
+    ensures { result ≡ is_buffer kind.now }
+{
+    match kind {
+        TokenKind::Name(name) => name.as_bytes().starts_with(b"buffer"),
+        _ => false,
+    }
+}
+
+fn case_told(alloc: Global, found: &Found<'_>, case: TextCase) -> Result<String, AllocError>
+    ensures { IfOk result (λ s. IsTold found.now.text.now found.now.rest.now found.now.tokens.items found.now.word.now case (string_bytes s)) }
+{
     let word = Quote(found.word);
     match case {
-        TextCase::Byte => byte_told(alloc, found),
+        TextCase::Byte => byte_told(alloc, found.text, found.rest),
         TextCase::Unexpected => unexpected(alloc, found),
         TextCase::ZeroDivisor => {
             format!(in alloc; "Found {word}. A divisor is a number of at least 1.")
@@ -49,13 +86,10 @@ fn case_told(alloc: Global, found: &Found<'_>, case: TextCase) -> Result<String,
         TextCase::LockInProcedure => {
             format!(in alloc; "A procedure has no `lock`: put the `call` into one.")
         }
-        TextCase::ArgumentCount { wanted } => arguments_told(alloc, found, wanted),
-        TextCase::Number { most: u32::MAX } => {
-            format!(in alloc; "The number {word} is above 4294967295, the greatest of all.")
+        TextCase::ArgumentCount { wanted } => {
+            arguments_told(alloc, found.word, called_before(&found.tokens), wanted)
         }
-        TextCase::Number { most } => {
-            format!(in alloc; "The number {word} is above {most}, the greatest allowed here.")
-        }
+        TextCase::Number { most } => number_told(alloc, word, most),
         TextCase::Taken { by } => taken(alloc, found, by),
         TextCase::KeptTwice => format!(in alloc; "The variable {word} is kept twice."),
         TextCase::CounterKept => {
@@ -75,44 +109,111 @@ fn case_told(alloc: Global, found: &Found<'_>, case: TextCase) -> Result<String,
     }
 }
 
-fn with_hint(
-    alloc: Global,
-    sentence: String,
-    hint: Option<Hint<'_>>,
-) -> Result<String, AllocError> {
+// Of a number above the greatest that may stand there.
+fn number_told(alloc: Global, token: Quote<'_>, most: u32) -> Result<String, AllocError>
+    ensures { IfOk result (λ s. string_bytes s ≡ number_text token.entry.0.now most) }
+{
+    match most {
+        u32::MAX => {
+            format!(in alloc; "The number {token} is above 4294967295, the greatest of all.")
+        }
+        _ => format!(in alloc; "The number {token} is above {most}, the greatest allowed here."),
+    }
+}
+
+fn with_hint(alloc: Global, sentence: String, hint: Option<Hint<'_>>) -> Result<String, AllocError>
+    ensures { IfOk result (λ s. string_bytes s ≡ with_hint (string_bytes sentence) (option_map hint_text hint.entry)) }
+{
     match hint {
         Some(hint) => format!(in alloc; "{sentence} {hint}"),
         None => Ok(sentence),
     }
 }
 
-fn byte_told(alloc: Global, found: &Found<'_>) -> Result<String, AllocError> {
-    if let Some(absent) = found.absent_sign() {
-        return format!(in alloc; "{}", Hint::Absent(absent));
+// Of a byte that begins no token, with the text before it and the text from it on.
+fn byte_told(alloc: Global, before: &[u8], rest: &[u8]) -> Result<String, AllocError>
+    ensures { IfOk result (λ s. string_bytes s ≡ byte_text before.now rest.now) }
+{
+    match absent_sign(before, rest) {
+        Some(absent) => absent_told(alloc, absent),
+        None => other_byte_told(alloc, rest),
     }
-    let byte = found.word.first().copied().unwrap_or(0);
-    let sentence = match character(found.rest) {
-        Some(shown) => format!(in alloc; "The character {} begins no token.", Quote(shown))?,
-        None => format!(in alloc; "The byte {byte} begins no token.")?,
-    };
-    match told_of_byte(byte) {
-        Some(told) => with_hint(alloc, sentence, Some(Hint::Told(told))),
-        None => Ok(sentence),
+}
+
+fn absent_told(alloc: Global, absent: Absent<'_>) -> Result<String, AllocError>
+    ensures { IfOk result (λ s. string_bytes s ≡ absent_text (absent_of absent.entry)) }
+{
+    format!(in alloc;
+        "camac has no {}; write {}.",
+        Quote(absent.spelled),
+        absent.write
+    )
+}
+
+fn other_byte_told(alloc: Global, rest: &[u8]) -> Result<String, AllocError>
+    ensures { IfOk result (λ s. string_bytes s ≡ other_byte_text rest.now) }
+{
+    let byte = first_byte(rest);
+    if byte == b'_' {
+        return String::from_str(
+            alloc,
+            "The character `_` begins no token. A name begins with a letter.",
+        );
+    }
+    let character = character(rest);
+    if character.is_empty() {
+        format!(in alloc; "The byte {byte} begins no token.")
+    } else {
+        format!(in alloc; "The character {} begins no token.", Quote(character))
+    }
+}
+
+fn first_byte(text: &[u8]) -> u8
+    ensures { result ≡ first_byte text.now }
+{
+    match text {
+        [byte, ..] => *byte,
+        [] => 0,
     }
 }
 
 // The bytes of the character with which a text begins, where it is one that can be shown.
-fn character(text: &[u8]) -> Option<&[u8]> {
-    let size = match text.first()? {
-        byte if byte.is_ascii_graphic() => 1,
-        0xC3..=0xDF => 2,
-        0xE0..=0xEF => 3,
-        0xF0..=0xF7 => 4,
-        _ => return None,
-    };
-    let bytes = text.get(..size)?;
-    str::from_utf8(bytes).ok()?;
-    Some(bytes)
+fn character(text: &[u8]) -> &[u8]
+    ensures { result.now ≡ character text.now }
+{
+    or_empty(prefix(text, character_size(first_byte(text))))
+}
+
+// Bytes that are a text, or nothing.
+fn or_empty(bytes: &[u8]) -> &[u8]
+    ensures { result.now ≡ or_empty bytes.now }
+{
+    if is_text(bytes) { bytes } else { &[] }
+}
+
+fn is_text(bytes: &[u8]) -> bool
+    ensures { result ≡ is_utf8 bytes.now }
+{
+    match str::from_utf8(bytes) {
+        Ok(_) => true,
+        Err(_) => false,
+    }
+}
+
+fn character_size(first: u8) -> usize
+    ensures { result ≡ character_size first }
+{
+    if first.is_ascii_graphic() {
+        1
+    } else if first < 0xC3 {
+        0
+    } else if first < 0xE0 {
+        2
+    } else if first < 0xF0 {
+        3
+    } else {
+        4
+    }
 }
 
 fn unexpected(alloc: Global, found: &Found<'_>) -> Result<String, AllocError> {
@@ -134,33 +235,52 @@ fn unexpected(alloc: Global, found: &Found<'_>) -> Result<String, AllocError> {
     with_hint(alloc, sentence, unexpected_hint(found))
 }
 
-fn arguments_told(alloc: Global, found: &Found<'_>, wanted: usize) -> Result<String, AllocError> {
-    let word = Quote(found.word);
-    match found.before.called() {
+// Of a call, where its procedure is known.
+fn arguments_told(
+    alloc: Global,
+    token: &[u8],
+    procedure: Option<&[u8]>,
+    wanted: usize,
+) -> Result<String, AllocError>
+    ensures { IfOk result (λ s. string_bytes s ≡ arguments_text token.now (option_map (λ n. n.now) procedure.entry) wanted) }
+{
+    let token = Quote(token);
+    match procedure {
         Some(procedure) => {
             let count = wanted;
             let takes = Hint::Takes { procedure, count };
-            format!(in alloc; "Found {word}. {takes}")
+            format!(in alloc; "Found {token}. {takes}")
         }
-        None => format!(in alloc; "Found {word}."),
+        None => format!(in alloc; "Found {token}."),
     }
 }
 
-fn taken(alloc: Global, found: &Found<'_>, by: NameKind) -> Result<String, AllocError> {
-    let name = Quote(found.word);
-    let kind = noun(by);
-    let sentence = match found.before.declared(found.word) {
-        Some(declared) => {
-            let line = declared.line;
-            format!(in alloc;
-                "The name {name} is taken: it is declared on line {line} as a {kind}."
-            )?
-        }
-        None => format!(in alloc; "The name {name} is taken: it is declared as a {kind}.")?,
-    };
+#[tactic(auto, using(crate::proofs::Told::begins))]
+fn taken(alloc: Global, found: &Found<'_>, by: NameKind) -> Result<String, AllocError>
+    ensures { IfOk result (λ s. IsTaken found.now.tokens.items found.now.word.now by (string_bytes s)) }
+{
+    let line = declared_line(&found.tokens, by, found.word);
+    let sentence = taken_told(alloc, found.word, line, by)?;
     match outside_of_bodies(found) {
         Some(told) => with_hint(alloc, sentence, Some(Hint::Told(told))),
         None => with_hint(alloc, sentence, word_before(found)),
+    }
+}
+
+fn taken_told(
+    alloc: Global,
+    name: &[u8],
+    line: Option<u32>,
+    by: NameKind,
+) -> Result<String, AllocError>
+    ensures { IfOk result (λ s. string_bytes s ≡ taken_text name.now line by) }
+{
+    let (name, kind) = (Quote(name), noun(by));
+    match line {
+        Some(line) => format!(in alloc;
+            "The name {name} is taken: it is declared on line {line} as a {kind}."
+        ),
+        None => format!(in alloc; "The name {name} is taken: it is declared as a {kind}."),
     }
 }
 
@@ -169,19 +289,13 @@ fn undeclared(
     found: &Found<'_>,
     wanted: NameKind,
     what: camac_text::Found,
-) -> Result<String, AllocError> {
+) -> Result<String, AllocError>
+    ensures { IfOk result (λ s. IsUndeclared found.now.tokens.items found.now.word.now wanted what (string_bytes s)) }
+{
     let name = Quote(found.word);
-    let needed = noun(wanted);
     match what {
         camac_text::Found::Nothing => not_there(alloc, found, wanted),
-        camac_text::Found::Other(kind) => {
-            let is = noun(kind);
-            let line = found.before.declared(found.word).map_or(0, |it| it.line);
-            let sentence = format!(in alloc;
-                "The name {name} is declared on line {line} as a {is}; expected a {needed}."
-            )?;
-            with_hint(alloc, sentence, kind_hint(found, wanted, kind))
-        }
+        camac_text::Found::Other(kind) => other_kind(alloc, found, wanted, kind),
         camac_text::Found::Itself => {
             format!(in alloc; "The procedure {name} can be called only after its end.")
         }
@@ -191,16 +305,57 @@ fn undeclared(
     }
 }
 
-fn not_there(alloc: Global, found: &Found<'_>, wanted: NameKind) -> Result<String, AllocError> {
+// Of a name that is declared as another kind.
+#[tactic(auto, using(crate::proofs::Told::begins))]
+fn other_kind(
+    alloc: Global,
+    found: &Found<'_>,
+    wanted: NameKind,
+    kind: NameKind,
+) -> Result<String, AllocError>
+    ensures { IfOk result (λ s. IsOtherKind found.now.tokens.items found.now.word.now wanted kind (string_bytes s)) }
+{
+    let line = declared_line(&found.tokens, kind, found.word);
+    let sentence = other_told(alloc, found.word, line, wanted, kind)?;
+    with_hint(alloc, sentence, kind_hint(found, wanted, kind))
+}
+
+fn other_told(
+    alloc: Global,
+    name: &[u8],
+    line: Option<u32>,
+    wanted: NameKind,
+    kind: NameKind,
+) -> Result<String, AllocError>
+    ensures { IfOk result (λ s. string_bytes s ≡ other_text name.now line wanted kind) }
+{
+    let (name, is, needed) = (Quote(name), noun(kind), noun(wanted));
+    match line {
+        Some(line) => format!(in alloc;
+            "The name {name} is declared on line {line} as a {is}; expected a {needed}."
+        ),
+        None => format!(in alloc; "The name {name} is declared as a {is}; expected a {needed}."),
+    }
+}
+
+#[tactic(auto, using(crate::proofs::Told::begins, crate::proofs::Told::missing_begins, crate::proofs::Told::missing_absent))]
+fn not_there(alloc: Global, found: &Found<'_>, wanted: NameKind) -> Result<String, AllocError>
+    ensures { IfOk result (λ s. IsMissing found.now.word.now wanted (string_bytes s)) }
+{
     if let (NameKind::Variable, Some(absent)) = (wanted, found.absent_word()) {
         if is_of_another_language(found) {
-            return format!(in alloc; "{}", Hint::Absent(absent));
+            return absent_told(alloc, absent);
         }
     }
-    let name = Quote(found.word);
-    let needed = noun(wanted);
-    let sentence = format!(in alloc; "The name {name} is not declared above as a {needed}.")?;
+    let sentence = missing_told(alloc, found.word, wanted)?;
     with_hint(alloc, sentence, name_hint(found, wanted))
+}
+
+fn missing_told(alloc: Global, name: &[u8], wanted: NameKind) -> Result<String, AllocError>
+    ensures { IfOk result (λ s. string_bytes s ≡ missing_text name.now wanted) }
+{
+    let (name, needed) = (Quote(name), noun(wanted));
+    format!(in alloc; "The name {name} is not declared above as a {needed}.")
 }
 
 // Whether a word stands as in another language, and is no name of a variable that is not declared: it begins a statement that is no
@@ -212,7 +367,9 @@ fn is_of_another_language(found: &Found<'_>) -> bool {
 }
 
 // What a name of a kind is called.
-fn noun(kind: NameKind) -> &'static str {
+fn noun(kind: NameKind) -> &'static str
+    ensures { result.now ≡ noun kind }
+{
     match kind {
         NameKind::Lam => "LAM",
         NameKind::Parameter => "parameter",

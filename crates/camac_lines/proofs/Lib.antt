@@ -5,3 +5,4 @@ pub mod Pairs
 pub mod Texts
 pub mod Neighbours
 pub mod Words
+pub mod Near

@@ -1,7 +1,7 @@
 // The line of a dataway cycle over the bytes of a line, from a place on. The place stays at hand until the whole line is laid out, so that
 // the length of the line is set once.
 
-ghost use Rattle.std.specs.Prelude.{◌≡◌, ◌≤◌, ◌+◌, ◌++◌, length, take, codes, decimal};
+ghost use Rattle.std.specs.Prelude.{◌≡◌, ◌≤◌, ◌+◌, ◌++◌, ◌∷◌, [], length, take, codes, decimal};
 ghost use Rattle.camac_branch.specs.Address.{address};
 ghost use Rattle.camac_lines.specs.Cycles.{flag_text, move_text, cycle_start, cycle_text};
 
@@ -19,8 +19,7 @@ pub fn cycle_in(bytes: &mut [u8], start: usize, cycle: &CycleDone) -> usize
 {
     let moved = command_in(bytes, start, &cycle.command);
     let replied = move_in(bytes, moved, cycle.command.mv, cycle.reply);
-    let waited = text_in(bytes, replied, reply_bits(cycle.reply));
-    let number = text_in(bytes, waited, " wait ");
+    let number = bytes_in(bytes, replied, &reply_text(cycle.reply));
     let end = small_in(bytes, number, cycle.wait);
     text_in(bytes, end, "\n")
 }
@@ -33,7 +32,8 @@ pub fn command_in(bytes: &mut [u8], start: usize, command: &Command) -> usize
     ensures end { result ≤ start + 22 }
     ensures len { length bytes.new ≡ length bytes.old }
 {
-    let c = text_in(bytes, start, "cycle ");
+    let word = *b"cycle ";
+    let c = bytes_in(bytes, start, &word);
     let n = spaced_in(bytes, c, command.c.get() as u8);
     let a = spaced_in(bytes, n, command.n.get() as u8);
     let f = spaced_in(bytes, a, command.a.get() as u8);
@@ -61,7 +61,8 @@ fn move_in(bytes: &mut [u8], start: usize, moves: DataMove, reply: Reply) -> usi
 {
     match moves {
         DataMove::In => {
-            let word = text_in(bytes, start, "in ");
+            let text = *b"in ";
+            let word = bytes_in(bytes, start, &text);
             bytes_in(bytes, word, &hex_word(reply.word))
         }
         DataMove::Out(sent) => {
@@ -72,16 +73,22 @@ fn move_in(bytes: &mut [u8], start: usize, moves: DataMove, reply: Reply) -> usi
     }
 }
 
-// The reply's X and Q.
+// The reply's X and Q, and what stands before the wait. It is made on the stack: bytes that are part of the program would be tested
+// for an overlap with the line.
 #[inline(always)]
-fn reply_bits(reply: Reply) -> &'static str
-    ensures text { result.now ≡ codes " x" ++ flag_text reply.x ++ codes " q" ++ flag_text reply.q }
-    ensures short { length result.now ≡ 6 }
+fn reply_text(reply: Reply) -> [u8; 12]
+    ensures { result ≡ codes " x" ++ flag_text reply.x ++ codes " q" ++ flag_text reply.q ++ codes " wait " }
 {
-    match (reply.x, reply.q) {
-        (false, false) => " x0 q0",
-        (false, true) => " x0 q1",
-        (true, false) => " x1 q0",
-        (true, true) => " x1 q1",
-    }
+    let x = flag_digit(reply.x);
+    let q = flag_digit(reply.q);
+    [
+        b' ', b'x', x, b' ', b'q', q, b' ', b'w', b'a', b'i', b't', b' ',
+    ]
+}
+
+#[inline(always)]
+fn flag_digit(flag: bool) -> u8
+    ensures { result ∷ [] ≡ flag_text flag }
+{
+    b'0' + flag as u8
 }

@@ -277,7 +277,7 @@ module _ {V D C : ℕ} (h : Machine V D C) where
               ∙ ap (λ o. given o (q_repeats_up table at m) (state_of h answers)) is4
 
   -- what goes on at once is begun like any statement
-  pub proceeds_advance : (st : Statement) (next' : Option Pending) (new : Machine V D C) → Proceeds (record h { steps = h.steps + 1 }) (λ c. effect c most_turns st) next' new → Advances h (λ c s. effect c most_turns st (stepped s)) next' new
+  pub proceeds_advance : (st : Statement) (next' : Option Pending) (new : Machine V D C) → Proceeds (record h { steps = h.steps + 1 }) (λ c. effect c most_turns st) next' new → Advances 2 h (λ c s. effect c most_turns st (stepped s)) next' new
   proceeds_advance st next' new p =
       let steps : new.steps ≡ h.steps + 1 = ap (λ (m : Machine V D C). m.steps) p.same in
       let frames : length new.frames.items ≡ length h.frames.items = ap (λ (m : Machine V D C). length m.frames.items) p.same in
@@ -287,6 +287,7 @@ module _ {V D C : ℕ} (h : Machine V D C) where
         service = ap (λ (m : Machine V D C). m.service) p.same;
         awaits = p.awaits;
         pace = omega (arith, steps, frames);
+        few = omega (arith, steps);
         released = [];
         unlocks = ap (λ (m : Machine V D C). m.unlocks.items) p.same ∙ sym (append-nil h.unlocks.items);
         goes = p.goes;
@@ -476,6 +477,7 @@ module _ {V D C : ℕ} (h : Machine V D C) (k : Command) (t : Course) (table : O
               begun = refl;
               unlocks = refl;
               steps = omega arith;
+              few = omega arith;
               can_follow = (p.1.0, some_is ((left_at t).next_address []) (address_of k) p.1.1);
               goes = λ answers.
                   let made' : State = after_cycle (address_of k) k.f d.reply d.wait answers (state_of h (a ∷ answers)) in

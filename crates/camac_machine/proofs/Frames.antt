@@ -162,13 +162,14 @@ module _ {V D C : ℕ} (h : Machine V D C) where
         ap (λ (gs : List Frame). rest_in (context_in h.checked.now) (map (open_in h) gs) s) e ∙ left_pushed (context_in h.checked.now) (open_in h) fs.items f s
 
   -- a statement that wants an answer
-  pub wants_advance : (st : Statement) (o : Option Pending) → HasRoom h → IsSomeAnd o (Awaits (record h { steps = h.steps + 1 }) (λ c. effect c most_turns st)) → Advances h (λ c s. effect c most_turns st (stepped s)) o (record h { steps = h.steps + 1 })
+  pub wants_advance : (st : Statement) (o : Option Pending) → HasRoom h → IsSomeAnd o (Awaits (record h { steps = h.steps + 1 }) (λ c. effect c most_turns st)) → Advances 2 h (λ c s. effect c most_turns st (stepped s)) o (record h { steps = h.steps + 1 })
   wants_advance st (Some w) r k = record {
     room = room_stepped (h.steps + 1) r;
     checked = refl;
     service = refl;
     awaits = k.awaits;
     pace = omega arith;
+    few = omega arith;
     released = [];
     unlocks = sym (append-nil h.unlocks.items);
     goes = λ answers. ap (λ b. then_do b (left_in h)) (k.goes answers);
@@ -199,26 +200,42 @@ module _ {V D C : ℕ} (h : Machine V D C) where
         ∙ ap (λ b. then_do b (left_in h)) (plain_left (context_in h.checked.now) (statements_of body.now) (state_of h answers) ∙ goes answers);
   }) room
 
-  pub enter_advances : (st : Statement) (new : Machine V D C) → Enters (record h { steps = h.steps + 1 }) (λ c. effect c most_turns st) new → Advances h (λ c s. effect c most_turns st (stepped s)) None new
+  pub enter_advances : (st : Statement) (new : Machine V D C) → Enters (record h { steps = h.steps + 1 }) (λ c. effect c most_turns st) new → Advances 2 h (λ c s. effect c most_turns st (stepped s)) None new
   enter_advances st new k = record {
     room = k.room;
     checked = k.checked;
     service = k.service;
     awaits = tt;
     pace = let n = k.blocks in let m = k.steps in omega (arith, n, m);
+    few = let m = k.steps in omega (arith, m);
     released = [];
     unlocks = ap (λ (us : ArrayVec ℕ). us.items) k.unlocks ∙ sym (append-nil h.unlocks.items);
     goes = k.goes;
   }
 
   -- one that is done at once
-  pub step_advances : (st : Statement) (w : Option Pending) (new : Machine V D C) → Advances (record h { steps = h.steps + 1 }) (λ c. effect c most_turns st) w new → Advances h (λ c s. effect c most_turns st (stepped s)) w new
+  pub step_advances : (st : Statement) (w : Option Pending) (new : Machine V D C) → Advances 1 (record h { steps = h.steps + 1 }) (λ c. effect c most_turns st) w new → Advances 2 h (λ c s. effect c most_turns st (stepped s)) w new
   step_advances st w new k = record {
     room = k.room;
     checked = k.checked;
     service = k.service;
     awaits = k.awaits;
     pace = let p = k.pace in omega arith;
+    few = let p = k.few in omega (arith, p);
+    released = k.released;
+    unlocks = k.unlocks;
+    goes = k.goes;
+  }
+
+  -- no more than one step is no more than two
+  pub advances_soon : (go : Context → Action) (w : Option Pending) (new : Machine V D C) → Advances 1 h go w new → Advances 2 h go w new
+  advances_soon go w new k = record {
+    room = k.room;
+    checked = k.checked;
+    service = k.service;
+    awaits = k.awaits;
+    pace = k.pace;
+    few = let p = k.few in omega (arith, p);
     released = k.released;
     unlocks = k.unlocks;
     goes = k.goes;

@@ -35,7 +35,7 @@ module _ {V D C : ℕ} (h : Machine V D C) where
   last : (o : Owner) → HasRoomFor h (os ++ over o ∷ []) → LastFits V h.checked.now.script h.scope D os (over o)
   last o r = opens_pop V h.checked.now.script h.scope D os (over o) r.blocks
 
-  pub plain_leaves : HasRoomFor h (os ++ over nothing ∷ []) → Advances h (λ c. owed c nothing) None h
+  pub plain_leaves : HasRoomFor h (os ++ over nothing ∷ []) → Advances 1 h (λ c. owed c nothing) None h
   unfolding owed
   plain_leaves r = record {
     room = room_with h h.frames (os ++ over nothing ∷ []) os (last nothing r).others (held_pop (branch_of h.branch) os (over nothing) (λ c. refl) r.locks) r;
@@ -43,6 +43,7 @@ module _ {V D C : ℕ} (h : Machine V D C) where
     service = refl;
     awaits = tt;
     pace = omega arith;
+    few = omega arith;
     released = [];
     unlocks = sym (append-nil h.unlocks.items);
     goes = λ answers. refl;
@@ -99,7 +100,7 @@ module _ {V D C : ℕ} (h : Machine V D C) where
             unlocks = omega (arith, few, one, n, among);
           }
 
-      pub lock_leaves : Advances h (λ c. owed c (releases k)) None after
+      pub lock_leaves : Advances 1 h (λ c. owed c (releases k)) None after
       unfolding owed
       lock_leaves = record {
         room = room_after;
@@ -107,6 +108,7 @@ module _ {V D C : ℕ} (h : Machine V D C) where
         service = refl;
         awaits = tt;
         pace = omega arith;
+        few = omega arith;
         released = k ∷ [];
         unlocks = released;
         goes = λ answers. ap (λ (d : Branch). does (lock_released k) (left_in h (record (state_of after answers) { branch = d }))) freed;
@@ -137,7 +139,7 @@ module _ {V D C : ℕ} (h : Machine V D C) where
       unlocks = r.unlocks;
     }
 
-    pub return_leaves : vs ≡ held_at p.variables h.variables → rs ≡ held_at p.registers h.registers → HasRoomFor h (os ++ over (returns p vs rs) ∷ []) → Advances h (λ c. owed c (returns p vs rs)) None (record h { scope = p })
+    pub return_leaves : vs ≡ held_at p.variables h.variables → rs ≡ held_at p.registers h.registers → HasRoomFor h (os ++ over (returns p vs rs) ∷ []) → Advances 1 h (λ c. owed c (returns p vs rs)) None (record h { scope = p })
     unfolding owed
     return_leaves e f r = record {
       room = room_returned r;
@@ -145,6 +147,7 @@ module _ {V D C : ℕ} (h : Machine V D C) where
       service = refl;
       awaits = tt;
       pace = omega arith;
+      few = omega arith;
       released = [];
       unlocks = sym (append-nil h.unlocks.items);
       goes = λ answers.
@@ -169,17 +172,18 @@ module _ {V D C : ℕ} (h : Machine V D C) where
     pub next_fine : v < w → FineThen h (λ c. owed c (for_loop x v w n b)) → FineThen h (λ c. for_turns (suc (w - (v + 1))) n x (v + 1) w (block_meaning c most_turns b))
     next_fine lt fine = fine_as h (λ c. owed c (for_loop x v w n b)) (λ c. for_turns (suc (w - (v + 1))) n x (v + 1) w (block_meaning c most_turns b)) (turn_next lt) fine
 
-    pub next_leaves : v < w → (new : Machine V D C) → Advances h (λ c. for_turns (suc (w - (v + 1))) n x (v + 1) w (block_meaning c most_turns b)) None new → Advances h (λ c. owed c (for_loop x v w n b)) None new
+    pub next_leaves : v < w → (new : Machine V D C) → Advances 1 h (λ c. for_turns (suc (w - (v + 1))) n x (v + 1) w (block_meaning c most_turns b)) None new → Advances 1 h (λ c. owed c (for_loop x v w n b)) None new
     next_leaves lt new k =
         advances_as h (λ c. for_turns (suc (w - (v + 1))) n x (v + 1) w (block_meaning c most_turns b)) (λ c. owed c (for_loop x v w n b)) None new (λ answers. sym (turn_next lt answers)) k
 
-    pub last_leaves : w ≤ v → x < (reach h).variables → (new : Machine V D C) → new ≡ with_value h x w → HasRoom h → Advances h (λ c. owed c (for_loop x v w n b)) None new
-    last_leaves le lt new same r = subst (λ m. Advances h (λ c. owed c (for_loop x v w n b)) None m) (sym same) (record {
+    pub last_leaves : w ≤ v → x < (reach h).variables → (new : Machine V D C) → new ≡ with_value h x w → HasRoom h → Advances 1 h (λ c. owed c (for_loop x v w n b)) None new
+    last_leaves le lt new same r = subst (λ m. Advances 1 h (λ c. owed c (for_loop x v w n b)) None m) (sym same) (record {
       room = room_written h x w r;
       checked = refl;
       service = refl;
       awaits = tt;
       pace = omega arith;
+      few = omega arith;
       released = [];
       unlocks = sym (append-nil h.unlocks.items);
       goes = λ answers.
@@ -194,6 +198,6 @@ module _ {V D C : ℕ} (h : Machine V D C) where
     unfolding owed
     while_fine fine = fine
 
-    pub while_leaves : (new : Machine V D C) → Advances h (λ c. turns n test (block_meaning c most_turns b)) None new → Advances h (λ c. owed c (while_loop test n b)) None new
+    pub while_leaves : (new : Machine V D C) → Advances 1 h (λ c. turns n test (block_meaning c most_turns b)) None new → Advances 1 h (λ c. owed c (while_loop test n b)) None new
     unfolding owed
     while_leaves new k = k

@@ -25,3 +25,4 @@ pub mod Turns
 pub mod Starts
 pub mod Standing
 pub mod Pauses
+pub mod Settled

@@ -37,26 +37,28 @@ module _ {V D C : ℕ} (h : Machine V D C) where
   pub fine_as : (go to : Context → Action) → ((answers : List Answer) → go ctx (state_of h answers) ≡ to ctx (state_of h answers)) → FineThen h go → FineThen h to
   fine_as go to e fine = λ answers. subst (λ b. IsFineHere h (then_do b (left_in h))) (e answers) (fine answers)
 
-  pub advances_as : (go to : Context → Action) (w : Option Pending) (new : Machine V D C) → ((answers : List Answer) → go ctx (state_of h answers) ≡ to ctx (state_of h answers)) → Advances h go w new → Advances h to w new
+  pub advances_as : (go to : Context → Action) (w : Option Pending) (new : Machine V D C) → ((answers : List Answer) → go ctx (state_of h answers) ≡ to ctx (state_of h answers)) → Advances 1 h go w new → Advances 1 h to w new
   advances_as go to w new e k = record {
     room = k.room;
     checked = k.checked;
     service = k.service;
     awaits = k.awaits;
     pace = k.pace;
+    few = k.few;
     released = k.released;
     unlocks = k.unlocks;
     goes = λ answers. k.goes answers ∙ ap (λ b. then_do b (left_in h)) (e answers);
   }
 
   -- nothing is to be done
-  pub unchanged : (go : Context → Action) → ((answers : List Answer) → go ctx (state_of h answers) ≡ ends (state_of h answers)) → HasRoom h → Advances h go None h
+  pub unchanged : (go : Context → Action) → ((answers : List Answer) → go ctx (state_of h answers) ≡ ends (state_of h answers)) → HasRoom h → Advances 1 h go None h
   unchanged go e r = record {
     room = r;
     checked = refl;
     service = refl;
     awaits = tt;
     pace = omega arith;
+    few = omega arith;
     released = [];
     unlocks = sym (append-nil h.unlocks.items);
     goes = λ answers. ap (λ b. then_do b (left_in h)) (sym (e answers));
@@ -83,10 +85,10 @@ module _ {V D C : ℕ} (h : Machine V D C) where
   turn_left x value last n body s = refl
 
   turned : (x value last n : ℕ) (body : Bor (List Stmt)) (new : Machine V D C) → x < (reach h).variables → HasRoom h → new ≡ record (with_value h x value) { steps = h.steps + 1; frames = new.frames } → new.frames.items ≡ h.frames.items ++ turning x value last n body ∷ [] → HasRoom new
-      → Advances h (λ c. for_turns (suc (last - value)) (suc n) x value last (block_meaning c most_turns (statements_of body.now))) None new
+      → Advances 1 h (λ c. for_turns (suc (last - value)) (suc n) x value last (block_meaning c most_turns (statements_of body.now))) None new
   turned x value last n body new lt r same pushed room =
       let f : Frame = turning x value last n body in
-      let A : Machine V D C → Type 0 = λ m. HasRoom m → Advances h (λ c. for_turns (suc (last - value)) (suc n) x value last (block_meaning c most_turns (statements_of body.now))) None m in
+      let A : Machine V D C → Type 0 = λ m. HasRoom m → Advances 1 h (λ c. for_turns (suc (last - value)) (suc n) x value last (block_meaning c most_turns (statements_of body.now))) None m in
       let long : length new.frames.items ≡ length h.frames.items + 1 = ap length pushed ∙ length-append h.frames.items (f ∷ []) in
       subst A (sym same) (λ k. record {
         room = k;
@@ -94,6 +96,7 @@ module _ {V D C : ℕ} (h : Machine V D C) where
         service = refl;
         awaits = tt;
         pace = omega (arith, long);
+        few = omega arith;
         released = [];
         unlocks = sym (append-nil h.unlocks.items);
         goes = λ answers.
@@ -105,7 +108,7 @@ module _ {V D C : ℕ} (h : Machine V D C) where
       }) room
 
   pub turn_advances : (x value last n : ℕ) (body : Bor (List Stmt)) (new : Machine V D C) → x < (reach h).variables → 0 < n → HasRoom h → new ≡ record (with_value h x value) { steps = h.steps + 1; frames = new.frames } → new.frames.items ≡ h.frames.items ++ turning x value last (n - 1) body ∷ [] → HasRoom new
-      → Advances h (λ c. for_turns (suc (last - value)) n x value last (block_meaning c most_turns (statements_of body.now))) None new
+      → Advances 1 h (λ c. for_turns (suc (last - value)) n x value last (block_meaning c most_turns (statements_of body.now))) None new
   turn_advances x value last n body new lt some r same pushed room =
       let e : suc (n - 1) ≡ n = omega (arith, some) in
       advances_as (λ c. for_turns (suc (last - value)) (suc (n - 1)) x value last (block_meaning c most_turns (statements_of body.now))) (λ c. for_turns (suc (last - value)) n x value last (block_meaning c most_turns (statements_of body.now))) None new
@@ -140,7 +143,7 @@ module _ {V D C : ℕ} (h : Machine V D C) where
     while_test_ends zero e answers = ap (λ o. decide o (stops more) ends (state_of h answers)) e
     while_test_ends (suc n) e answers = ap (λ o. decide o (λ t. then_do (does_all b (stepped t)) (turns n test (does_all b))) ends (state_of h answers)) e
 
-    pub while_test_stops : (n : ℕ) → truth test (variables_here h) h.q h.x ≡ Some false → HasRoom h → Advances h (λ c. turns n test (block_meaning c most_turns b)) None h
+    pub while_test_stops : (n : ℕ) → truth test (variables_here h) h.q h.x ≡ Some false → HasRoom h → Advances 1 h (λ c. turns n test (block_meaning c most_turns b)) None h
     while_test_stops n e r = unchanged (λ c. turns n test (block_meaning c most_turns b)) (while_test_ends n e) r
 
     while_test_goes : (n : ℕ) → truth test (variables_here h) h.q h.x ≡ Some true → (answers : List Answer) → turns (suc n) test (does_all b) (state_of h answers) ≡ then_do (does_all b (stepped (state_of h answers))) (turns n test (does_all b))
@@ -162,10 +165,10 @@ module _ {V D C : ℕ} (h : Machine V D C) where
   while_test_left test n body s = refl
 
   while_test_turned : (test : Bor (List rust_part.Part)) (n : ℕ) (body : Bor (List Stmt)) (new : Machine V D C) → truth (map part_of test.now) (variables_here h) h.q h.x ≡ Some true → new ≡ record h { steps = h.steps + 1; frames = new.frames } → new.frames.items ≡ h.frames.items ++ while_frame test n body ∷ [] → HasRoom new
-      → Advances h (λ c. turns (suc n) (map part_of test.now) (block_meaning c most_turns (statements_of body.now))) None new
+      → Advances 1 h (λ c. turns (suc n) (map part_of test.now) (block_meaning c most_turns (statements_of body.now))) None new
   while_test_turned test n body new e same pushed room =
       let f : Frame = while_frame test n body in
-      let A : Machine V D C → Type 0 = λ m. HasRoom m → Advances h (λ c. turns (suc n) (map part_of test.now) (block_meaning c most_turns (statements_of body.now))) None m in
+      let A : Machine V D C → Type 0 = λ m. HasRoom m → Advances 1 h (λ c. turns (suc n) (map part_of test.now) (block_meaning c most_turns (statements_of body.now))) None m in
       let long : length new.frames.items ≡ length h.frames.items + 1 = ap length pushed ∙ length-append h.frames.items (f ∷ []) in
       subst A (sym same) (λ k. record {
         room = k;
@@ -173,6 +176,7 @@ module _ {V D C : ℕ} (h : Machine V D C) where
         service = refl;
         awaits = tt;
         pace = omega (arith, long);
+        few = omega arith;
         released = [];
         unlocks = sym (append-nil h.unlocks.items);
         goes = λ answers.
@@ -182,7 +186,7 @@ module _ {V D C : ℕ} (h : Machine V D C) where
       }) room
 
   pub while_test_advances : (test : Bor (List rust_part.Part)) (n : ℕ) (body : Bor (List Stmt)) (new : Machine V D C) → 0 < n → truth (map part_of test.now) (variables_here h) h.q h.x ≡ Some true → new ≡ record h { steps = h.steps + 1; frames = new.frames } → new.frames.items ≡ h.frames.items ++ while_frame test (n - 1) body ∷ [] → HasRoom new
-      → Advances h (λ c. turns n (map part_of test.now) (block_meaning c most_turns (statements_of body.now))) None new
+      → Advances 1 h (λ c. turns n (map part_of test.now) (block_meaning c most_turns (statements_of body.now))) None new
   while_test_advances test n body new some e same pushed room =
       let same_n : suc (n - 1) ≡ n = omega (arith, some) in
       advances_as (λ c. turns (suc (n - 1)) (map part_of test.now) (block_meaning c most_turns (statements_of body.now))) (λ c. turns n (map part_of test.now) (block_meaning c most_turns (statements_of body.now))) None new

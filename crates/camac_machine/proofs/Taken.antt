@@ -131,6 +131,7 @@ module _ {V D C : ℕ} (h : Machine V D C) (k : ℕ) (body : Bor (List Stmt)) (a
       begun = refl;
       unlocks = refl;
       steps = omega arith;
+      few = omega arith;
       can_follow = tt;
       goes = λ answers.
           goes answers m.permitted

@@ -131,6 +131,7 @@ module _ {V D C : ℕ} (h new : Machine V D C) (k : Command) (a : Answer) (d : C
         begun = refl;
         unlocks = refl;
         steps = omega arith;
+        few = omega arith;
         can_follow = tt;
         goes = λ answers.
             goes_on h k a planned (λ l r t. ends t) d answers m.permitted m.done
@@ -151,6 +152,7 @@ module _ {V D C : ℕ} (h new : Machine V D C) (k : Command) (a : Answer) (d : C
         begun = refl;
         unlocks = refl;
         steps = omega arith;
+        few = omega arith;
         can_follow = tt;
         goes = λ answers.
             goes_on h k a planned (λ l r t. ends (with_variable x (kept bits r) t)) d answers m.permitted m.done

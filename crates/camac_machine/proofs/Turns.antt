@@ -12,7 +12,7 @@ use Rattle.camac_machine.specs.declared.machine.Machine.{Machine}
 use Rattle.camac_machine.specs.declared.machine.Owner.TheVariants.{For}
 use Rattle.camac_machine.specs.MachineState.{reach, with_value, state_of, bounds_of, owner_in, opens_in, stands, IsFineHere, FineThen, HasRoomFor, HasRoom, TurnsAgain, LastIsOver, Advances, GoesOn}
 use Rattle.camac_machine.specs.Rest.{Owner, owed, left_of}
-use Rattle.camac_machine.proofs.Frames.{room_stepped, room_opened, room_popped, goes_popped, fine_along}
+use Rattle.camac_machine.proofs.Frames.{room_stepped, room_opened, room_popped, goes_popped, advances_soon, fine_along}
 use Rattle.camac_machine.proofs.Leaves.{room_left, owner_left, next_fine, next_leaves}
 use Rattle.camac_machine.proofs.Lists.{filled, longer}
 use Rattle.camac_machine.proofs.Loops.{turn_fine, turn_advances}
@@ -76,22 +76,24 @@ module _ {V D C : ℕ} (h : Machine V D C) (x v : ℕ) (fs : ArrayVec Frame) (t 
     abbrev new : Machine V D C
     new = record mid { steps = mid.steps + 1 }
 
-    turns_on : Advances without (λ c. for_turns (suc (t.last - v)) t.turns x v t.last (block_meaning c most_turns (statements_of t.body.now))) None new
+    turns_on : Advances 1 without (λ c. for_turns (suc (t.last - v)) t.turns x v t.last (block_meaning c most_turns (statements_of t.body.now))) None new
     turns_on =
         turn_advances without x v t.last t.turns t.body new turn_sets turn_left.0 room_without
         (ap (λ (m : Machine V D C). record m { steps = m.steps + 1; frames = mid.frames }) same)
         (ap (λ (m : Machine V D C). m.frames.items) same ∙ t.is)
         (room_stepped mid (mid.steps + 1) kept)
 
-    leaves_on : Advances without (λ c. owed c loops) None new
+    leaves_on : Advances 1 without (λ c. owed c loops) None new
     leaves_on =
         next_leaves without x t.current t.last t.turns (statements_of t.body.now) t.below new
-        (subst (λ u. Advances without (λ c. for_turns (suc (t.last - u)) t.turns x u t.last (block_meaning c most_turns (statements_of t.body.now))) None new) t.value_is turns_on)
+        (subst (λ u. Advances 1 without (λ c. for_turns (suc (t.last - u)) t.turns x u t.last (block_meaning c most_turns (statements_of t.body.now))) None new) t.value_is turns_on)
 
     pub turn_goes_on : GoesOn h None new
     turn_goes_on = record {
       before = t.before;
       last = last;
       was = t.was;
-      advances = subst (λ (b : Block). Advances without (λ c. left_of c (record { block = b; owner = loops })) None new) (sym nothing_left) leaves_on;
+      advances =
+          subst (λ (b : Block). Advances 2 without (λ c. left_of c (record { block = b; owner = loops })) None new) (sym nothing_left)
+          (advances_soon without (λ c. owed c loops) None new leaves_on);
     }

@@ -301,14 +301,15 @@ module _ {V D C : ℕ} where
   abbrev pub HasRoom : Machine V D C → Type 0
   HasRoom h = HasRoomFor h (opens_in h)
 
-  -- what the new machine has left is to do this, and then what the old one had left
-  pub record Advances (old : Machine V D C) (go : Context → Action) (pending : Option Pending) (new : Machine V D C) : Type 0 where
+  -- what the new machine has left is to do this, and then what the old one had left; it has made so many steps at most
+  pub record Advances (most : ℕ) (old : Machine V D C) (go : Context → Action) (pending : Option Pending) (new : Machine V D C) : Type 0 where
     pub room : HasRoom new
     pub checked : new.checked ≡ old.checked
     pub service : new.service ≡ old.service
     pub awaits : IfSome pending (IsPending new)
     -- a block more costs a step
     pub pace : length new.frames.items + 2 * old.steps ≤ 2 * new.steps + length old.frames.items
+    pub few : new.steps ≤ old.steps + most
     -- the locks that it releases
     pub released : List ℕ
     pub unlocks : new.unlocks.items ≡ old.unlocks.items ++ released
@@ -321,7 +322,7 @@ module _ {V D C : ℕ} where
     pub before : List Frame
     pub last : Frame
     pub was : old.frames.items ≡ before ++ last ∷ []
-    pub advances : Advances (record old { frames = record { items = before } }) (λ c. left_of c (open_in old last)) pending new
+    pub advances : Advances 2 (record old { frames = record { items = before } }) (λ c. left_of c (open_in old last)) pending new
 
   -- what is wanted is this, whatever is answered
   abbrev pub Wants : Machine V D C → (Context → Action) → Machine V D C → Pending → Type 0
@@ -409,6 +410,7 @@ module _ {V D C : ℕ} where
     pub begun : new.begun ≡ old.begun
     pub unlocks : new.unlocks ≡ old.unlocks
     pub steps : old.steps ≤ new.steps
+    pub few : new.steps ≤ old.steps + 1
     pub can_follow : CanFollow (reach new).variables pending
     pub goes :
         (answers : List Answer)

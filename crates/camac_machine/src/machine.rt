@@ -256,7 +256,7 @@ impl<'a, const V: usize, const DEPTH: usize, const CAP: usize> Machine<'a, V, DE
         requires room { HasRoom self.old }
         requires fits { StatementFits (reach self.old) (free self.old) (statement_of statement.now) }
         requires fine { FineThen self.old (λ c s. effect c most_turns (statement_of statement.now) (stepped s)) }
-        ensures advances { Advances self.old (λ c s. effect c most_turns (statement_of statement.now) (stepped s)) (wanted_if result pending.new) self.new }
+        ensures advances { Advances 2 self.old (λ c s. effect c most_turns (statement_of statement.now) (stepped s)) (wanted_if result pending.new) self.new }
         ensures some { result ≡ true → IsSome pending.new }
         ensures wants { result ≡ true → IfSome pending.new (Wants self.old (λ c s. effect c most_turns (statement_of statement.now) (stepped s)) self.new) }
         ensures pace { length self.new.frames.items + 2 * self.old.steps < 2 * self.new.steps + length self.old.frames.items }
@@ -394,7 +394,7 @@ impl<'a, const V: usize, const DEPTH: usize, const CAP: usize> Machine<'a, V, DE
     }
 
     /// Begins the service of this number, and goes on until it wants an answer, or is over: then nothing is wanted. It pauses after more than `most`
-    /// steps.
+    /// steps, at most two more.
     pub fn serve(&mut self, number: usize, pending: &mut Option<Pending<'a>>, most: u32)
         requires room { HasRoom self.old }
         requires quiet { self.old.unlocks.items ≡ [] }
@@ -403,6 +403,7 @@ impl<'a, const V: usize, const DEPTH: usize, const CAP: usize> Machine<'a, V, DE
         requires number { number < length self.old.checked.now.script.services }
         ensures serves { (v : Service) → slice_get self.old.checked.now.script.services number ≡ Some v → Serves self.old number v pending.new self.new }
         ensures pauses { PausesAfter 0 most pending.new self.new }
+        ensures soon { self.new.steps ≤ most + 2 }
     {
         let checked = self.checked;
         checked.is_checked();

@@ -27,15 +27,16 @@ use Rattle.camac_machine.specs.MachineState.{bounds_at, bounds_of, opens_in, loc
 use Rattle.camac_machine.specs.Rest.{is_pause, is_paused, is_asking, follows, rest_in, says, served}
 use Rattle.camac_run.specs.Place.{IsPlace}
 use Rattle.camac_run.specs.declared.place.Place.{Place}
-use Rattle.camac_run.specs.Runner.{RunnerState, rest, last_words_in, with_event, steps_before, KeepsLimit, NeverPauses}
+use Rattle.camac_run.specs.Runner.{RunnerState, rest, last_words_in, with_event, steps_before, steps_made, KeepsLimit, NeverPauses}
 use Rattle.camac_run.specs.Sound.{runner_state, IsSound}
 use Rattle.camac_machine.proofs.Bounds.{fine_at}
-use Rattle.camac_machine.proofs.Fine.{fine_says, keeps_rest}
+use Rattle.camac_machine.proofs.Fine.{fine_says}
 use Rattle.camac_machine.proofs.Frames.{fine_along}
 use Rattle.camac_machine.proofs.Locks.{among_few}
 use Rattle.camac_run.proofs.Serving.{served_says, served_stops, onward_over}
 use Rattle.camac_machine.proofs.Courses.{pause_alone}
 use Rattle.camac_machine.proofs.Pauses.{asked_of, stands_paused}
+use Rattle.camac_machine.proofs.Settled.{steps_within}
 use Rattle.camac_machine.proofs.Takes.{waits_first}
 
 -- what is so is so where something is wanted
@@ -254,34 +255,59 @@ pub none_wanted : {A B : Type 0} (f : A → B) (o : Option A) → option_map f o
 none_wanted f None e = refl
 none_wanted f (Some a) e = absurd (cc)
 
--- a service in progress is within its bounds
-waits_within : {V D C : ℕ} (h : Machine V D C) (w : Pending) → IsPending h w → ((answers : List Answer) → IsFineHere h (stands (Some w) h answers)) → h.steps ≤ (bounds_of h).steps
-waits_within h w p fine =
-    let f = subst (λ b. IsFineHere h (then_do b (rest_in (context_in h.checked.now) (opens_in h)))) (waits_first h w p) (fine []) in f.1.steps
+-- a runner that only counts
+pub sound_counted : {V D C : ℕ} (h : Machine V D C) (pending : Option Pending) (fed n : ℕ) (d : Crates) (fed' n' : ℕ)
+    → IsSound h pending fed n d → n' ≤ fed' → fed' ≤ 4294967295 → IfSome pending (λ w. n' < fed') → IsSound h pending fed' n' d
+sound_counted h pending fed n d fed' n' inv few most under = record {
+  room = inv.room;
+  quiet = inv.quiet;
+  checked = inv.checked;
+  formed = inv.formed;
+  fits = inv.fits;
+  awaits = inv.awaits;
+  begun = inv.begun;
+  idle = inv.idle;
+  service = inv.service;
+  fine = inv.fine;
+  free = inv.free;
+  events = few;
+  most = most;
+  under = under;
+}
 
-pub steps_within : {V D C : ℕ} (h : Machine V D C) (w : Pending) → IfSome (asked (Some w)) (IsPending h) → ((answers : List Answer) → IsFineHere h (stands (Some w) h answers)) → h.steps ≤ (bounds_of h).steps
-steps_within h (Cycle k) p fine = waits_within h (Cycle k) p fine
-steps_within h (Read k x bits) p fine = waits_within h (Read k x bits) p fine
-steps_within h (Lock k body) p fine = waits_within h (Lock k body) p fine
-steps_within h (pending.Transfer w) p fine = waits_within h (pending.Transfer w) p fine
-steps_within h Pause p fine =
-    (keeps_rest h.checked.now.plan (bounds_of h) h.checked.now.script _ (state_of h []) (subst (λ b. IsFineHere h b) (stands_paused h []) (fine []))).steps
+-- what is so is so where nothing is there
+pub each_none : {A : Type 0} (o : Option A) (P : Type 0) → P → IfNone o P
+each_none None P p = p
+each_none (Some w) P p = tt
 
 -- the limit after steps that were made
 pub keeps_limit : {V D C : ℕ} (old : RunnerState) (new : Machine V D C) (next' : Option Pending) (event : Option Left) (fed n : ℕ) (has : Bool) (o : Option Overrun) (d : Crates) (m : ℕ) (s : RunnerState)
-    → HasRoom new → m ≡ old.limit → (is_paused_at next' ≡ true → steps_before old.pending old + old.limit < new.steps)
+    → HasRoom new → m ≡ old.limit → (is_paused_at next' ≡ true → steps_before old.pending old + old.limit < new.steps) → new.steps ≤ steps_before old.pending old + old.limit + 3
     → IfSome (asked next') (IsPending new) → ((answers : List Answer) → IsFineHere new (stands next' new answers))
     → IsCounted new next' event fed n has o d m s → IsAsBefore new next' event fed n has o d m s → KeepsLimit old s
-keeps_limit old new None event fed n has o d m s room same late p fine a b =
-    rw (a.1) (record { limit = same; late = λ e. absurd (false≢true e); within = λ e. absurd (false≢true e); least = λ e. absurd (false≢true e) })
-keeps_limit old new (Some w) event fed n has o d m s room same late p fine a b =
-    rw (b.1) (record { limit = same; late = late; within = λ e. steps_within new w p fine; least = λ e. room.steps })
+keeps_limit old new None event fed n has o d m s room same late soon p fine a b =
+    rw (a.1) (record {
+      limit = same;
+      late = λ e. absurd (false≢true e);
+      soon = each_none old.overrun (new.steps ≤ steps_before old.pending old + old.limit + 3) soon;
+      within = λ e. absurd (false≢true e);
+      least = λ e. absurd (false≢true e);
+    })
+keeps_limit old new (Some w) event fed n has o d m s room same late soon p fine a b =
+    rw (b.1) (record {
+      limit = same;
+      late = late;
+      soon = each_none old.overrun (new.steps ≤ steps_before old.pending old + old.limit + 3) soon;
+      within = λ e. steps_within new w p (fine []);
+      least = λ e. room.steps;
+    })
 
 -- one that does not pause keeps it
-pub keeps_awake : (old new : RunnerState) → new.limit ≡ old.limit → is_paused new.pending ≡ false → KeepsLimit old new
-keeps_awake old new same awake = record {
+pub keeps_awake : (old new : RunnerState) → new.limit ≡ old.limit → is_paused new.pending ≡ false → IfNone old.overrun (steps_made new.pending new ≤ steps_before old.pending old + old.limit + 3) → KeepsLimit old new
+keeps_awake old new same awake soon = record {
   limit = same;
   late = λ e. absurd (false≢true (sym awake ∙ e));
+  soon = soon;
   within = λ e. absurd (false≢true (sym awake ∙ e));
   least = λ e. absurd (false≢true (sym awake ∙ e));
 }

@@ -129,11 +129,17 @@ abbrev pub steps_before : Option Operation → RunnerState → ℕ
 steps_before None h = 0
 steps_before (Some w) h = h.steps
 
--- The limit stays, and a service pauses only after more steps than that. These are some of the steps of its bounds: with a limit from them on it
--- never pauses.
+-- those of a service that has just ended, too
+abbrev pub steps_made : Option Operation → RunnerState → ℕ
+steps_made None h = if h.has_event then h.steps else 0
+steps_made (Some w) h = h.steps
+
+-- The limit stays, and a service pauses only after more steps than that: after three more at most, since a statement of the transfers and the move
+-- after it are not parted. These are some of the steps of its bounds: with a limit from them on it never pauses.
 pub record KeepsLimit (old new : RunnerState) : Type 0 where
   pub limit : new.limit ≡ old.limit
   pub late : is_paused new.pending ≡ true → steps_before old.pending old + old.limit < new.steps
+  pub soon : IfNone old.overrun (steps_made new.pending new ≤ steps_before old.pending old + old.limit + 3)
   pub within : is_paused new.pending ≡ true → new.steps ≤ (bounds_at new.checked new.service).steps
   pub least : is_paused new.pending ≡ true → (bounds_at new.checked new.service).steps ≤ greatest
 

@@ -100,8 +100,8 @@ impl<'a, const V: usize, const DEPTH: usize, const CAP: usize> Runner<'a, V, DEP
         }
     }
 
-    /// Sets how many steps the run makes at once: after more, in one answer or after a pause, it pauses. With 4,294,967,295, as at the start, it never
-    /// does. A run that pauses goes on to do so.
+    /// Sets how many steps the run makes at once: after more, in one answer or after a pause, it pauses, at most three more. With 4,294,967,295, as at
+    /// the start, it never does. A run that pauses goes on to do so.
     pub fn limit_steps(&mut self, most: u32)
         ensures { self.new ≡ record self.old { limit = most } }
     {

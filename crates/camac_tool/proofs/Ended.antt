@@ -1,47 +1,172 @@
--- How the engine of a job can end, by what it says of its readers and writers.
-use Rattle.std.proofs.Common.{◌≡◌, ◌⊎◌, ℕ, List, Option, sym, subst, ◌∙◌, inl, inr}
-use Rattle.std.specs.Prelude.{Result, Ok, Err, IfOk}
-use Rattle.std.specs.Io.KnownBytes.{Keeps}
+-- How a job ends, by what its engine says of its readers and writers.
+use Rattle.std.proofs.Common.{◌≡◌, ◌⊎◌, ℕ, Bool, true, List, [], Option, None, Some, refl, sym, ap, subst, ◌∙◌, inl, inr, append-nil}
+use Rattle.std.specs.Prelude.{Result, Ok, Err}
+use Rattle.std.specs.Io.KnownBytes.{Appends, Keeps, append_known}
+use Rattle.std.proofs.KnownBytes.{Keeps-refl}
+use Rattle.std.proofs.Math.Bool.{or-false}
 use Rattle.clap.specs.Words.{Text}
+use Rattle.camac_play.proofs.Sending.{sends_nothing}
 use Rattle.camac_play.specs.RunIo.{RunState}
 use Rattle.camac_play.specs.declared.telling.Telling.{Telling}
 use Rattle.camac_play.specs.declared.telling.Telling.TheVariants.{Listing}
 use Rattle.camac_response_times.specs.Setting.{ReadsSettings}
 use Rattle.camac_response_times.specs.declared.setting.Settings.{Settings}
-use Rattle.camac_engines.specs.Response.{TellsResponse}
+use Rattle.camac_engines.specs.Engine.{Answers, IsWritten}
+use Rattle.camac_engines.specs.Response.{RespondsOn}
 use Rattle.camac_engines.specs.declared.fault.ToolFault.{ToolFault}
-use Rattle.camac_engines.specs.declared.fault.ToolFault.TheVariants.{Memory, Write}
-use Rattle.camac_engines.specs.declared.judging.Judged.{Judged}
+use Rattle.camac_engines.specs.declared.fault.ToolFault.TheVariants.{Read, Write, Memory, TooLong}
 use Rattle.camac_engines.specs.declared.outcome.Outcome.{Outcome}
-use Rattle.camac_tool.specs.Devices.{RunsOnDevices}
-use Rattle.camac_tool.specs.Jobs.{CanBeFound, CanRespond, CanRun, IsAnswered}
-use Rattle.camac_tool.specs.Run.{Runs}
+use Rattle.camac_engines.specs.declared.judging.Judged.{Judged}
+use Rattle.camac_engines.specs.declared.response.Responded.{Responded}
+use Rattle.camac_tool.proofs.Runs.{ends_before}
+use Rattle.camac_tool.specs.Devices.{HasBeginning, RunsOnDevices}
+use Rattle.camac_tool.specs.Gathered.{device_of, given_to, held_in}
+use Rattle.camac_tool.specs.Jobs.{CanBeFound, HandsOn, IsGot, IsSettled, OrWriteFault, Replies, Responds, ResponseTells, RunTells, RunsTold, Tells, gathers}
+use Rattle.camac_tool.specs.Run.{Runs, RunsFound, RunsJudged, StaysQuiet}
 use Rattle.camac_tool.specs.Status.{EndsStopped}
 use Rattle.camac_tool.specs.World.{World}
+use Rattle.camac_tool.specs.declared.gathered.Gathered.{Gathered}
 use Rattle.camac_tool.specs.declared.program.Done.{Done}
 use Rattle.camac_tool.specs.declared.program.Done.TheVariants.{Answered}
+use Rattle.camac_tool.specs.declared.program.Question.{Question}
+use Rattle.camac_tool.specs.declared.program.Question.TheVariants as question
 
--- what was told goes out, or a fault comes
-pub handed : (Can : Outcome → Type 0) (outcome : Outcome) (r : Result Done ToolFault) → IfOk r (λ done. done ≡ Answered outcome) → Can outcome → IsAnswered Can r
-handed Can outcome (Ok done) is can = subst (λ (d : Done). IsAnswered Can (Ok d)) (sym is) can
-handed Can outcome (Err fault) is can = tt
+-- an input could not be opened, or memory was out: nothing is told
+pub unread : (Says : Outcome → List ℕ → Type 0) (o p : Option (List ℕ)) (r : Result Done ToolFault) → r ≡ Err Read → Keeps o p → Tells Says o p r
+unread Says o p r is kept = rw is kept
 
-pub responded : (every within : List Text) (s : Settings) (j : Judged) (outcome : Outcome) (text : List ℕ) (r : Result Done ToolFault) → IfOk r (λ done. done ≡ Answered outcome)
-    → ReadsSettings every within (Ok s) → CanBeFound j → TellsResponse s j outcome text → CanRespond every within r
-responded every within s j outcome text (Ok done) is read found tells = subst (λ (d : Done). CanRespond every within (Ok d)) (sym is) (s, read, (j, found, (text, tells)))
-responded every within s j outcome text (Err fault) is read found tells = tt
+-- what an engine answers, of all that may have been read
+module _ {T : Type 0} (WasRead : T → Type 0) (Says : T → Outcome → List ℕ → Type 0) (IsTooLong : Type 0) (o p : Option (List ℕ)) where
+  pub answered : (outcome : Outcome) → Answers WasRead Says IsTooLong o p (Ok outcome) → Tells (λ told text. (found : T) × Says found told text) o p (Ok (Answered outcome))
+  answered outcome h = (h.2.0, (h.0, h.2.1), h.2.2)
+
+  pub stopped : (e : ToolFault) (r : Result Done ToolFault) → r ≡ Err e → Answers WasRead Says IsTooLong o p (Err e) → Tells (λ told text. (found : T) × Says found told text) o p r
+  stopped Write r is h = rw is (h.2.0, h.2.1, (h.0, h.2.2), h.2.3)
+  stopped TooLong r is h = rw is h.1
+  stopped Read r is h = rw is h
+  stopped Memory r is h = rw is h
+
+pub written_stopped : (Says : Outcome → List ℕ → Type 0) (o p : Option (List ℕ)) (e : ToolFault) → IsWritten Says o p (Err e) → Tells Says o p (Err e)
+written_stopped Says o p Write h = h
+written_stopped Says o p Memory h = h
+written_stopped Says o p Read h = absurd h
+written_stopped Says o p TooLong h = absurd h
+
+-- of the same bytes
+pub tells_of : (Says : Outcome → List ℕ → Type 0) (o o' p p' : Option (List ℕ)) (r : Result Done ToolFault) → o' ≡ o → p ≡ p' → Tells Says o' p' r → Tells Says o p r
+tells_of Says o o' p p' r old new told = subst (λ (x : Option (List ℕ)). Tells Says x p r) old (subst (λ (x : Option (List ℕ)). Tells Says o' x r) (sym new) told)
+
+-- of `response`, by whatever the engine says of what it judged and read
+module _ (Judges : Judged → Type 0) (IsLong : Type 0) (s : Settings) (o p : Option (List ℕ)) where
+  abbrev pub RespondsBy : Result Responded ToolFault → Type 0
+  RespondsBy (Ok responded) = (j : Judged) × Judges j × RespondsOn s j o p (Ok responded)
+  RespondsBy (Err Write) = (j : Judged) × Judges j × RespondsOn s j o p (Err Write)
+  RespondsBy (Err TooLong) = IsLong × Keeps o p
+  RespondsBy (Err _) = Keeps o p
+
+  pub response_stopped : (e : ToolFault) (r : Result Done ToolFault) → r ≡ Err e → RespondsBy (Err e) → (every within : List Text) → ReadsSettings every within (Ok s)
+      → ((j : Judged) → Judges j → CanBeFound j) → Responds every within o p r
+  response_stopped Write r is h every within read finds = rw is (h.2.0, h.2.1, (s, read, (h.0, finds h.0 h.1, h.2.2)), h.2.3)
+  response_stopped TooLong r is h every within read finds = rw is h.1
+  response_stopped Read r is h every within read finds = rw is h
+  response_stopped Memory r is h every within read finds = rw is h
+
+pub none_replied : (q : Question) (o : Option (List ℕ)) → Replies q o o (Err Memory)
+none_replied (question.Plan a plan) o = Keeps-refl o
+none_replied (question.Script a plan script) o = Keeps-refl o
+none_replied (question.Response plan script every within) o = Keeps-refl o
+none_replied (question.Events file) o = Keeps-refl o
+
+-- a device without what is held for it
+pub nothing_held : (o : Option (List ℕ)) → append_known o [] ≡ o
+nothing_held None = refl
+nothing_held (Some xs) = ap Some (append-nil xs)
+
+pub beginning : (given got : Option (List ℕ)) → Keeps given got → HasBeginning given got
+beginning given got kept = ([], subst (Keeps given) (sym (nothing_held got)) kept)
+
+is_got : (given got : Option (List ℕ)) (done : Result Done ToolFault) → Keeps given got → IsGot given got done
+is_got given got (Ok done) kept = kept
+is_got given got (Err fault) kept = beginning given got kept
+
+-- a writer that gathers, before anything is told
+pub started : {W : Type 0} (contents : W → Option (List ℕ)) (g g' : Gathered W) (w : W) → g' ≡ g → device_of g ≡ w → held_in g ≡ [] → given_to contents g' ≡ contents w
+started contents g g' w same inner empty =
+    ap (given_to contents) same ∙ ap (append_known (contents (device_of g))) empty ∙ nothing_held (contents (device_of g)) ∙ ap contents inner
+
+-- what was told and is held still is lost
+module _ (q : Question) (o o' given got : Option (List ℕ)) (held : List ℕ) (same : o' ≡ o) (kept : Keeps given (append_known got held)) where
+  pub not_flushed : (done : Result Done ToolFault) → Replies q o' given done → HandsOn (Replies q) o got (Err Write)
+  not_flushed done replies = (given, inr (refl, (done, subst (λ (x : Option (List ℕ)). Replies q x given done) same replies)), (held, kept))
+
+  pub faulted : (fault : ToolFault) → Replies q o' given (Err fault) → HandsOn (Replies q) o got (Err fault)
+  faulted fault replies = (given, inl (subst (λ (x : Option (List ℕ)). Replies q x given (Err fault)) same replies), (held, kept))
+
+-- before a run nothing is told
+pub not_begun : (t : Telling) (o : Option (List ℕ)) (fault : ToolFault) → HandsOn (RunsTold t) o o (Err fault)
+not_begun t o fault = (o, inl (inl (Keeps-refl o)), beginning o o (Keeps-refl o))
+
+quiet : (o p : Option (List ℕ)) → Appends o p [] → Keeps o p
+quiet None p h = tt
+quiet (Some xs) None h = absurd h
+quiet (Some xs) (Some ys) h = h ∙ append-nil xs
+
+abbrev done_of : Result Outcome ToolFault → Result Done ToolFault
+done_of (Ok outcome) = Ok (Answered outcome)
+done_of (Err fault) = Err fault
+
+settles : (Ends : Result Done ToolFault → Type 0) (ran : Result Outcome ToolFault) (done : Result Done ToolFault) → IsSettled ran done → Ends (done_of ran) → OrWriteFault Ends done
+settles Ends (Ok outcome) done (inl is) ends = rw is ends
+settles Ends (Ok outcome) done (inr is) ends = rw is (inr (refl, (Ok (Answered outcome), ends)))
+settles Ends (Err fault) done is ends = rw is (inl ends)
 
 -- a run in a world, and one on devices
-module _ {I : Type 0} (w : World I) where
-  pub can_run : (w' : World I) (t : Telling) (outcome : Outcome) → Runs w w' t (Ok outcome) → CanRun t outcome
-  can_run w' t outcome h = (h.runs.0, (h.runs.1.0, h.runs.1.2), (w.gathers, w.answers, w'.answers, w.outputs, w'.outputs, h.runs.2))
+module _ {I : Type 0} (w : World I) (t : Telling) (same : w.gathers ≡ gathers t) where
+  found_told : (w' : World I) (r : Result Outcome ToolFault) → RunsFound w w' t r → RunTells t w.outputs.listing w'.outputs.listing r
+  found_told w' r found = (
+    found.0,
+    (found.1.0, found.1.2),
+    (
+      w.answers,
+      w'.answers,
+      w.outputs.events,
+      w'.outputs.events,
+      subst (λ (b : Bool). RunsJudged b t found.0 w.answers w'.answers w.outputs w'.outputs r) same found.2,
+    ),
+  )
 
-  pub can_run_on_devices : (after : RunState → World I) (l e : Option (List ℕ)) (r : Result Outcome ToolFault) (outcome : Outcome) → RunsOnDevices w after l e r → r ≡ Ok outcome → CanRun Listing outcome
-  can_run_on_devices after l e r outcome (ran, given, runs, handed) ok = by handed.2
+  run_told : (w' : World I) (r : Result Outcome ToolFault) → Runs w w' t r → RunsTold t w.outputs.listing w'.outputs.listing (done_of r)
+  run_told w' (Ok outcome) h = found_told w' (Ok outcome) h.runs
+  run_told w' (Err Write) h = inr (found_told w' (Err Write) h.runs)
+  run_told w' (Err Memory) h = inl (quiet _ _ h.runs.1.listing)
+  run_told w' (Err TooLong) h = inl (quiet _ _ h.runs.1.1.listing)
+  run_told w' (Err Read) h = by h.runs
     where
-      by : (((r ≡ ran) × Keeps given.listed l × Keeps given.recorded e) ⊎ (r ≡ Err Write)) → CanRun Listing outcome
-      by (inl same) = can_run (after given) Listing outcome (subst (λ (q : Result Outcome ToolFault). Runs w (after given) Listing q) (sym same.0 ∙ ok) runs)
-      by (inr failed) = let no = sym failed ∙ ok in cc
+      by : (StaysQuiet w w' ⊎ RunsFound w w' t (Err Read)) → RunsTold t w.outputs.listing w'.outputs.listing (Err Read)
+      by (inl still) = inl (quiet _ _ still.1.listing)
+      by (inr found) = inr (found_told w' (Err Read) found)
+
+  pub run_settled : (w' : World I) (r : Result Outcome ToolFault) (done : Result Done ToolFault) → Runs w w' t r → IsSettled r done → OrWriteFault (RunsTold t w.outputs.listing w'.outputs.listing) done
+  run_settled w' r done h settled = settles (RunsTold t w.outputs.listing w'.outputs.listing) r done settled (run_told w' r h)
+
+module _ {I : Type 0} (w : World I) (same : w.gathers ≡ true) where
+  pub run_handed : (after : RunState → World I) (l e : Option (List ℕ)) (r : Result Outcome ToolFault) (done : Result Done ToolFault) → ((s : RunState) → (after s).outputs.listing ≡ s.listed)
+      → RunsOnDevices w after l e r → IsSettled r done → HandsOn (RunsTold Listing) w.outputs.listing l done
+  run_handed after l e r done is (ran, given, runs, handed) settled = by handed.2
+    where
+      told : RunsTold Listing w.outputs.listing given.listed (done_of ran)
+      told = subst (λ x. RunsTold Listing w.outputs.listing x (done_of ran)) (is given) (run_told w Listing same (after given) ran runs)
+
+      by : (((r ≡ ran) × Keeps given.listed l × Keeps given.recorded e) ⊎ (r ≡ Err Write)) → HandsOn (RunsTold Listing) w.outputs.listing l done
+      by (inl all) = (given.listed, settles (RunsTold Listing w.outputs.listing given.listed) ran done (subst (λ x. IsSettled x done) all.0 settled) told, is_got given.listed l done all.1)
+      by (inr failed) = rw (subst (λ x. IsSettled x done) failed settled) (given.listed, inr (refl, (done_of ran, told)), handed.0)
+
+-- memory is out before a run
+pub no_run : {I : Type 0} (w : World I) (after : RunState → World I) (s : RunState) → after s ≡ w → RunsOnDevices w after s.listed s.recorded (Err Memory)
+no_run w after s is = (Err Memory, s, runs, (beginning _ _ (Keeps-refl _), beginning _ _ (Keeps-refl _), inl (refl, Keeps-refl _, Keeps-refl _)))
+  where
+    runs : Runs w (after s) Listing (Err Memory)
+    runs = rw is (ends_before w w Listing (refl, sends_nothing _) (Err Memory) Memory refl tt refl refl (sym (or-false w.texts_failed)))
 
 -- of memory and of what cannot be read the status is 3, whichever call failed last
 pub memory_ends : (s : ℕ) → EndsStopped Memory s → s ≡ 3

@@ -1,5 +1,6 @@
 -- The exit status, and the reason for it.
-use Rattle.std.specs.Prelude.{◌≡◌, ◌≤◌, ◌⊎◌, ℕ, List, Bool, true, Result, Ok, Err}
+use Rattle.std.specs.Prelude.{◌≡◌, ◌≤◌, ◌⊎◌, ℕ, List, Bool, true, Option, Result, Ok, Err}
+use Rattle.std.specs.Io.KnownBytes.{Keeps}
 use Rattle.clap.specs.Words.{Text, kind_of, subcommand_of}
 use Rattle.clap.specs.declared.error.kind.ErrorKind.{ErrorKind}
 use Rattle.clap.specs.declared.error.kind.ErrorKind.TheVariants as kind
@@ -12,7 +13,7 @@ use Rattle.camac_tool_words.specs.Words.{IsFaultOf, IsJob, camac_app, input_coun
 use Rattle.camac_tool_words.specs.declared.words.Job.{Job}
 use Rattle.camac_tool_words.specs.declared.words.JobFault.{JobFault}
 use Rattle.camac_tool_words.specs.declared.words.JobFault.TheVariants.{Usage, InTwice}
-use Rattle.camac_tool.specs.Jobs.{CanEnd}
+use Rattle.camac_tool.specs.Jobs.{DoesJob}
 use Rattle.camac_tool.specs.declared.program.Done.{Done}
 use Rattle.camac_tool.specs.declared.program.Done.TheVariants.{Answered, Misused, NoCode}
 
@@ -37,8 +38,9 @@ EndsAs (Ok (Misused misuse)) s = EndsMisuse misuse s
 EndsAs (Ok (NoCode word)) s = s ≡ 2
 EndsAs (Err fault) s = EndsStopped fault s
 
-abbrev pub EndsJob : Job → ℕ → Type 0
-EndsJob job s = (done : Result Done ToolFault) × CanEnd job done × EndsAs done s
+-- a job whose output had o, and has p
+abbrev pub EndsJob : Job → (o p : Option (List ℕ)) → ℕ → Type 0
+EndsJob job o p s = (done : Result Done ToolFault) × DoesJob job o p done × EndsAs done s
 
 -- Of what `clap` answers in place of a job: out of memory; help or version, which end well unless they cannot be written; a mistake.
 abbrev pub EndsUsage : ErrorKind → ℕ → Type 0
@@ -51,8 +53,9 @@ abbrev pub EndsFault : JobFault → ℕ → Type 0
 EndsFault InTwice s = s ≡ 2
 EndsFault (Usage e) s = EndsUsage (kind_of e) s
 
--- Of these words: of the job that they name, which takes standard input at most once, or of their fault; or there are no places for the
--- standard streams.
-abbrev pub Ends : List Text → ℕ → Type 0
-Ends words s =
-    ((job : Job) × IsJob job (subcommand_of camac_app words) × (input_count_of job ≤ 1) × EndsJob job s) ⊎ (((fault : JobFault) × IsFaultOf words fault × EndsFault fault s) ⊎ (s ≡ 3))
+-- Of these words: of the job that they name, which takes standard input at most once. Or nothing is told: of their fault, or since there are no places for
+-- the standard streams.
+abbrev pub Ends : List Text → (o p : Option (List ℕ)) → ℕ → Type 0
+Ends words o p s =
+    ((job : Job) × IsJob job (subcommand_of camac_app words) × (input_count_of job ≤ 1) × EndsJob job o p s)
+    ⊎ (Keeps o p × (((fault : JobFault) × IsFaultOf words fault × EndsFault fault s) ⊎ (s ≡ 3)))

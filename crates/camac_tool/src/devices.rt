@@ -1,13 +1,11 @@
 // A run on the devices of the program: its answers, standard output and the event file.
 
-ghost use Rattle.std.specs.Prelude.{◌≡◌, IfOk, IfErr, OnErr};
 ghost use Rattle.camac_tool.specs.Devices.{RunsOnDevices, before};
 ghost use Rattle.camac_tool.specs.World.{world};
-ghost use Rattle.camac_engines.specs.declared.fault.ToolFault.TheVariants.{Memory};
 
 use crate::running::run_over;
 use crate::streams::{Ran, Streams};
-use camac_engines::{Outcome, PlanSource, ToolFault};
+use camac_engines::{PlanSource, ToolFault};
 use camac_play::Telling;
 use camac_word::Watched;
 use std::alloc::Global;
@@ -15,7 +13,7 @@ use std::io::{Read, Write};
 
 /// Runs a script on a plan and the text of its answers, as `engine_run` does. The answers are read ahead. The listing and the event file
 /// are gathered: all that was given is handed on before the reader of the answers is called, and at the end. An output that fails, also
-/// then, is a write fault. An `Err` is out of memory, before the run begins.
+/// then, is a write fault.
 pub fn run_on_devices<P: Read, S: Read, A: Read + Drop, W: Write + Drop, E: Write + Drop>(
     alloc: Global,
     plan: &mut PlanSource<P>,
@@ -23,13 +21,19 @@ pub fn run_on_devices<P: Read, S: Read, A: Read + Drop, W: Write + Drop, E: Writ
     answers: A,
     listing: W,
     records: E,
-) -> Result<Ran<W, E>, ToolFault>
-    ensures runs { IfOk result (λ ran. RunsOnDevices (world P.remaining S.remaining plan.old script.old (before (A.remaining answers) (W.contents listing) (E.contents records)))
-        (world P.remaining S.remaining plan.new script.new) (W.contents ran.listing) (E.contents ran.records) ran.outcome) }
-    ensures memory { IfErr result (λ fault. fault ≡ Memory) }
-    ensures unread { OnErr result (plan.new ≡ plan.old) }
+) -> Ran<W, E>
+    ensures { RunsOnDevices (world P.remaining S.remaining plan.old script.old (before (A.remaining answers) (W.contents listing) (E.contents records)))
+        (world P.remaining S.remaining plan.new script.new) (W.contents result.listing) (E.contents result.records) result.outcome }
 {
-    let mut streams = Streams::new(alloc, answers, listing, records)?;
-    let outcome = run_over(alloc, Telling::Listing, plan, script, &mut streams);
-    Ok(streams.finish(outcome))
+    match Streams::new(alloc, answers, listing, records) {
+        Ok(mut streams) => {
+            let outcome = run_over(alloc, Telling::Listing, plan, script, &mut streams);
+            streams.finish(outcome)
+        }
+        Err((listing, records)) => Ran {
+            outcome: Err(ToolFault::Memory),
+            listing,
+            records,
+        },
+    }
 }

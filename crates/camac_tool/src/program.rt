@@ -1,16 +1,15 @@
 // The program, from its words to its exit status.
 
-ghost use Rattle.std.specs.Prelude.{◌≡◌, ◌||◌, [], IfOk, IfErr, OnOk, codes, is_err, is_none, map, string_bytes};
+ghost use Rattle.std.specs.Prelude.{◌≡◌, IfOk, IfErr, codes, is_none, map, string_bytes};
 ghost use Rattle.std.specs.Str.{bytes_eq};
-ghost use Rattle.camac_engines.specs.declared.fault.ToolFault.TheVariants.{Read as read-fault, Write};
+ghost use Rattle.camac_engines.specs.declared.fault.ToolFault.TheVariants.{Read as read-fault};
 ghost use Rattle.camac_play.specs.declared.telling.Telling.TheVariants.{Listing, Requests};
 ghost use Rattle.clap.specs.Words.{kind_of};
-ghost use Rattle.camac_tool.specs.Jobs.{CanAnswer, CanAnswerPlan, CanEnd, CanExplainRule, CanListEvents, CanRespond, CanRun, IsAnswered};
+ghost use Rattle.camac_tool.specs.Jobs.{DoesJob, EventsTell, ExplainsRule, HandsOn, IsSettled, OrWriteFault, PlanTells, Replies, Responds, RunsTold, ScriptTells, Tells};
 ghost use Rattle.camac_tool.specs.Status.{Ends, EndsAs, EndsJob, EndsMisuse, EndsUsage};
 ghost use Rattle.camac_tool.specs.declared.launch.ArgumentsFault.TheVariants.{Memory, NotText};
-ghost use Rattle.camac_tool.specs.declared.program.Done.TheVariants.{Answered};
-ghost use Rattle.camac_tool.specs.Gathered.{has_stopped, held_in};
 ghost use Rattle.camac_tool.specs.Input.{IsSourceOf};
+ghost use Rattle.camac_word.specs.Watched.{inner_of};
 
 use crate::devices::run_on_devices;
 use crate::failure::{Failure, Named};
@@ -31,8 +30,7 @@ use camac_word::Watched;
 use clap::Error;
 use clap::error::ErrorKind;
 use std::fs::Files;
-use std::io;
-use std::io::{Input as StandardInput, Print, Printer, Write};
+use std::io::{Input as StandardInput, Write};
 use std::rt::Runtime;
 
 /// The status of a usage fault.
@@ -40,21 +38,29 @@ const USAGE: u8 = 2;
 
 const STANDARD_OUTPUT: &str = "standard output";
 
-/// Does what the words after the program's name ask for, and returns the exit status: 0 or 1 by the outcome, 2 where the words
-/// ask for nothing that is there, 3 for a fault, and 141 where a pipe was written that its reader closed. Help and version print and end with 0. A
-/// fault is a line on standard error, and below it its file and the reason.
-pub fn exit_status<R: Runtime + AllocGlobal>(rt: &R, words: &[String]) -> u8
-    ensures { Ends (map string_bytes words.now) result }
+/// Does what the words after the program's name ask for. Returns the exit status: 0 or 1 by the outcome, 2 where the words ask for nothing
+/// that is there, 3 for a fault, and 141 where a pipe was written that its reader closed. What a job tells goes to `out`, which is returned.
+/// Help and version go to standard output, and end with 0. A fault is a line on standard error, and below it its file and the reason.
+pub fn exit_status<R: Runtime + AllocGlobal, W: Write + Drop>(
+    rt: &R,
+    words: &[String],
+    out: W,
+) -> (u8, W)
+    ensures { Ends (map string_bytes words.now) (W.contents out) (W.contents result.1) result.0 }
 {
     let failure = Failure::none();
+    let tool = Tool {
+        rt,
+        failure: &failure,
+    };
     let _places = match hold_places(rt) {
         Ok(places) => places,
-        Err(why) => return failure.tell(rt, failure.read("/", why)),
+        Err(why) => return (failure.tell(rt, failure.read("/", why)), out),
     };
     match read_words(rt.alloc(), words) {
-        Ok(job) => serve(rt, &failure, job),
-        Err(JobFault::InTwice) => misused(rt, "fault @in twice"),
-        Err(JobFault::Usage(error)) => print_usage(rt, &failure, error),
+        Ok(job) => tool.serve(job, out),
+        Err(JobFault::InTwice) => (tool.misused("fault @in twice"), out),
+        Err(JobFault::Usage(error)) => (tool.print_usage(error), out),
     }
 }
 
@@ -70,13 +76,8 @@ pub fn unread_status<R: Runtime>(rt: &R, fault: ArgumentsFault) -> u8
     }
 }
 
-fn serve<'a, R: Runtime + AllocGlobal>(rt: &R, failure: &Failure<'a>, job: Job<'a>) -> u8
-    ensures { EndsJob job.entry result }
-{
-    finished(rt, failure, do_job(rt, failure, job))
-}
-
 /// What became of a job.
+#[derive(Drop)]
 pub enum Done<'a> {
     /// An engine answered it.
     Answered(Outcome),
@@ -86,212 +87,340 @@ pub enum Done<'a> {
     NoCode(&'a str),
 }
 
-fn do_job<'a, R: Runtime + AllocGlobal>(
-    rt: &R,
-    failure: &Failure<'a>,
-    job: Job<'a>,
-) -> Result<Done<'a>, ToolFault>
-    ensures { CanEnd job.entry result }
-{
-    match job {
-        Job::Plan(plan) => ask_plan(rt, failure, PlanAsk::Lines, plan),
-        Job::Commands(plan) => ask_plan(rt, failure, PlanAsk::Commands, plan),
-        Job::ExplainPlan(plan) => ask_plan(rt, failure, PlanAsk::Explain, plan),
-        Job::ExplainRule(code) => explain_rule(rt, failure, code),
-        Job::Check(plan, script) => ask(rt, failure, Ask::Check, plan, script),
-        Job::Explain(plan, script) => ask(rt, failure, Ask::Explain, plan, script),
-        Job::ExplainBounds(plan, script) => ask(rt, failure, Ask::ExplainBounds, plan, script),
-        Job::ExplainAt(line, column, plan, script) => {
-            ask(rt, failure, Ask::ExplainAt { line, column }, plan, script)
-        }
-        Job::Bounds(plan, script) => ask(rt, failure, Ask::Bounds, plan, script),
-        Job::Costs(plan, script) => ask(rt, failure, Ask::Costs, plan, script),
-        Job::Response(plan, script, every, within) => {
-            respond(rt, failure, plan, script, &every, &within)
-        }
-        Job::Events(file) => list_events(rt, failure, file),
-        Job::Run(plan, script, answers, events) => {
-            run(rt, failure, plan, script, answers, events)
-        }
-        Job::Drive(plan, script, events) => drive(rt, failure, plan, script, events),
-    }
+/// What is asked of inputs, where nothing is run.
+#[derive(Drop)]
+pub enum Question<'a> {
+    Plan(PlanAsk, &'a str),
+    Script(Ask, &'a str, &'a str),
+    Response(&'a str, &'a str, Vec<&'a str>, Vec<&'a str>),
+    Events(&'a str),
 }
 
-fn ask_plan<'a, R: Runtime + AllocGlobal>(
-    rt: &R,
-    failure: &Failure<'a>,
-    ask: PlanAsk,
-    plan: &'a str,
-) -> Result<Done<'a>, ToolFault>
-    ensures { IsAnswered (CanAnswerPlan ask) result }
-{
-    let mut plan = source_of(plan_input(rt, failure, plan)?);
-    let mut out = Watched::new(Gathered::new(rt.alloc(), output(rt, failure))?);
-    let outcome = answer_plan(rt.alloc(), ask, &mut plan, &mut out)?;
-    handed_on(&mut out.into_inner(), outcome)
-}
-
-fn ask<'a, R: Runtime + AllocGlobal>(
-    rt: &R,
-    failure: &Failure<'a>,
-    ask: Ask,
-    plan: &'a str,
-    script: &'a str,
-) -> Result<Done<'a>, ToolFault>
-    ensures { IsAnswered (CanAnswer ask) result }
-{
-    let mut plan = source_of(plan_input(rt, failure, plan)?);
-    let mut script = Watched::new(open(rt, failure, script)?);
-    let mut out = Watched::new(Gathered::new(rt.alloc(), output(rt, failure))?);
-    let outcome = answer(rt.alloc(), ask, &mut plan, &mut script, &mut out)?;
-    handed_on(&mut out.into_inner(), outcome)
-}
-
-// Words that are wrong are told before a file is opened.
-fn respond<'a, R: Runtime + AllocGlobal>(
-    rt: &R,
-    failure: &Failure<'a>,
-    plan: &'a str,
-    script: &'a str,
-    every: &[&'a str],
-    within: &[&'a str],
-) -> Result<Done<'a>, ToolFault>
-    ensures { CanRespond (map (λ w. w.now) every.now) (map (λ w. w.now) within.now) result }
-{
-    let settings = match read_settings(rt.alloc(), every, within)? {
-        Ok(settings) => settings,
-        Err(misuse) => return Ok(Done::Misused(misuse)),
-    };
-    let mut plan = source_of(plan_input(rt, failure, plan)?);
-    let mut script = Watched::new(open(rt, failure, script)?);
-    let mut out = Watched::new(Gathered::new(rt.alloc(), output(rt, failure))?);
-    match engine_response(rt.alloc(), &settings, &mut plan, &mut script, &mut out)? {
-        Responded::Told(outcome) => handed_on(&mut out.into_inner(), outcome),
-        Responded::Misused(misuse) => Ok(Done::Misused(misuse)),
-    }
-}
-
-// Explains a rule by its code.
-fn explain_rule<'a, R: Runtime + AllocGlobal>(
-    rt: &R,
-    failure: &Failure<'a>,
-    code: &'a str,
-) -> Result<Done<'a>, ToolFault>
-    ensures { CanExplainRule code.now result }
-{
-    let Some(rule) = Rule::of_code(code) else {
-        return Ok(Done::NoCode(code));
-    };
-    let mut out = Watched::new(output(rt, failure));
-    let outcome = engine_explain_rule(rt.alloc(), rule, &mut out)?;
-    Ok(Done::Answered(outcome))
-}
-
-fn list_events<'a, R: Runtime + AllocGlobal>(
-    rt: &R,
-    failure: &Failure<'a>,
-    file: &'a str,
-) -> Result<Done<'a>, ToolFault>
-    ensures { IsAnswered CanListEvents result }
-{
-    let mut input = Watched::new(open(rt, failure, file)?);
-    let mut out = Watched::new(Gathered::new(rt.alloc(), output(rt, failure))?);
-    let outcome = engine_events(rt.alloc(), &mut input, &mut out)?;
-    handed_on(&mut out.into_inner(), outcome)
-}
-
-fn run<'a, R: Runtime + AllocGlobal>(
-    rt: &R,
-    failure: &Failure<'a>,
-    plan: &'a str,
-    script: &'a str,
-    answers: &'a str,
-    events: &'a str,
-) -> Result<Done<'a>, ToolFault>
-    ensures { IsAnswered (CanRun Listing) result }
-{
-    let plan = plan_input(rt, failure, plan)?;
-    let script = open(rt, failure, script)?;
-    let answers = open(rt, failure, answers)?;
-    keep_apart(rt, failure, events, plan.as_ref(), &script, &answers)?;
-    let file = NewFile::named(rt, events, Earlier::Emptied);
-    let ran = run_on_devices(
-        rt.alloc(),
-        &mut source_of(plan),
-        &mut Watched::new(script),
-        answers,
-        output(rt, failure),
-        Named::new(file, events, failure),
-    )?;
-    let outcome = ran.outcome?;
-    settle(&ran.records)?;
-    Ok(Done::Answered(outcome))
-}
-
-// A request goes out in one write to a writer that keeps nothing back, and no answer is read ahead of its request.
-fn drive<'a, R: Runtime + AllocGlobal>(
-    rt: &R,
-    failure: &Failure<'a>,
-    plan: &'a str,
-    script: &'a str,
-    events: &'a str,
-) -> Result<Done<'a>, ToolFault>
-    ensures { IsAnswered (CanRun Requests) result }
-{
-    let plan = plan_input(rt, failure, plan)?;
-    let script = open(rt, failure, script)?;
-    let answers = open(rt, failure, "@in")?;
-    keep_apart(rt, failure, events, plan.as_ref(), &script, &answers)?;
-    let file = NewFile::named(rt, events, Earlier::Refused);
-    let mut file = Watched::new(Named::new(file, events, failure));
-    let outcome = engine_drive(
-        rt.alloc(),
-        &mut source_of(plan),
-        &mut Watched::new(script),
-        &mut Watched::new(answers),
-        &mut Watched::new(output(rt, failure)),
-        &mut file,
-    )?;
-    settle(&file.into_inner())?;
-    Ok(Done::Answered(outcome))
-}
-
-fn output<'r, 'f, 'a, R: Print>(
+// What the functions of a job share.
+#[derive(Drop)]
+struct Tool<'r, 'f, 'a, R> {
     rt: &'r R,
     failure: &'f Failure<'a>,
-) -> Named<'f, 'a, Printer<'r, R>> {
-    Named::new(io::writer(rt), STANDARD_OUTPUT, failure)
 }
 
-// What is told is gathered before it goes out.
-fn handed_on<'a, W: Write + Drop>(
-    out: &mut Gathered<W>,
-    outcome: Outcome,
-) -> Result<Done<'a>, ToolFault>
-    ensures outcome { IfOk result (λ done. done ≡ Answered outcome) }
-    ensures fault { IfErr result (λ fault. fault ≡ Write) }
-    ensures all { OnOk result (held_in out.new ≡ []) }
-    ensures failed { has_stopped out.new ≡ (has_stopped out.old || is_err result) }
-{
-    match out.flush() {
-        Ok(()) => Ok(Done::Answered(outcome)),
-        Err(_) => Err(ToolFault::Write),
+impl<'r, 'f, 'a, R: Runtime + AllocGlobal> Tool<'r, 'f, 'a, R> {
+    fn serve<W: Write + Drop>(&self, job: Job<'a>, out: W) -> (u8, W)
+        ensures { EndsJob job.entry (W.contents out) (W.contents result.1) result.0 }
+    {
+        let (done, out) = self.do_job(job, Named::new(out, STANDARD_OUTPUT, self.failure));
+        (self.finished(done), out.device)
     }
-}
 
-// The input that a plan is read from; the sample plan is read from none.
-fn plan_input<'f, 'a, R: Files + StandardInput>(
-    rt: &R,
-    failure: &'f Failure<'a>,
-    word: &'a str,
-) -> Result<Option<Named<'f, 'a, Input<R::Reader, R::File>>>, ToolFault>
-    ensures which { IfOk result (λ input. is_none input ≡ bytes_eq word.now (codes "@sample")) }
-    ensures fault { IfErr result (λ fault. fault ≡ read-fault) }
-{
-    if word == "@sample" {
-        return Ok(None);
+    fn do_job<W: Write + Drop>(&self, job: Job<'a>, out: W) -> (Result<Done<'a>, ToolFault>, W)
+        ensures { DoesJob job.entry (W.contents out) (W.contents result.1) result.0 }
+    {
+        match job {
+            Job::Plan(plan) => self.gather(Question::Plan(PlanAsk::Lines, plan), out),
+            Job::Commands(plan) => self.gather(Question::Plan(PlanAsk::Commands, plan), out),
+            Job::ExplainPlan(plan) => self.gather(Question::Plan(PlanAsk::Explain, plan), out),
+            Job::ExplainRule(code) => self.explain_rule(code, out),
+            Job::Check(plan, script) => self.ask(Ask::Check, plan, script, out),
+            Job::Explain(plan, script) => self.ask(Ask::Explain, plan, script, out),
+            Job::ExplainBounds(plan, script) => self.ask(Ask::ExplainBounds, plan, script, out),
+            Job::ExplainAt(line, column, plan, script) => {
+                self.ask(Ask::ExplainAt { line, column }, plan, script, out)
+            }
+            Job::Bounds(plan, script) => self.ask(Ask::Bounds, plan, script, out),
+            Job::Costs(plan, script) => self.ask(Ask::Costs, plan, script, out),
+            Job::Response(plan, script, every, within) => {
+                self.gather(Question::Response(plan, script, every, within), out)
+            }
+            Job::Events(file) => self.gather(Question::Events(file), out),
+            Job::Run(plan, script, answers, events) => self.run(plan, script, answers, events, out),
+            Job::Drive(plan, script, events) => self.drive(plan, script, events, out),
+        }
     }
-    Ok(Some(open(rt, failure, word)?))
+
+    fn ask<W: Write + Drop>(
+        &self,
+        ask: Ask,
+        plan: &'a str,
+        script: &'a str,
+        out: W,
+    ) -> (Result<Done<'a>, ToolFault>, W)
+        ensures { HandsOn (Tells (ScriptTells ask)) (W.contents out) (W.contents result.1) result.0 }
+    {
+        self.gather(Question::Script(ask, plan, script), out)
+    }
+
+    // What is told is gathered before it goes out. What is held at a fault is lost.
+    fn gather<W: Write + Drop>(
+        &self,
+        question: Question<'a>,
+        out: W,
+    ) -> (Result<Done<'a>, ToolFault>, W)
+        ensures { HandsOn (Replies question.entry) (W.contents out) (W.contents result.1) result.0 }
+    {
+        let mut out = match Gathered::new(self.rt.alloc(), out) {
+            Ok(out) => Watched::new(out),
+            Err(out) => return (Err(ToolFault::Memory), out),
+        };
+        let done = self.reply(question, &mut out);
+        let mut out = out.into_inner();
+        match done {
+            Ok(done) => match out.flush() {
+                Ok(()) => (Ok(done), out.into_inner()),
+                Err(_) => (Err(ToolFault::Write), out.into_inner()),
+            },
+            Err(fault) => (Err(fault), out.into_inner()),
+        }
+    }
+
+    fn reply<W: Write>(
+        &self,
+        question: Question<'a>,
+        out: &mut Watched<W>,
+    ) -> Result<Done<'a>, ToolFault>
+        ensures { Replies question.entry (W.contents (inner_of out.old)) (W.contents (inner_of out.new)) result }
+    {
+        match question {
+            Question::Plan(ask, plan) => self.ask_plan(ask, plan, out),
+            Question::Script(ask, plan, script) => self.ask_script(ask, plan, script, out),
+            Question::Response(plan, script, every, within) => {
+                self.respond(plan, script, &every, &within, out)
+            }
+            Question::Events(file) => self.list_events(file, out),
+        }
+    }
+
+    fn ask_plan<W: Write>(
+        &self,
+        ask: PlanAsk,
+        plan: &'a str,
+        out: &mut Watched<W>,
+    ) -> Result<Done<'a>, ToolFault>
+        ensures { Tells (PlanTells ask) (W.contents (inner_of out.old)) (W.contents (inner_of out.new)) result }
+    {
+        let mut plan = source_of(self.plan_input(plan)?);
+        let outcome = answer_plan(self.rt.alloc(), ask, &mut plan, out)?;
+        Ok(Done::Answered(outcome))
+    }
+
+    fn ask_script<W: Write>(
+        &self,
+        ask: Ask,
+        plan: &'a str,
+        script: &'a str,
+        out: &mut Watched<W>,
+    ) -> Result<Done<'a>, ToolFault>
+        ensures { Tells (ScriptTells ask) (W.contents (inner_of out.old)) (W.contents (inner_of out.new)) result }
+    {
+        let mut plan = source_of(self.plan_input(plan)?);
+        let mut script = Watched::new(open(self.rt, self.failure, script)?);
+        let outcome = answer(self.rt.alloc(), ask, &mut plan, &mut script, out)?;
+        Ok(Done::Answered(outcome))
+    }
+
+    // Words that are wrong are told before a file is opened.
+    fn respond<W: Write>(
+        &self,
+        plan: &'a str,
+        script: &'a str,
+        every: &[&'a str],
+        within: &[&'a str],
+        out: &mut Watched<W>,
+    ) -> Result<Done<'a>, ToolFault>
+        ensures { Responds (map (λ w. w.now) every.now) (map (λ w. w.now) within.now) (W.contents (inner_of out.old)) (W.contents (inner_of out.new)) result }
+    {
+        let settings = match read_settings(self.rt.alloc(), every, within)? {
+            Ok(settings) => settings,
+            Err(misuse) => return Ok(Done::Misused(misuse)),
+        };
+        let mut plan = source_of(self.plan_input(plan)?);
+        let mut script = Watched::new(open(self.rt, self.failure, script)?);
+        match engine_response(self.rt.alloc(), &settings, &mut plan, &mut script, out)? {
+            Responded::Told(outcome) => Ok(Done::Answered(outcome)),
+            Responded::Misused(misuse) => Ok(Done::Misused(misuse)),
+        }
+    }
+
+    fn list_events<W: Write>(
+        &self,
+        file: &'a str,
+        out: &mut Watched<W>,
+    ) -> Result<Done<'a>, ToolFault>
+        ensures { Tells EventsTell (W.contents (inner_of out.old)) (W.contents (inner_of out.new)) result }
+    {
+        let mut input = Watched::new(open(self.rt, self.failure, file)?);
+        let outcome = engine_events(self.rt.alloc(), &mut input, out)?;
+        Ok(Done::Answered(outcome))
+    }
+
+    // The text of a rule goes out in one write.
+    fn explain_rule<W: Write + Drop>(
+        &self,
+        code: &'a str,
+        out: W,
+    ) -> (Result<Done<'a>, ToolFault>, W)
+        ensures { ExplainsRule code.now (W.contents out) (W.contents result.1) result.0 }
+    {
+        let Some(rule) = Rule::of_code(code) else {
+            return (Ok(Done::NoCode(code)), out);
+        };
+        let mut out = Watched::new(out);
+        match engine_explain_rule(self.rt.alloc(), rule, &mut out) {
+            Ok(outcome) => (Ok(Done::Answered(outcome)), out.into_inner()),
+            Err(fault) => (Err(fault), out.into_inner()),
+        }
+    }
+
+    fn run<W: Write + Drop>(
+        &self,
+        plan: &'a str,
+        script: &'a str,
+        answers: &'a str,
+        events: &'a str,
+        out: W,
+    ) -> (Result<Done<'a>, ToolFault>, W)
+        ensures { HandsOn (RunsTold Listing) (W.contents out) (W.contents result.1) result.0 }
+    {
+        let (plan, script, answers) = match self.open_run(plan, script, answers, events) {
+            Ok(inputs) => inputs,
+            Err(fault) => return (Err(fault), out),
+        };
+        let file = NewFile::named(self.rt, events, Earlier::Emptied);
+        let ran = run_on_devices(
+            self.rt.alloc(),
+            &mut source_of(plan),
+            &mut Watched::new(script),
+            answers,
+            out,
+            Named::new(file, events, self.failure),
+        );
+        (settled(ran.outcome, &ran.records), ran.listing)
+    }
+
+    // A request goes out in one write to a writer that keeps nothing back, and no answer is read ahead of its request.
+    fn drive<W: Write + Drop>(
+        &self,
+        plan: &'a str,
+        script: &'a str,
+        events: &'a str,
+        out: W,
+    ) -> (Result<Done<'a>, ToolFault>, W)
+        ensures { OrWriteFault (RunsTold Requests (W.contents out) (W.contents result.1)) result.0 }
+    {
+        let (plan, script, answers) = match self.open_run(plan, script, "@in", events) {
+            Ok(inputs) => inputs,
+            Err(fault) => return (Err(fault), out),
+        };
+        let file = NewFile::named(self.rt, events, Earlier::Refused);
+        let mut file = Watched::new(Named::new(file, events, self.failure));
+        let mut out = Watched::new(out);
+        let outcome = engine_drive(
+            self.rt.alloc(),
+            &mut source_of(plan),
+            &mut Watched::new(script),
+            &mut Watched::new(answers),
+            &mut out,
+            &mut file,
+        );
+        (settled(outcome, &file.into_inner()), out.into_inner())
+    }
+
+    // The plan, the script and the answers of a run, none of which is EVENTS.
+    fn open_run(
+        &self,
+        plan: &'a str,
+        script: &'a str,
+        answers: &'a str,
+        events: &'a str,
+    ) -> Result<
+        (
+            Option<Named<'f, 'a, Input<R::Reader, R::File>>>,
+            Named<'f, 'a, Input<R::Reader, R::File>>,
+            Named<'f, 'a, Input<R::Reader, R::File>>,
+        ),
+        ToolFault,
+    > {
+        let plan = self.plan_input(plan)?;
+        let script = open(self.rt, self.failure, script)?;
+        let answers = open(self.rt, self.failure, answers)?;
+        keep_apart(
+            self.rt,
+            self.failure,
+            events,
+            plan.as_ref(),
+            &script,
+            &answers,
+        )?;
+        Ok((plan, script, answers))
+    }
+
+    // The input that a plan is read from; the sample plan is read from none.
+    fn plan_input(
+        &self,
+        word: &'a str,
+    ) -> Result<Option<Named<'f, 'a, Input<R::Reader, R::File>>>, ToolFault>
+        ensures which { IfOk result (λ input. is_none input ≡ bytes_eq word.now (codes "@sample")) }
+        ensures fault { IfErr result (λ fault. fault ≡ read-fault) }
+    {
+        if word == "@sample" {
+            return Ok(None);
+        }
+        Ok(Some(open(self.rt, self.failure, word)?))
+    }
+
+    // What standard error does not take is lost: there is no other place to tell it.
+
+    fn finished(&self, done: Result<Done<'_>, ToolFault>) -> u8
+        ensures { EndsAs done.entry result }
+    {
+        match done {
+            Ok(Done::Answered(outcome)) => status(&Ok(outcome)),
+            Ok(Done::Misused(misuse)) => self.misused_words(misuse),
+            Ok(Done::NoCode(code)) => {
+                let _ = eprintln!(self.rt; "fault {code}: no such code");
+                USAGE
+            }
+            Err(fault) => self.failure.tell(self.rt, fault),
+        }
+    }
+
+    #[tactic(auto, using(crate::proofs::Ended::memory_ends))]
+    fn misused_words(&self, misuse: Misuse<'_>) -> u8
+        ensures { EndsMisuse misuse.entry result }
+    {
+        let Misuse::Form(option, word) = misuse else {
+            let _ = eprintln!(self.rt; "{misuse}");
+            return USAGE;
+        };
+        match setting_error(self.rt.alloc(), option, word) {
+            Ok(error) => self.print_usage(error),
+            Err(_) => self.failure.tell(self.rt, ToolFault::Memory),
+        }
+    }
+
+    fn misused(&self, why: &str) -> u8
+        ensures { result ≡ 2 }
+    {
+        let _ = eprintln!(self.rt; "{why}");
+        USAGE
+    }
+
+    // The text of `clap`: help, version, or why the words name no job.
+    fn print_usage(&self, error: Error) -> u8
+        ensures { EndsUsage (kind_of error) result }
+    {
+        if error.kind() == ErrorKind::OutOfMemory {
+            return self.failure.tell(self.rt, ToolFault::Memory);
+        }
+        let printed = error.print(self.rt);
+        if error.use_stderr() {
+            return USAGE;
+        }
+        match printed {
+            Ok(()) => 0,
+            Err(why) => self
+                .failure
+                .tell(self.rt, self.failure.write(STANDARD_OUTPUT, why)),
+        }
+    }
 }
 
 fn source_of<I: Drop>(input: Option<I>) -> PlanSource<I>
@@ -303,60 +432,14 @@ fn source_of<I: Drop>(input: Option<I>) -> PlanSource<I>
     }
 }
 
-// What standard error does not take is lost: there is no other place to tell it.
-
-fn finished<R: Runtime + AllocGlobal>(
-    rt: &R,
-    failure: &Failure<'_>,
-    done: Result<Done<'_>, ToolFault>,
-) -> u8
-    ensures { EndsAs done.entry result }
+// Of a run that came to its end the event file is waited for.
+fn settled<'a, R: Files>(
+    outcome: Result<Outcome, ToolFault>,
+    events: &Named<'_, '_, NewFile<'_, R>>,
+) -> Result<Done<'a>, ToolFault>
+    ensures { IsSettled outcome result }
 {
-    match done {
-        Ok(Done::Answered(outcome)) => status(&Ok(outcome)),
-        Ok(Done::Misused(misuse)) => misused_words(rt, failure, misuse),
-        Ok(Done::NoCode(code)) => {
-            let _ = eprintln!(rt; "fault {code}: no such code");
-            USAGE
-        }
-        Err(fault) => failure.tell(rt, fault),
-    }
-}
-
-#[tactic(auto, using(crate::proofs::Ended::memory_ends))]
-fn misused_words<R: Runtime + AllocGlobal>(rt: &R, failure: &Failure<'_>, misuse: Misuse<'_>) -> u8
-    ensures { EndsMisuse misuse.entry result }
-{
-    let Misuse::Form(option, word) = misuse else {
-        let _ = eprintln!(rt; "{misuse}");
-        return USAGE;
-    };
-    match setting_error(rt.alloc(), option, word) {
-        Ok(error) => print_usage(rt, failure, error),
-        Err(_) => failure.tell(rt, ToolFault::Memory),
-    }
-}
-
-fn misused<R: Runtime>(rt: &R, why: &str) -> u8
-    ensures { result ≡ 2 }
-{
-    let _ = eprintln!(rt; "{why}");
-    USAGE
-}
-
-// The text of `clap`: help, version, or why the words name no job.
-fn print_usage<R: Runtime>(rt: &R, failure: &Failure<'_>, error: Error) -> u8
-    ensures { EndsUsage (kind_of error) result }
-{
-    if error.kind() == ErrorKind::OutOfMemory {
-        return failure.tell(rt, ToolFault::Memory);
-    }
-    let printed = error.print(rt);
-    if error.use_stderr() {
-        return USAGE;
-    }
-    match printed {
-        Ok(()) => 0,
-        Err(why) => failure.tell(rt, failure.write(STANDARD_OUTPUT, why)),
-    }
+    let outcome = outcome?;
+    settle(events)?;
+    Ok(Done::Answered(outcome))
 }

@@ -1,6 +1,6 @@
 // The streams of a run: its answers, its listing and its event file.
 
-ghost use Rattle.std.specs.Prelude.{◌≡◌, ◌⊎◌, ◌≤◌, ◌<◌, ◌||◌, [], true, false, length, take, OnOk, IfOk, is_err};
+ghost use Rattle.std.specs.Prelude.{◌≡◌, ◌⊎◌, ◌≤◌, ◌<◌, ◌||◌, [], true, false, length, take, OnOk, IfOk, IfErr, is_err};
 ghost use Rattle.std.specs.Io.KnownBytes.{Keeps, Consumes, IsAtEnd};
 ghost use Rattle.camac_answer.specs.Answers.{IsOpen};
 ghost use Rattle.camac_answer.specs.Lines.{first_line};
@@ -20,7 +20,7 @@ use camac_play::{PlayFault, RunIo};
 use camac_report::Line;
 use camac_run::Item;
 use camac_word::{CrateNo, GlBit, Watched, Word24, WriteFault};
-use std::alloc::{AllocError, Global};
+use std::alloc::Global;
 use std::io::{Read, Write};
 
 /// How a run ended, and its outputs.
@@ -50,23 +50,31 @@ impl<R: Read + Drop, W: Drop, E: Drop> Streams<R, W, E> {
 }
 
 impl<R: Read + Drop, W: Write + Drop, E: Write + Drop> Streams<R, W, E> {
-    /// Nothing was read yet, and nothing is held.
+    /// Nothing was read yet, and nothing is held. Where memory is out both outputs come back.
     pub fn new(
         alloc: Global,
         answers: R,
         listing: W,
         records: E,
-    ) -> Result<Streams<R, W, E>, AllocError>
-        ensures { IfOk result (λ s. run_state R.remaining W.contents E.contents s ≡ before (R.remaining answers) (W.contents listing) (E.contents records)) }
+    ) -> Result<Streams<R, W, E>, (W, E)>
+        ensures works { IfOk result (λ s. run_state R.remaining W.contents E.contents s ≡ before (R.remaining answers) (W.contents listing) (E.contents records)) }
+        ensures memory { IfErr result (λ outputs. (outputs.0 ≡ listing) × (outputs.1 ≡ records)) }
     {
         let Ok(answers) = Ahead::new(alloc, answers) else {
-            return Err(AllocError);
+            return Err((listing, records));
         };
-        Ok(Streams {
-            answers,
-            listing: Gathered::new(alloc, listing)?,
-            records: Gathered::new(alloc, records)?,
-        })
+        let listing = match Gathered::new(alloc, listing) {
+            Ok(listing) => listing,
+            Err(listing) => return Err((listing, records)),
+        };
+        match Gathered::new(alloc, records) {
+            Ok(records) => Ok(Streams {
+                answers,
+                listing,
+                records,
+            }),
+            Err(records) => Err((listing.into_inner(), records)),
+        }
     }
 
     /// Hands on all that was given, first the listing.

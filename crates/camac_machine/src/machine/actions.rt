@@ -59,7 +59,7 @@ impl<'a, const V: usize, const DEPTH: usize, const CAP: usize> Machine<'a, V, DE
         requires station { Refers (reach self.old).variables (expression_of station.now) }
         requires sub_address { Refers (reach self.old).variables (expression_of sub_address.now) }
         requires fine { FineThen self.old (λ c. effect c most_turns (set_register 0 register (expression_of crate_no.now) (expression_of station.now) (expression_of sub_address.now))) }
-        ensures { Advances self.old (λ c. effect c most_turns (set_register 0 register (expression_of crate_no.now) (expression_of station.now) (expression_of sub_address.now))) None self.new }
+        ensures { Advances 1 self.old (λ c. effect c most_turns (set_register 0 register (expression_of crate_no.now) (expression_of station.now) (expression_of sub_address.now))) None self.new }
     {
         let c = self.value_of(crate_no);
         let n = self.value_of(station);
@@ -74,7 +74,7 @@ impl<'a, const V: usize, const DEPTH: usize, const CAP: usize> Machine<'a, V, DE
         requires variable { variable < (reach self.old).variables }
         requires declared { Refers (reach self.old).variables (expression_of value.now) }
         requires fine { FineThen self.old (λ c. effect c most_turns (assign 0 variable (expression_of value.now))) }
-        ensures { Advances self.old (λ c. effect c most_turns (assign 0 variable (expression_of value.now))) None self.new }
+        ensures { Advances 1 self.old (λ c. effect c most_turns (assign 0 variable (expression_of value.now))) None self.new }
     {
         let value = self.value_of(value);
         self.set_variable(variable, value);
@@ -85,7 +85,7 @@ impl<'a, const V: usize, const DEPTH: usize, const CAP: usize> Machine<'a, V, DE
         requires room { HasRoom self.old }
         requires declared { Refers (reach self.old).variables (expression_of value.now) }
         requires fine { FineThen self.old (λ c. effect c most_turns (put 0 (expression_of value.now))) }
-        ensures { Advances self.old (λ c. effect c most_turns (put 0 (expression_of value.now))) None self.new }
+        ensures { Advances 1 self.old (λ c. effect c most_turns (put 0 (expression_of value.now))) None self.new }
     {
         match Word24::new(self.value_of(value)) {
             Some(word) => self.words.push(word),

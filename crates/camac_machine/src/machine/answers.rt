@@ -162,7 +162,7 @@ impl<'a, const V: usize, const DEPTH: usize, const CAP: usize> Machine<'a, V, DE
     }
 
     /// Goes on after the answer that was wanted, or after a pause, until the next one is wanted, or the service is over: with the transfer that it
-    /// was wanted for, or else with the open blocks. It pauses after more than `most` steps.
+    /// was wanted for, or else with the open blocks. It pauses after more than `most` steps, at most two more.
     #[inline(always)]
     pub fn go_further(&mut self, pending: &mut Option<Pending<'a>>, most: u32)
         requires room { HasRoom self.old }
@@ -172,6 +172,7 @@ impl<'a, const V: usize, const DEPTH: usize, const CAP: usize> Machine<'a, V, DE
         requires fine { FineThen self.old (λ c. after_pending c pending.old) }
         ensures settles { Settles self.old (λ c. after_pending c pending.old) pending.new self.new }
         ensures pauses { PausesAfter self.old.steps most pending.new self.new }
+        ensures soon { self.new.steps ≤ self.old.steps + most + 2 }
     {
         if !self.follow_transfer(pending) {
             self.settle(pending, most);

@@ -77,7 +77,7 @@ impl<'a, const V: usize, const DEPTH: usize, const CAP: usize> Machine<'a, V, DE
         requires variable { variable < (reach self.old).variables }
         requires body { Opens (reach self.old) (free self.old) (statements_of body.now) }
         requires fine { FineThen self.old (λ c. for_turns (suc (last - value)) turns variable value last (block_meaning c most_turns (statements_of body.now))) }
-        ensures { Advances self.old (λ c. for_turns (suc (last - value)) turns variable value last (block_meaning c most_turns (statements_of body.now))) None self.new }
+        ensures { Advances 1 self.old (λ c. for_turns (suc (last - value)) turns variable value last (block_meaning c most_turns (statements_of body.now))) None self.new }
     {
         self.set_variable(variable, value);
         self.steps += 1;
@@ -102,7 +102,7 @@ impl<'a, const V: usize, const DEPTH: usize, const CAP: usize> Machine<'a, V, DE
         requires to { Refers (reach self.old).variables (expression_of to.now) }
         requires body { Opens (reach self.old) (free self.old) (statements_of body.now) }
         requires fine { FineThen self.old (λ c. effect c most_turns (for_ 0 variable (expression_of from.now) (expression_of to.now) [] (statements_of body.now))) }
-        ensures { Advances self.old (λ c. effect c most_turns (for_ 0 variable (expression_of from.now) (expression_of to.now) [] (statements_of body.now))) None self.new }
+        ensures { Advances 1 self.old (λ c. effect c most_turns (for_ 0 variable (expression_of from.now) (expression_of to.now) [] (statements_of body.now))) None self.new }
     {
         let first = self.value_of(from);
         let last = self.value_of(to);
@@ -118,7 +118,7 @@ impl<'a, const V: usize, const DEPTH: usize, const CAP: usize> Machine<'a, V, DE
         requires declared { PartsRefer (reach self.old).variables (map part_of test.now) }
         requires body { Opens (reach self.old) (free self.old) (statements_of body.now) }
         requires fine { FineThen self.old (λ c. while_turns turns (map part_of test.now) (block_meaning c most_turns (statements_of body.now))) }
-        ensures { Advances self.old (λ c. while_turns turns (map part_of test.now) (block_meaning c most_turns (statements_of body.now))) None self.new }
+        ensures { Advances 1 self.old (λ c. while_turns turns (map part_of test.now) (block_meaning c most_turns (statements_of body.now))) None self.new }
     {
         if self.holds(test) {
             self.steps += 1;
@@ -185,7 +185,7 @@ impl<'a, const V: usize, const DEPTH: usize, const CAP: usize> Machine<'a, V, DE
     pub(crate) fn release(&mut self, crate_no: u32)
         requires room { HasRoomFor self.old (opens_in self.old ++ record { block = done; owner = releases crate_no } ∷ []) }
         requires fine { FineThen self.old (λ c. owed c (releases crate_no)) }
-        ensures { Advances self.old (λ c. owed c (releases crate_no)) None self.new }
+        ensures { Advances 1 self.old (λ c. owed c (releases crate_no)) None self.new }
     {
         match CrateNo::new(crate_no) {
             Some(crate_no) => {
@@ -202,7 +202,7 @@ impl<'a, const V: usize, const DEPTH: usize, const CAP: usize> Machine<'a, V, DE
     pub(crate) fn leave(&mut self, owner: &Owner<'a>)
         requires room { HasRoomFor self.old (opens_in self.old ++ record { block = done; owner = owner_in self.old owner.now } ∷ []) }
         requires fine { FineThen self.old (λ c. owed c (owner_in self.old owner.now)) }
-        ensures { Advances self.old (λ c. owed c (owner_in self.old owner.now)) None self.new }
+        ensures { Advances 1 self.old (λ c. owed c (owner_in self.old owner.now)) None self.new }
     {
         match owner {
             Owner::Plain => {}

@@ -1,6 +1,6 @@
 // Pauses: a service makes no more than so many steps at once.
 
-ghost use Rattle.std.specs.Prelude.{◌≡◌, [], List, None, Some};
+ghost use Rattle.std.specs.Prelude.{◌≡◌, ◌+◌, ◌≤◌, [], List, None, Some};
 ghost use Rattle.camac_branch.specs.Branch.{Answer};
 ghost use Rattle.camac_model.specs.Behaviour.{ends};
 ghost use Rattle.camac_machine.specs.MachineState.{stands, IsFineHere, HasRoom, PausesAfter, Settles};
@@ -23,6 +23,7 @@ impl<'a, const V: usize, const DEPTH: usize, const CAP: usize> Machine<'a, V, DE
         requires fine { (answers : List Answer) → IsFineHere self.old (stands None self.old answers) }
         ensures settles { Settles self.old (λ c. ends) pending.new self.new }
         ensures pauses { PausesAfter self.old.steps most pending.new self.new }
+        ensures soon { self.new.steps ≤ self.old.steps + most + 2 }
     {
         if most == NO_PAUSE {
             self.settle_at_once(pending);
@@ -39,6 +40,7 @@ impl<'a, const V: usize, const DEPTH: usize, const CAP: usize> Machine<'a, V, DE
         requires fine { (answers : List Answer) → IsFineHere self.old (stands None self.old answers) }
         ensures settles { Settles self.old (λ c. ends) pending.new self.new }
         ensures pauses { PausesAfter self.old.steps most pending.new self.new }
+        ensures soon { self.new.steps ≤ self.old.steps + most + 2 }
     {
         let end = self.steps.saturating_add(most);
         while !self.frames.is_empty() {

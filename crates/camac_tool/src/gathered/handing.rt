@@ -1,6 +1,6 @@
 // How a gathering writer takes bytes and hands them on.
 
-ghost use Rattle.std.specs.Prelude.{◌≡◌, ◌≤◌, ◌<◌, ◌+◌, ◌||◌, ◌++◌, true, false, [], length, take, IfOk, OnOk, is_err};
+ghost use Rattle.std.specs.Prelude.{◌≡◌, ◌≤◌, ◌<◌, ◌+◌, ◌||◌, ◌++◌, true, false, [], length, take, IfOk, IfErr, OnOk, is_err};
 ghost use Rattle.std.specs.Io.{WritesAtMost};
 ghost use Rattle.std.specs.Io.KnownBytes.{Keeps, Appends, WriteAppends};
 ghost use Rattle.camac_report.specs.Items.{item_text, unlock_texts};
@@ -16,20 +16,25 @@ use camac_event::TextWriter;
 use camac_report::{LONGEST_LINE, Line};
 use camac_run::Item;
 use camac_word::{CrateNo, Watched, WriteFault};
-use std::alloc::{AllocError, Global};
+use std::alloc::Global;
 use std::io;
 use std::io::{Error, ErrorKind, Write};
 
 impl<W: Drop> Gathered<W> {
-    pub fn new(alloc: Global, inner: W) -> Result<Gathered<W>, AllocError>
+    /// Nothing is held. Where memory is out the writer comes back.
+    pub fn new(alloc: Global, inner: W) -> Result<Gathered<W>, W>
         ensures inner { IfOk result (λ g. device_of g ≡ inner) }
         ensures empty { IfOk result (λ g. held_in g ≡ []) }
         ensures works { IfOk result (λ g. has_stopped g ≡ false) }
+        ensures memory { IfErr result (λ same. same ≡ inner) }
     {
-        Ok(Gathered {
-            inner: Watched::new(inner),
-            room: Room::new(alloc)?,
-        })
+        match Room::new(alloc) {
+            Ok(room) => Ok(Gathered {
+                inner: Watched::new(inner),
+                room,
+            }),
+            Err(_) => Err(inner),
+        }
     }
 
     /// Whether a call of the writer behind it has failed so far.

@@ -292,7 +292,7 @@ returns-in-While-clause-advances g c =
     let h = c.args.self.now in
     let w = c.in-While in
     let b = statements_of w.body.items in
-    let A : ℕ → Type 0 = λ n. Advances (record h { steps = h.steps + 1 }) (λ k. turns n (condition_of w.test) (block_meaning k most_turns b)) None c.test_while.new.self in
+    let A : ℕ → Type 0 = λ n. Advances 1 (record h { steps = h.steps + 1 }) (λ k. turns n (condition_of w.test) (block_meaning k most_turns b)) None c.test_while.new.self in
     let few : A 65535 = rw (c.deref-in-While.ensures.value, c.deref-in-While-2.ensures.value) at c.test_while.ensures in
     rw (w.is, while_is w.line w.test w.turns w.measure w.keeps w.body)
     (step_advances h (while_ 0 (condition_of w.test) w.turns w.measure (map keep_of w.keeps.items) b) None c.test_while.new.self (subst A (sym turns_are) few))

@@ -7,8 +7,8 @@ use Rattle.camac_lang.specs.View.{statements_of}
 use Rattle.camac_machine.specs.declared.machine.Frame.{Frame}
 use Rattle.camac_machine.specs.declared.machine.Machine.{Machine}
 use Rattle.camac_machine.specs.MachineState.{state_of, owner_in, opens_in, FineThen, HasRoomFor, Advances}
-use Rattle.camac_machine.specs.Rest.{left_of}
-use Rattle.camac_machine.proofs.Frames.{room_popped, goes_popped, fine_along}
+use Rattle.camac_machine.specs.Rest.{owed, left_of}
+use Rattle.camac_machine.proofs.Frames.{room_popped, goes_popped, advances_soon, fine_along}
 use Rattle.camac_machine.proofs.Lists.{filled}
 use Rattle.camac_machine.proofs.Turns.{turn_whole, turn_sets, turn_room, turn_steps, turn_goes_on}
 use Rattle.camac_machine.proofs.machine.Machine.close.Goals as goal
@@ -77,5 +77,5 @@ returns-in-Some-pop g c =
     let o = owner_in h frame.owner in
     let mid : Machine g.row.V g.row.DEPTH g.row.CAP = record h { frames = c.pop.new.self } in
     let e = ap statements_of (c.requires.over c.pop.new.self.items frame was) in
-    let A : Block → Type 0 = λ b. Advances mid (λ k. left_of k (record { block = b; owner = o })) None c.leave.new.self in
-    record { before = c.pop.new.self.items; last = frame; was = was; advances = subst A (sym e) c.leave.ensures }
+    let A : Block → Type 0 = λ b. Advances 2 mid (λ k. left_of k (record { block = b; owner = o })) None c.leave.new.self in
+    record { before = c.pop.new.self.items; last = frame; was = was; advances = subst A (sym e) (advances_soon mid (λ k. owed k o) None c.leave.new.self c.leave.ensures) }

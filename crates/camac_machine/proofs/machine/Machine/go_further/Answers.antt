@@ -1,4 +1,4 @@
-use Rattle.std.proofs.Common.{rules, refl, ap, subst, ◌+◌, ◌<◌}
+use Rattle.std.proofs.Common.{rules, refl, ap, subst, ◌+◌, ◌<◌, arith}
 use Rattle.std.specs.Prelude.{None}
 use Rattle.camac_model.specs.Behaviour.{Action}
 use Rattle.camac_model.specs.Meaning.{Context}
@@ -34,3 +34,14 @@ returns-else-not-follow_transfer-clause-settles g c =
     let p = c.if-not-follow_transfer.ensures.cycle refl in
     wants_settles c.args.self.now (λ k. after_pending k c.args.pending.now) c.follow_transfer.new.self c.requires.quiet c.follow_transfer.new.pending p.0
     (stands_on c.args.self.now c.follow_transfer.new.self (asked c.args.pending.now) c.follow_transfer.new.pending p.1.same c.requires.begun (c.if-not-follow_transfer.ensures.same refl)) p.1
+
+pub returns-then-not-follow_transfer-clause-soon : goal.returns-then-not-follow_transfer-clause-soon
+returns-then-not-follow_transfer-clause-soon g c =
+    let p = c.if-not-follow_transfer.ensures.tally refl in
+    let n = ap (λ (m : Machine g.row.V g.row.DEPTH g.row.CAP). m.steps) p.same in
+    let s = c.settle.ensures.soon in omega (arith, n, s)
+
+pub returns-else-not-follow_transfer-clause-soon : goal.returns-else-not-follow_transfer-clause-soon
+returns-else-not-follow_transfer-clause-soon g c =
+    let p = c.if-not-follow_transfer.ensures.cycle refl in
+    let n = ap (λ (m : Machine g.row.V g.row.DEPTH g.row.CAP). m.steps) p.1.same in omega (arith, n)

@@ -70,6 +70,7 @@ returns-in-Some-clause-goes g c =
         pace =
             let p = c.begin-waits.ensures.pace in
             let n : length fs.items ≡ length t.before + 1 = ap length items ∙ longer t.before _ in omega (arith, p, n);
+        few = a.few;
         released = a.released;
         unlocks = a.unlocks;
         goes = λ answers. ap (says a.released) (stands_at new at w answers) ∙ a.goes answers ∙ goes_begun mid _ fs o st items e refl (state_of h answers);

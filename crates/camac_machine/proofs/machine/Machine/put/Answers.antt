@@ -44,6 +44,7 @@ returns g c =
       service = refl;
       awaits = tt;
       pace = omega arith;
+      few = omega arith;
       released = [];
       unlocks = sym (append-nil h.unlocks.items);
       goes = λ answers.

@@ -17,7 +17,7 @@ none_if_some None P some = absurd (false≢true some)
 none_if_some (Some x) P some = tt
 
 pub loop-pending-init : goal.loop-pending-init
-loop-pending-init g c = record { room = c.requires.room; checked = refl; service = refl; goes = λ answers. rw c.requires.quiet refl }
+loop-pending-init g c = record { room = c.requires.room; checked = refl; service = refl; soon = omega arith; goes = λ answers. rw c.requires.quiet refl }
 
 pub go_on-requires : goal.go_on-requires
 go_on-requires g c =
@@ -105,6 +105,7 @@ loop-pending-preserved g c =
       room = a.room;
       checked = a.checked ∙ v.checked;
       service = a.service ∙ v.service;
+      soon = let few = a.few in let end = c.saturating_add-end.ensures in let below = c.if-self-end.false in omega (arith, few, end, below);
       goes = λ answers. goes_further h new e.last before e.was a.released a.unlocks None answers (a.goes answers) ∙ v.goes answers;
     }
 
@@ -113,3 +114,15 @@ returns-clause-settles g c =
     let h = c.loop-pending.self in
     let v = c.loop-pending.invariant in
     rw c.wait_for_none.ensures (record { room = v.room; checked = v.checked; service = v.service; awaits = tt; begun = tt; over = none_of h.frames.items c.loop-pending-test.ensures; goes = v.goes })
+
+pub returns-then-go_on-clause-soon : goal.returns-then-go_on-clause-soon
+returns-then-go_on-clause-soon g c =
+    let few = (rw c.if-go_on.true at c.go_on.ensures.goes.advances).few in
+    let end = c.saturating_add-end.ensures in
+    let below = c.if-self-end.false in omega (arith, few, end, below)
+
+pub returns-then-self-end-clause-soon : goal.returns-then-self-end-clause-soon
+returns-then-self-end-clause-soon g c = c.loop-pending.invariant.soon
+
+pub returns-clause-soon : goal.returns-clause-soon
+returns-clause-soon g c = c.loop-pending.invariant.soon

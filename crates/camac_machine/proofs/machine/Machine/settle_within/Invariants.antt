@@ -1,4 +1,4 @@
-use Rattle.std.proofs.Common.{◌≡◌, ◌+◌, ◌-◌, ◌*◌, List, length}
+use Rattle.std.proofs.Common.{◌≡◌, ◌≤◌, ◌+◌, ◌-◌, ◌*◌, List, length}
 use Rattle.std.specs.Prelude.{None}
 use Rattle.camac_branch.specs.Branch.{Answer}
 use Rattle.camac_machine.specs.MachineState.{bounds_of, stands, HasRoom}
@@ -11,6 +11,7 @@ invariant-loop-pending g l = record {
   room : HasRoom l.self;
   checked : l.self.checked ≡ l.initial.self.checked;
   service : l.self.service ≡ l.initial.self.service;
+  soon : l.self.steps ≤ l.initial.self.steps + l.initial.most + 2;
   goes : (answers : List Answer) → says l.self.unlocks.items (stands None l.self answers) ≡ stands None l.initial.self answers;
 }
 

@@ -16,7 +16,7 @@ use Rattle.camac_machine.proofs.Lists.{place}
 use Rattle.camac_run.proofs.Early.{idle_free}
 use Rattle.camac_run.proofs.Serving.{onward_passes, onward_serves}
 use Rattle.camac_run.proofs.Sizes.{machine_fits}
-use Rattle.camac_run.proofs.Told.{told_along, counted, keeps_limit, keeps_awake, sound_after, serve_fine, none_wanted, below_along, each_some, along_some}
+use Rattle.camac_run.proofs.Told.{told_along, counted, keeps_limit, keeps_awake, each_none, sound_after, sound_counted, serve_fine, none_wanted, below_along, each_some, along_some}
 use Rattle.camac_run.proofs.runner.Runner.demand.Goals as goal
 
 pub serve-requires : goal.serve-requires
@@ -31,28 +31,14 @@ invariant_of-self g c =
     let inv = c.self.invariant in
     let pending : c.self.inside.pending ≡ None = none_wanted pending_of c.self.inside.pending (ap (λ h. h.pending) c.self.view_is ∙ c.requires.idle) in
     let more : c.self.inside.fed < 4294967295 = subst (λ (h : RunnerState). h.fed < 4294967295) (sym c.self.view_is) c.requires.fed in
-    record {
-      room = inv.room;
-      quiet = inv.quiet;
-      checked = inv.checked;
-      formed = inv.formed;
-      fits = inv.fits;
-      awaits = inv.awaits;
-      begun = inv.begun;
-      idle = inv.idle;
-      service = inv.service;
-      fine = inv.fine;
-      free = inv.free;
-      events = let few = inv.events in omega arith;
-      most = omega (arith, more);
-      under = rw pending tt;
-    }
+    let few = inv.events in
+    sound_counted _ _ _ _ _ (c.self.inside.fed + 1) c.self.inside.events inv (omega (arith, few)) (omega (arith, more)) (rw pending tt)
 
 pub returns-in-None-clause-keeps : goal.returns-in-None-clause-keeps
 returns-in-None-clause-keeps g c =
     let r = c.self.inside in
     let pending : r.pending ≡ None = none_wanted pending_of r.pending (ap (λ h. h.pending) c.self.view_is ∙ c.requires.idle) in
-    rw (← c.self.view_is) (keeps_awake _ _ refl (ap is_paused_at pending))
+    rw (← c.self.view_is) (keeps_awake _ _ refl (ap is_paused_at pending) (each_none r.overrun _ (rw pending (omega arith))))
 
 pub returns-in-None-clause-progresses : goal.returns-in-None-clause-progresses
 returns-in-None-clause-progresses g c =
@@ -116,6 +102,7 @@ returns-in-Some-clause-keeps g c =
     rw (← c.self.view_is)
     (keeps_limit (runner_state r.machine r.pending r.fed r.events r.has_event r.overrun r.at_demand r.limit) new next' c.close-event.result (r.fed + 1) r.events r.has_event r.overrun c.copy-self-inside.result r.limit c.close-event.new.self s.room refl
     (λ e. rw pending (c.serve.ensures.pauses e))
+    (rw pending (let soon = c.serve.ensures.soon in omega (arith, soon)))
     s.awaits (serve_fine r.machine new i p.0 next' c.self.invariant.checked p.1 s) c.close-event.ensures.ended c.close-event.ensures.goes_on)
 
 pub returns-in-Some-clause-progresses : goal.returns-in-Some-clause-progresses

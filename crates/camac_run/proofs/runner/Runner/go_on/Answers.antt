@@ -1,4 +1,4 @@
-use Rattle.std.proofs.Common.{◌≡◌, ℕ, true, Some, refl, sym, ap, ◌∙◌}
+use Rattle.std.proofs.Common.{◌≡◌, ℕ, true, Some, refl, sym, ap, ◌∙◌, arith}
 use Rattle.std.specs.Borrow.{Bor}
 use Rattle.arrayvec.specs.ArrayVec.{ArrayVec}
 use Rattle.camac_checked.specs.Checked.{CheckedScript}
@@ -82,4 +82,5 @@ returns-clause-keeps g c =
     rw (← c.self.view_is)
     (keeps_limit (runner_state r.machine r.pending r.fed r.events r.has_event r.overrun r.at_demand r.limit) new next' c.close-event.result r.fed r.events r.has_event r.overrun r.at_demand r.limit c.close-event.new.self s.room refl
     (λ e. rw pending (c.go_further.ensures.pauses e))
+    (rw pending (let soon = c.go_further.ensures.soon in omega (arith, soon)))
     s.awaits (settle_fine r.machine new (λ z. after_pending z (Some Pause)) next' (pause_fine r.machine (rw pending at inv.fine)) s) c.close-event.ensures.ended c.close-event.ensures.goes_on)

@@ -1,4 +1,6 @@
-use Rattle.std.proofs.Common.{refl, ap}
+use Rattle.std.proofs.Common.{◌≡◌, false, refl, ap, ◌∙◌}
+use Rattle.camac_machine.specs.MachineState.{is_paused_at}
+use Rattle.camac_machine.specs.Rest.{is_paused}
 use Rattle.camac_run.specs.Sound.{runner_state}
 use Rattle.camac_run.proofs.Told.{keeps_awake}
 use Rattle.camac_run.proofs.runner.Runner.next.Goals as goal
@@ -13,4 +15,6 @@ returns-in-Some-clause-progresses g c =
     })
 
 pub returns-in-Some-clause-keeps : goal.returns-in-Some-clause-keeps
-returns-in-Some-clause-keeps g c = keeps_awake _ _ refl c.requires.awake
+returns-in-Some-clause-keeps g c =
+    let awake : is_paused_at c.self.inside.pending ≡ false = ap (λ h. is_paused h.pending) c.self.view_is ∙ c.requires.awake in
+    rw (← c.self.view_is) (keeps_awake _ _ refl awake (rw c.in-Some.is tt))

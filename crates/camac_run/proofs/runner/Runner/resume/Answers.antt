@@ -11,7 +11,7 @@ use Rattle.camac_run.specs.Runner.{RunnerState, rest, with_event, last_words_in}
 use Rattle.camac_run.specs.Sound.{runner_state}
 use Rattle.camac_run.proofs.Serving.{served_does, served_stops}
 use Rattle.camac_run.proofs.Sizes.{machine_fits}
-use Rattle.camac_run.proofs.Told.{asked_is, told_along, counted, keeps_limit, keeps_awake, sound_after, stays_in, take_fine, settle_fine, below_along, each_some}
+use Rattle.camac_run.proofs.Told.{asked_is, told_along, counted, keeps_limit, keeps_awake, each_none, sound_after, stays_in, take_fine, settle_fine, below_along, each_some}
 use Rattle.camac_run.proofs.runner.Runner.resume.Goals as goal
 
 pub take-taken-requires : goal.take-taken-requires
@@ -111,15 +111,20 @@ returns-in-Ok-clause-keeps g c =
     let s = rw pending at c.go_further.ensures.settles in
     let fine = take_fine r.machine mid c.in-Some.pending c.args.answer c.in-Ok.item (rw pending at inv.fine) t in
     let more = t.steps in
+    let few = t.few in
     rw (← c.self.view_is)
     (keeps_limit (runner_state r.machine r.pending r.fed r.events r.has_event r.overrun r.at_demand r.limit) new next' c.close-event.result (r.fed + 1) r.events r.has_event r.overrun r.at_demand r.limit c.close-event.new.self s.room refl
     (λ e. rw pending (let late = c.go_further.ensures.pauses e in omega (arith, late, more)))
+    (rw pending (let soon = c.go_further.ensures.soon in omega (arith, soon, few)))
     s.awaits (settle_fine mid new (λ z. follows z (pending_of c.in-Some.pending)) next' fine s) c.close-event.ensures.ended c.close-event.ensures.goes_on)
 
 pub returns-in-Err-clause-keeps : goal.returns-in-Err-clause-keeps
 returns-in-Err-clause-keeps g c =
+    let pending : c.self.inside.pending ≡ Some c.in-Some.pending = c.in-Some.is in
     let r = c.self.inside in
-    let awake : is_paused_at r.pending ≡ false = ap (λ h. is_paused h.pending) c.self.view_is ∙ c.requires.awake in rw (← c.self.view_is) (keeps_awake _ _ refl awake)
+    let awake : is_paused_at r.pending ≡ false = ap (λ h. is_paused h.pending) c.self.view_is ∙ c.requires.awake in
+    let steps = ap (λ (m : Machine g.row.V g.row.DEPTH g.row.CAP). m.steps) c.in-Err.ensures.same in
+    rw (← c.self.view_is) (keeps_awake _ _ refl awake (each_none r.overrun _ (rw pending (omega (arith, steps)))))
 
 pub returns-in-Err-clause-progresses : goal.returns-in-Err-clause-progresses
 returns-in-Err-clause-progresses g c =

@@ -1,7 +1,8 @@
-use Rattle.std.proofs.Common.{ap, sym, refl, arith}
+use Rattle.std.proofs.Common.{[], ap, sym, refl, arith}
 use Rattle.std.proofs.lemmas.Bool.{false≢true}
+use Rattle.camac_machine.proofs.Settled.{steps_within}
 use Rattle.camac_run.specs.Runner.{steps_of}
-use Rattle.camac_run.proofs.Told.{rest_short, rest_over, steps_within}
+use Rattle.camac_run.proofs.Told.{rest_short, rest_over}
 use Rattle.camac_run.proofs.runner.Runner.steps.Goals as goal
 
 pub returns-in-Some-clause-steps : goal.returns-in-Some-clause-steps
@@ -15,7 +16,8 @@ returns-in-Some-clause-so_far g c = λ some. rw (← c.self.view_is) refl
 pub returns-in-Some-clause-within : goal.returns-in-Some-clause-within
 returns-in-Some-clause-within g c =
     let r = c.self.inside in
-    rw (← c.self.view_is) (steps_within r.machine c.in-Some.field-0 (rw c.in-Some.is at c.self.invariant.awaits) (rw c.in-Some.is at c.self.invariant.fine))
+    let fine = rw c.in-Some.is at c.self.invariant.fine in
+    rw (← c.self.view_is) (steps_within r.machine c.in-Some.field-0 (rw c.in-Some.is at c.self.invariant.awaits) (fine []))
 
 pub returns-in-None-clause-steps : goal.returns-in-None-clause-steps
 returns-in-None-clause-steps g c =

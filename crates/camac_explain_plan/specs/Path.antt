@@ -1,0 +1,97 @@
+-- The way to a table or a key: types by their names, crates and stations by their numbers; else by their places in the text, as commands are.
+use Rattle.std.specs.Prelude.{ℕ, ◌+◌, ◌^◌, ◌-◌, min, Bool, true, false, ◌==◌, List, [], ◌∷◌, ◌++◌, Option, Some, None, codes, decimal, option_and_then, if◌then◌else◌}
+use Rattle.std.specs.Fmt.{signed_decimal}
+use Rattle.toml.specs.Data.{Data, string, integer, Members}
+use Rattle.camac_lines.specs.Words.{quoted}
+use Rattle.camac_plan.specs.Key.{key_text}
+use Rattle.camac_plan.specs.declared.fault.PlanTable.{PlanTable}
+use Rattle.camac_plan.specs.declared.fault.PlanTable.TheVariants.{Top, ModuleType, Command, Crate, Station}
+use Rattle.camac_plan.specs.declared.key.PlanKey.{PlanKey}
+use Rattle.camac_plan.specs.declared.key.PlanKey.TheVariants as key
+use Rattle.camac_explain_plan.specs.Table.{value_in}
+
+abbrev pub ordinal : (place : ℕ) → Option (List ℕ)
+ordinal place =
+    if place == 0 then Some (codes "first")
+    else if place == 1 then Some (codes "second")
+    else if place == 2 then Some (codes "third")
+    else if place == 3 then Some (codes "fourth")
+    else if place == 4 then Some (codes "fifth")
+    else if place == 5 then Some (codes "sixth")
+    else if place == 6 then Some (codes "seventh")
+    else if place == 7 then Some (codes "eighth")
+    else if place == 8 then Some (codes "ninth")
+    else if place == 9 then Some (codes "tenth")
+    else None
+
+-- from 1
+abbrev pub place_from_one : ℕ → ℕ
+place_from_one n = min (n + 1) (2 ^ 64 - 1)
+
+abbrev pub nth_by : (ordinal : Option (List ℕ)) → (place : ℕ) → (of : List ℕ) → List ℕ
+nth_by (Some ordinal) place of = ordinal ++ codes " " ++ of
+nth_by None place of = of ++ codes " number " ++ decimal (place_from_one place)
+
+-- an entry by its place in the text, from 0
+abbrev pub nth : (place : ℕ) → (of : List ℕ) → List ℕ
+nth place of = nth_by (ordinal place) place of
+
+abbrev pub entry : (place : ℕ) → (array : List ℕ) → List ℕ
+entry place array = nth place (codes "entry") ++ codes " of `" ++ array ++ codes "`"
+
+-- a type by its name
+abbrev pub type_step : (name : Option Data) → (place : ℕ) → List ℕ
+type_step (Some (string name)) place = codes "type " ++ quoted name
+type_step _ place = entry place (codes "type")
+
+-- a crate or a station by its number
+abbrev pub number_step : (what : List ℕ) → (number : Option Data) → (place : ℕ) → List ℕ
+number_step what (Some (integer number)) place = what ++ codes " " ++ signed_decimal number
+number_step what _ place = entry place what
+
+-- what a table is known by, where the plan is given
+abbrev pub known_by : (known : Option Members) → PlanTable → PlanKey → Option Data
+known_by known table key = option_and_then (λ top. value_in top table key) known
+
+abbrev pub step : (known : Option Members) → PlanTable → List ℕ
+step known Top = []
+step known (ModuleType place) = type_step (known_by known (ModuleType place) key.Name) place
+step known (Command type_place place) = nth place (codes "command")
+step known (Crate place) = number_step (codes "crate") (known_by known (Crate place) key.Number) place
+step known (Station crate_place place) = number_step (codes "station") (known_by known (Station crate_place place) key.N) place
+
+-- the table, behind the one around it
+abbrev pub path : (around own : Option Members) → PlanTable → List ℕ
+path around own Top = []
+path around own (ModuleType place) = step own (ModuleType place)
+path around own (Command type_place place) = step around (ModuleType type_place) ++ codes ", " ++ step own (Command type_place place)
+path around own (Crate place) = step own (Crate place)
+path around own (Station crate_place place) = step around (Crate crate_place) ++ codes ", " ++ step own (Station crate_place place)
+
+-- between a table and its key; the top table has no name
+abbrev pub comma : PlanTable → List ℕ
+comma Top = []
+comma table = codes ", "
+
+-- what a type is known by is no way to its name
+abbrev pub known_for : (top : Members) → PlanTable → PlanKey → Option Members
+known_for top (ModuleType place) key.Name = None
+known_for top table key = Some top
+
+abbrev pub way_to_key : (top : Members) → PlanTable → PlanKey → List ℕ
+way_to_key top table key = path (Some top) (known_for top table key) table ++ (comma table ++ key_text key)
+
+-- the way to a table, or to a key of it
+abbrev pub way_to : (top : Members) → PlanTable → Option PlanKey → List ℕ
+way_to top table (Some key) = way_to_key top table key
+way_to top table None = path (Some top) (Some top) table
+
+-- a crate, a station or a type is known by what it has in common with the first one
+abbrev pub is_known_by : PlanKey → Bool
+is_known_by key.Number = true
+is_known_by key.N = true
+is_known_by key.Name = true
+is_known_by _ = false
+
+abbrev pub way_to_first : (top : Members) → PlanKey → PlanTable → List ℕ
+way_to_first top key first = path (Some top) (if is_known_by key then None else Some top) first

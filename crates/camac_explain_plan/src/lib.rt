@@ -1,0 +1,11 @@
+//! Why a plan is refused: the place, and what its rule knew.
+#![tactic(auto)]
+
+mod path;
+mod place;
+mod sentence;
+mod table;
+mod told;
+mod unknown;
+
+pub use sentence::plan_sentence;
