@@ -15,11 +15,11 @@ import pathlib
 import random
 import re
 import sys
-import time
 import unittest
 
 from support import of_c
 from support.live import PROGRAM, TOP, Case, script
+from support.seconds import is_within
 import camac
 from camac.edits import Edit, edited
 from camac.loops.search import propose
@@ -481,10 +481,7 @@ class Long(unittest.TestCase):
             "for i = 0 to 11 {{\n{read}put v + 4095 - last\nlast = v\n}}\n",
         ]
         read = "cdreg r 1 1 5 i\ncfsa 0 r -> v\n"
-        found, seconds = self.proposed("".join(blocks[at % len(blocks)].format(read=read) for at in range(60)))
-        self.assertIsNone(found.remaining)
-        if judge() == IN_PROCESS:
-            self.assertLess(seconds, 1)
+        self.solve("".join(blocks[at % len(blocks)].format(read=read) for at in range(60)), True, 1)
 
     def test_hard_scripts(self):
         """Sums that each go on where the one before ended, readings that each follow a difference, and loops in loops, which are given up."""
@@ -497,22 +494,19 @@ class Long(unittest.TestCase):
             (nested, 40, False),
         ]:
             with self.subTest(block=block):
-                found, seconds = self.proposed(block * count)
-                self.assertEqual(found.remaining is None, is_solved)
-                if judge() == IN_PROCESS:
-                    self.assertLess(seconds, 3, "half a second on a machine that does nothing else")
+                self.solve(block * count, is_solved, 3)
 
-    def proposed(self, body):
-        """What is proposed for a script, and the seconds that it took."""
+    def solve(self, body, is_solved, most):
+        """Proposals for a service of this body, found in so many seconds by the library, and what they come to by the verdict on the whole."""
         text = f"cdlam adc 1 1 5 12\nvar i k l m v n last top sum a b c\nservice adc within 0 cycles event 0 words {{\n{body}cclc adc\n}}\n".encode()
-        began = time.process_time()
         found = propose("@sample", text, judge())
-        seconds = time.process_time() - began
-        self.assertEqual(accepts("@sample", found.applied(text), judge()), found.remaining is None)
+        self.assertEqual(found.remaining is None, is_solved)
+        self.assertEqual(accepts("@sample", found.applied(text), judge()), is_solved)
         self.assertLessEqual(found.calls, MOST_CALLS)
+        if judge() == IN_PROCESS:
+            self.assertTrue(is_within(most, lambda: propose("@sample", text, judge())))
         if is_whole:
-            print(f"a script of {text.count(10)} lines: {found.calls} calls, {seconds:.2f} s, {len(found.proposals)} proposals")
-        return found, seconds
+            print(f"a script of {text.count(10)} lines: {found.calls} calls, {len(found.proposals)} proposals")
 
 
 if __name__ == "__main__":

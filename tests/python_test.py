@@ -13,7 +13,6 @@ import subprocess
 import sys
 import tempfile
 import tracemalloc
-import time
 import unittest
 
 try:
@@ -23,6 +22,7 @@ except ImportError:
 
 from support.live import TOP
 from support.program import called
+from support.seconds import is_within
 import camac
 from camac import Event, EventFileFault, event_arrays, read_events, whole, whole_size
 
@@ -169,12 +169,9 @@ class EventFiles(unittest.TestCase):
         self.assertLess(tracemalloc.get_traced_memory()[1], 500_000)
 
     def test_time(self):
-        data = self.many(500_000)
-        began = time.process_time()
-        count = sum(1 for _ in read_events(io.BytesIO(data)))
-        seconds = time.process_time() - began
-        self.assertEqual(count, 500_000)
-        self.assertLess(seconds, 3, "1.5 seconds on a machine that does nothing else")
+        """A third of a second for 200,000 events, on a machine that does nothing else."""
+        data = self.many(200_000)
+        self.assertTrue(is_within(1, lambda: self.assertEqual(sum(1 for _ in read_events(io.BytesIO(data))), 200_000)))
 
 
 @unittest.skipUnless(numpy, "numpy is not here")
@@ -205,12 +202,9 @@ class Arrays(unittest.TestCase):
                     self.assertEqual(str(fault), listing(data).splitlines()[-1])
 
     def test_time(self):
-        data = EventFiles().many(500_000)
-        began = time.process_time()
-        arrays = event_arrays(io.BytesIO(data))
-        seconds = time.process_time() - began
-        self.assertEqual(len(arrays.gl), 500_000)
-        self.assertLess(seconds, 0.6, "0.2 seconds on a machine that does nothing else")
+        """A tenth of a second for 200,000 events, on a machine that does nothing else."""
+        data = EventFiles().many(200_000)
+        self.assertTrue(is_within(0.3, lambda: self.assertEqual(len(event_arrays(io.BytesIO(data)).gl), 200_000)))
 
 
 class Package(unittest.TestCase):
