@@ -1,7 +1,7 @@
 #!/usr/bin/env python3
 """Runs the built program on a million answers, and prints seconds and peak memory beside `cat` of the same bytes.
 
-usage: bench/long_runs.py [PROGRAM]     PROGRAM is crates/camac/out/camac unless given (built by: cd crates/camac && rt run)
+usage: benchmarks/long_runs.py [PROGRAM]     PROGRAM is crates/camac/out/camac unless given (built by: cd crates/camac && rt run)
 
 The answers come through a pipe. The first run calls no service: one line is listed for each answer. The second calls a service of three
 cycles again and again: a demand, three cycles and an event for each four answers. The third calls a service of two loops in one another

@@ -1,11 +1,11 @@
 #!/usr/bin/env python3
 """Plays a long live run through pipes, and prints its time and its peak memory after each tenth of it.
 
-usage: bench/long_live.py [--answers N] [PROGRAM]
+usage: benchmarks/long_live.py [--answers N] [PROGRAM]
 
 N is ten million unless given. PROGRAM is, unless given, what CAMAC_PROGRAM names, or `camac` in PATH, or that of this clone. The services
 read a word that is another one each time, and make two more cycles. Answers are written ahead, so that the pipe and not a driver sets the
-pace; `bench/live.py` measures the exchange of one answer at a time. The status is 1 if a request, the last line or an event is not the
+pace; `benchmarks/live.py` measures the exchange of one answer at a time. The status is 1 if a request, the last line or an event is not the
 one that these answers call for, or if the run took more memory at its end than after its first tenth. Peak memory is the VmHWM of
 Linux's /proc.
 """
@@ -18,7 +18,7 @@ import threading
 import time
 
 TOP = os.path.dirname(os.path.dirname(os.path.abspath(__file__)))
-sys.path[:0] = [os.path.join(TOP, "python"), os.path.join(TOP, "bench")]
+sys.path[:0] = [os.path.join(TOP, "python"), os.path.join(TOP, "benchmarks")]
 sys.dont_write_bytecode = True
 import camac  # noqa: E402
 from long_runs import DEMAND, SCRIPT  # noqa: E402

@@ -1,7 +1,7 @@
 #!/usr/bin/env python3
 """Measures how soon `camac-lsp` answers after an edit of a script of 4,096 statements: a median and a 99th percentile in milliseconds, by the clock.
 
-usage: bench/lsp.py LIBRARY [EDITS]     LIBRARY is libcamac.so.0; EDITS is 1,000 unless given
+usage: benchmarks/lsp.py LIBRARY [EDITS]     LIBRARY is libcamac.so.0; EDITS is 1,000 unless given
 
 After each edit it waits for what is wrong, and then asks each question once. Questions on an old text would be answered from what is kept.
 """
@@ -14,7 +14,7 @@ import tempfile
 import time
 
 TOP = pathlib.Path(__file__).resolve().parent.parent
-sys.path[:0] = [str(TOP / "bench"), str(TOP / "tests")]
+sys.path[:0] = [str(TOP / "benchmarks"), str(TOP / "tests")]
 
 from large_inputs import service
 from support.lsp import Client

@@ -1,7 +1,7 @@
 #!/usr/bin/env python3
 """Makes large inputs of camac, runs the built program on each, and prints seconds, peak memory and the first line of the answer.
 
-usage: bench/large_inputs.py [PROGRAM]     PROGRAM is crates/camac/out/camac unless given (built by: cd crates/camac && rt run)
+usage: benchmarks/large_inputs.py [PROGRAM]     PROGRAM is crates/camac/out/camac unless given (built by: cd crates/camac && rt run)
 
 Each input comes in two sizes, one twice the other, so that work which grows faster than the input shows.
 """

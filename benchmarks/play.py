@@ -1,7 +1,7 @@
 #!/usr/bin/env python3
 """Measures the cost of an answer through `camac.play`: without an event file, and with one that gets an event at every second answer.
 
-usage: bench/play.py PACKAGE LIBRARY [PACKAGE LIBRARY ..]
+usage: benchmarks/play.py PACKAGE LIBRARY [PACKAGE LIBRARY ..]
 
 PACKAGE is the folder in which the Python package camac is (python), LIBRARY its libcamac.so.0. Rounds of several packages take turns. The time is the
 processor's, in microseconds, the least of seven rounds. The branch does nothing.

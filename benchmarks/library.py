@@ -2,7 +2,7 @@
 """Measures the cost of an answer through the library for C: by `camac_wants` and `camac_next`, or by `camac_step`; and `camac_words` at the end of an
 event.
 
-usage: bench/library.py [ARCHIVE]     ARCHIVE is crates/camac_c/out/libcamac_c.a unless given (built by: cd crates/camac_c && rt lib)
+usage: benchmarks/library.py [ARCHIVE]     ARCHIVE is crates/camac_c/out/libcamac_c.a unless given (built by: cd crates/camac_c && rt lib)
 
 The instructions are those of valgrind's callgrind. There is a number for the interface (the exports and their copies), one for the runner that it
 calls, and one for the loop in C around them. The time is the processor's, in nanoseconds, the least of five runs. It needs gcc, and valgrind for the
@@ -31,9 +31,9 @@ COPIES = re.compile(r"^(?:__)?mem(?:cpy|move|set)")
 
 
 def compiled(archive, room):
-    """The program bench/library.c over the archive, with the names of all functions."""
+    """The program benchmarks/library.c over the archive, with the names of all functions."""
     subprocess.run([f"{TOP}/tools/library", archive, room], check=True)
-    words = ["gcc", "-std=c99", "-O2", "-fno-inline", f"-I{TOP}/include", f"{TOP}/bench/library.c", f"{room}/libcamac.a", "-o", f"{room}/library"]
+    words = ["gcc", "-std=c99", "-O2", "-fno-inline", f"-I{TOP}/include", f"{TOP}/benchmarks/library.c", f"{room}/libcamac.a", "-o", f"{room}/library"]
     subprocess.run(words, check=True)
     return f"{room}/library"
 

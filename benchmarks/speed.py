@@ -1,7 +1,7 @@
 #!/usr/bin/env python3
 """Measures the processor time and the peak memory of the built program on large inputs, beside `cat` of the same bytes.
 
-usage: bench/speed.py [--best N] [--growth | --instructions] [--only WORD] [PROGRAM ..]
+usage: benchmarks/speed.py [--best N] [--growth | --instructions] [--only WORD] [PROGRAM ..]
 
 PROGRAM is crates/camac/out/camac unless given (built by: cd crates/camac && rt run). Several programs are measured in turn, so that versions
 can be compared. Processor time is user and system time together, in milliseconds, the least of N calls (5). Peak memory is in KiB, by GNU

@@ -1,7 +1,7 @@
 #!/usr/bin/env python3
 """Measures how many operations a second a live run makes, beside `cat` at the other end of the same pipes.
 
-usage: bench/live.py [PROGRAM]     PROGRAM is, unless given, what CAMAC_PROGRAM names, or `camac` in PATH, or that of this clone
+usage: benchmarks/live.py [PROGRAM]     PROGRAM is, unless given, what CAMAC_PROGRAM names, or `camac` in PATH, or that of this clone
 
 Each operation is one request that is read and one answer that is written, in turn. `cat` gives each line back, so its loop is what the pipes and this
 computer take for themselves. The third loop is that of `camac.drive` with a branch whose operations take no time, and the last one that of
