@@ -9,7 +9,7 @@ ghost use Rattle.camac_check_simple.specs.Gives.{Gives, by_code, verdict_of};
 
 use camac_check_known::{CheckFault, Costs, Facts, numbers_of, range_of};
 use camac_check_simple::{Context, Findings};
-use camac_lang::{Expr, Parameter, Procedure};
+use camac_lang::{Expr, Parameter, Procedure, ProcedureCall};
 use camac_range::Range;
 use camac_rules::{Case, CheckRule, Numbers};
 use std::alloc::{AllocError, Global};
@@ -19,16 +19,15 @@ use std::alloc::{AllocError, Global};
 pub fn call(
     alloc: Global,
     context: &Context,
-    line: u32,
-    procedure: usize,
-    arguments: &[Expr],
+    call: &ProcedureCall,
     known: Facts,
 ) -> Result<Findings, CheckFault>
-    ensures { Gives verdict_of result (call_rule (by_code context.now) line procedure (map expression_of arguments.now) known) }
+    ensures { Gives verdict_of result (call_rule (by_code context.now) call.now.line call.now.procedure (map expression_of call.now.arguments.items) known) }
 {
-    let ranges = ranges_of(alloc, line, arguments, known.ranges())?;
-    let called = procedure_at(context.procedures, procedure, line)?;
-    arguments_in_range(procedure, &ranges, &called.parameters, line)?;
+    let line = call.line;
+    let ranges = ranges_of(alloc, line, &call.arguments, known.ranges())?;
+    let called = procedure_at(context.procedures, call.procedure, line)?;
+    arguments_in_range(call.procedure, &ranges, &called.parameters, line)?;
     Ok(Findings {
         known: Some(known),
         costs: Costs::of_call(called.cycles, called.words, called.steps),

@@ -1,8 +1,8 @@
 // The rules of all statements, and of blocks of them.
 
 ghost use Rattle.std.specs.Prelude.{◌≡◌, IsTrue, OnOk, Some, map};
-ghost use Rattle.camac_lang.specs.Tree.{choose, for_, locked, while_};
-ghost use Rattle.camac_lang.specs.View.{expression_of, keep_of, part_of, statement_of, statements_of};
+ghost use Rattle.camac_lang.specs.Tree.{choose, locked};
+ghost use Rattle.camac_lang.specs.View.{expression_of, for_of, keep_of, part_of, statement_of, statements_of, while_of};
 ghost use Rattle.camac_rules.specs.Loops.{for_rule, with_fixed};
 ghost use Rattle.camac_rules.specs.Costs.{unreached};
 ghost use Rattle.camac_rules.specs.Refusal.{if_reached};
@@ -20,10 +20,10 @@ use camac_check_rows::{
     times_at, turning,
 };
 use camac_check_simple::{
-    BlockTransfer, Context, Findings, Place, assign, crate_call, lam_call, lock_crate, put,
-    q_repeat, q_stop, scan, set_register, single,
+    Context, Findings, Place, assign, crate_call, lam_call, lock_crate, put, q_repeat, q_stop,
+    scan, set_register, single,
 };
-use camac_lang::{Expr, Keep, Part, Stmt};
+use camac_lang::{Expr, ForHead, Keep, Part, Stmt, WhileHead};
 use camac_rules::Body;
 use std::alloc::Global;
 
@@ -125,50 +125,18 @@ fn accept_reached(
             crate_no,
             body,
         } => accept_lock(alloc, &here, *line, crate_no, body, known, rows),
-        Stmt::For {
-            line,
-            variable,
-            from,
-            to,
-            keeps,
-            body,
-        } => {
-            let counted = Counted {
-                line: *line,
-                variable: *variable,
-                from,
-                to,
-                keeps,
-            };
-            accept_for(alloc, &here, &counted, body, known, rows)
-        }
-        Stmt::While {
-            line,
-            test,
-            turns,
-            measure,
-            keeps,
-            body,
-        } => {
-            let limited = Limited {
-                line: *line,
-                test: &test.parts,
-                turns: *turns,
-                measure: *measure,
-                keeps,
-            };
-            accept_while(alloc, &here, &limited, body, known, rows)
-        }
-        Stmt::Assign { .. }
-        | Stmt::SetRegister { .. }
-        | Stmt::Single { .. }
-        | Stmt::Scan { .. }
+        Stmt::For { head, body } => accept_for(alloc, &here, head, body, known, rows),
+        Stmt::While { head, body } => accept_while(alloc, &here, head, body, known, rows),
+        Stmt::Assign(_)
+        | Stmt::SetRegister(_)
+        | Stmt::Single(_)
+        | Stmt::Scan(_)
         | Stmt::QStop { .. }
         | Stmt::QRepeat { .. }
-        | Stmt::Put { .. }
-        | Stmt::CrateCall { .. }
-        | Stmt::LamCall { .. }
-        | Stmt::Call { .. } => accept_simple(alloc, &here, statement, known, rows),
+        | Stmt::Put(_)
+        | Stmt::CrateCall(_)
+        | Stmt::LamCall(_)
+        | Stmt::Call(_) => accept_simple(alloc, &here, statement, known, rows),
     }
 }
 
@@ -223,74 +191,16 @@ fn by_its_rule(
     ensures { Gives verdict_of result (accept_statement (by_code place.now.context.now) place.now.around.now (statement_of statement.now) known) }
 {
     match statement {
-        Stmt::Assign {
-            line,
-            variable,
-            value,
-        } => assign(place.around, *line, *variable, value, known),
-        Stmt::SetRegister {
-            line,
-            register,
-            crate_no,
-            station,
-            sub_address,
-        } => set_register(*line, *register, crate_no, station, sub_address, known),
-        Stmt::Put { line, value } => put(*line, value, known),
-        Stmt::Single {
-            line,
-            size,
-            function,
-            register,
-            data,
-        } => single(place, *line, *size, *function, *register, data, known),
-        Stmt::CrateCall { line, crate_no, .. } => crate_call(place, *line, crate_no, known),
-        Stmt::LamCall { line, call, lam } => lam_call(place, *line, *call, *lam, known),
-        Stmt::Scan {
-            line,
-            function,
-            first,
-            last,
-            max,
-            tally,
-        } => scan(place, *line, *function, (*first, *last), max, *tally, known),
-        Stmt::QStop {
-            line,
-            function,
-            register,
-            table,
-            max,
-            tally,
-        } => {
-            let transfer = BlockTransfer {
-                f: *function,
-                register: *register,
-                table: *table,
-                tally: *tally,
-            };
-            q_stop(place, *line, transfer, max, known)
-        }
-        Stmt::QRepeat {
-            line,
-            function,
-            register,
-            table,
-            max,
-            limit,
-            tally,
-        } => {
-            let transfer = BlockTransfer {
-                f: *function,
-                register: *register,
-                table: *table,
-                tally: *tally,
-            };
-            q_repeat(place, *line, transfer, max, limit, known)
-        }
-        Stmt::Call {
-            line,
-            procedure,
-            arguments,
-        } => call(alloc, place.context, *line, *procedure, arguments, known),
+        Stmt::Assign(assignment) => assign(place.around, assignment, known),
+        Stmt::SetRegister(setting) => set_register(setting, known),
+        Stmt::Put(action) => put(action, known),
+        Stmt::Single(action) => single(place, action, known),
+        Stmt::CrateCall(action) => crate_call(place, action, known),
+        Stmt::LamCall(action) => lam_call(place, action, known),
+        Stmt::Scan(transfer) => scan(place, transfer, known),
+        Stmt::QStop { transfer } => q_stop(place, transfer, known),
+        Stmt::QRepeat { transfer, limit } => q_repeat(place, transfer, limit, known),
+        Stmt::Call(called) => call(alloc, place.context, called, known),
         Stmt::If { .. }
         | Stmt::IfElse { .. }
         | Stmt::For { .. }
@@ -356,16 +266,6 @@ fn accept_lock(
     })
 }
 
-// The head of a `while`: its line, its test, the most turns, its measure, and what it keeps.
-#[derive(Clone, Copy)]
-struct Limited<'a> {
-    line: u32,
-    test: &'a [Part],
-    turns: u32,
-    measure: usize,
-    keeps: &'a [Keep],
-}
-
 // Checks a `while`.
 #[inline(never)]
 #[cycle(statements)]
@@ -373,42 +273,26 @@ struct Limited<'a> {
 fn accept_while(
     alloc: Global,
     place: &Place,
-    limited: &Limited,
+    limited: &WhileHead,
     body: &[Stmt],
     known: Facts,
     rows: &mut Rows,
 ) -> Result<Findings, CheckFault>
-    ensures found { Gives verdict_of result (accept_statement (by_code place.now.context.now) place.now.around.now (while_ limited.now.line (map part_of limited.now.test.now) limited.now.turns limited.now.measure (map keep_of limited.now.keeps.now) (statements_of body.now)) known) }
-    ensures rows { OnOk result (rows.new ≡ with_rows rows.old (statement_rows (by_code place.now.context.now) place.now.around.now (while_ limited.now.line (map part_of limited.now.test.now) limited.now.turns limited.now.measure (map keep_of limited.now.keeps.now) (statements_of body.now)) (Some known))) }
+    ensures found { Gives verdict_of result (accept_statement (by_code place.now.context.now) place.now.around.now (while_of limited.now (statements_of body.now)) known) }
+    ensures rows { OnOk result (rows.new ≡ with_rows rows.old (statement_rows (by_code place.now.context.now) place.now.around.now (while_of limited.now (statements_of body.now)) (Some known))) }
 {
-    let Limited {
-        line,
-        test,
-        turns,
-        measure,
-        keeps,
-    } = *limited;
+    let line = limited.line;
     let around = place.around;
-    let top = while_head(around.body(), line, turns, measure, keeps, body, known)?;
-    let ways = split(alloc, line, test, top)?;
-    let most = turn_bound(&ways.holds, turns);
+    let top = while_head(around.body(), limited, body, known)?;
+    let ways = split(alloc, line, &limited.test.parts, top)?;
+    let most = turn_bound(&ways.holds, limited.turns);
     let mut inner = rows.inside(alloc);
     let turn = accept_block(alloc, place.context, around, body, ways.holds, &mut inner)?;
     let most = u64::from(most);
-    let found = end_loop(around.body(), line, keeps, ways.fails, most, turn)?;
+    let found = end_loop(around.body(), line, &limited.keeps, ways.fails, most, turn)?;
     let own = loop_row(line, Kind::While, found.costs, most);
     rows.put_block(own, &inner, turning(most))?;
     Ok(found)
-}
-
-// The head of a `for`: its line, its variable with the first and the last value, and what it keeps.
-#[derive(Clone, Copy)]
-struct Counted<'a> {
-    line: u32,
-    variable: usize,
-    from: &'a Expr,
-    to: &'a Expr,
-    keeps: &'a [Keep],
 }
 
 // Checks a `for`.
@@ -418,30 +302,31 @@ struct Counted<'a> {
 fn accept_for(
     alloc: Global,
     place: &Place,
-    counted: &Counted,
+    counted: &ForHead,
     body: &[Stmt],
     known: Facts,
     rows: &mut Rows,
 ) -> Result<Findings, CheckFault>
-    ensures found { Gives verdict_of result (for_rule (by_code place.now.context.now) place.now.around.now counted.now.line counted.now.variable (expression_of counted.now.from.now) (expression_of counted.now.to.now) (map keep_of counted.now.keeps.now) (statements_of body.now)
+    ensures found { Gives verdict_of result (for_rule (by_code place.now.context.now) place.now.around.now counted.now.line counted.now.variable (expression_of counted.now.from) (expression_of counted.now.to) (map keep_of counted.now.keeps.items) (statements_of body.now)
         (accept_block (by_code place.now.context.now) (with_fixed counted.now.variable place.now.around.now) (statements_of body.now)) known) }
-    ensures rows { OnOk result (rows.new ≡ with_rows rows.old (statement_rows (by_code place.now.context.now) place.now.around.now (for_ counted.now.line counted.now.variable (expression_of counted.now.from.now) (expression_of counted.now.to.now) (map keep_of counted.now.keeps.now) (statements_of body.now)) (Some known))) }
+    ensures rows { OnOk result (rows.new ≡ with_rows rows.old (statement_rows (by_code place.now.context.now) place.now.around.now (for_of counted.now (statements_of body.now)) (Some known))) }
 {
-    let Counted {
-        line,
-        variable,
-        from,
-        to,
-        keeps,
-    } = *counted;
+    let line = counted.line;
     let around = place.around;
-    let limits = for_limits(around, line, variable, from, to, keeps, &known)?;
-    let inside = around.with_fixed(alloc, variable)?;
-    let facts = limits.facts(alloc, variable, keeps, body, known)?;
+    let limits = for_limits(around, counted, &known)?;
+    let inside = around.with_fixed(alloc, counted.variable)?;
+    let facts = limits.facts(alloc, counted, body, known)?;
     let mut inner = rows.inside(alloc);
     let turn = accept_block(alloc, place.context, &inside, body, facts.head, &mut inner)?;
     let turns = limits.turns();
-    let found = end_loop(around.body(), line, keeps, Some(facts.after), turns, turn)?;
+    let found = end_loop(
+        around.body(),
+        line,
+        &counted.keeps,
+        Some(facts.after),
+        turns,
+        turn,
+    )?;
     let own = loop_row(line, Kind::For, found.costs, turns);
     rows.put_block(own, &inner, turning(turns))?;
     Ok(found)

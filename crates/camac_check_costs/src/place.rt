@@ -138,16 +138,16 @@ fn past(statement: &Stmt, number: usize) -> Option<usize>
         Stmt::For { body, .. } | Stmt::While { body, .. } | Stmt::Lock { body, .. } => {
             past_block(body, inside)
         }
-        Stmt::Assign { .. }
-        | Stmt::SetRegister { .. }
-        | Stmt::Single { .. }
-        | Stmt::Scan { .. }
+        Stmt::Assign(_)
+        | Stmt::SetRegister(_)
+        | Stmt::Single(_)
+        | Stmt::Scan(_)
         | Stmt::QStop { .. }
         | Stmt::QRepeat { .. }
-        | Stmt::Put { .. }
-        | Stmt::CrateCall { .. }
-        | Stmt::LamCall { .. }
-        | Stmt::Call { .. } => Some(inside),
+        | Stmt::Put(_)
+        | Stmt::CrateCall(_)
+        | Stmt::LamCall(_)
+        | Stmt::Call(_) => Some(inside),
     }
 }
 
@@ -268,40 +268,26 @@ fn place_in<'a>(
             let locked = around.with_locked(alloc, c)?;
             place_in_block(alloc, context, locked, body, known, inside)
         }
-        Stmt::For {
-            line,
-            variable,
-            from,
-            to,
-            keeps,
-            body,
-        } => {
-            let limits = for_limits(&around, *line, *variable, from, to, keeps, &known)?;
-            let fixed = around.with_fixed(alloc, *variable)?;
-            let facts = limits.facts(alloc, *variable, keeps, body, known)?;
+        Stmt::For { head, body } => {
+            let limits = for_limits(&around, head, &known)?;
+            let fixed = around.with_fixed(alloc, head.variable)?;
+            let facts = limits.facts(alloc, head, body, known)?;
             place_if_reached(alloc, context, fixed, body, facts.head, inside)
         }
-        Stmt::While {
-            line,
-            test,
-            turns,
-            measure,
-            keeps,
-            body,
-        } => {
-            let top = while_head(around.body(), *line, *turns, *measure, keeps, body, known)?;
-            let ways = split(alloc, *line, &test.parts, top)?;
+        Stmt::While { head, body } => {
+            let top = while_head(around.body(), head, body, known)?;
+            let ways = split(alloc, head.line, &head.test.parts, top)?;
             place_if_reached(alloc, context, around, body, ways.holds, inside)
         }
-        Stmt::Assign { .. }
-        | Stmt::SetRegister { .. }
-        | Stmt::Single { .. }
-        | Stmt::Scan { .. }
+        Stmt::Assign(_)
+        | Stmt::SetRegister(_)
+        | Stmt::Single(_)
+        | Stmt::Scan(_)
         | Stmt::QStop { .. }
         | Stmt::QRepeat { .. }
-        | Stmt::Put { .. }
-        | Stmt::CrateCall { .. }
-        | Stmt::LamCall { .. }
-        | Stmt::Call { .. } => Ok(None),
+        | Stmt::Put(_)
+        | Stmt::CrateCall(_)
+        | Stmt::LamCall(_)
+        | Stmt::Call(_) => Ok(None),
     }
 }

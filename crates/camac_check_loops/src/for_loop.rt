@@ -8,7 +8,7 @@ ghost use Rattle.camac_rules.specs.Loops.{turns_between, values_between, for_lim
 
 use crate::keeps::{head, keeps_at_entry};
 use camac_check_known::{Around, CheckFault, Facts, between, range_in, range_of, required};
-use camac_lang::{Expr, Keep, Stmt, limits};
+use camac_lang::{ForHead, Stmt, limits};
 use camac_range::Range;
 use camac_rules::{Case, CheckRule};
 use std::alloc::{AllocError, Global};
@@ -43,14 +43,13 @@ impl Limits {
     pub fn facts(
         self,
         alloc: Global,
-        variable: usize,
-        keeps: &[Keep],
+        counted: &ForHead,
         body: &[Stmt],
         known: Facts,
     ) -> Result<LoopFacts, AllocError>
-        requires { IsTrue (are_ordered (map keep_of keeps.now)) }
-        ensures head { IfOk result (λ p. p.head ≡ for_head variable self (map keep_of keeps.now) (statements_of body.now) known) }
-        ensures after { IfOk result (λ p. Some p.after ≡ for_after variable self (map keep_of keeps.now) (statements_of body.now) known) }
+        requires { IsTrue (are_ordered (map keep_of counted.now.keeps.items)) }
+        ensures head { IfOk result (λ p. p.head ≡ for_head counted.now.variable self (map keep_of counted.now.keeps.items) (statements_of body.now) known) }
+        ensures after { IfOk result (λ p. Some p.after ≡ for_after counted.now.variable self (map keep_of counted.now.keeps.items) (statements_of body.now) known) }
     {
         if self.last.hi() < self.first.lo() {
             return Ok(LoopFacts {
@@ -59,8 +58,9 @@ impl Limits {
             });
         }
         let values = between(self.first.lo(), self.last.hi());
+        let variable = counted.variable;
         let left = range_in(known.ranges(), variable).hull(values);
-        let top = head(body, keeps, known)?;
+        let top = head(body, &counted.keeps, known)?;
         let copy = top.try_clone(alloc)?;
         Ok(LoopFacts {
             head: Some(copy.put_range(variable, values)?),
@@ -78,20 +78,14 @@ pub struct LoopFacts {
 
 /// The values of a `for` that may begin. E4, E17, E10 and E8, in this order.
 #[tactic(auto, unfolding(camac_rules::specs::Refusal::go_on))]
-pub fn for_limits(
-    around: &Around,
-    line: u32,
-    variable: usize,
-    from: &Expr,
-    to: &Expr,
-    keeps: &[Keep],
-    known: &Facts,
-) -> Result<Limits, CheckFault>
-    ensures rule { Gives (λ l. l) result (for_limits around.now line variable (expression_of from.now) (expression_of to.now) (map keep_of keeps.now) known.now) }
-    ensures ordered { IfOk result (λ l. IsTrue (are_ordered (map keep_of keeps.now))) }
+pub fn for_limits(around: &Around, counted: &ForHead, known: &Facts) -> Result<Limits, CheckFault>
+    ensures rule { Gives (λ l. l) result (for_limits around.now counted.now.line counted.now.variable (expression_of counted.now.from) (expression_of counted.now.to) (map keep_of counted.now.keeps.items) known.now) }
+    ensures ordered { IfOk result (λ l. IsTrue (are_ordered (map keep_of counted.now.keeps.items))) }
 {
-    let first = range_of(line, from, known.ranges())?;
-    let last = range_of(line, to, known.ranges())?;
+    let line = counted.line;
+    let variable = counted.variable;
+    let first = range_of(line, &counted.from, known.ranges())?;
+    let last = range_of(line, &counted.to, known.ranges())?;
     let limits = Limits { first, last };
     required(
         around.may_write(variable),
@@ -112,6 +106,6 @@ pub fn for_limits(
             allowed: limits::TURNS,
         },
     )?;
-    keeps_at_entry(around.body(), keeps, known, line)?;
+    keeps_at_entry(around.body(), &counted.keeps, known, line)?;
     Ok(limits)
 }

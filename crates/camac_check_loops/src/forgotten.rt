@@ -15,28 +15,28 @@ pub fn forget_block(known: Facts, block: &[Stmt]) -> Result<Facts, AllocError>
     let mut left = known;
     'statements: for statement in block {
         match statement {
-            Stmt::Assign { variable, .. } => left.forget_variable(*variable)?,
-            Stmt::SetRegister { register, .. } => left.forget_register(*register)?,
-            Stmt::Single { data, .. } => match data {
-                Move::Into(variable) => left.forget_variable(*variable)?,
+            Stmt::Assign(assignment) => left.forget_variable(assignment.variable)?,
+            Stmt::SetRegister(setting) => left.forget_register(setting.register)?,
+            Stmt::Single(single) => match single.data {
+                Move::Into(variable) => left.forget_variable(variable)?,
                 Move::NoData | Move::From(_) => {}
             },
-            Stmt::Scan { tally, .. } | Stmt::QStop { tally, .. } | Stmt::QRepeat { tally, .. } => {
-                left.forget_variable(*tally)?;
+            Stmt::Scan(scan) => left.forget_variable(scan.tally)?,
+            Stmt::QStop { transfer } | Stmt::QRepeat { transfer, .. } => {
+                left.forget_variable(transfer.tally)?;
             }
-            Stmt::Put { .. } | Stmt::CrateCall { .. } | Stmt::LamCall { .. } => {}
+            Stmt::Put(_) | Stmt::CrateCall(_) | Stmt::LamCall(_) | Stmt::Call(_) => {}
             Stmt::If { then, .. } => left = forget_block(left, then)?,
             Stmt::IfElse {
                 then,
                 otherwise,
                 ..
             } => left = forget_block(forget_block(left, then)?, otherwise)?,
-            Stmt::For { variable, body, .. } => {
+            Stmt::For { head, body } => {
                 left = forget_block(left, body)?;
-                left.forget_variable(*variable)?;
+                left.forget_variable(head.variable)?;
             }
             Stmt::While { body, .. } | Stmt::Lock { body, .. } => left = forget_block(left, body)?,
-            Stmt::Call { .. } => {}
         }
     }
     Ok(left)

@@ -11,22 +11,22 @@ ghost use Rattle.camac_rules.specs.declared.rule.CheckRule.TheVariants as rule;
 use crate::keeps::{head, keeps_at_entry};
 use crate::written::fall_of;
 use camac_check_known::{CheckFault, Facts, between, range_in, required};
-use camac_lang::{Keep, Stmt, limits};
+use camac_lang::{Stmt, WhileHead, limits};
 use camac_rules::{Body, Case, CheckRule};
 
 /// What is known at the head of a `while` of at most so many turns that may begin. E7, E10 and E8, in this order.
 #[tactic(auto, unfolding(camac_rules::specs::Refusal::go_on))]
 pub fn while_head(
     place: Body,
-    line: u32,
-    most: u32,
-    measure: usize,
-    keeps: &[Keep],
+    limited: &WhileHead,
     body: &[Stmt],
     known: Facts,
 ) -> Result<Facts, CheckFault>
-    ensures { Gives (λ k. k) result (while_head place line most measure (map keep_of keeps.now) (statements_of body.now) known) }
+    ensures { Gives (λ k. k) result (while_head place limited.now.line limited.now.turns limited.now.measure (map keep_of limited.now.keeps.items) (statements_of body.now) known) }
 {
+    let line = limited.line;
+    let most = limited.turns;
+    let measure = limited.measure;
     let fall = fall_at(place, measure, body, line)?;
     let greatest = range_in(known.ranges(), measure).hi();
     let needed = greatest / fall;
@@ -36,8 +36,8 @@ pub fn while_head(
         line,
         turns_case(needed, most),
     )?;
-    keeps_at_entry(place, keeps, &known, line)?;
-    let top = head(body, keeps, known)?;
+    keeps_at_entry(place, &limited.keeps, &known, line)?;
+    let top = head(body, &limited.keeps, known)?;
     Ok(top.put_range(measure, between(0, greatest))?)
 }
 

@@ -46,26 +46,20 @@ fn writes(statement: &Stmt, variable: usize) -> bool
     ensures { result ≡ writes (statement_of statement.now) variable }
 {
     match statement {
-        Stmt::Assign { variable: x, .. } => variable == *x,
-        Stmt::SetRegister { .. } => false,
-        Stmt::Single { data, .. } => reads_into(data, variable),
-        Stmt::Scan { tally, .. } | Stmt::QStop { tally, .. } | Stmt::QRepeat { tally, .. } => {
-            variable == *tally
-        }
-        Stmt::Put { .. } | Stmt::CrateCall { .. } | Stmt::LamCall { .. } => false,
+        Stmt::Assign(assignment) => variable == assignment.variable,
+        Stmt::Single(single) => reads_into(&single.data, variable),
+        Stmt::Scan(scan) => variable == scan.tally,
+        Stmt::QStop { transfer } | Stmt::QRepeat { transfer, .. } => variable == transfer.tally,
+        Stmt::SetRegister(_) | Stmt::Put(_) => false,
+        Stmt::CrateCall(_) | Stmt::LamCall(_) | Stmt::Call(_) => false,
         Stmt::If { then, .. } => block_writes(then, variable),
         Stmt::IfElse {
             then,
             otherwise,
             ..
         } => block_writes(then, variable) || block_writes(otherwise, variable),
-        Stmt::For {
-            variable: x,
-            body,
-            ..
-        } => variable == *x || block_writes(body, variable),
+        Stmt::For { head, body } => variable == head.variable || block_writes(body, variable),
         Stmt::While { body, .. } | Stmt::Lock { body, .. } => block_writes(body, variable),
-        Stmt::Call { .. } => false,
     }
 }
 
@@ -84,20 +78,16 @@ fn fall_in(measure: usize, statement: &Stmt) -> Option<u32>
     ensures positive { IfSome result (λ k. 1 ≤ k) }
 {
     match statement {
-        Stmt::Assign {
-            variable,
-            value,
-            ..
-        } => {
-            if *variable == measure {
-                fall_by(measure, value.term())
+        Stmt::Assign(assignment) => {
+            if assignment.variable == measure {
+                fall_by(measure, assignment.value.term())
             } else {
                 None
             }
         }
-        Stmt::SetRegister { .. } | Stmt::Single { .. } | Stmt::Put { .. } => None,
-        Stmt::Scan { .. } | Stmt::QStop { .. } | Stmt::QRepeat { .. } => None,
-        Stmt::CrateCall { .. } | Stmt::LamCall { .. } | Stmt::Call { .. } => None,
+        Stmt::SetRegister(_) | Stmt::Single(_) | Stmt::Put(_) => None,
+        Stmt::Scan(_) | Stmt::QStop { .. } | Stmt::QRepeat { .. } => None,
+        Stmt::CrateCall(_) | Stmt::LamCall(_) | Stmt::Call(_) => None,
         Stmt::If { .. } | Stmt::IfElse { .. } | Stmt::Lock { .. } => None,
         Stmt::For { .. } | Stmt::While { .. } => None,
     }

@@ -1,26 +1,24 @@
 -- Statements and blocks of the code as the tree has them.
 use Rattle.std.proofs.Common.{◌≡◌, ℕ, suc, ◌+◌, ◌<◌, List, length, get_or, drop, drop-cons, map, add-one, Vec, sym, ap, ◌∙◌}
 use Rattle.std.specs.declared.alloc.Global.{Global}
-use Rattle.camac_lang.specs.declared.expression.Expr.{Expr}
 use Rattle.camac_lang.specs.declared.tree.Cond.{Cond}
-use Rattle.camac_lang.specs.declared.tree.Keep.{Keep}
+use Rattle.camac_lang.specs.declared.tree.ForHead.{ForHead}
 use Rattle.camac_lang.specs.declared.tree.Stmt.{Stmt}
 use Rattle.camac_lang.specs.declared.tree.Stmt.TheVariants as rust
 use Rattle.camac_lang.specs.declared.tree.Stmt.TheFolds.{fold-roll-Stmt}
 use Rattle.camac_lang.specs.declared.tree.Stmt.TheOpen as layer
-use Rattle.camac_lang.specs.Tree.{Statement, choose_else, for_, while_, next}
-use Rattle.camac_lang.specs.View.{condition_of, expression_of, keep_of, statement_of, statements_of, statement_step}
+use Rattle.camac_lang.specs.declared.tree.WhileHead.{WhileHead}
+use Rattle.camac_lang.specs.Tree.{Statement, choose_else, next}
+use Rattle.camac_lang.specs.View.{condition_of, for_of, statement_of, statements_of, statement_step, while_of}
 
 pub choose_else_is : (line : ℕ) (c : Cond) (a b : Vec Stmt Global) → statement_of (rust.IfElse line c a b) ≡ choose_else line (condition_of c) (statements_of a.items) (statements_of b.items)
 choose_else_is line c a b = ap statement_of (sym (rust.rolls-IfElse line c a b)) ∙ fold-roll-Stmt Statement statement_step (layer.IfElse line c a b)
 
-pub for_tree : (line x : ℕ) (e1 e2 : Expr) (keeps : Vec Keep Global) (body : Vec Stmt Global)
-    → statement_of (rust.For line x e1 e2 keeps body) ≡ for_ line x (expression_of e1) (expression_of e2) (map keep_of keeps.items) (statements_of body.items)
-for_tree line x e1 e2 keeps body = ap statement_of (sym (rust.rolls-For line x e1 e2 keeps body)) ∙ fold-roll-Stmt Statement statement_step (layer.For line x e1 e2 keeps body)
+pub for_tree : (head : ForHead) (body : Vec Stmt Global) → statement_of (rust.For head body) ≡ for_of head (statements_of body.items)
+for_tree head body = ap statement_of (sym (rust.rolls-For head body)) ∙ fold-roll-Stmt Statement statement_step (layer.For head body)
 
-pub while_tree : (line : ℕ) (test : Cond) (most m : ℕ) (keeps : Vec Keep Global) (body : Vec Stmt Global)
-    → statement_of (rust.While line test most m keeps body) ≡ while_ line (condition_of test) most m (map keep_of keeps.items) (statements_of body.items)
-while_tree line test most m keeps body = ap statement_of (sym (rust.rolls-While line test most m keeps body)) ∙ fold-roll-Stmt Statement statement_step (layer.While line test most m keeps body)
+pub while_tree : (head : WhileHead) (body : Vec Stmt Global) → statement_of (rust.While head body) ≡ while_of head (statements_of body.items)
+while_tree head body = ap statement_of (sym (rust.rolls-While head body)) ∙ fold-roll-Stmt Statement statement_step (layer.While head body)
 
 -- the list of a block from its next statement on
 pub next_of : (xs : List Stmt) (i : ℕ) (x : Stmt) → i < length xs → x ≡ get_or xs i x → statements_of (drop i xs) ≡ next (statement_of x) (statements_of (drop (i + 1) xs))

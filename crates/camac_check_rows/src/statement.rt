@@ -87,20 +87,20 @@ fn kind_of(statement: &Stmt) -> Kind
     ensures { result ≡ kind_of (statement_of statement.now) }
 {
     match statement {
-        Stmt::Assign { .. } => Kind::Assign,
-        Stmt::SetRegister { .. } => Kind::Cdreg,
-        Stmt::Single { size, .. } => single_kind(*size),
-        Stmt::Scan { .. } => Kind::Cfmad,
+        Stmt::Assign(_) => Kind::Assign,
+        Stmt::SetRegister(_) => Kind::Cdreg,
+        Stmt::Single(single) => single_kind(single.size),
+        Stmt::Scan(_) => Kind::Cfmad,
         Stmt::QStop { .. } => Kind::Cfubc,
         Stmt::QRepeat { .. } => Kind::Cfubr,
-        Stmt::Put { .. } => Kind::Put,
-        Stmt::CrateCall { call, .. } => crate_kind(*call),
-        Stmt::LamCall { call, .. } => lam_kind(*call),
+        Stmt::Put(_) => Kind::Put,
+        Stmt::CrateCall(action) => crate_kind(action.call),
+        Stmt::LamCall(action) => lam_kind(action.call),
         Stmt::If { .. } | Stmt::IfElse { .. } => Kind::If,
         Stmt::For { .. } => Kind::For,
         Stmt::While { .. } => Kind::While,
         Stmt::Lock { .. } => Kind::Lock,
-        Stmt::Call { .. } => Kind::Call,
+        Stmt::Call(_) => Kind::Call,
     }
 }
 
@@ -147,16 +147,17 @@ pub fn detail_of(
     ensures { IfOk result (λ d. d ≡ detail_of (by_code context.now) (statement_of statement.now) (option_map (λ k. k.now) known.entry)) }
 {
     match statement {
-        Stmt::Single { register, .. }
-        | Stmt::QStop { register, .. }
-        | Stmt::QRepeat { register, .. } => Ok(at_region(region_of(known, *register))),
-        Stmt::Scan { first, last, .. } => {
-            let from = region_of(known, *first);
-            Ok(between(from, region_of(known, *last)))
+        Stmt::Single(single) => Ok(at_region(region_of(known, single.register))),
+        Stmt::QStop { transfer } | Stmt::QRepeat { transfer, .. } => {
+            Ok(at_region(region_of(known, transfer.register)))
         }
-        Stmt::CrateCall { line, crate_no, .. } => crate_detail(*line, crate_no, known),
-        Stmt::LamCall { lam, .. } => Ok(at_region(lam_region(context, *lam))),
-        Stmt::Call { procedure, .. } => Ok(Detail::Procedure(*procedure)),
+        Stmt::Scan(scan) => {
+            let from = region_of(known, scan.first);
+            Ok(between(from, region_of(known, scan.last)))
+        }
+        Stmt::CrateCall(action) => crate_detail(action.line, &action.crate_no, known),
+        Stmt::LamCall(action) => Ok(at_region(lam_region(context, action.lam))),
+        Stmt::Call(call) => Ok(Detail::Procedure(call.procedure)),
         _ => Ok(Detail::Nothing),
     }
 }

@@ -54,16 +54,16 @@ pub fn unreached_rows(
             push_unreached(alloc, context, &mut rows, body, once())?;
             Ok(rows)
         }
-        Stmt::Assign { .. }
-        | Stmt::SetRegister { .. }
-        | Stmt::Single { .. }
-        | Stmt::Scan { .. }
+        Stmt::Assign(_)
+        | Stmt::SetRegister(_)
+        | Stmt::Single(_)
+        | Stmt::Scan(_)
         | Stmt::QStop { .. }
         | Stmt::QRepeat { .. }
-        | Stmt::Put { .. }
-        | Stmt::CrateCall { .. }
-        | Stmt::LamCall { .. }
-        | Stmt::Call { .. } => Ok(rows),
+        | Stmt::Put(_)
+        | Stmt::CrateCall(_)
+        | Stmt::LamCall(_)
+        | Stmt::Call(_) => Ok(rows),
     }
 }
 

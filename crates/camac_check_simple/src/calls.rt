@@ -14,25 +14,20 @@ use camac_check_known::{
     Around, CheckFault, Facts, Region, command_widths, is_crate, numbers_of, range_of, required,
 };
 use camac_esone::lam_function;
-use camac_lang::{Expr, LamCall};
+use camac_lang::{CrateAction, Expr, LamAction};
 use camac_range::Range;
 use camac_rules::{Case, CheckRule};
 
 /// Checks a crate call.
 #[tactic(auto, unfolding(camac_rules::specs::Refusal::go_on))]
-pub fn crate_call(
-    place: &Place,
-    line: u32,
-    crate_no: &Expr,
-    known: Facts,
-) -> Result<Findings, CheckFault>
-    ensures { Gives verdict_of result (crate_rule (by_code place.now.context.now) place.now.around.now line (expression_of crate_no.now) known) }
+pub fn crate_call(place: &Place, action: &CrateAction, known: Facts) -> Result<Findings, CheckFault>
+    ensures { Gives verdict_of result (crate_rule (by_code place.now.context.now) place.now.around.now action.now.line (expression_of action.now.crate_no) known) }
 {
-    let crates = range_of(line, crate_no, known.ranges())?;
+    let crates = range_of(action.line, &action.crate_no, known.ranges())?;
     required(
         is_crate(place.context.plan, crates),
         CheckRule::CrateUnfit,
-        line,
+        action.line,
         Case::Crate {
             numbers: numbers_of(crates),
         },
@@ -87,17 +82,12 @@ fn is_free(context: &Context, around: &Around, crates: Range) -> bool
 
 /// Checks a LAM call.
 #[tactic(auto, unfolding(camac_rules::specs::Refusal::go_on))]
-pub fn lam_call(
-    place: &Place,
-    line: u32,
-    call: LamCall,
-    lam: usize,
-    known: Facts,
-) -> Result<Findings, CheckFault>
-    ensures { Gives verdict_of result (lam_rule (by_code place.now.context.now) place.now.around.now line call lam known) }
+pub fn lam_call(place: &Place, action: &LamAction, known: Facts) -> Result<Findings, CheckFault>
+    ensures { Gives verdict_of result (lam_rule (by_code place.now.context.now) place.now.around.now action.now.line action.now.call action.now.lam known) }
 {
-    let at = address_of(place.context, lam, line)?;
-    let _widths = command_widths(place.context.plan, line, lam_function(call), at)?;
+    let at = address_of(place.context, action.lam, action.line)?;
+    let function = lam_function(action.call);
+    let _widths = command_widths(place.context.plan, action.line, function, at)?;
     Ok(Findings {
         known: Some(known),
         costs: one_cycle(place.context, place.around, at.crates()),

@@ -18,44 +18,30 @@ use camac_check_known::{
     Around, CheckFault, Costs, Facts, Region, command_widths, cycle_cost, range_of, required,
 };
 use camac_func::{FunctionClass, class};
-use camac_lang::{Expr, Move, WordSize};
+use camac_lang::{Expr, Move, SingleAction, WordSize};
 use camac_range::Range;
 use camac_rules::{Case, CheckRule};
 use camac_word::Function;
 
 /// Checks a single action.
-pub fn single(
-    place: &Place,
-    line: u32,
-    size: WordSize,
-    f: Function,
-    register: usize,
-    moved: &Move,
-    known: Facts,
-) -> Result<Findings, CheckFault>
-    ensures { Gives verdict_of result (single_rule (by_code place.now.context.now) place.now.around.now line size f register (move_of moved.now) known) }
+pub fn single(place: &Place, action: &SingleAction, known: Facts) -> Result<Findings, CheckFault>
+    ensures { Gives verdict_of result (single_rule (by_code place.now.context.now) place.now.around.now action.now.line action.now.size action.now.function action.now.register (move_of action.now.data) known) }
 {
-    match moved {
-        Move::NoData => control(place, line, f, register, known),
-        Move::Into(variable) => read(place, line, size, f, register, *variable, known),
-        Move::From(value) => write(place, line, size, f, register, value, known),
+    match &action.data {
+        Move::NoData => control(place, action, known),
+        Move::Into(variable) => read(place, action, *variable, known),
+        Move::From(value) => write(place, action, value, known),
     }
 }
 
 // A cycle without data.
 #[tactic(auto, unfolding(camac_rules::specs::Refusal::go_on))]
-fn control(
-    place: &Place,
-    line: u32,
-    f: Function,
-    register: usize,
-    known: Facts,
-) -> Result<Findings, CheckFault>
-    ensures { Gives verdict_of result (control_rule (by_code place.now.context.now) place.now.around.now line f register known) }
+fn control(place: &Place, action: &SingleAction, known: Facts) -> Result<Findings, CheckFault>
+    ensures { Gives verdict_of result (control_rule (by_code place.now.context.now) place.now.around.now action.now.line action.now.function action.now.register known) }
 {
-    let g = addresses_of(place.around, &known, register, line)?;
-    let _widths = command_widths(place.context.plan, line, f, g)?;
-    moves(f, FunctionClass::Control, line)?;
+    let g = addresses_of(place.around, &known, action.register, action.line)?;
+    let _widths = command_widths(place.context.plan, action.line, action.function, g)?;
+    moves(action.function, FunctionClass::Control, action.line)?;
     Ok(Findings {
         known: Some(known),
         costs: one_cycle(place.context, place.around, g.crates()),
@@ -66,20 +52,17 @@ fn control(
 #[tactic(auto, unfolding(camac_rules::specs::Refusal::go_on))]
 fn read(
     place: &Place,
-    line: u32,
-    size: WordSize,
-    f: Function,
-    register: usize,
+    action: &SingleAction,
     variable: usize,
     known: Facts,
 ) -> Result<Findings, CheckFault>
-    ensures { Gives verdict_of result (read_rule (by_code place.now.context.now) place.now.around.now line size f register variable known) }
+    ensures { Gives verdict_of result (read_rule (by_code place.now.context.now) place.now.around.now action.now.line action.now.size action.now.function action.now.register variable known) }
 {
-    may_write(place.around, variable, line)?;
-    let g = addresses_of(place.around, &known, register, line)?;
-    let widths = command_widths(place.context.plan, line, f, g)?;
-    moves(f, FunctionClass::Read, line)?;
-    let word = words_of(size, widths.hi());
+    may_write(place.around, variable, action.line)?;
+    let g = addresses_of(place.around, &known, action.register, action.line)?;
+    let widths = command_widths(place.context.plan, action.line, action.function, g)?;
+    moves(action.function, FunctionClass::Read, action.line)?;
+    let word = words_of(action.size, widths.hi());
     Ok(Findings {
         known: Some(known.put_range(variable, word)?),
         costs: one_cycle(place.context, place.around, g.crates()),
@@ -90,20 +73,17 @@ fn read(
 #[tactic(auto, unfolding(camac_rules::specs::Refusal::go_on))]
 fn write(
     place: &Place,
-    line: u32,
-    size: WordSize,
-    f: Function,
-    register: usize,
+    action: &SingleAction,
     value: &Expr,
     known: Facts,
 ) -> Result<Findings, CheckFault>
-    ensures { Gives verdict_of result (write_rule (by_code place.now.context.now) place.now.around.now line size f register (expression_of value.now) known) }
+    ensures { Gives verdict_of result (write_rule (by_code place.now.context.now) place.now.around.now action.now.line action.now.size action.now.function action.now.register (expression_of value.now) known) }
 {
-    let v = range_of(line, value, known.ranges())?;
-    let g = addresses_of(place.around, &known, register, line)?;
-    let widths = command_widths(place.context.plan, line, f, g)?;
-    moves(f, FunctionClass::Write, line)?;
-    value_fits(size, v, widths, line)?;
+    let v = range_of(action.line, value, known.ranges())?;
+    let g = addresses_of(place.around, &known, action.register, action.line)?;
+    let widths = command_widths(place.context.plan, action.line, action.function, g)?;
+    moves(action.function, FunctionClass::Write, action.line)?;
+    value_fits(action.size, v, widths, action.line)?;
     Ok(Findings {
         known: Some(known),
         costs: one_cycle(place.context, place.around, g.crates()),

@@ -16,4 +16,4 @@ pub use context::{Context, Place};
 pub use cycle::single;
 pub use plain::{assign, put, set_register};
 pub use statement::Findings;
-pub use transfer::{BlockTransfer, q_repeat, q_stop, scan};
+pub use transfer::{q_repeat, q_stop, scan};

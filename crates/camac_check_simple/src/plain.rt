@@ -7,60 +7,51 @@ ghost use Rattle.camac_check_simple.specs.Gives.{Gives, verdict_of};
 use crate::cycle::may_write;
 use crate::statement::Findings;
 use camac_check_known::{Around, CheckFault, Costs, Facts, Region, range_of, required};
-use camac_lang::Expr;
+use camac_lang::{Assignment, PutAction, RegisterSetting};
 use camac_rules::{Case, CheckRule};
 
 /// Checks an assignment.
 #[tactic(auto, unfolding(camac_rules::specs::Refusal::go_on))]
 pub fn assign(
     around: &Around,
-    line: u32,
-    variable: usize,
-    value: &Expr,
+    assignment: &Assignment,
     known: Facts,
 ) -> Result<Findings, CheckFault>
-    ensures { Gives verdict_of result (assign_rule around.now line variable (expression_of value.now) known) }
+    ensures { Gives verdict_of result (assign_rule around.now assignment.now.line assignment.now.variable (expression_of assignment.now.value) known) }
 {
-    let assigned = range_of(line, value, known.ranges())?;
-    may_write(around, variable, line)?;
+    let assigned = range_of(assignment.line, &assignment.value, known.ranges())?;
+    may_write(around, assignment.variable, assignment.line)?;
     Ok(Findings {
-        known: Some(known.put_range(variable, assigned)?),
+        known: Some(known.put_range(assignment.variable, assigned)?),
         costs: Costs::new(0, 0, 1),
     })
 }
 
 /// Checks `cdreg`.
 #[tactic(auto, unfolding(camac_rules::specs::Refusal::go_on))]
-pub fn set_register(
-    line: u32,
-    register: usize,
-    crate_no: &Expr,
-    station: &Expr,
-    sub_address: &Expr,
-    known: Facts,
-) -> Result<Findings, CheckFault>
-    ensures { Gives verdict_of result (register_rule line register (expression_of crate_no.now) (expression_of station.now) (expression_of sub_address.now) known) }
+pub fn set_register(setting: &RegisterSetting, known: Facts) -> Result<Findings, CheckFault>
+    ensures { Gives verdict_of result (register_rule setting.now.line setting.now.register (expression_of setting.now.crate_no) (expression_of setting.now.station) (expression_of setting.now.sub_address) known) }
 {
-    let c = range_of(line, crate_no, known.ranges())?;
-    let n = range_of(line, station, known.ranges())?;
-    let a = range_of(line, sub_address, known.ranges())?;
+    let c = range_of(setting.line, &setting.crate_no, known.ranges())?;
+    let n = range_of(setting.line, &setting.station, known.ranges())?;
+    let a = range_of(setting.line, &setting.sub_address, known.ranges())?;
     Ok(Findings {
-        known: Some(known.put_region(register, Region::new(c, n, a))?),
+        known: Some(known.put_region(setting.register, Region::new(c, n, a))?),
         costs: Costs::new(0, 0, 1),
     })
 }
 
 /// Checks `put`.
 #[tactic(auto, unfolding(camac_rules::specs::Refusal::go_on))]
-pub fn put(line: u32, value: &Expr, known: Facts) -> Result<Findings, CheckFault>
-    ensures { Gives verdict_of result (put_rule line (expression_of value.now) known) }
+pub fn put(action: &PutAction, known: Facts) -> Result<Findings, CheckFault>
+    ensures { Gives verdict_of result (put_rule action.now.line (expression_of action.now.value) known) }
 {
-    let r = range_of(line, value, known.ranges())?;
+    let r = range_of(action.line, &action.value, known.ranges())?;
     let greatest = r.hi();
     required(
         greatest <= 16_777_215,
         CheckRule::WordTooWide,
-        line,
+        action.line,
         Case::Word { greatest },
     )?;
     Ok(Findings {

@@ -21,38 +21,23 @@ use camac_check_known::{
     required,
 };
 use camac_func::FunctionClass;
-use camac_lang::{Expr, Table};
+use camac_lang::{AddressScan, BlockTransfer, Expr, Table};
 use camac_range::Range;
 use camac_rules::{Case, CheckRule};
 use camac_word::Function;
 use std::alloc::AllocError;
 
-/// A block transfer: its function, its register, the table that a write takes its words from, and the variable that counts its words.
-#[derive(Clone, Copy)]
-pub struct BlockTransfer {
-    pub f: Function,
-    pub register: usize,
-    pub table: Option<usize>,
-    pub tally: usize,
-}
-
 /// Checks an address scan between two registers.
 #[tactic(auto, unfolding(camac_rules::specs::Refusal::go_on))]
-pub fn scan(
-    place: &Place,
-    line: u32,
-    f: Function,
-    ends: (usize, usize),
-    max: &Expr,
-    tally: usize,
-    known: Facts,
-) -> Result<Findings, CheckFault>
-    ensures { Gives verdict_of result (scan_rule (by_code place.now.context.now) place.now.around.now line f ends.0 ends.1 (expression_of max.now) tally known) }
+pub fn scan(place: &Place, transfer: &AddressScan, known: Facts) -> Result<Findings, CheckFault>
+    ensures { Gives verdict_of result (scan_rule (by_code place.now.context.now) place.now.around.now transfer.now.line transfer.now.function transfer.now.first transfer.now.last (expression_of transfer.now.max) transfer.now.tally known) }
 {
-    let most = range_of(line, max, known.ranges())?;
-    may_write(place.around, tally, line)?;
-    let g = addresses_of(place.around, &known, ends.0, line)?;
-    let h = addresses_of(place.around, &known, ends.1, line)?;
+    let line = transfer.line;
+    let f = transfer.function;
+    let most = range_of(line, &transfer.max, known.ranges())?;
+    may_write(place.around, transfer.tally, line)?;
+    let g = addresses_of(place.around, &known, transfer.first, line)?;
+    let h = addresses_of(place.around, &known, transfer.last, line)?;
     required(
         is_one_crate(g, h),
         CheckRule::ScanCratesDiffer,
@@ -62,7 +47,7 @@ pub fn scan(
     installed(place.context.plan, g, h, line)?;
     declared(place.context.plan, f, g, h, line)?;
     moves(f, FunctionClass::Read, line)?;
-    Ok(scan_findings(place, g, h, most.hi(), tally, known)?)
+    Ok(scan_findings(place, g, h, most.hi(), transfer.tally, known)?)
 }
 
 // The crates of two registers.
@@ -158,17 +143,11 @@ fn scan_findings(
 
 /// Checks a block transfer up to the first Q=0.
 #[tactic(auto, unfolding(camac_rules::specs::Refusal::go_on))]
-pub fn q_stop(
-    place: &Place,
-    line: u32,
-    transfer: BlockTransfer,
-    max: &Expr,
-    known: Facts,
-) -> Result<Findings, CheckFault>
-    ensures { Gives verdict_of result (q_stop_rule (by_code place.now.context.now) place.now.around.now line transfer.f transfer.register transfer.table (expression_of max.now) transfer.tally known) }
+pub fn q_stop(place: &Place, transfer: &BlockTransfer, known: Facts) -> Result<Findings, CheckFault>
+    ensures { Gives verdict_of result (q_stop_rule (by_code place.now.context.now) place.now.around.now transfer.now.line transfer.now.function transfer.now.register transfer.now.table (expression_of transfer.now.max) transfer.now.tally known) }
 {
-    let most = range_of(line, max, known.ranges())?.hi();
-    let g = block_region(place, line, transfer, most, &known)?;
+    let most = range_of(transfer.line, &transfer.max, known.ranges())?.hi();
+    let g = block_region(place, transfer, most, &known)?;
     Ok(block_findings(place, transfer, most, most, g, known)?)
 }
 
@@ -176,17 +155,15 @@ pub fn q_stop(
 #[tactic(auto, unfolding(camac_rules::specs::Refusal::go_on))]
 pub fn q_repeat(
     place: &Place,
-    line: u32,
-    transfer: BlockTransfer,
-    max: &Expr,
+    transfer: &BlockTransfer,
     limit: &Expr,
     known: Facts,
 ) -> Result<Findings, CheckFault>
-    ensures { Gives verdict_of result (q_repeat_rule (by_code place.now.context.now) place.now.around.now line transfer.f transfer.register transfer.table (expression_of max.now) (expression_of limit.now) transfer.tally known) }
+    ensures { Gives verdict_of result (q_repeat_rule (by_code place.now.context.now) place.now.around.now transfer.now.line transfer.now.function transfer.now.register transfer.now.table (expression_of transfer.now.max) (expression_of limit.now) transfer.now.tally known) }
 {
-    let most = range_of(line, max, known.ranges())?.hi();
-    let cycles = range_of(line, limit, known.ranges())?.hi();
-    let g = block_region(place, line, transfer, most, &known)?;
+    let most = range_of(transfer.line, &transfer.max, known.ranges())?.hi();
+    let cycles = range_of(transfer.line, limit, known.ranges())?.hi();
+    let g = block_region(place, transfer, most, &known)?;
     let kept = most.min(cycles);
     Ok(block_findings(
         place,
@@ -208,18 +185,18 @@ fn q_repeat_cycles(most: u32, limit: u32) -> u32
 #[tactic(auto, unfolding(camac_rules::specs::Refusal::go_on))]
 fn block_region(
     place: &Place,
-    line: u32,
-    transfer: BlockTransfer,
+    transfer: &BlockTransfer,
     most: u32,
     known: &Facts,
 ) -> Result<Region, CheckFault>
-    ensures { Gives (λ g. g) result (block_region (by_code place.now.context.now) place.now.around.now line transfer.f transfer.register transfer.table most transfer.tally known.now) }
+    ensures { Gives (λ g. g) result (block_region (by_code place.now.context.now) place.now.around.now transfer.now.line transfer.now.function transfer.now.register transfer.now.table most transfer.now.tally known.now) }
 {
+    let line = transfer.line;
     let tables = place.context.tables;
     may_write(place.around, transfer.tally, line)?;
     let g = addresses_of(place.around, known, transfer.register, line)?;
-    let widths = command_widths(place.context.plan, line, transfer.f, g)?;
-    moves(transfer.f, block_class(transfer.table), line)?;
+    let widths = command_widths(place.context.plan, line, transfer.function, g)?;
+    moves(transfer.function, block_class(transfer.table), line)?;
     required(
         has_words(tables, transfer.table, most),
         CheckRule::CountAboveTable,
@@ -270,13 +247,13 @@ fn block_class(table: Option<usize>) -> FunctionClass
 // What a block transfer of at most so many cycles, that keeps at most so many words, leaves and costs.
 fn block_findings(
     place: &Place,
-    transfer: BlockTransfer,
+    transfer: &BlockTransfer,
     cycles: u32,
     kept: u32,
     g: Region,
     known: Facts,
 ) -> Result<Findings, AllocError>
-    ensures { IfOk result (λ f. verdict_of f ≡ block_verdict (by_code place.now.context.now) place.now.around.now transfer.table cycles kept transfer.tally g known) }
+    ensures { IfOk result (λ f. verdict_of f ≡ block_verdict (by_code place.now.context.now) place.now.around.now transfer.now.table cycles kept transfer.now.tally g known) }
 {
     let each = cycle_cost(place.context.plan, place.around, g.crates());
     let words = event_words(transfer.table, kept);

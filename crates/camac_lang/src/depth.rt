@@ -98,20 +98,19 @@ fn statement_depth(callables: &[Callable], statement: &Stmt) -> u32
     ensures { result ≡ statement_depth (map callable_of callables.now) (statement_of statement.now) }
 {
     match statement {
-        Stmt::LamCall { .. } => 0,
-        Stmt::Assign { value, .. } | Stmt::Put { value, .. } => expression_depth(value),
-        Stmt::SetRegister {
-            crate_no,
-            station,
-            sub_address,
-            ..
-        } => expression_depth(crate_no).max(expression_depth(station).max(expression_depth(
-            sub_address,
-        ))),
-        Stmt::Single { data, .. } => move_depth(data),
-        Stmt::Scan { max, .. } | Stmt::QStop { max, .. } => expression_depth(max),
-        Stmt::QRepeat { max, limit, .. } => expression_depth(max).max(expression_depth(limit)),
-        Stmt::CrateCall { crate_no, .. } => expression_depth(crate_no),
+        Stmt::LamCall(_) => 0,
+        Stmt::Assign(assignment) => expression_depth(&assignment.value),
+        Stmt::Put(put) => expression_depth(&put.value),
+        Stmt::SetRegister(setting) => expression_depth(&setting.crate_no).max(expression_depth(
+            &setting.station,
+        ).max(expression_depth(&setting.sub_address))),
+        Stmt::Single(single) => move_depth(&single.data),
+        Stmt::Scan(scan) => expression_depth(&scan.max),
+        Stmt::QStop { transfer } => expression_depth(&transfer.max),
+        Stmt::QRepeat { transfer, limit } => {
+            expression_depth(&transfer.max).max(expression_depth(limit))
+        }
+        Stmt::CrateCall(action) => expression_depth(&action.crate_no),
         Stmt::If { test, then, .. } => parts_depth(&test.parts).max(
             1 + block_depth(callables, then),
         ),
@@ -123,20 +122,19 @@ fn statement_depth(callables: &[Callable], statement: &Stmt) -> u32
         } => parts_depth(&test.parts).max(
             (1 + block_depth(callables, then)).max(1 + block_depth(callables, otherwise)),
         ),
-        Stmt::For { from, to, body, .. } => expression_depth(from).max(expression_depth(to).max(
+        Stmt::For { head, body } => expression_depth(&head.from).max(expression_depth(&head.to).max(
             1 + block_depth(callables, body),
         )),
-        Stmt::While { test, body, .. } => {
-            parts_depth(&test.parts).max(1 + block_depth(callables, body))
+        Stmt::While { head, body } => {
+            parts_depth(&head.test.parts).max(1 + block_depth(callables, body))
         }
         Stmt::Lock { crate_no, body, .. } => {
             expression_depth(crate_no).max(1 + block_depth(callables, body))
         }
-        Stmt::Call {
-            procedure,
-            arguments,
-            ..
-        } => (1 + arguments_depth(arguments)).max(called_depth(callables, *procedure)),
+        Stmt::Call(call) => (1 + arguments_depth(&call.arguments)).max(called_depth(
+            callables,
+            call.procedure,
+        )),
     }
 }
 

@@ -19,5 +19,8 @@ pub use laws::{limits_hold, procedures_stand, registers_grow, services_stand};
 pub use name::Name;
 pub use room::fits;
 pub use script::{Item, Lam, Parameter, Procedure, Script, Service, Table};
-pub use tree::{Cond, Divisor, Keep, Move, Part, Stmt, Test};
+pub use tree::{
+    AddressScan, Assignment, BlockTransfer, Cond, CrateAction, Divisor, ForHead, Keep, LamAction,
+    Move, Part, ProcedureCall, PutAction, RegisterSetting, SingleAction, Stmt, Test, WhileHead,
+};
 pub use word::{CrateCall, LamCall, WordSize};

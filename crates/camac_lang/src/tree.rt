@@ -1,4 +1,4 @@
-// Conditions and statements: a variant for each form of the grammar, with the line of each statement's first token.
+// Conditions and statements: a variant for each form of the grammar. A form that holds no block is a struct, and so is the head of a loop.
 // A variable, register, table, LAM or procedure is its number: see `script.rt`.
 
 ghost use Rattle.std.specs.Prelude.{◌≡◌, ◌≤◌, ◌↔◌, IfSome, IsSome};
@@ -96,76 +96,126 @@ pub struct Keep {
     pub high: u32,
 }
 
+/// `v = e`
+#[derive(Drop)]
+pub struct Assignment {
+    pub line: u32,
+    pub variable: usize,
+    pub value: Expr,
+}
+
+/// `cdreg`: a register's address (ESONE CDREG); branch 1 is left out.
+#[derive(Drop)]
+pub struct RegisterSetting {
+    pub line: u32,
+    pub register: usize,
+    pub crate_no: Expr,
+    pub station: Expr,
+    pub sub_address: Expr,
+}
+
+/// `cfsa`, `cssa`: one cycle with 24 or 16 bits (ESONE CFSA, CSSA).
+#[derive(Drop)]
+pub struct SingleAction {
+    pub line: u32,
+    pub size: WordSize,
+    pub function: Function,
+    pub register: usize,
+    pub data: Move,
+}
+
+/// `cfmad`: the address scan (ESONE CFMAD), of at most `max` words.
+#[derive(Drop)]
+pub struct AddressScan {
+    pub line: u32,
+    pub function: Function,
+    pub first: usize,
+    pub last: usize,
+    pub max: Expr,
+    pub tally: usize,
+}
+
+/// A block transfer of at most `max` words, which a write takes from a table.
+#[derive(Drop)]
+pub struct BlockTransfer {
+    pub line: u32,
+    pub function: Function,
+    pub register: usize,
+    pub table: Option<usize>,
+    pub max: Expr,
+    pub tally: usize,
+}
+
+/// `put`: a word of the event (own).
+#[derive(Drop)]
+pub struct PutAction {
+    pub line: u32,
+    pub value: Expr,
+}
+
+/// A call of a crate's controller (ESONE CCCZ and others).
+#[derive(Drop)]
+pub struct CrateAction {
+    pub line: u32,
+    pub call: CrateCall,
+    pub crate_no: Expr,
+}
+
+/// A call at a LAM's address (ESONE CCLM and others).
+#[derive(Drop)]
+pub struct LamAction {
+    pub line: u32,
+    pub call: LamCall,
+    pub lam: usize,
+}
+
+/// `call` of a procedure (own)
+#[derive(Drop)]
+pub struct ProcedureCall {
+    pub line: u32,
+    pub procedure: usize,
+    pub arguments: Vec<Expr>,
+}
+
+/// What stands before the body of a `for`, from a number up to another.
+#[derive(Drop)]
+pub struct ForHead {
+    pub line: u32,
+    pub variable: usize,
+    pub from: Expr,
+    pub to: Expr,
+    pub keeps: Vec<Keep>,
+}
+
+/// What stands before the body of a `while`, annotated with its most turns and a variable that measures them.
+#[derive(Drop)]
+pub struct WhileHead {
+    pub line: u32,
+    pub test: Cond,
+    pub turns: u32,
+    pub measure: usize,
+    pub keeps: Vec<Keep>,
+}
+
 /// A statement, with the line of its first token. What each does is the language's meaning (camac_model).
 #[derive(Drop)]
 pub enum Stmt {
-    /// `v = e`
-    Assign {
-        line: u32,
-        variable: usize,
-        value: Expr,
-    },
-    /// `cdreg`: a register's address (ESONE CDREG); branch 1 is left out.
-    SetRegister {
-        line: u32,
-        register: usize,
-        crate_no: Expr,
-        station: Expr,
-        sub_address: Expr,
-    },
-    /// `cfsa`, `cssa`: one cycle with 24 or 16 bits (ESONE CFSA, CSSA).
-    Single {
-        line: u32,
-        size: WordSize,
-        function: Function,
-        register: usize,
-        data: Move,
-    },
-    /// `cfmad`: the address scan (ESONE CFMAD), of at most `max` words.
-    Scan {
-        line: u32,
-        function: Function,
-        first: usize,
-        last: usize,
-        max: Expr,
-        tally: usize,
-    },
+    Assign(Assignment),
+    SetRegister(RegisterSetting),
+    Single(SingleAction),
+    Scan(AddressScan),
     /// `cfubc`: cycles up to the first Q=0, at most `max` (ESONE CFUBC).
     QStop {
-        line: u32,
-        function: Function,
-        register: usize,
-        table: Option<usize>,
-        max: Expr,
-        tally: usize,
+        transfer: BlockTransfer,
     },
     /// `cfubr`: cycles up to `max` words, at most `limit` (ESONE CFUBR).
     QRepeat {
-        line: u32,
-        function: Function,
-        register: usize,
-        table: Option<usize>,
-        max: Expr,
+        transfer: BlockTransfer,
         limit: Expr,
-        tally: usize,
     },
-    /// `put`: a word of the event (own).
-    Put {
-        line: u32,
-        value: Expr,
-    },
-    /// A call of a crate's controller (ESONE CCCZ and others).
-    CrateCall {
-        line: u32,
-        call: CrateCall,
-        crate_no: Expr,
-    },
-    /// A call at a LAM's address (ESONE CCLM and others).
-    LamCall {
-        line: u32,
-        call: LamCall,
-        lam: usize,
-    },
+    Put(PutAction),
+    CrateCall(CrateAction),
+    LamCall(LamAction),
     /// `if` without `else`
     If {
         line: u32,
@@ -179,22 +229,12 @@ pub enum Stmt {
         then: Vec<Stmt>,
         otherwise: Vec<Stmt>,
     },
-    /// `for` from a number up to another
     For {
-        line: u32,
-        variable: usize,
-        from: Expr,
-        to: Expr,
-        keeps: Vec<Keep>,
+        head: ForHead,
         body: Vec<Stmt>,
     },
-    /// `while`, annotated with its most turns and a variable that measures them
     While {
-        line: u32,
-        test: Cond,
-        turns: u32,
-        measure: usize,
-        keeps: Vec<Keep>,
+        head: WhileHead,
         body: Vec<Stmt>,
     },
     /// `lock`: a block with a crate to itself (own)
@@ -203,12 +243,7 @@ pub enum Stmt {
         crate_no: Expr,
         body: Vec<Stmt>,
     },
-    /// `call` of a procedure (own)
-    Call {
-        line: u32,
-        procedure: usize,
-        arguments: Vec<Expr>,
-    },
+    Call(ProcedureCall),
 }
 
 impl Stmt {
@@ -217,21 +252,18 @@ impl Stmt {
         ensures { result ≡ line_of (statement_of self.now) }
     {
         match self {
-            Stmt::Assign { line, .. }
-            | Stmt::SetRegister { line, .. }
-            | Stmt::Single { line, .. }
-            | Stmt::Scan { line, .. }
-            | Stmt::QStop { line, .. }
-            | Stmt::QRepeat { line, .. }
-            | Stmt::Put { line, .. }
-            | Stmt::CrateCall { line, .. }
-            | Stmt::LamCall { line, .. }
-            | Stmt::If { line, .. }
-            | Stmt::IfElse { line, .. }
-            | Stmt::For { line, .. }
-            | Stmt::While { line, .. }
-            | Stmt::Lock { line, .. }
-            | Stmt::Call { line, .. } => *line,
+            Stmt::Assign(assignment) => assignment.line,
+            Stmt::SetRegister(setting) => setting.line,
+            Stmt::Single(single) => single.line,
+            Stmt::Scan(scan) => scan.line,
+            Stmt::QStop { transfer } | Stmt::QRepeat { transfer, .. } => transfer.line,
+            Stmt::Put(put) => put.line,
+            Stmt::CrateCall(action) => action.line,
+            Stmt::LamCall(action) => action.line,
+            Stmt::For { head, .. } => head.line,
+            Stmt::While { head, .. } => head.line,
+            Stmt::Call(call) => call.line,
+            Stmt::If { line, .. } | Stmt::IfElse { line, .. } | Stmt::Lock { line, .. } => *line,
         }
     }
 }

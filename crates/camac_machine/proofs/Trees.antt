@@ -1,47 +1,53 @@
 -- Statements as definitions see them.
-use Rattle.std.proofs.Common.{◌≡◌, ℕ, Option, Vec, map, sym, ap, ◌∙◌}
+use Rattle.std.proofs.Common.{◌≡◌, ℕ, Vec, sym, ap, ◌∙◌}
 use Rattle.std.specs.declared.alloc.Global.{Global}
-use Rattle.camac_lang.specs.declared.tree.Cond.{Cond}
 use Rattle.camac_lang.specs.declared.expression.Expr.{Expr}
-use Rattle.camac_lang.specs.declared.tree.Keep.{Keep}
-use Rattle.camac_lang.specs.declared.tree.Move.{Move}
+use Rattle.camac_lang.specs.declared.tree.AddressScan.{AddressScan}
+use Rattle.camac_lang.specs.declared.tree.Assignment.{Assignment}
+use Rattle.camac_lang.specs.declared.tree.BlockTransfer.{BlockTransfer}
+use Rattle.camac_lang.specs.declared.tree.Cond.{Cond}
+use Rattle.camac_lang.specs.declared.tree.CrateAction.{CrateAction}
+use Rattle.camac_lang.specs.declared.tree.ForHead.{ForHead}
+use Rattle.camac_lang.specs.declared.tree.LamAction.{LamAction}
+use Rattle.camac_lang.specs.declared.tree.ProcedureCall.{ProcedureCall}
+use Rattle.camac_lang.specs.declared.tree.PutAction.{PutAction}
+use Rattle.camac_lang.specs.declared.tree.RegisterSetting.{RegisterSetting}
+use Rattle.camac_lang.specs.declared.tree.SingleAction.{SingleAction}
 use Rattle.camac_lang.specs.declared.tree.Stmt.{Stmt}
 use Rattle.camac_lang.specs.declared.tree.Stmt.TheVariants as rust
 use Rattle.camac_lang.specs.declared.tree.Stmt.TheFolds.{fold-roll-Stmt}
 use Rattle.camac_lang.specs.declared.tree.Stmt.TheOpen as layer
 use Rattle.camac_lang.specs.declared.tree.Stmt.TheOpen.{Stmt-F}
-use Rattle.camac_lang.specs.declared.word.CrateCall.{CrateCall}
-use Rattle.camac_lang.specs.declared.word.LamCall.{LamCall}
-use Rattle.camac_lang.specs.declared.word.WordSize.{WordSize}
-use Rattle.camac_lang.specs.Tree.{Statement, assign, set_register, single, address_scan, q_stop, q_repeat, put, crate_call, lam_call, choose, choose_else, for_, while_, locked, call}
-use Rattle.camac_lang.specs.View.{condition_of, keep_of, expression_of, move_of, statement_of, statements_of, statement_step}
+use Rattle.camac_lang.specs.declared.tree.WhileHead.{WhileHead}
+use Rattle.camac_lang.specs.Tree.{Statement, choose, choose_else, locked}
+use Rattle.camac_lang.specs.View.{assignment_of, call_of, condition_of, crate_action_of, expression_of, for_of, lam_action_of, put_of, q_repeat_of, q_stop_of, scan_of, setting_of, single_of, statement_of, statements_of, statement_step, while_of}
 
-pub assign_is : (line x : ℕ) (e : Expr) → statement_of (rust.Assign line x e) ≡ assign line x (expression_of e)
-assign_is line x e = ap statement_of (sym (rust.rolls-Assign line x e)) ∙ fold-roll-Stmt Statement statement_step (Stmt-F.Assign line x e)
+pub assign_is : (s : Assignment) → statement_of (rust.Assign s) ≡ assignment_of s
+assign_is s = ap statement_of (sym (rust.rolls-Assign s)) ∙ fold-roll-Stmt Statement statement_step (Stmt-F.Assign s)
 
-pub register_is : (line r : ℕ) (c n a : Expr) → statement_of (rust.SetRegister line r c n a) ≡ set_register line r (expression_of c) (expression_of n) (expression_of a)
-register_is line r c n a = ap statement_of (sym (rust.rolls-SetRegister line r c n a)) ∙ fold-roll-Stmt Statement statement_step (Stmt-F.SetRegister line r c n a)
+pub register_is : (s : RegisterSetting) → statement_of (rust.SetRegister s) ≡ setting_of s
+register_is s = ap statement_of (sym (rust.rolls-SetRegister s)) ∙ fold-roll-Stmt Statement statement_step (Stmt-F.SetRegister s)
 
-pub single_is : (line : ℕ) (size : WordSize) (f r : ℕ) (m : Move) → statement_of (rust.Single line size f r m) ≡ single line size f r (move_of m)
-single_is line size f r m = ap statement_of (sym (rust.rolls-Single line size f r m)) ∙ fold-roll-Stmt Statement statement_step (Stmt-F.Single line size f r m)
+pub single_is : (s : SingleAction) → statement_of (rust.Single s) ≡ single_of s
+single_is s = ap statement_of (sym (rust.rolls-Single s)) ∙ fold-roll-Stmt Statement statement_step (Stmt-F.Single s)
 
-pub scan_is : (line f first last : ℕ) (e : Expr) (x : ℕ) → statement_of (rust.Scan line f first last e x) ≡ address_scan line f first last (expression_of e) x
-scan_is line f first last e x = ap statement_of (sym (rust.rolls-Scan line f first last e x)) ∙ fold-roll-Stmt Statement statement_step (Stmt-F.Scan line f first last e x)
+pub scan_is : (s : AddressScan) → statement_of (rust.Scan s) ≡ scan_of s
+scan_is s = ap statement_of (sym (rust.rolls-Scan s)) ∙ fold-roll-Stmt Statement statement_step (Stmt-F.Scan s)
 
-pub q_stop_is : (line f r : ℕ) (g : Option ℕ) (e : Expr) (x : ℕ) → statement_of (rust.QStop line f r g e x) ≡ q_stop line f r g (expression_of e) x
-q_stop_is line f r g e x = ap statement_of (sym (rust.rolls-QStop line f r g e x)) ∙ fold-roll-Stmt Statement statement_step (Stmt-F.QStop line f r g e x)
+pub q_stop_is : (s : BlockTransfer) → statement_of (rust.QStop s) ≡ q_stop_of s
+q_stop_is s = ap statement_of (sym (rust.rolls-QStop s)) ∙ fold-roll-Stmt Statement statement_step (Stmt-F.QStop s)
 
-pub q_repeat_is : (line f r : ℕ) (g : Option ℕ) (e l : Expr) (x : ℕ) → statement_of (rust.QRepeat line f r g e l x) ≡ q_repeat line f r g (expression_of e) (expression_of l) x
-q_repeat_is line f r g e l x = ap statement_of (sym (rust.rolls-QRepeat line f r g e l x)) ∙ fold-roll-Stmt Statement statement_step (Stmt-F.QRepeat line f r g e l x)
+pub q_repeat_is : (s : BlockTransfer) (l : Expr) → statement_of (rust.QRepeat s l) ≡ q_repeat_of s l
+q_repeat_is s l = ap statement_of (sym (rust.rolls-QRepeat s l)) ∙ fold-roll-Stmt Statement statement_step (Stmt-F.QRepeat s l)
 
-pub put_is : (line : ℕ) (e : Expr) → statement_of (rust.Put line e) ≡ put line (expression_of e)
-put_is line e = ap statement_of (sym (rust.rolls-Put line e)) ∙ fold-roll-Stmt Statement statement_step (Stmt-F.Put line e)
+pub put_is : (s : PutAction) → statement_of (rust.Put s) ≡ put_of s
+put_is s = ap statement_of (sym (rust.rolls-Put s)) ∙ fold-roll-Stmt Statement statement_step (Stmt-F.Put s)
 
-pub crate_is : (line : ℕ) (which : CrateCall) (e : Expr) → statement_of (rust.CrateCall line which e) ≡ crate_call line which (expression_of e)
-crate_is line which e = ap statement_of (sym (rust.rolls-CrateCall line which e)) ∙ fold-roll-Stmt Statement statement_step (Stmt-F.CrateCall line which e)
+pub crate_is : (s : CrateAction) → statement_of (rust.CrateCall s) ≡ crate_action_of s
+crate_is s = ap statement_of (sym (rust.rolls-CrateCall s)) ∙ fold-roll-Stmt Statement statement_step (Stmt-F.CrateCall s)
 
-pub lam_is : (line : ℕ) (which : LamCall) (l : ℕ) → statement_of (rust.LamCall line which l) ≡ lam_call line which l
-lam_is line which l = ap statement_of (sym (rust.rolls-LamCall line which l)) ∙ fold-roll-Stmt Statement statement_step (Stmt-F.LamCall line which l)
+pub lam_is : (s : LamAction) → statement_of (rust.LamCall s) ≡ lam_action_of s
+lam_is s = ap statement_of (sym (rust.rolls-LamCall s)) ∙ fold-roll-Stmt Statement statement_step (Stmt-F.LamCall s)
 
 pub choose_is : (line : ℕ) (c : Cond) (a : Vec Stmt Global) → statement_of (rust.If line c a) ≡ choose line (condition_of c) (statements_of a.items)
 choose_is line c a = ap statement_of (sym (rust.rolls-If line c a)) ∙ fold-roll-Stmt Statement statement_step (layer.If line c a)
@@ -52,11 +58,11 @@ choose_else_is line c a b = ap statement_of (sym (rust.rolls-IfElse line c a b))
 pub lock_is : (line : ℕ) (e : Expr) (a : Vec Stmt Global) → statement_of (rust.Lock line e a) ≡ locked line (expression_of e) (statements_of a.items)
 lock_is line e a = ap statement_of (sym (rust.rolls-Lock line e a)) ∙ fold-roll-Stmt Statement statement_step (layer.Lock line e a)
 
-pub for_is : (line x : ℕ) (e f : Expr) (keeps : Vec Keep Global) (a : Vec Stmt Global) → statement_of (rust.For line x e f keeps a) ≡ for_ line x (expression_of e) (expression_of f) (map keep_of keeps.items) (statements_of a.items)
-for_is line x e f keeps a = ap statement_of (sym (rust.rolls-For line x e f keeps a)) ∙ fold-roll-Stmt Statement statement_step (layer.For line x e f keeps a)
+pub for_is : (s : ForHead) (a : Vec Stmt Global) → statement_of (rust.For s a) ≡ for_of s (statements_of a.items)
+for_is s a = ap statement_of (sym (rust.rolls-For s a)) ∙ fold-roll-Stmt Statement statement_step (layer.For s a)
 
-pub while_is : (line : ℕ) (t : Cond) (most measure : ℕ) (keeps : Vec Keep Global) (a : Vec Stmt Global) → statement_of (rust.While line t most measure keeps a) ≡ while_ line (condition_of t) most measure (map keep_of keeps.items) (statements_of a.items)
-while_is line t most measure keeps a = ap statement_of (sym (rust.rolls-While line t most measure keeps a)) ∙ fold-roll-Stmt Statement statement_step (layer.While line t most measure keeps a)
+pub while_is : (s : WhileHead) (a : Vec Stmt Global) → statement_of (rust.While s a) ≡ while_of s (statements_of a.items)
+while_is s a = ap statement_of (sym (rust.rolls-While s a)) ∙ fold-roll-Stmt Statement statement_step (layer.While s a)
 
-pub call_is : (line p : ℕ) (es : Vec Expr Global) → statement_of (rust.Call line p es) ≡ call line p (map expression_of es.items)
-call_is line p es = ap statement_of (sym (rust.rolls-Call line p es)) ∙ fold-roll-Stmt Statement statement_step (Stmt-F.Call line p es)
+pub call_is : (s : ProcedureCall) → statement_of (rust.Call s) ≡ call_of s
+call_is s = ap statement_of (sym (rust.rolls-Call s)) ∙ fold-roll-Stmt Statement statement_step (Stmt-F.Call s)

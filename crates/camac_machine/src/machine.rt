@@ -22,7 +22,6 @@ mod blocks;
 mod pausing;
 mod transfers;
 
-use self::transfers::Most;
 use crate::arguments::wipe;
 use crate::command::command;
 use crate::condition::holds;
@@ -263,77 +262,33 @@ impl<'a, const V: usize, const DEPTH: usize, const CAP: usize> Machine<'a, V, DE
     {
         self.steps += 1;
         match statement {
-            Stmt::Assign {
-                variable,
-                value,
-                ..
-            } => {
-                self.assign(*variable, value);
+            Stmt::Assign(assignment) => {
+                self.assign(assignment);
                 false
             }
-            Stmt::SetRegister {
-                register,
-                crate_no,
-                station,
-                sub_address,
-                ..
-            } => {
-                self.set_register(*register, crate_no, station, sub_address);
+            Stmt::SetRegister(setting) => {
+                self.set_register(setting);
                 false
             }
-            Stmt::Put { value, .. } => {
-                self.put(value);
+            Stmt::Put(action) => {
+                self.put(action);
                 false
             }
-            Stmt::Single {
-                size,
-                function,
-                register,
-                data,
-                ..
-            } => {
-                self.single(*size, *function, *register, data, pending);
+            Stmt::Single(action) => {
+                self.single(action, pending);
                 true
             }
-            Stmt::CrateCall { call, crate_no, .. } => {
-                self.call_crate(*call, crate_no, pending);
+            Stmt::CrateCall(action) => {
+                self.call_crate(action, pending);
                 true
             }
-            Stmt::LamCall { call, lam, .. } => {
-                self.call_lam(*call, *lam, pending);
+            Stmt::LamCall(action) => {
+                self.call_lam(action, pending);
                 true
             }
-            Stmt::Scan {
-                function,
-                first,
-                last,
-                max,
-                tally,
-                ..
-            } => self.scan(*function, *first, *last, max, *tally, pending),
-            Stmt::QStop {
-                function,
-                register,
-                table,
-                max,
-                tally,
-                ..
-            } => self.q_stop(*function, *register, *table, max, *tally, pending),
-            Stmt::QRepeat {
-                function,
-                register,
-                table,
-                max,
-                limit,
-                tally,
-                ..
-            } => {
-                let most = Most {
-                    words: max,
-                    cycles: limit,
-                };
-                self.q_repeat(*function, *register, *table, most, *tally, pending)
-            }
+            Stmt::Scan(scan) => self.scan(scan, pending),
+            Stmt::QStop { transfer } => self.q_stop(transfer, pending),
+            Stmt::QRepeat { transfer, limit } => self.q_repeat(transfer, limit, pending),
             Stmt::If { test, then, .. } => {
                 self.choose(&test.parts, then, &[]);
                 false
@@ -351,26 +306,16 @@ impl<'a, const V: usize, const DEPTH: usize, const CAP: usize> Machine<'a, V, DE
                 self.want_lock(crate_no, body, pending);
                 true
             }
-            Stmt::For {
-                variable,
-                from,
-                to,
-                body,
-                ..
-            } => {
-                self.begin_for(*variable, from, to, body);
+            Stmt::For { head, body } => {
+                self.begin_for(head, body);
                 false
             }
-            Stmt::While { test, body, .. } => {
-                self.test_while(&test.parts, limits::TURNS, body);
+            Stmt::While { head, body } => {
+                self.test_while(&head.test.parts, limits::TURNS, body);
                 false
             }
-            Stmt::Call {
-                procedure,
-                arguments,
-                ..
-            } => {
-                self.call(*procedure, arguments);
+            Stmt::Call(call) => {
+                self.call(call);
                 false
             }
         }

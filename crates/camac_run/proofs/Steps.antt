@@ -64,7 +64,7 @@ read_known known f g x v is k =
 
 -- ---- statements with a cycle
 
-module _ (c : Context) (known : List (Option ℕ)) (registers : List (Option Address)) (k : Command) where
+module _ (c : Context) (known : List (Option ℕ)) (registers : List (Option Address)) (k : Command) (line : ℕ) where
   -- a cycle that keeps no word
   sent_makes : (st : Statement) → ((s : State) → IsKnown known registers s → effect c most_turns st s ≡ awaited c (makes k) s) → MakesCycle c known registers st k known
   sent_makes st begins = record {
@@ -74,33 +74,33 @@ module _ (c : Context) (known : List (Option ℕ)) (registers : List (Option Add
     known = λ f g h e. subst (λ (vs : Variables). KnowsVariables known vs) (sym e) h;
   }
 
-  pub lam_makes : (call : LamCall) (l : ℕ) (at : Address) → slice_get c.lams l ≡ Some at → k ≡ command_at at (lam_function call) moved.None → MakesCycle c known registers (lam_call 0 call l) k known
+  pub lam_makes : (call : LamCall) (l : ℕ) (at : Address) → slice_get c.lams l ≡ Some at → k ≡ command_at at (lam_function call) moved.None → MakesCycle c known registers (lam_call line call l) k known
   unfolding awaited
-  lam_makes call l at there is = sent_makes (lam_call 0 call l) (λ s kn.
+  lam_makes call l at there is = sent_makes (lam_call line call l) (λ s kn.
       ap (λ o. given o (λ a. act c.plan a (lam_function call) Full no_data) s) there ∙ ap (λ j. awaited c (makes j) s) (sym is))
 
-  pub crate_makes : (call : CrateCall) (e : Expression) (n : ℕ) → HasValue known e n → k ≡ command_at (crate_address call n) (crate_function call) moved.None → MakesCycle c known registers (crate_call 0 call e) k known
+  pub crate_makes : (call : CrateCall) (e : Expression) (n : ℕ) → HasValue known e n → k ≡ command_at (crate_address call n) (crate_function call) moved.None → MakesCycle c known registers (crate_call line call e) k known
   unfolding awaited
-  crate_makes call e n has is = sent_makes (crate_call 0 call e) (λ s kn.
+  crate_makes call e n has is = sent_makes (crate_call line call e) (λ s kn.
       ap (λ o. given o (λ d. act c.plan (crate_address call d) (crate_function call) Full no_data) s) (has s.variables kn.variables_are) ∙ ap (λ j. awaited c (makes j) s) (sym is))
 
   module _ (size : WordSize) (f r : ℕ) (at : Address) (there : slice_index_or registers r None ≡ Some at) where
     -- the register holds the address
-    at_address : (m : Move) (s : State) → IsKnown known registers s → effect c most_turns (single 0 size f r m) s ≡ act c.plan at f size m s
+    at_address : (m : Move) (s : State) → IsKnown known registers s → effect c most_turns (single line size f r m) s ≡ act c.plan at f size m s
     at_address m s kn = ap (λ o. given o (λ a. act c.plan a f size m) s) (kn.registers_are r at there)
 
-    pub control_makes : k ≡ command_at at f moved.None → MakesCycle c known registers (single 0 size f r no_data) k known
+    pub control_makes : k ≡ command_at at f moved.None → MakesCycle c known registers (single line size f r no_data) k known
     unfolding awaited
-    control_makes is = sent_makes (single 0 size f r no_data) (λ s kn. at_address no_data s kn ∙ ap (λ j. awaited c (makes j) s) (sym is))
+    control_makes is = sent_makes (single line size f r no_data) (λ s kn. at_address no_data s kn ∙ ap (λ j. awaited c (makes j) s) (sym is))
 
-    pub write_makes : (e : Expression) (word : ℕ) → HasValue known e word → fits_size size word ≡ true → k ≡ command_at at f (moved.Out word) → MakesCycle c known registers (single 0 size f r (from e)) k known
+    pub write_makes : (e : Expression) (word : ℕ) → HasValue known e word → fits_size size word ≡ true → k ≡ command_at at f (moved.Out word) → MakesCycle c known registers (single line size f r (from e)) k known
     unfolding awaited
-    write_makes e word has fits is = sent_makes (single 0 size f r (from e)) (λ s kn.
+    write_makes e word has fits is = sent_makes (single line size f r (from e)) (λ s kn.
         at_address (from e) s kn
         ∙ ap (λ o. given o (λ v. unless_wrong (fits_size size v) (λ t. cycle c.plan at f (moved.Out v) t.answers (λ r. ends) t)) s) (has s.variables kn.variables_are)
         ∙ ap (λ b. unless_wrong b (λ t. cycle c.plan at f (moved.Out word) t.answers (λ r. ends) t) s) fits ∙ ap (λ j. awaited c (makes j) s) (sym is))
 
-    pub read_makes : (x : ℕ) → k ≡ command_at at f moved.In → MakesCycle c known registers (single 0 size f r (into x)) k (set known x None)
+    pub read_makes : (x : ℕ) → k ≡ command_at at f moved.In → MakesCycle c known registers (single line size f r (into x)) k (set known x None)
     unfolding awaited
     read_makes x is = record {
       operation = reads k x (sized size (width c.plan at f));
@@ -180,15 +180,6 @@ module _ (c : Context) (known : List (Option ℕ)) (registers : List (Option Add
               record { variables_are = kn.variables_are; registers_are = knows_set Some registers s.registers r o (Some (address x y z)) kn.registers_are (same_at s kn o x y z has i1 i2 i3) },
               λ answers. by (Some x) (Some y) (Some z) answers i1 i2 i3,
             )
-
--- the line of a statement does not count
-pub relined : (c : Context) (known : List (Option ℕ)) (registers : List (Option Address)) (st st' : Statement) (k : Command) (after : List (Option ℕ)) → ((s : State) → effect c most_turns st' s ≡ effect c most_turns st s) → MakesCycle c known registers st k after → MakesCycle c known registers st' k after
-relined c known registers st st' k after same m = record {
-  operation = m.operation;
-  is_cycle = m.is_cycle;
-  begins = λ s kn. same s ∙ m.begins s kn;
-  known = m.known;
-}
 
 -- ---- the steps of a frame
 

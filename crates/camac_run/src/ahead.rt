@@ -4,8 +4,7 @@ ghost use Rattle.std.specs.Prelude.{◌≡◌, ◌<◌, ℕ, List, Option, None,
 ghost use Rattle.arrayvec.specs.ArrayVec.{array_vec_len};
 ghost use Rattle.camac_branch.specs.Address.{Address as At};
 ghost use Rattle.camac_esone.specs.Calls.{command_at};
-ghost use Rattle.camac_lang.specs.Tree.{set_register, single, crate_call, lam_call};
-ghost use Rattle.camac_lang.specs.View.{expression_of, move_of, statement_of};
+ghost use Rattle.camac_lang.specs.View.{crate_action_of, expression_of, lam_action_of, single_of, statement_of};
 ghost use Rattle.camac_machine.specs.MachineState.{context_in, open_of, pending_of, HasRoom};
 ghost use Rattle.camac_model.specs.Meaning.{Context, fits_size};
 ghost use Rattle.camac_model.specs.State.{Variables};
@@ -17,7 +16,9 @@ use camac_branch::Command;
 use camac_checked::Checked;
 use camac_esone::{Address, crate_call, lam_function};
 use camac_func::DataMove;
-use camac_lang::{CrateCall, Expr, Form, LamCall, Move, Stmt, WordSize};
+use camac_lang::{
+    CrateAction, Expr, Form, LamAction, Move, RegisterSetting, SingleAction, Stmt, WordSize,
+};
 use camac_machine::{Frame, Machine, Owner, Pending};
 use camac_word::{CrateNo, Function, Station, SubAddress, Word24};
 
@@ -196,36 +197,20 @@ fn known_of(
     ensures { IsSure (context_in checked.now) variables.old registers.old (statement_of statement.now) result variables.new registers.new }
 {
     match statement {
-        Stmt::Put { .. } => Sure::NeedsNone,
-        Stmt::Assign {
-            variable,
-            value,
-            ..
-        } => {
-            let value = value_of(value, variables);
-            note(variables, *variable, value);
+        Stmt::Put(_) => Sure::NeedsNone,
+        Stmt::Assign(assignment) => {
+            let value = value_of(&assignment.value, variables);
+            note(variables, assignment.variable, value);
             Sure::NeedsNone
         }
-        Stmt::SetRegister {
-            register,
-            crate_no,
-            station,
-            sub_address,
-            ..
-        } => {
-            let at = address_of(crate_no, station, sub_address, variables);
-            note(registers, *register, at);
+        Stmt::SetRegister(setting) => {
+            let at = address_of(setting, variables);
+            note(registers, setting.register, at);
             Sure::NeedsNone
         }
-        Stmt::Single {
-            size,
-            function,
-            register,
-            data,
-            ..
-        } => made(single(*size, *function, *register, data, variables, registers)),
-        Stmt::CrateCall { call, crate_no, .. } => made(call_of_crate(*call, crate_no, variables)),
-        Stmt::LamCall { call, lam, .. } => made(call_of_lam(checked, *call, *lam)),
+        Stmt::Single(action) => made(single(action, variables, registers)),
+        Stmt::CrateCall(action) => made(call_of_crate(action, variables)),
+        Stmt::LamCall(action) => made(call_of_lam(checked, action)),
         _ => Sure::Unknown,
     }
 }
@@ -263,41 +248,34 @@ fn at_place<T: Copy>(known: &[Option<T>], place: usize) -> Option<T>
 }
 
 // An address, if it is known.
-fn address_of(
-    crate_no: &Expr,
-    station: &Expr,
-    sub_address: &Expr,
-    known: &[Option<u32>],
-) -> Option<Address>
-    ensures { IfSome result (λ at. HasValue known.now (expression_of crate_no.now) at.crate_no × HasValue known.now (expression_of station.now) at.station × HasValue known.now (expression_of sub_address.now) at.sub_address) }
+fn address_of(setting: &RegisterSetting, known: &[Option<u32>]) -> Option<Address>
+    ensures { IfSome result (λ at. HasValue known.now (expression_of setting.now.crate_no) at.crate_no × HasValue known.now (expression_of setting.now.station) at.station × HasValue known.now (expression_of setting.now.sub_address) at.sub_address) }
 {
     Some(Address {
-        c: value_of(crate_no, known)?,
-        n: value_of(station, known)?,
-        a: value_of(sub_address, known)?,
+        c: value_of(&setting.crate_no, known)?,
+        n: value_of(&setting.station, known)?,
+        a: value_of(&setting.sub_address, known)?,
     })
 }
 
 // `cfsa`, `cssa`. What is read is not known.
 fn single(
-    size: WordSize,
-    f: Function,
-    register: usize,
-    moved: &Move,
+    action: &SingleAction,
     variables: &mut [Option<u32>],
     registers: &[Option<Address>],
 ) -> Option<Command>
-    ensures { IfSome result (λ k. (c : Context) → MakesCycle c variables.old registers.now (single 0 size f register (move_of moved.now)) k variables.new) }
+    ensures { IfSome result (λ k. (c : Context) → MakesCycle c variables.old registers.now (single_of action.now) k variables.new) }
 {
-    let at = at_place(registers, register)?;
-    match moved {
+    let f = action.function;
+    let at = at_place(registers, action.register)?;
+    match &action.data {
         Move::NoData => command_at(at, f, DataMove::None),
         Move::Into(variable) => {
             note(variables, *variable, None);
             command_at(at, f, DataMove::In)
         }
         Move::From(value) => {
-            let word = word_of(size, value, variables)?;
+            let word = word_of(action.size, value, variables)?;
             command_at(at, f, DataMove::Out(word))
         }
     }
@@ -321,26 +299,26 @@ fn word_of(size: WordSize, e: &Expr, known: &[Option<u32>]) -> Option<Word24>
 }
 
 // A call of a crate's controller.
-fn call_of_crate(call: CrateCall, crate_no: &Expr, known: &[Option<u32>]) -> Option<Command>
-    ensures { IfSome result (λ k. (c : Context) (registers : List (Option At)) → MakesCycle c known.now registers (crate_call 0 call (expression_of crate_no.now)) k known.now) }
+fn call_of_crate(action: &CrateAction, known: &[Option<u32>]) -> Option<Command>
+    ensures { IfSome result (λ k. (c : Context) (registers : List (Option At)) → MakesCycle c known.now registers (crate_action_of action.now) k known.now) }
 {
-    let c = CrateNo::new(value_of(crate_no, known)?)?;
-    Some(crate_call(call, c))
+    let c = CrateNo::new(value_of(&action.crate_no, known)?)?;
+    Some(crate_call(action.call, c))
 }
 
 // A call at a LAM's address.
-fn call_of_lam(checked: &Checked, call: LamCall, lam: usize) -> Option<Command>
-    ensures { IfSome result (λ k. (known : List (Option ℕ)) (registers : List (Option At)) → MakesCycle (context_in checked.now) known registers (lam_call 0 call lam) k known) }
+fn call_of_lam(checked: &Checked, action: &LamAction) -> Option<Command>
+    ensures { IfSome result (λ k. (known : List (Option ℕ)) (registers : List (Option At)) → MakesCycle (context_in checked.now) known registers (lam_action_of action.now) k known) }
 {
     let lams = checked.script().lams();
-    if lam < lams.len() {
-        let lam = &lams[lam];
+    if action.lam < lams.len() {
+        let lam = &lams[action.lam];
         let at = Address {
             c: lam.crate_no,
             n: lam.station,
             a: lam.sub_address.get(),
         };
-        command_at(at, lam_function(call), DataMove::None)
+        command_at(at, lam_function(action.call), DataMove::None)
     } else {
         None
     }

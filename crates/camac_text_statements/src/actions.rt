@@ -5,7 +5,7 @@ ghost use Rattle.camac_lang.specs.View.{move_of, statement_of};
 ghost use Rattle.camac_text_statements.specs.Statements.{assignment, register_setting, move_at, single_action, put_action};
 ghost use Rattle.camac_text_cursor.specs.Parser.{state, Gives};
 
-use camac_lang::{Move, Stmt, WordSize};
+use camac_lang::{Assignment, Move, PutAction, RegisterSetting, SingleAction, Stmt, WordSize};
 use camac_text_cursor::{Choice, Parser};
 use camac_text_phrases::expression;
 use camac_tokens::{Sign, TextFault, TokenKind};
@@ -18,11 +18,11 @@ pub fn assignment(parser: &mut Parser<'_>, room: u32, line: u32) -> Result<Stmt,
     parser.begin()?;
     parser.expect_sign(Sign::Equals)?;
     let value = expression(parser, room)?;
-    Ok(Stmt::Assign {
+    Ok(Stmt::Assign(Assignment {
         line,
         variable,
         value,
-    })
+    }))
 }
 
 #[tactic(auto, unfolding(crate::specs::Statements::register_setting))]
@@ -35,13 +35,13 @@ pub fn register_setting(parser: &mut Parser<'_>, room: u32, line: u32) -> Result
     let crate_no = expression(parser, room)?;
     let station = expression(parser, room)?;
     let sub_address = expression(parser, room)?;
-    Ok(Stmt::SetRegister {
+    Ok(Stmt::SetRegister(RegisterSetting {
         line,
         register,
         crate_no,
         station,
         sub_address,
-    })
+    }))
 }
 
 #[tactic(auto, unfolding(crate::specs::Statements::single_action))]
@@ -57,13 +57,13 @@ pub fn single_action(
     let function = parser.function_number()?;
     let register = parser.used_register()?;
     let data = data_move(parser, room)?;
-    Ok(Stmt::Single {
+    Ok(Stmt::Single(SingleAction {
         line,
         size,
         function,
         register,
         data,
-    })
+    }))
 }
 
 /// What a single action moves.
@@ -95,5 +95,5 @@ pub fn put_action(parser: &mut Parser<'_>, room: u32, line: u32) -> Result<Stmt,
 {
     parser.begin()?;
     let value = expression(parser, room)?;
-    Ok(Stmt::Put { line, value })
+    Ok(Stmt::Put(PutAction { line, value }))
 }

@@ -6,7 +6,7 @@ ghost use Rattle.camac_text_statements.specs.Statements.{if_statement, for_state
 ghost use Rattle.camac_text_cursor.specs.Parser.{state, Gives};
 
 use crate::statements::block;
-use camac_lang::Stmt;
+use camac_lang::{ForHead, Stmt, WhileHead};
 use camac_text_cursor::{Choice, Parser};
 use camac_text_phrases::{Own, condition, expression, keeps};
 use camac_tokens::{Keyword, Sign, TextCase, TextFault, TokenKind};
@@ -52,14 +52,14 @@ pub fn for_statement(parser: &mut Parser<'_>, room: u32, line: u32) -> Result<St
     let to = expression(parser, room)?;
     let keeps = keeps(parser, Own::Counter(variable))?;
     let body = block(parser, room)?;
-    Ok(Stmt::For {
+    let head = ForHead {
         line,
         variable,
         from,
         to,
         keeps,
-        body,
-    })
+    };
+    Ok(Stmt::For { head, body })
 }
 
 /// `while`
@@ -76,14 +76,14 @@ pub fn while_statement(parser: &mut Parser<'_>, room: u32, line: u32) -> Result<
     let measure = parser.used_variable()?;
     let keeps = keeps(parser, Own::Measure(measure))?;
     let body = block(parser, room)?;
-    Ok(Stmt::While {
+    let head = WhileHead {
         line,
         test,
         turns,
         measure,
         keeps,
-        body,
-    })
+    };
+    Ok(Stmt::While { head, body })
 }
 
 /// `lock`, which stands in no procedure

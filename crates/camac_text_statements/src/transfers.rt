@@ -5,7 +5,7 @@ ghost use Rattle.camac_lang.specs.View.{expression_of, statement_of};
 ghost use Rattle.camac_text_cursor.specs.Parser.{state, Gives};
 ghost use Rattle.camac_text_statements.specs.Transfers.{last_bound, table_at, scan_statement, q_stop_statement, q_repeat_statement, call_statement};
 
-use camac_lang::{Expr, Stmt};
+use camac_lang::{AddressScan, BlockTransfer, Expr, ProcedureCall, Stmt};
 use camac_text_cursor::{Choice, Parser};
 use camac_text_phrases::{arguments, expression};
 use camac_tokens::{Keyword, TextFault, TokenKind};
@@ -20,14 +20,14 @@ pub fn scan(parser: &mut Parser<'_>, room: u32, line: u32) -> Result<Stmt, TextF
     let first = parser.used_register()?;
     let last = parser.used_register()?;
     let (max, tally) = last_bound(parser, Keyword::Max, room)?;
-    Ok(Stmt::Scan {
+    Ok(Stmt::Scan(AddressScan {
         line,
         function,
         first,
         last,
         max,
         tally,
-    })
+    }))
 }
 
 /// `cfubc`
@@ -40,14 +40,15 @@ pub fn q_stop(parser: &mut Parser<'_>, room: u32, line: u32) -> Result<Stmt, Tex
     let register = parser.used_register()?;
     let table = table(parser)?;
     let (max, tally) = last_bound(parser, Keyword::Max, room)?;
-    Ok(Stmt::QStop {
+    let transfer = BlockTransfer {
         line,
         function,
         register,
         table,
         max,
         tally,
-    })
+    };
+    Ok(Stmt::QStop { transfer })
 }
 
 /// `cfubr`
@@ -62,15 +63,15 @@ pub fn q_repeat(parser: &mut Parser<'_>, room: u32, line: u32) -> Result<Stmt, T
     parser.expect(Keyword::Max)?;
     let max = expression(parser, room)?;
     let (limit, tally) = last_bound(parser, Keyword::Limit, room)?;
-    Ok(Stmt::QRepeat {
+    let transfer = BlockTransfer {
         line,
         function,
         register,
         table,
         max,
-        limit,
         tally,
-    })
+    };
+    Ok(Stmt::QRepeat { transfer, limit })
 }
 
 /// The table of a write, if one is named.
@@ -116,9 +117,9 @@ pub fn call(parser: &mut Parser<'_>, room: u32, line: u32) -> Result<Stmt, TextF
     let procedure = parser.procedure_here()?;
     let wanted = parser.called(room, procedure)?;
     let arguments = arguments(parser, room, wanted)?;
-    Ok(Stmt::Call {
+    Ok(Stmt::Call(ProcedureCall {
         line,
         procedure,
         arguments,
-    })
+    }))
 }

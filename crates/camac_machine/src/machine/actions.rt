@@ -3,23 +3,24 @@
 ghost use Rattle.std.specs.Prelude.{◌≡◌, ◌+◌, ◌*◌, ◌-◌, ◌<◌, ◌≤◌, length, None, Some, slice_set, IsSomeAnd};
 ghost use Rattle.camac_branch.specs.Address.{Address};
 ghost use Rattle.camac_branch.specs.Allowed.{width};
-ghost use Rattle.camac_lang.specs.View.{expression_of, move_of};
-ghost use Rattle.camac_lang.specs.Tree.{assign, set_register, single, put, crate_call, lam_call, call};
+ghost use Rattle.camac_lang.specs.View.{assignment_of, crate_action_of, lam_action_of, put_of, setting_of, single_of};
 ghost use Rattle.camac_model.specs.Cycle.{sized};
 ghost use Rattle.camac_model.specs.Fine.{most_turns};
 ghost use Rattle.camac_model.specs.Meaning.{effect};
 ghost use Rattle.camac_model.specs.Value.{value};
-ghost use Rattle.camac_machine.specs.MachineState.{reach, with_value, FineThen, HasRoom, Advances, Awaits};
+ghost use Rattle.camac_machine.specs.MachineState.{free, reach, with_value, FineThen, HasRoom, Advances, Awaits};
 ghost use Rattle.camac_machine.specs.Rest.{address_of};
-ghost use Rattle.camac_machine.specs.Within.{Refers, MoveFits};
+ghost use Rattle.camac_machine.specs.Within.{StatementFits};
 
 use crate::command::command;
 use crate::machine::{Machine, Pending};
 use camac_branch::{Command, Plan};
 use camac_esone::{Address, crate_call, lam_call};
 use camac_func::DataMove;
-use camac_lang::{CrateCall, Expr, LamCall, Move, WordSize};
-use camac_word::{CrateNo, Function, Word24};
+use camac_lang::{
+    Assignment, CrateAction, LamAction, Move, PutAction, RegisterSetting, SingleAction, WordSize,
+};
+use camac_word::{CrateNo, Word24};
 
 // How many bits a read of this size keeps.
 pub fn bits_kept(plan: &Plan, command: &Command, size: WordSize) -> u32
@@ -46,48 +47,38 @@ fn set_in(registers: &mut [Option<Address>], register: usize, at: Address)
 impl<'a, const V: usize, const DEPTH: usize, const CAP: usize> Machine<'a, V, DEPTH, CAP> {
     // `cdreg`.
     #[inline(never)]
-    pub(crate) fn set_register(
-        &mut self,
-        register: usize,
-        crate_no: &Expr,
-        station: &Expr,
-        sub_address: &Expr,
-    )
+    pub(crate) fn set_register(&mut self, setting: &RegisterSetting)
         requires room { HasRoom self.old }
-        requires register { register < (reach self.old).registers }
-        requires crate_no { Refers (reach self.old).variables (expression_of crate_no.now) }
-        requires station { Refers (reach self.old).variables (expression_of station.now) }
-        requires sub_address { Refers (reach self.old).variables (expression_of sub_address.now) }
-        requires fine { FineThen self.old (λ c. effect c most_turns (set_register 0 register (expression_of crate_no.now) (expression_of station.now) (expression_of sub_address.now))) }
-        ensures { Advances 1 self.old (λ c. effect c most_turns (set_register 0 register (expression_of crate_no.now) (expression_of station.now) (expression_of sub_address.now))) None self.new }
+        requires fits { StatementFits (reach self.old) (free self.old) (setting_of setting.now) }
+        requires fine { FineThen self.old (λ c. effect c most_turns (setting_of setting.now)) }
+        ensures { Advances 1 self.old (λ c. effect c most_turns (setting_of setting.now)) None self.new }
     {
-        let c = self.value_of(crate_no);
-        let n = self.value_of(station);
-        let a = self.value_of(sub_address);
-        let place = self.scope.registers.start + register;
+        let c = self.value_of(&setting.crate_no);
+        let n = self.value_of(&setting.station);
+        let a = self.value_of(&setting.sub_address);
+        let place = self.scope.registers.start + setting.register;
         set_in(&mut self.registers, place, Address { c, n, a });
     }
 
     // `v = e`.
-    pub(crate) fn assign(&mut self, variable: usize, value: &Expr)
+    pub(crate) fn assign(&mut self, assignment: &Assignment)
         requires room { HasRoom self.old }
-        requires variable { variable < (reach self.old).variables }
-        requires declared { Refers (reach self.old).variables (expression_of value.now) }
-        requires fine { FineThen self.old (λ c. effect c most_turns (assign 0 variable (expression_of value.now))) }
-        ensures { Advances 1 self.old (λ c. effect c most_turns (assign 0 variable (expression_of value.now))) None self.new }
+        requires fits { StatementFits (reach self.old) (free self.old) (assignment_of assignment.now) }
+        requires fine { FineThen self.old (λ c. effect c most_turns (assignment_of assignment.now)) }
+        ensures { Advances 1 self.old (λ c. effect c most_turns (assignment_of assignment.now)) None self.new }
     {
-        let value = self.value_of(value);
-        self.set_variable(variable, value);
+        let value = self.value_of(&assignment.value);
+        self.set_variable(assignment.variable, value);
     }
 
     // `put`.
-    pub(crate) fn put(&mut self, value: &Expr)
+    pub(crate) fn put(&mut self, action: &PutAction)
         requires room { HasRoom self.old }
-        requires declared { Refers (reach self.old).variables (expression_of value.now) }
-        requires fine { FineThen self.old (λ c. effect c most_turns (put 0 (expression_of value.now))) }
-        ensures { Advances 1 self.old (λ c. effect c most_turns (put 0 (expression_of value.now))) None self.new }
+        requires fits { StatementFits (reach self.old) (free self.old) (put_of action.now) }
+        requires fine { FineThen self.old (λ c. effect c most_turns (put_of action.now)) }
+        ensures { Advances 1 self.old (λ c. effect c most_turns (put_of action.now)) None self.new }
     {
-        match Word24::new(self.value_of(value)) {
+        match Word24::new(self.value_of(&action.value)) {
             Some(word) => self.words.push(word),
             None => unreachable!(),
         }
@@ -106,28 +97,21 @@ impl<'a, const V: usize, const DEPTH: usize, const CAP: usize> Machine<'a, V, DE
 
     // `cfsa`, `cssa`. What is wanted is written in its place, here and below: it is larger than a result that is handed back quickly.
     #[inline(always)]
-    pub(crate) fn single(
-        &self,
-        size: WordSize,
-        f: Function,
-        register: usize,
-        moved: &Move,
-        pending: &mut Option<Pending<'a>>,
-    )
+    pub(crate) fn single(&self, action: &SingleAction, pending: &mut Option<Pending<'a>>)
         requires room { HasRoom self.now }
-        requires register { register < (reach self.now).registers }
-        requires moved { MoveFits (reach self.now).variables (move_of moved.now) }
-        requires fine { FineThen self.now (λ c. effect c most_turns (single 0 size f register (move_of moved.now))) }
-        ensures { IsSomeAnd pending.new (Awaits self.now (λ c. effect c most_turns (single 0 size f register (move_of moved.now)))) }
+        requires fits { StatementFits (reach self.now) (free self.now) (single_of action.now) }
+        requires fine { FineThen self.now (λ c. effect c most_turns (single_of action.now)) }
+        ensures { IsSomeAnd pending.new (Awaits self.now (λ c. effect c most_turns (single_of action.now))) }
     {
-        let at = self.address_in(register);
+        let f = action.function;
+        let at = self.address_in(action.register);
         let plan = self.checked.plan();
         plan.allows_commands();
-        match moved {
+        match &action.data {
             Move::NoData => *pending = Some(Pending::Cycle(command(at, f, DataMove::None))),
             Move::Into(variable) => {
                 let command = command(at, f, DataMove::In);
-                let bits = bits_kept(plan, &command, size);
+                let bits = bits_kept(plan, &command, action.size);
                 *pending = Some(Pending::Read {
                     command,
                     variable: *variable,
@@ -142,39 +126,34 @@ impl<'a, const V: usize, const DEPTH: usize, const CAP: usize> Machine<'a, V, DE
     }
 
     // A call of a crate's controller.
-    pub(crate) fn call_crate(
-        &self,
-        call: CrateCall,
-        crate_no: &Expr,
-        pending: &mut Option<Pending<'a>>,
-    )
+    pub(crate) fn call_crate(&self, action: &CrateAction, pending: &mut Option<Pending<'a>>)
         requires room { HasRoom self.now }
-        requires declared { Refers (reach self.now).variables (expression_of crate_no.now) }
-        requires fine { FineThen self.now (λ c. effect c most_turns (crate_call 0 call (expression_of crate_no.now))) }
-        ensures { IsSomeAnd pending.new (Awaits self.now (λ c. effect c most_turns (crate_call 0 call (expression_of crate_no.now)))) }
+        requires fits { StatementFits (reach self.now) (free self.now) (crate_action_of action.now) }
+        requires fine { FineThen self.now (λ c. effect c most_turns (crate_action_of action.now)) }
+        ensures { IsSomeAnd pending.new (Awaits self.now (λ c. effect c most_turns (crate_action_of action.now))) }
     {
         let plan = self.checked.plan();
         plan.allows_commands();
-        match CrateNo::new(self.value_of(crate_no)) {
-            Some(c) => *pending = Some(Pending::Cycle(crate_call(call, c))),
+        match CrateNo::new(self.value_of(&action.crate_no)) {
+            Some(c) => *pending = Some(Pending::Cycle(crate_call(action.call, c))),
             None => unreachable!(),
         }
     }
 
     // A call at a LAM's address.
-    pub(crate) fn call_lam(&self, call: LamCall, lam: usize, pending: &mut Option<Pending<'a>>)
-        requires lam { lam < length self.now.checked.now.script.lams }
-        requires fine { FineThen self.now (λ c. effect c most_turns (lam_call 0 call lam)) }
-        ensures { IsSomeAnd pending.new (Awaits self.now (λ c. effect c most_turns (lam_call 0 call lam))) }
+    pub(crate) fn call_lam(&self, action: &LamAction, pending: &mut Option<Pending<'a>>)
+        requires fits { StatementFits (reach self.now) (free self.now) (lam_action_of action.now) }
+        requires fine { FineThen self.now (λ c. effect c most_turns (lam_action_of action.now)) }
+        ensures { IsSomeAnd pending.new (Awaits self.now (λ c. effect c most_turns (lam_action_of action.now))) }
     {
         let plan = self.checked.plan();
         plan.allows_commands();
-        let lam = &self.checked.script().lams()[lam];
+        let lam = &self.checked.script().lams()[action.lam];
         let at = Address {
             c: lam.crate_no,
             n: lam.station,
             a: lam.sub_address.get(),
         };
-        *pending = Some(Pending::Cycle(lam_call(call, at)));
+        *pending = Some(Pending::Cycle(lam_call(action.call, at)));
     }
 }

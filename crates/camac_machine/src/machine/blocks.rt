@@ -2,20 +2,20 @@
 
 ghost use Rattle.std.specs.Prelude.{◌≡◌, ℕ, suc, ◌+◌, ◌*◌, ◌-◌, ◌<◌, ◌≤◌, length, ◌∷◌, ◌++◌, [], List, map, true, None, Some, IsSome, IfSome, IfNone, IsSomeAnd};
 ghost use Rattle.camac_branch.specs.Branch.{Answer};
-ghost use Rattle.camac_lang.specs.View.{expression_of, part_of, statements_of};
-ghost use Rattle.camac_lang.specs.Tree.{done, choose_else, for_, locked, call};
+ghost use Rattle.camac_lang.specs.View.{call_of, expression_of, for_of, part_of, statements_of};
+ghost use Rattle.camac_lang.specs.Tree.{done, choose_else, locked};
 ghost use Rattle.camac_model.specs.Fine.{most_turns};
 ghost use Rattle.camac_model.specs.Meaning.{effect, block_meaning, for_turns, turns as while_turns};
 ghost use Rattle.camac_model.specs.Value.{value};
 ghost use Rattle.camac_machine.specs.MachineState.{context_in, reach, state_of, owner_in, open_in, opens_in, holds, free, FineThen, HasRoomFor, HasRoom, IsFineHere, stands, TakesFirst, StandsIn, TurnsAgain, LastIsOver, wanted_if, GoesOn, Advances, Enters, Awaits};
 ghost use Rattle.camac_machine.specs.Rest.{releases, owed, left_of};
-ghost use Rattle.camac_machine.specs.Within.{Refers, CallFits, PartsRefer, Opens, OwnerFits, outer};
+ghost use Rattle.camac_machine.specs.Within.{Refers, PartsRefer, Opens, OwnerFits, StatementFits, outer};
 
 use crate::arguments::{pass, wipe};
 use crate::condition::holds;
 use crate::machine::{Frame, Machine, Owner, Pending};
 use camac_branch::{Answer, unlock};
-use camac_lang::{Expr, Part, Stmt, limits};
+use camac_lang::{Expr, ForHead, Part, ProcedureCall, Stmt, limits};
 use camac_word::CrateNo;
 
 impl<'a, const V: usize, const DEPTH: usize, const CAP: usize> Machine<'a, V, DEPTH, CAP> {
@@ -95,19 +95,16 @@ impl<'a, const V: usize, const DEPTH: usize, const CAP: usize> Machine<'a, V, DE
 
     // `for`.
     #[inline(never)]
-    pub(crate) fn begin_for(&mut self, variable: usize, from: &Expr, to: &Expr, body: &'a [Stmt])
+    pub(crate) fn begin_for(&mut self, head: &ForHead, body: &'a [Stmt])
         requires room { HasRoom self.old }
-        requires variable { variable < (reach self.old).variables }
-        requires from { Refers (reach self.old).variables (expression_of from.now) }
-        requires to { Refers (reach self.old).variables (expression_of to.now) }
-        requires body { Opens (reach self.old) (free self.old) (statements_of body.now) }
-        requires fine { FineThen self.old (λ c. effect c most_turns (for_ 0 variable (expression_of from.now) (expression_of to.now) [] (statements_of body.now))) }
-        ensures { Advances 1 self.old (λ c. effect c most_turns (for_ 0 variable (expression_of from.now) (expression_of to.now) [] (statements_of body.now))) None self.new }
+        requires fits { StatementFits (reach self.old) (free self.old) (for_of head.now (statements_of body.now)) }
+        requires fine { FineThen self.old (λ c. effect c most_turns (for_of head.now (statements_of body.now))) }
+        ensures { Advances 1 self.old (λ c. effect c most_turns (for_of head.now (statements_of body.now))) None self.new }
     {
-        let first = self.value_of(from);
-        let last = self.value_of(to);
+        let first = self.value_of(&head.from);
+        let last = self.value_of(&head.to);
         if first <= last {
-            self.turn(variable, first, last, limits::TURNS, body);
+            self.turn(head.variable, first, last, limits::TURNS, body);
         }
     }
 
@@ -156,19 +153,19 @@ impl<'a, const V: usize, const DEPTH: usize, const CAP: usize> Machine<'a, V, DE
 
     // `call`: evaluates the arguments in the caller's store, and opens the body with no register set.
     #[inline(never)]
-    pub(crate) fn call(&mut self, procedure: usize, arguments: &[Expr])
+    pub(crate) fn call(&mut self, call: &ProcedureCall)
         requires room { HasRoom self.old }
-        requires fits { CallFits (reach self.old) (free self.old) procedure (map expression_of arguments.now) }
-        requires fine { FineThen self.old (λ c. effect c most_turns (call 0 procedure (map expression_of arguments.now))) }
-        ensures { Enters self.old (λ c. effect c most_turns (call 0 procedure (map expression_of arguments.now))) self.new }
+        requires fits { StatementFits (reach self.old) (free self.old) (call_of call.now) }
+        requires fine { FineThen self.old (λ c. effect c most_turns (call_of call.now)) }
+        ensures { Enters self.old (λ c. effect c most_turns (call_of call.now)) self.new }
     {
         let script = self.checked.script();
         script.well_formed();
-        let callee = &script.procedures()[procedure];
+        let callee = &script.procedures()[call.procedure];
         let caller = self.scope;
-        let scope = caller.of_procedure(procedure, callee);
+        let scope = caller.of_procedure(call.procedure, callee);
         pass(
-            arguments,
+            &call.arguments,
             caller.variables,
             scope.variables.start,
             &mut self.variables,

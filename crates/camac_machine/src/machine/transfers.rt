@@ -2,14 +2,13 @@
 
 ghost use Rattle.std.specs.Prelude.{◌≡◌, ◌*◌, ◌-◌, ◌<◌, ◌≤◌, length, None, Some, IsSome, IfSome, is_some, option_map, ◌^◌, ◌%◌};
 ghost use Rattle.camac_branch.specs.Allowed.{width};
-ghost use Rattle.camac_lang.specs.View.{expression_of};
-ghost use Rattle.camac_lang.specs.Tree.{done, address_scan, q_stop, q_repeat};
+ghost use Rattle.camac_lang.specs.View.{q_repeat_of, q_stop_of, scan_of};
 ghost use Rattle.camac_model.specs.Fine.{most_turns};
 ghost use Rattle.camac_model.specs.Meaning.{sent, effect};
-ghost use Rattle.camac_machine.specs.MachineState.{context_in, reach, FineThen, HasRoom, Proceeds, cycle_of, transfer_at, transferred};
+ghost use Rattle.camac_machine.specs.MachineState.{context_in, free, reach, FineThen, HasRoom, Proceeds, cycle_of, transfer_at, transferred};
 ghost use Rattle.camac_machine.specs.Course.{keeps, words_sent, words_after};
 ghost use Rattle.camac_machine.specs.Rest.{address_of};
-ghost use Rattle.camac_machine.specs.Within.{Refers};
+ghost use Rattle.camac_machine.specs.Within.{StatementFits};
 
 use crate::command::command;
 use crate::machine::actions::bits_kept;
@@ -18,7 +17,7 @@ use crate::machine::{Machine, Pending, TransferCycle};
 use crate::transfer::{Course, Transfer};
 use camac_branch::{Command, CycleDone};
 use camac_esone::{QRepeat, QStop, Scan};
-use camac_lang::{Expr, WordSize};
+use camac_lang::{AddressScan, BlockTransfer, Expr, WordSize};
 use camac_word::{Function, Word24};
 
 // Whether an event keeps the word of a transfer's cycle: that of a read with Q=1.
@@ -39,13 +38,6 @@ fn cut(word: Word24, bits: u32) -> Word24
     }
 }
 
-/// What a Q-repeat makes at most: so many words, in so many cycles.
-#[derive(Clone, Copy)]
-pub struct Most<'e> {
-    pub words: &'e Expr,
-    pub cycles: &'e Expr,
-}
-
 impl<'a, const V: usize, const DEPTH: usize, const CAP: usize> Machine<'a, V, DEPTH, CAP> {
     // The words of the table that a transfer sends, where it sends any.
     pub(crate) fn sent(&self, table: Option<usize>) -> Option<&'a [Word24]>
@@ -61,32 +53,21 @@ impl<'a, const V: usize, const DEPTH: usize, const CAP: usize> Machine<'a, V, DE
 
     // `cfmad`.
     #[inline(never)]
-    pub(crate) fn scan(
-        &mut self,
-        function: Function,
-        first: usize,
-        last: usize,
-        max: &Expr,
-        tally: usize,
-        pending: &mut Option<Pending<'a>>,
-    ) -> bool
+    pub(crate) fn scan(&mut self, scan: &AddressScan, pending: &mut Option<Pending<'a>>) -> bool
         requires room { HasRoom self.old }
-        requires first { first < (reach self.old).registers }
-        requires last { last < (reach self.old).registers }
-        requires max { Refers (reach self.old).variables (expression_of max.now) }
-        requires tally { tally < (reach self.old).variables }
-        requires fine { FineThen self.old (λ c. effect c most_turns (address_scan 0 function first last (expression_of max.now) tally)) }
-        ensures goes { Proceeds self.old (λ c. effect c most_turns (address_scan 0 function first last (expression_of max.now) tally)) pending.new self.new }
+        requires fits { StatementFits (reach self.old) (free self.old) (scan_of scan.now) }
+        requires fine { FineThen self.old (λ c. effect c most_turns (scan_of scan.now)) }
+        ensures goes { Proceeds self.old (λ c. effect c most_turns (scan_of scan.now)) pending.new self.new }
         ensures some { result ≡ is_some pending.new }
     {
-        let first = self.address_in(first);
-        let last = self.address_in(last);
-        let max = self.value_of(max);
+        let first = self.address_in(scan.first);
+        let last = self.address_in(scan.last);
+        let max = self.value_of(&scan.max);
         let transfer = Transfer {
             course: Course::Scan(Scan::new(first, last, max)),
-            function,
+            function: scan.function,
             table: None,
-            tally,
+            tally: scan.tally,
         };
         self.proceed(&transfer, pending)
     }
@@ -95,29 +76,23 @@ impl<'a, const V: usize, const DEPTH: usize, const CAP: usize> Machine<'a, V, DE
     #[inline(never)]
     pub(crate) fn q_stop(
         &mut self,
-        function: Function,
-        register: usize,
-        table: Option<usize>,
-        max: &Expr,
-        tally: usize,
+        block: &BlockTransfer,
         pending: &mut Option<Pending<'a>>,
     ) -> bool
         requires room { HasRoom self.old }
-        requires register { register < (reach self.old).registers }
-        requires max { Refers (reach self.old).variables (expression_of max.now) }
-        requires tally { tally < (reach self.old).variables }
-        requires fine { FineThen self.old (λ c. effect c most_turns (q_stop 0 function register table (expression_of max.now) tally)) }
-        ensures goes { Proceeds self.old (λ c. effect c most_turns (q_stop 0 function register table (expression_of max.now) tally)) pending.new self.new }
+        requires fits { StatementFits (reach self.old) (free self.old) (q_stop_of block.now) }
+        requires fine { FineThen self.old (λ c. effect c most_turns (q_stop_of block.now)) }
+        ensures goes { Proceeds self.old (λ c. effect c most_turns (q_stop_of block.now)) pending.new self.new }
         ensures some { result ≡ is_some pending.new }
     {
-        let words = self.sent(table);
-        let at = self.address_in(register);
-        let max = self.value_of(max);
+        let words = self.sent(block.table);
+        let at = self.address_in(block.register);
+        let max = self.value_of(&block.max);
         let transfer = Transfer {
             course: Course::Stop(QStop::new(at, max)),
-            function,
+            function: block.function,
             table: words,
-            tally,
+            tally: block.tally,
         };
         self.proceed(&transfer, pending)
     }
@@ -126,31 +101,25 @@ impl<'a, const V: usize, const DEPTH: usize, const CAP: usize> Machine<'a, V, DE
     #[inline(never)]
     pub(crate) fn q_repeat(
         &mut self,
-        function: Function,
-        register: usize,
-        table: Option<usize>,
-        most: Most<'_>,
-        tally: usize,
+        block: &BlockTransfer,
+        limit: &Expr,
         pending: &mut Option<Pending<'a>>,
     ) -> bool
         requires room { HasRoom self.old }
-        requires register { register < (reach self.old).registers }
-        requires words { Refers (reach self.old).variables (expression_of most.words.now) }
-        requires cycles { Refers (reach self.old).variables (expression_of most.cycles.now) }
-        requires tally { tally < (reach self.old).variables }
-        requires fine { FineThen self.old (λ c. effect c most_turns (q_repeat 0 function register table (expression_of most.words.now) (expression_of most.cycles.now) tally)) }
-        ensures goes { Proceeds self.old (λ c. effect c most_turns (q_repeat 0 function register table (expression_of most.entry.words.now) (expression_of most.entry.cycles.now) tally)) pending.new self.new }
+        requires fits { StatementFits (reach self.old) (free self.old) (q_repeat_of block.now limit.now) }
+        requires fine { FineThen self.old (λ c. effect c most_turns (q_repeat_of block.now limit.now)) }
+        ensures goes { Proceeds self.old (λ c. effect c most_turns (q_repeat_of block.now limit.now)) pending.new self.new }
         ensures some { result ≡ is_some pending.new }
     {
-        let words = self.sent(table);
-        let at = self.address_in(register);
-        let max = self.value_of(most.words);
-        let limit = self.value_of(most.cycles);
+        let words = self.sent(block.table);
+        let at = self.address_in(block.register);
+        let max = self.value_of(&block.max);
+        let limit = self.value_of(limit);
         let transfer = Transfer {
             course: Course::Repeat(QRepeat::new(at, max, limit)),
-            function,
+            function: block.function,
             table: words,
-            tally,
+            tally: block.tally,
         };
         self.proceed(&transfer, pending)
     }

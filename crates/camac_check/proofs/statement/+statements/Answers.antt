@@ -1,8 +1,7 @@
 use Rattle.std.proofs.Common.{◌≡◌, ◌<◌, ◌≤◌, ◌+◌, ◌++◌, List, ◌∷◌, Some, length, drop, map, refl, sym, ap, ap₂, ◌∙◌, subst, arith}
 use Rattle.std.specs.Prelude.{OnOk}
 use Rattle.std.proofs.lemmas.List.{drop_all}
-use Rattle.camac_lang.specs.Tree.{for_, while_}
-use Rattle.camac_lang.specs.View.{condition_of, expression_of, keep_of, part_of, statement_of, statements_of}
+use Rattle.camac_lang.specs.View.{condition_of, expression_of, for_of, keep_of, part_of, statement_of, statements_of, while_of}
 use Rattle.camac_model.specs.Fine.{Bounds}
 use Rattle.camac_rules.specs.Capped.{capped}
 use Rattle.camac_rules.specs.Conditions.{branches, split}
@@ -138,8 +137,8 @@ accept_while-returns-clause-rows t c =
     let context = c.args.place.now.context.now in
     let around = c.args.place.now.around.now in
     let it = c.args.limited.now in
-    let test = map part_of it.test.now in
-    let keeps = map keep_of it.keeps.now in
+    let test = condition_of it.test in
+    let keeps = map keep_of it.keeps.items in
     let body = statements_of c.args.body.now in
     let top = c.in_ok-top.top in
     let arms = branches c.in_ok-ways.ways.holds c.in_ok-ways.ways.fails in
@@ -159,9 +158,9 @@ accept_for-returns-clause-rows t c =
     let context = c.args.place.now.context.now in
     let around = c.args.place.now.around.now in
     let it = c.args.counted.now in
-    let first = expression_of it.from.now in
-    let last = expression_of it.to.now in
-    let keeps = map keep_of it.keeps.now in
+    let first = expression_of it.from in
+    let last = expression_of it.to in
+    let keeps = map keep_of it.keeps.items in
     let body = statements_of c.args.body.now in
     let l = c.in_ok-limits.limits in
     let k = c.args.known in
@@ -220,16 +219,12 @@ pub accept_reached-returns-in-For-clause-rows : goal.accept_reached-returns-in-F
 accept_reached-returns-in-For-clause-rows t c =
     let it = c.in-For in
     subst (λ s. OnOk c.accept_for.result (c.accept_for.new.rows ≡ with_rows c.args.rows.now (statement_rows (by_code c.args.context.now) c.args.around.now s (Some c.args.known))))
-    (ap₂ (λ ks b. for_ it.line it.variable (expression_of it.from) (expression_of it.to) (map keep_of ks) (statements_of b)) c.deref-in-For.ensures.value c.deref-in-For-2.ensures.value
-    ∙ sym (ap statement_of it.is ∙ for_tree it.line it.variable it.from it.to it.keeps it.body))
+    (ap (λ b. for_of it.head (statements_of b)) c.deref-in-For.ensures.value ∙ sym (ap statement_of it.is ∙ for_tree it.head it.body))
     c.accept_for.ensures.rows
 
 pub accept_reached-returns-in-While-clause-rows : goal.accept_reached-returns-in-While-clause-rows
 accept_reached-returns-in-While-clause-rows t c =
     let it = c.in-While in
-    let test = ap (map part_of) c.deref-in-While.ensures.value in
     subst (λ s. OnOk c.accept_while.result (c.accept_while.new.rows ≡ with_rows c.args.rows.now (statement_rows (by_code c.args.context.now) c.args.around.now s (Some c.args.known))))
-    (ap (λ q. while_ it.line q it.turns it.measure (map keep_of c.deref-in-While-2.result.now) (statements_of c.deref-in-While-3.result.now)) test
-    ∙ ap₂ (λ ks b. while_ it.line (condition_of it.test) it.turns it.measure (map keep_of ks) (statements_of b)) c.deref-in-While-2.ensures.value c.deref-in-While-3.ensures.value
-    ∙ sym (ap statement_of it.is ∙ while_tree it.line it.test it.turns it.measure it.keeps it.body))
+    (ap (λ b. while_of it.head (statements_of b)) c.deref-in-While.ensures.value ∙ sym (ap statement_of it.is ∙ while_tree it.head it.body))
     c.accept_while.ensures.rows

@@ -7,5 +7,5 @@ use Rattle.camac_run.proofs.ahead.call_of_crate.Goals as goal
 pub returns : goal.returns
 returns c =
     let known = c.args.known.now in
-    let e = expression_of c.args.crate_no.now in
-    λ c' registers. crate_makes c' known registers c.crate_call.result c.args.call e c.in_ok-c.c (subst (HasValue known e) (sym c.in_ok-c.ensures.kept) c.in_ok-value_of.ensures) c.crate_call.ensures
+    let e = expression_of c.args.action.now.crate_no in
+    λ c' registers. crate_makes c' known registers c.crate_call.result c.args.action.now.line c.args.action.now.call e c.in_ok-c.c (subst (HasValue known e) (sym c.in_ok-c.ensures.kept) c.in_ok-value_of.ensures) c.crate_call.ensures

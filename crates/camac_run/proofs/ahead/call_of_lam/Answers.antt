@@ -17,10 +17,10 @@ returns-then-lam-lams c =
     let l = c.index-lams-lam.result in
     let e : map lam_of c.lams-lams.result.now ≡ script.lams = c.lams-lams.ensures ∙ ap (λ s. s.lams) c.script.ensures in
     let n : length script.lams ≡ length c.lams-lams.result.now = sym (ap length e) ∙ length-map c.lams-lams.result.now lam_of in
-    let less : c.args.lam < length script.lams = omega (arith, n, c.if-lam-lams.true) in
-    let there : slice_get (context_in c.args.checked.now).lams c.args.lam ≡ Some (lam_address (lam_of l)) = lam_at c.lams-lams.result.now script.lams c.args.lam l e less c.index-lams-lam.is in
+    let less : c.args.action.now.lam < length script.lams = omega (arith, n, c.if-lam-lams.true) in
+    let there : slice_get (context_in c.args.checked.now).lams c.args.action.now.lam ≡ Some (lam_address (lam_of l)) = lam_at c.lams-lams.result.now script.lams c.args.action.now.lam l e less c.index-lams-lam.is in
     map_some c.command_at.result _ _
     (λ k is known registers.
-    lam_makes (context_in c.args.checked.now) known registers k c.args.call c.args.lam (lam_address (lam_of l)) there
+    lam_makes (context_in c.args.checked.now) known registers k c.args.action.now.line c.args.action.now.call c.args.action.now.lam (lam_address (lam_of l)) there
     (is ∙ ap (λ a. command_at (address l.crate_no l.station a) c.lam_function.result moved.None) c.get.ensures.value ∙ ap (λ f. command_at (lam_address (lam_of l)) f moved.None) c.lam_function.ensures))
     c.command_at.ensures

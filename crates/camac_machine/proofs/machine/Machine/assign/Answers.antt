@@ -9,13 +9,13 @@ use Rattle.camac_machine.proofs.machine.Machine.assign.Goals as goal
 
 pub value_of-value-requires : goal.value_of-value-requires
 value_of-value-requires g c =
-    (search, (c.requires.room, (c.requires.declared, has_value c.args.self.now (expression_of c.args.value.now) _ (c.requires.fine []))))
+    (search, (c.requires.room, (c.requires.fits.1, has_value c.args.self.now (expression_of c.args.assignment.now.value) _ (c.requires.fine []))))
 
 pub returns : goal.returns
 returns g c =
     let h = c.args.self.now in
     let v = c.value_of-value.result in
-    let x = c.args.variable in
+    let x = c.args.assignment.now.variable in
     rw c.set_variable.ensures.same (record {
       room = room_written h x v c.requires.room;
       checked = refl;
@@ -27,5 +27,5 @@ returns g c =
       unlocks = sym (append-nil h.unlocks.items);
       goes = λ answers.
           ap (λ os. rest_in (context_in h.checked.now) os (state_of (with_value h x v) answers)) (sym (opens_written h x v c.requires.room))
-          ∙ assign_goes h x (expression_of c.args.value.now) v c.value_of-value.ensures (variables_here (with_value h x v)) (variables_written h x v c.requires.variable c.requires.room) answers;
+          ∙ assign_goes h x (expression_of c.args.assignment.now.value) v c.value_of-value.ensures (variables_here (with_value h x v)) (variables_written h x v c.requires.fits.0 c.requires.room) answers;
     })

@@ -12,21 +12,21 @@ use Rattle.camac_machine.proofs.machine.Machine.begin_for.Goals as goal
 
 pub value_of-first-requires : goal.value_of-first-requires
 value_of-first-requires g c =
-    (search, (c.requires.room, (c.requires.from, has_value c.args.self.now (expression_of c.args.from.now) _ (c.requires.fine []))))
+    (search, (c.requires.room, (c.requires.fits.1, has_value c.args.self.now (expression_of c.args.head.now.from) _ (c.requires.fine []))))
 
 pub value_of-last-requires : goal.value_of-last-requires
 value_of-last-requires g c =
     let h = c.args.self.now in
-    let has = has_value h (expression_of c.args.to.now) _
-    (known h (value (expression_of c.args.from.now) (variables_here h)) c.value_of-first.result _ [] c.value_of-first.ensures (c.requires.fine [])) in
-    (search, (c.requires.room, (c.requires.to, has)))
+    let has = has_value h (expression_of c.args.head.now.to) _
+    (known h (value (expression_of c.args.head.now.from) (variables_here h)) c.value_of-first.result _ [] c.value_of-first.ensures (c.requires.fine [])) in
+    (search, (c.requires.room, (c.requires.fits.2, has)))
 
 pub turn-requires : goal.turn-requires
 turn-requires g c =
     let h = c.args.self.now in
-    let x = c.args.variable in
-    let e1 = expression_of c.args.from.now in
-    let e2 = expression_of c.args.to.now in
+    let x = c.args.head.now.variable in
+    let e1 = expression_of c.args.head.now.from in
+    let e2 = expression_of c.args.head.now.to in
     let b = statements_of c.args.body.now in
     let v = c.value_of-first.result in
     let w = c.value_of-last.result in (
@@ -34,9 +34,9 @@ turn-requires g c =
       (
         c.requires.room,
         (
-          c.requires.variable,
+          c.requires.fits.0,
           (
-            c.requires.body,
+            (c.requires.fits.3, c.requires.fits.4),
             fine_as h (λ k. effect k most_turns (for_ 0 x e1 e2 [] b)) (λ k. for_turns (suc (w - v)) 65535 x v w (block_meaning k most_turns b))
                 (count_goes h x e1 e2 b v w c.value_of-first.ensures c.value_of-last.ensures c.if-first-last.true) c.requires.fine,
           ),
@@ -47,9 +47,9 @@ turn-requires g c =
 pub returns-then-first-last : goal.returns-then-first-last
 returns-then-first-last g c =
     let h = c.args.self.now in
-    let x = c.args.variable in
-    let e1 = expression_of c.args.from.now in
-    let e2 = expression_of c.args.to.now in
+    let x = c.args.head.now.variable in
+    let e1 = expression_of c.args.head.now.from in
+    let e2 = expression_of c.args.head.now.to in
     let b = statements_of c.args.body.now in
     let v = c.value_of-first.result in
     let w = c.value_of-last.result in
@@ -59,8 +59,8 @@ returns-then-first-last g c =
 pub returns-else-first-last : goal.returns-else-first-last
 returns-else-first-last g c =
     let h = c.args.self.now in
-    let x = c.args.variable in
-    let e1 = expression_of c.args.from.now in
-    let e2 = expression_of c.args.to.now in
+    let x = c.args.head.now.variable in
+    let e1 = expression_of c.args.head.now.from in
+    let e2 = expression_of c.args.head.now.to in
     let b = statements_of c.args.body.now in
     unchanged h (λ k. effect k most_turns (for_ 0 x e1 e2 [] b)) (count_none h x e1 e2 b c.value_of-first.result c.value_of-last.result c.value_of-first.ensures c.value_of-last.ensures c.if-first-last.false) c.requires.room

@@ -17,44 +17,44 @@ pub offset_bounds-procedures-procedure : goal.offset_bounds-procedures-procedure
 offset_bounds-procedures-procedure g c =
     let h = c.args.self.now in
     let s = h.checked.now.script in
-    let i = c.args.procedure in
+    let i = c.args.call.now.procedure in
     let F : Script → Type 0 = λ s. IsTrue (is_well_formed s) in
     let few = (limits_hold s (subst F c.script-script.ensures c.well_formed-2.ensures)).procedures in
-    let k = callee h i (map expression_of c.args.arguments.now) c.requires.room c.requires.fits in
+    let k = callee h i (map expression_of c.args.call.now.arguments.items) c.requires.room c.requires.fits in
     let lt : i < length s.procedures = number_below s.procedures i k.procedure k.there in omega (arith, few, lt)
 
 pub bounds-procedures-procedure : goal.bounds-procedures-procedure
 bounds-procedures-procedure g c =
     let h = c.args.self.now in
     let s = h.checked.now.script in
-    let i = c.args.procedure in
+    let i = c.args.call.now.procedure in
     let e : map procedure_of c.procedures.result.now ≡ s.procedures = c.procedures.ensures ∙ ap (λ s. s.procedures) c.script-script.ensures in
     let n : length s.procedures ≡ length c.procedures.result.now = sym (ap length e) ∙ length-map c.procedures.result.now procedure_of in
-    let k = callee h i (map expression_of c.args.arguments.now) c.requires.room c.requires.fits in
+    let k = callee h i (map expression_of c.args.call.now.arguments.items) c.requires.room c.requires.fits in
     let lt : i < length s.procedures = number_below s.procedures i k.procedure k.there in omega (arith, n, lt)
 
 pub pass-requires-clause-room : goal.pass-requires-clause-room
 pass-requires-clause-room g c =
     let h = c.args.self.now in
     let s = h.checked.now.script in
-    let i = c.args.procedure in
-    let es = map expression_of c.args.arguments.now in
+    let i = c.args.call.now.procedure in
+    let es = map expression_of c.args.call.now.arguments.items in
     let r = c.index-procedures-procedure.result in
     let e : map procedure_of c.procedures.result.now ≡ s.procedures = c.procedures.ensures ∙ ap (λ s. s.procedures) c.script-script.ensures in
     let k = callee h i es c.requires.room c.requires.fits in
     let there : slice_get s.procedures i ≡ Some (procedure_of r) = procedure_at c.procedures.result.now s.procedures i r e (number_below s.procedures i k.procedure k.there) c.index-procedures-procedure.is in
     let room = (variables_room h i es c.requires.room c.requires.fits (procedure_of r) there c.of_procedure-scope.result c.of_procedure-scope.ensures).1 in
-    omega (arith, room, length-map c.args.arguments.now expression_of, c.requires.room.variables)
+    omega (arith, room, length-map c.args.call.now.arguments.items expression_of, c.requires.room.variables)
 
 pub pass-requires-clause-have_values : goal.pass-requires-clause-have_values
-pass-requires-clause-have_values g c = call_has c.args.self.now c.args.procedure (map expression_of c.args.arguments.now) c.requires.fine
+pass-requires-clause-have_values g c = call_has c.args.self.now c.args.call.now.procedure (map expression_of c.args.call.now.arguments.items) c.requires.fine
 
 pub wipe-requires-clause-room : goal.wipe-requires-clause-room
 wipe-requires-clause-room g c =
     let h = c.args.self.now in
     let s = h.checked.now.script in
-    let i = c.args.procedure in
-    let es = map expression_of c.args.arguments.now in
+    let i = c.args.call.now.procedure in
+    let es = map expression_of c.args.call.now.arguments.items in
     let r = c.index-procedures-procedure.result in
     let e : map procedure_of c.procedures.result.now ≡ s.procedures = c.procedures.ensures ∙ ap (λ s. s.procedures) c.script-script.ensures in
     let k = callee h i es c.requires.room c.requires.fits in
@@ -66,8 +66,8 @@ pub push-requires : goal.push-requires
 push-requires g c =
     let h = c.args.self.now in
     let s = h.checked.now.script in
-    let i = c.args.procedure in
-    let es = map expression_of c.args.arguments.now in
+    let i = c.args.call.now.procedure in
+    let es = map expression_of c.args.call.now.arguments.items in
     let r = c.index-procedures-procedure.result in
     let F : Script → Type 0 = λ s. IsTrue (is_well_formed s) in
     let e : map procedure_of c.procedures.result.now ≡ s.procedures = c.procedures.ensures ∙ ap (λ s. s.procedures) c.script-script.ensures in
@@ -79,8 +79,8 @@ pub returns : goal.returns
 returns g c =
     let h = c.args.self.now in
     let s = h.checked.now.script in
-    let i = c.args.procedure in
-    let es = map expression_of c.args.arguments.now in
+    let i = c.args.call.now.procedure in
+    let es = map expression_of c.args.call.now.arguments.items in
     let r = c.index-procedures-procedure.result in
     let sc = c.of_procedure-scope.result in
     let ws = c.pass.new.variables in
@@ -91,7 +91,7 @@ returns g c =
     enters_filled h i es c.requires.room c.requires.fits (procedure_of r) there sc c.of_procedure-scope.ensures (subst F c.script-script.ensures c.well_formed-2.ensures)
     c.as_slice.result (ap statements_of c.as_slice.ensures.value) ws c.wipe.new.all c.push.new.self
     (record {
-      values = c.pass.ensures.values ∙ ap (λ n. Some (slice_range ws sc.variables.start (sc.variables.start + n))) (sym (length-map c.args.arguments.now expression_of));
+      values = c.pass.ensures.values ∙ ap (λ n. Some (slice_range ws sc.variables.start (sc.variables.start + n))) (sym (length-map c.args.call.now.arguments.items expression_of));
       variables_before = c.pass.ensures.before;
       variables = c.pass.ensures.count;
       unset = c.wipe.ensures.wiped;
@@ -121,8 +121,8 @@ pub of_procedure-scope-requires : goal.of_procedure-scope-requires
 of_procedure-scope-requires g c =
     let h = c.args.self.now in
     let s = h.checked.now.script in
-    let i = c.args.procedure in
-    let es = map expression_of c.args.arguments.now in
+    let i = c.args.call.now.procedure in
+    let es = map expression_of c.args.call.now.arguments.items in
     let r = c.index-procedures-procedure.result in
     let e : map procedure_of c.procedures.result.now ≡ s.procedures = c.procedures.ensures ∙ ap (λ s. s.procedures) c.script-script.ensures in
     let k = callee h i es c.requires.room c.requires.fits in

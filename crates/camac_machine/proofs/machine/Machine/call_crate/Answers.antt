@@ -13,20 +13,20 @@ use Rattle.camac_machine.proofs.machine.Machine.call_crate.Goals as goal
 
 pub value_of-requires : goal.value_of-requires
 value_of-requires g c =
-    (search, (c.requires.room, (c.requires.declared, crate_has c.args.self.now c.args.call (expression_of c.args.crate_no.now) c.requires.fine)))
+    (search, (c.requires.room, (c.requires.fits, crate_has c.args.self.now c.args.action.now.call (expression_of c.args.action.now.crate_no) c.requires.fine)))
 
 pub unreachable-requires : goal.unreachable-requires
 unreachable-requires g c =
     let P : Layout → Type 0 = λ p. AllowsCommands p in
     let Q : ℕ → Type 0 = λ n. (1 ≤ n) × (n ≤ 7) in
     let h = c.args.self.now in
-    let can = crate_can h c.args.call (expression_of c.args.crate_no.now) c.value_of.result c.value_of.ensures c.requires.fine in
-    let on = on_branch h.checked.now.plan (subst P c.plan-plan.ensures c.allows_commands.ensures) (crate_address c.args.call c.value_of.result) (crate_function c.args.call) moved.None can.1 in
-    absurd (false≢true (c.in-None.ensures.in_range.1 (subst Q (crate_of h c.args.call c.value_of.result) (on.crate_from_1, on.crate_to_7))))
+    let can = crate_can h c.args.action.now.call (expression_of c.args.action.now.crate_no) c.value_of.result c.value_of.ensures c.requires.fine in
+    let on = on_branch h.checked.now.plan (subst P c.plan-plan.ensures c.allows_commands.ensures) (crate_address c.args.action.now.call c.value_of.result) (crate_function c.args.action.now.call) moved.None can.1 in
+    absurd (false≢true (c.in-None.ensures.in_range.1 (subst Q (crate_of h c.args.action.now.call c.value_of.result) (on.crate_from_1, on.crate_to_7))))
 
 pub returns : goal.returns
 returns g c =
     let h = c.args.self.now in
-    let e = expression_of c.args.crate_no.now in
+    let e = expression_of c.args.action.now.crate_no in
     let is : value e (variables_here h) ≡ Some c.in-Some.c = c.value_of.ensures ∙ ap (λ n. Some n) (sym c.in-Some.ensures.kept) in
-    crate_wants h c.args.call e c.in-Some.c c.crate_call.result is c.crate_call.ensures (crate_can h c.args.call e c.in-Some.c is c.requires.fine)
+    crate_wants h c.args.action.now.call e c.in-Some.c c.crate_call.result is c.crate_call.ensures (crate_can h c.args.action.now.call e c.in-Some.c is c.requires.fine)

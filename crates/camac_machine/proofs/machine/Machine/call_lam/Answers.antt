@@ -19,14 +19,14 @@ bounds-lams-lam g c =
     let ls = c.args.self.now.checked.now.script.lams in
     let e : map lam_of c.lams.result.now ≡ ls = c.lams.ensures ∙ ap (λ s. s.lams) c.script.ensures in
     let n : length ls ≡ length c.lams.result.now = sym (ap length e) ∙ length-map c.lams.result.now lam_of in
-    omega (arith, c.requires.lam, n)
+    omega (arith, c.requires.fits, n)
 
 pub offset_bounds-lams-lam : goal.offset_bounds-lams-lam
 offset_bounds-lams-lam g c =
     let ls = c.args.self.now.checked.now.script.lams in
     let e : map lam_of c.lams.result.now ≡ ls = c.lams.ensures ∙ ap (λ s. s.lams) c.script.ensures in
     let n : length ls ≡ length c.lams.result.now = sym (ap length e) ∙ length-map c.lams.result.now lam_of in
-    omega (arith, c.requires.lam, n, c.lams.type_inv)
+    omega (arith, c.requires.fits, n, c.lams.type_inv)
 
 pub script-requires : goal.script-requires
 script-requires g c = tt
@@ -43,17 +43,17 @@ lam_call-requires g c =
     let h = c.args.self.now in
     let l = c.index-lams-lam.result in
     let e : map lam_of c.lams.result.now ≡ h.checked.now.script.lams = c.lams.ensures ∙ ap (λ s. s.lams) c.script.ensures in
-    let there : slice_get (context_in h.checked.now).lams c.args.lam ≡ Some (lam_address (lam_of l)) = lam_at c.lams.result.now h.checked.now.script.lams c.args.lam l e c.requires.lam c.index-lams-lam.is in
+    let there : slice_get (context_in h.checked.now).lams c.args.action.now.lam ≡ Some (lam_address (lam_of l)) = lam_at c.lams.result.now h.checked.now.script.lams c.args.action.now.lam l e c.requires.fits c.index-lams-lam.is in
     subst (λ a. IsOnBranch (address l.crate_no l.station a)) (sym c.get.ensures.value)
-    (on_branch h.checked.now.plan (subst P c.plan-plan.ensures c.allows_commands.ensures) (lam_address (lam_of l)) (lam_function c.args.call) moved.None
-    (lam_can h c.args.call c.args.lam (lam_address (lam_of l)) there c.requires.fine).1)
+    (on_branch h.checked.now.plan (subst P c.plan-plan.ensures c.allows_commands.ensures) (lam_address (lam_of l)) (lam_function c.args.action.now.call) moved.None
+    (lam_can h c.args.action.now.call c.args.action.now.lam (lam_address (lam_of l)) there c.requires.fine).1)
 
 pub returns : goal.returns
 returns g c =
     let h = c.args.self.now in
     let l = c.index-lams-lam.result in
     let e : map lam_of c.lams.result.now ≡ h.checked.now.script.lams = c.lams.ensures ∙ ap (λ s. s.lams) c.script.ensures in
-    let there : slice_get (context_in h.checked.now).lams c.args.lam ≡ Some (lam_address (lam_of l)) = lam_at c.lams.result.now h.checked.now.script.lams c.args.lam l e c.requires.lam c.index-lams-lam.is in
-    lam_wants h c.args.call c.args.lam (lam_address (lam_of l)) c.lam_call.result there
-    (c.lam_call.ensures ∙ ap (λ a. command_at (address l.crate_no l.station a) (lam_function c.args.call) moved.None) c.get.ensures.value)
-    (lam_can h c.args.call c.args.lam (lam_address (lam_of l)) there c.requires.fine)
+    let there : slice_get (context_in h.checked.now).lams c.args.action.now.lam ≡ Some (lam_address (lam_of l)) = lam_at c.lams.result.now h.checked.now.script.lams c.args.action.now.lam l e c.requires.fits c.index-lams-lam.is in
+    lam_wants h c.args.action.now.call c.args.action.now.lam (lam_address (lam_of l)) c.lam_call.result there
+    (c.lam_call.ensures ∙ ap (λ a. command_at (address l.crate_no l.station a) (lam_function c.args.action.now.call) moved.None) c.get.ensures.value)
+    (lam_can h c.args.action.now.call c.args.action.now.lam (lam_address (lam_of l)) there c.requires.fine)

@@ -8,17 +8,17 @@ use Rattle.camac_machine.proofs.machine.Machine.put.Goals as goal
 
 pub value_of-requires : goal.value_of-requires
 value_of-requires g c =
-    (search, (c.requires.room, (c.requires.declared, has_value c.args.self.now (expression_of c.args.value.now) _ (c.requires.fine []))))
+    (search, (c.requires.room, (c.requires.fits, has_value c.args.self.now (expression_of c.args.action.now.value) _ (c.requires.fine []))))
 
 pub push-requires : goal.push-requires
 push-requires g c =
-    let fits = put_fits c.args.self.now (expression_of c.args.value.now) c.value_of.result c.value_of.ensures c.requires.fine in
+    let fits = put_fits c.args.self.now (expression_of c.args.action.now.value) c.value_of.result c.value_of.ensures c.requires.fine in
     let few : length c.args.self.now.words < (bounds_of c.args.self.now).words = fits.0 in
     let room = c.requires.room.words in (search rules, omega (arith, few, room))
 
 pub unreachable-requires : goal.unreachable-requires
 unreachable-requires g c =
-    let fits = put_fits c.args.self.now (expression_of c.args.value.now) c.value_of.result c.value_of.ensures c.requires.fine in
+    let fits = put_fits c.args.self.now (expression_of c.args.action.now.value) c.value_of.result c.value_of.ensures c.requires.fine in
     absurd (false≢true (c.in-None.ensures.in_range.1 fits.1))
 
 pub returns : goal.returns
@@ -48,6 +48,6 @@ returns g c =
       released = [];
       unlocks = sym (append-nil h.unlocks.items);
       goes = λ answers.
-          put_goes h (expression_of c.args.value.now) c.value_of.result c.value_of.ensures c.push.new.self
+          put_goes h (expression_of c.args.action.now.value) c.value_of.result c.value_of.ensures c.push.new.self
           (c.push.ensures ∙ ap (λ w. h.words ++ w ∷ []) c.in-Some.ensures.kept) answers;
     }

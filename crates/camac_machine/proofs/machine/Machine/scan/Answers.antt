@@ -9,23 +9,23 @@ use Rattle.camac_machine.proofs.Courses.{scan_first, scan_last, scan_max, one_cr
 use Rattle.camac_machine.proofs.machine.Machine.scan.Goals as goal
 
 pub address_in-first-requires : goal.address_in-first-requires
-address_in-first-requires g c = (search, (c.requires.room, (c.requires.first, scan_first c.args.self.now c.args.function c.args.first c.args.last (expression_of c.args.max.now) c.args.tally c.requires.fine)))
+address_in-first-requires g c = (search, (c.requires.room, (c.requires.fits.0, scan_first c.args.self.now c.args.scan.now.function c.args.scan.now.first c.args.scan.now.last (expression_of c.args.scan.now.max) c.args.scan.now.tally c.requires.fine)))
 
 pub address_in-last-requires : goal.address_in-last-requires
-address_in-last-requires g c = (search, (c.requires.room, (c.requires.last, scan_last c.args.self.now c.args.function c.args.first c.args.last (expression_of c.args.max.now) c.args.tally c.requires.fine c.address_in-first.result c.address_in-first.ensures)))
+address_in-last-requires g c = (search, (c.requires.room, (c.requires.fits.1, scan_last c.args.self.now c.args.scan.now.function c.args.scan.now.first c.args.scan.now.last (expression_of c.args.scan.now.max) c.args.scan.now.tally c.requires.fine c.address_in-first.result c.address_in-first.ensures)))
 
 pub value_of-max-requires : goal.value_of-max-requires
-value_of-max-requires g c = (search, (c.requires.room, (c.requires.max, scan_max c.args.self.now c.args.function c.args.first c.args.last (expression_of c.args.max.now) c.args.tally c.requires.fine c.address_in-first.result c.address_in-first.ensures c.address_in-last.result c.address_in-last.ensures)))
+value_of-max-requires g c = (search, (c.requires.room, (c.requires.fits.2, scan_max c.args.self.now c.args.scan.now.function c.args.scan.now.first c.args.scan.now.last (expression_of c.args.scan.now.max) c.args.scan.now.tally c.requires.fine c.address_in-first.result c.address_in-first.ensures c.address_in-last.result c.address_in-last.ensures)))
 
 pub new-requires : goal.new-requires
 new-requires g c = record {
-  one_crate = one_crate c.args.self.now c.args.function c.args.first c.args.last (expression_of c.args.max.now) c.args.tally c.requires.fine c.address_in-first.result c.address_in-first.ensures c.address_in-last.result c.address_in-last.ensures c.value_of-max.result c.value_of-max.ensures;
+  one_crate = one_crate c.args.self.now c.args.scan.now.function c.args.scan.now.first c.args.scan.now.last (expression_of c.args.scan.now.max) c.args.scan.now.tally c.requires.fine c.address_in-first.result c.address_in-first.ensures c.address_in-last.result c.address_in-last.ensures c.value_of-max.result c.value_of-max.ensures;
 }
 
 pub proceed-requires : goal.proceed-requires
 proceed-requires g c =
     let h = c.args.self.now in
-    let e = expression_of c.args.max.now in
+    let e = expression_of c.args.scan.now.max in
     let first = c.address_in-first.result in
     let last = c.address_in-last.result in
     let m = c.value_of-max.result in (
@@ -33,9 +33,9 @@ proceed-requires g c =
       (
         c.requires.room,
         (
-          c.requires.tally,
-          begins_fine h (address_scan 0 c.args.function c.args.first c.args.last e c.args.tally) (record { course = Scan c.new.result; function = c.args.function; table = None; tally = c.args.tally }) None (scan_next first last m) refl (ap scan_left c.new.ensures.state)
-              (scan_goes h c.args.function c.args.first c.args.last e c.args.tally c.requires.fine first c.address_in-first.ensures last c.address_in-last.ensures m c.value_of-max.ensures) c.requires.fine,
+          c.requires.fits.3,
+          begins_fine h (address_scan 0 c.args.scan.now.function c.args.scan.now.first c.args.scan.now.last e c.args.scan.now.tally) (record { course = Scan c.new.result; function = c.args.scan.now.function; table = None; tally = c.args.scan.now.tally }) None (scan_next first last m) refl (ap scan_left c.new.ensures.state)
+              (scan_goes h c.args.scan.now.function c.args.scan.now.first c.args.scan.now.last e c.args.scan.now.tally c.requires.fine first c.address_in-first.ensures last c.address_in-last.ensures m c.value_of-max.ensures) c.requires.fine,
         ),
       ),
     )
@@ -43,9 +43,9 @@ proceed-requires g c =
 pub returns-clause-goes : goal.returns-clause-goes
 returns-clause-goes g c =
     let h = c.args.self.now in
-    let e = expression_of c.args.max.now in
+    let e = expression_of c.args.scan.now.max in
     let first = c.address_in-first.result in
     let last = c.address_in-last.result in
     let m = c.value_of-max.result in
-    begins_proceed h (address_scan 0 c.args.function c.args.first c.args.last e c.args.tally) (record { course = Scan c.new.result; function = c.args.function; table = None; tally = c.args.tally }) None (scan_next first last m) refl (ap scan_left c.new.ensures.state)
-    (scan_goes h c.args.function c.args.first c.args.last e c.args.tally c.requires.fine first c.address_in-first.ensures last c.address_in-last.ensures m c.value_of-max.ensures) c.proceed.new.pending c.proceed.new.self c.proceed.ensures.goes
+    begins_proceed h (address_scan 0 c.args.scan.now.function c.args.scan.now.first c.args.scan.now.last e c.args.scan.now.tally) (record { course = Scan c.new.result; function = c.args.scan.now.function; table = None; tally = c.args.scan.now.tally }) None (scan_next first last m) refl (ap scan_left c.new.ensures.state)
+    (scan_goes h c.args.scan.now.function c.args.scan.now.first c.args.scan.now.last e c.args.scan.now.tally c.requires.fine first c.address_in-first.ensures last c.address_in-last.ensures m c.value_of-max.ensures) c.proceed.new.pending c.proceed.new.self c.proceed.ensures.goes

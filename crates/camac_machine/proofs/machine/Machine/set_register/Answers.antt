@@ -12,27 +12,27 @@ use Rattle.camac_machine.proofs.machine.Machine.set_register.Goals as goal
 
 pub value_of-c-requires : goal.value_of-c-requires
 value_of-c-requires g c =
-    (search, (c.requires.room, (c.requires.crate_no, has_value c.args.self.now (expression_of c.args.crate_no.now) _ (c.requires.fine []))))
+    (search, (c.requires.room, (c.requires.fits.1, has_value c.args.self.now (expression_of c.args.setting.now.crate_no) _ (c.requires.fine []))))
 
 pub value_of-n-requires : goal.value_of-n-requires
 value_of-n-requires g c =
     let h = c.args.self.now in
-    let has = has_value h (expression_of c.args.station.now) _
-    (known h (value (expression_of c.args.crate_no.now) (variables_here h)) c.value_of-c.result _ [] c.value_of-c.ensures (c.requires.fine [])) in
-    (search, (c.requires.room, (c.requires.station, has)))
+    let has = has_value h (expression_of c.args.setting.now.station) _
+    (known h (value (expression_of c.args.setting.now.crate_no) (variables_here h)) c.value_of-c.result _ [] c.value_of-c.ensures (c.requires.fine [])) in
+    (search, (c.requires.room, (c.requires.fits.2, has)))
 
 pub value_of-a-requires : goal.value_of-a-requires
 value_of-a-requires g c =
     let h = c.args.self.now in
-    let has = has_value h (expression_of c.args.sub_address.now) _
-    (known h (value (expression_of c.args.station.now) (variables_here h)) c.value_of-n.result _ [] c.value_of-n.ensures
-    (known h (value (expression_of c.args.crate_no.now) (variables_here h)) c.value_of-c.result _ [] c.value_of-c.ensures (c.requires.fine []))) in
-    (search, (c.requires.room, (c.requires.sub_address, has)))
+    let has = has_value h (expression_of c.args.setting.now.sub_address) _
+    (known h (value (expression_of c.args.setting.now.station) (variables_here h)) c.value_of-n.result _ [] c.value_of-n.ensures
+    (known h (value (expression_of c.args.setting.now.crate_no) (variables_here h)) c.value_of-c.result _ [] c.value_of-c.ensures (c.requires.fine []))) in
+    (search, (c.requires.room, (c.requires.fits.3, has)))
 
 pub returns : goal.returns
 returns g c =
     let h = c.args.self.now in
-    let r = c.args.register in
+    let r = c.args.setting.now.register in
     let at = Some (address c.value_of-c.result c.value_of-n.result c.value_of-a.result) in
     let rs = set h.registers (h.scope.registers.start + r) at in
     let few = c.requires.room.scope.more_registers in
@@ -47,7 +47,7 @@ returns g c =
       unlocks = sym (append-nil h.unlocks.items);
       goes = λ answers.
           ap (λ os. rest_in (context_in h.checked.now) os (state_of (record h { registers = rs }) answers)) (sym (opens_register h r at c.requires.room))
-          ∙ register_goes h r (expression_of c.args.crate_no.now) (expression_of c.args.station.now) (expression_of c.args.sub_address.now) c.value_of-c.result c.value_of-n.result c.value_of-a.result c.value_of-c.ensures c.value_of-n.ensures c.value_of-a.ensures (registers_in (held_at h.scope.registers rs))
-          (held_set None h.scope.registers h.registers r at c.requires.register (omega (arith, few, c.requires.room.registers)))
+          ∙ register_goes h r (expression_of c.args.setting.now.crate_no) (expression_of c.args.setting.now.station) (expression_of c.args.setting.now.sub_address) c.value_of-c.result c.value_of-n.result c.value_of-a.result c.value_of-c.ensures c.value_of-n.ensures c.value_of-a.ensures (registers_in (held_at h.scope.registers rs))
+          (held_set None h.scope.registers h.registers r at c.requires.fits.0 (omega (arith, few, c.requires.room.registers)))
           answers;
     })
