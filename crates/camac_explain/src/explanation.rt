@@ -36,18 +36,19 @@ pub fn explain_plan(
     Ok(lines)
 }
 
-/// Why a script's text is refused: the lines that follow the refusal, with this sentence where the text itself breaks a rule. Of a plan's
-/// refusal its rule's texts alone.
+/// Why a script's text is refused: the lines that follow the refusal, with a mark below the token from which on so many bytes of the text are
+/// left, if it is known, and with this sentence where the text itself breaks a rule. Of a plan's refusal its rule's texts alone.
 pub fn explain_script(
     alloc: Global,
     text: &[u8],
     finding: Finding,
+    mark: Option<usize>,
     of_text: Option<String>,
 ) -> Result<Vec<u8>, AllocError>
-    ensures { IfOk result (λ v. v.items ≡ explanation_of text.now finding (option_map string_bytes of_text)) }
+    ensures { IfOk result (λ v. v.items ≡ explanation_of text.now finding mark (option_map string_bytes of_text)) }
 {
     let mut lines = Vec::new(alloc);
-    push_source(&mut lines, text, finding)?;
+    push_source(&mut lines, text, finding, mark)?;
     let sentence = sentence(alloc, text, finding, of_text)?;
     let code = finding.refusal().code();
     push_sentence(&mut lines, sentence)?;
