@@ -26,7 +26,7 @@ line_of label text = label ++ text ++ codes "\n"
 
 abbrev pub advice_text : Told → (code : List ℕ) → List ℕ
 advice_text told code =
-    line_of (codes "Why: ") told.why ++ line_of (codes "Fix: ") told.mend ++ line_of (codes "More: docs/REFUSALS.md, ") code
+    line_of (codes "Why: ") told.why ++ line_of (codes "Fix: ") told.fix ++ line_of (codes "More: docs/REFUSALS.md, ") code
 
 -- a sentence is one line, since a line feed would be shown as `?`
 abbrev pub sentence_line : Option (List ℕ) → List ℕ

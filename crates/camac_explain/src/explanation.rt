@@ -105,7 +105,7 @@ fn sentence_of_checker(
 
 fn advice_of(finding: Finding) -> Advice
     ensures why { result.why.now ≡ (told_of finding).why }
-    ensures mend { result.mend.now ≡ (told_of finding).mend }
+    ensures fix { result.fix.now ≡ (told_of finding).fix }
 {
     match finding {
         Finding::Plan(rule) => plan_advice(rule),
@@ -135,10 +135,10 @@ fn push_told(lines: &mut Vec<u8>, sentence: &[u8]) -> Result<(), AllocError>
 
 // Puts what is told of the rule of this code at the end.
 fn push_advice(lines: &mut Vec<u8>, code: &str, advice: Advice) -> Result<(), AllocError>
-    ensures { OnOk result (lines.new.items ≡ lines.old.items ++ advice_text (told advice.why.now advice.mend.now) code.now) }
+    ensures { OnOk result (lines.new.items ≡ lines.old.items ++ advice_text (told advice.why.now advice.fix.now) code.now) }
 {
     push_line(lines, "Why: ", advice.why)?;
-    push_line(lines, "Fix: ", advice.mend)?;
+    push_line(lines, "Fix: ", advice.fix)?;
     push_line(lines, "More: docs/REFUSALS.md, ", code)
 }
 
