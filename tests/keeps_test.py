@@ -426,7 +426,7 @@ class Command(Case):
     def test_keeps(self):
         self.write("a", SUM)
         wanted = (
-            "a:7: refused E4: value out of range\n"
+            "a:7:5: refused E4: value out of range\n"
             "a:3: proposed: service adc within 39 cycles event 2 words\n"
             "a:4: proposed: for i = 0 to 11 keep sum in 0..49140, top in 0..4095 {\n"
             "a:7: proposed: if sum <= 49140 - 4095 { sum = sum + v }  # always true\n"
@@ -464,7 +464,7 @@ class Command(Case):
     def test_remaining(self):
         self.write("a", script(["for i = 1 to 2 {", "k = i }", "put k", "put 16777216"]))
         wanted = (
-            "a:6: refused E16: word above 24 bits\na:4: proposed: for i = 1 to 2 keep k in 0..2 {\na:7: remaining E16: word above 24 bits\n"
+            "a:6:1: refused E16: word above 24 bits\na:4: proposed: for i = 1 to 2 keep k in 0..2 {\na:7: remaining E16: word above 24 bits\n"
         )
         self.assertEqual(self.command("--keeps", "@sample", "a"), (1, wanted))
         self.write("b", script(["put v;"]))

@@ -386,7 +386,7 @@ class Install(Case):
         self.assertIn("ended events 1", (elsewhere / "run.html").read_text())
         for command, env in (("camac-check", path), (place / "bin/camac-check", {"PATH": "/usr/bin:/bin"})):
             told = call(command, "@sample", COPY / "examples/too_few_cycles.script", cwd=elsewhere, env=env)
-            self.assertEqual(told, (1, f"{COPY}/examples/too_few_cycles.script:4: refused E12: more cycles than annotated\n", ""))
+            self.assertEqual(told, (1, f"{COPY}/examples/too_few_cycles.script:4:1: refused E12: more cycles than annotated\n", ""))
         status, out, err = call(COPY / "install", place, env={**os.environ, "PATH": f"{place}/bin:{os.environ['PATH']}"})
         self.assertEqual((status, out.splitlines()[-2].startswith("install: camac 0.2.0"), err), (0, True, ""))
         if not self.lacking and shutil.which("pkg-config"):

@@ -664,7 +664,7 @@ class Package(Case):
         few, its, event_file = EXAMPLES / "too_few_cycles.script", EXAMPLES / "procedure.script", self.room / "run.events"
         event_file.write_bytes(b"CAMACEV2")
         calls = [sys.executable, "-m", "camac"]
-        refused = (1, f"{few}:4: refused E12: more cycles than annotated\n")
+        refused = (1, f"{few}:4:1: refused E12: more cycles than annotated\n")
         self.assertEqual(call(*calls, "check", "@sample", few, env=env), refused)
         (self.room / "bin").mkdir()
         broken = self.write("bin/camac", "#!/bin/sh\necho broken >&2; exit 9\n")

@@ -232,7 +232,7 @@ class Command(Case):
             (["--strict", "@sample", "good"], 0, ""),
             (["@sample", "bad", "good"], 1, "bad:4:5: refused S5: name not declared\n"),
             (["@sample", "none", "bad"], 3, "none: fault: No such file or directory\nbad:4:5: refused S5: name not declared\n"),
-            (["@sample", "two"], 1, "two:2: refused E16: word above 24 bits\ntwo:5: refused E12: more cycles than annotated\n"),
+            (["@sample", "two"], 1, "two:2:3: refused E16: word above 24 bits\ntwo:5: refused E12: more cycles than annotated\n"),
             (["plan", "good", "odd"], 1, "plan: refused P2: unknown key\n"),
             (["none", "good"], 3, "none: fault: No such file or directory\n"),
             (["@sample", "@in"], 2, ""),

@@ -21,7 +21,7 @@ MESSAGE, PROPERTY = "%\r\n", "%\r\n:,"
 class Found(NamedTuple):
     """What was found in a file: `kind` is "refused", "warning", "fault", "written" (a heading or a loop that was changed), "proposed" (a change that
     helps) or "remaining" (what refuses it with all that is proposed). `line` and `code` are None if there is none. `explanation` has what `camac
-    explain` says of a refusal, by lines. `column` is that of a text's fault in its line, in characters from 1."""
+    explain` says of a refusal, by lines. `column` is that of the `^` there, in characters from 1."""
 
     kind: str
     line: Optional[int]

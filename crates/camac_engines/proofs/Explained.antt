@@ -12,6 +12,7 @@ use Rattle.camac_explain.specs.declared.finding.Finding.{Finding}
 use Rattle.camac_engines.specs.Accepted.{Accepted, Accepts}
 use Rattle.camac_engines.specs.Engine.{IsWritten, Shows}
 use Rattle.camac_engines.specs.Explain.{Explained, ExplainedBy, ExplainedIf, IsOfText, PlanExplained, ReportsMore}
+use Rattle.camac_engines.specs.Mark.{mark_of}
 use Rattle.camac_engines.specs.Report.{Report, refused, refused_and, report_plan}
 use Rattle.camac_engines.specs.declared.fault.ToolFault.{ToolFault}
 use Rattle.camac_engines.specs.declared.fault.ToolFault.TheVariants as fault
@@ -39,7 +40,7 @@ explained Explains plan j a told shown o p r same is h =
     (same_more (ExplainedBy Explains j) (ExplainedIf Explains a) (follows Explains plan j a is) shown outcome whole more)) h
 
 -- with the sentence that was handed in
-pub explained_with : {E : Type 0} (text : List ℕ) (f : Finding) (of_text : Option (List ℕ)) (r : Result (Vec ℕ) E) → IsOfText text f of_text → IfOk r (λ v. v.items ≡ explanation_of text f of_text) → IfOk r (λ v. Explained text f v.items)
+pub explained_with : {E : Type 0} (text : List ℕ) (f : Finding) (of_text : Option (List ℕ)) (r : Result (Vec ℕ) E) → IsOfText text f of_text → IfOk r (λ v. v.items ≡ explanation_of text f (mark_of text f) of_text) → IfOk r (λ v. Explained text f v.items)
 explained_with text f of_text (Ok v) said is = (of_text, said, is)
 explained_with text f of_text (Err e) said is = tt
 

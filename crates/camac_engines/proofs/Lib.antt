@@ -2,3 +2,4 @@ pub mod Types
 pub mod Explained
 pub mod Told
 pub mod Responses
+pub mod Marks

@@ -8,6 +8,7 @@ use Rattle.camac_explain.specs.declared.finding.Finding.{Finding}
 use Rattle.camac_explain.specs.declared.finding.Finding.TheVariants as finding
 use Rattle.camac_explain_text.specs.Text.{IsTextSentence}
 use Rattle.camac_engines.specs.Accepted.{Accepted}
+use Rattle.camac_engines.specs.Mark.{mark_of}
 use Rattle.camac_engines.specs.Refusals.{all_refusals, also_text}
 use Rattle.camac_engines.specs.Report.{Report}
 use Rattle.camac_engines.specs.declared.judging.Judged.{Judged}
@@ -20,9 +21,9 @@ abbrev pub IsOfText : List ℕ → Finding → Option (List ℕ) → Type 0
 IsOfText text (finding.Text rule line left) of_text = IsTextSentence text of_text
 IsOfText text f of_text = of_text ≡ None
 
--- the lines that explain what was found in a script's text
+-- the lines that explain what was found in a script's text, the mark in its place
 abbrev pub Explained : List ℕ → Finding → List ℕ → Type 0
-Explained text f more = (of_text : Option (List ℕ)) × IsOfText text f of_text × (more ≡ explanation_of text f of_text)
+Explained text f more = (of_text : Option (List ℕ)) × IsOfText text f of_text × (more ≡ explanation_of text f (mark_of text f) of_text)
 
 -- and then a line for each further refusal
 abbrev pub AllExplained : Layout → List ℕ → Finding → List ℕ → Type 0

@@ -7,9 +7,10 @@ pub mod Headings
 pub mod Accepted
 pub mod Found
 pub mod Refusals
+pub mod Spot
+pub mod Mark
 pub mod Explain
 pub mod Rule
-pub mod Spot
 pub mod Known
 pub mod Costs
 pub mod Response

@@ -31,31 +31,40 @@ abbrev pub is_for : TokenKind → Bool
 is_for (Word word.For) = true
 is_for k = false
 
+-- the words with which declarations begin
+abbrev pub begins_declaration : Keyword → Bool
+begins_declaration word.Table = true
+begins_declaration word.Cdlam = true
+begins_declaration word.Var = true
+begins_declaration word.Proc = true
+begins_declaration word.Service = true
+begins_declaration w = false
+
 -- the words with which statements begin
-abbrev pub is_statement : Keyword → Bool
-is_statement word.Cdreg = true
-is_statement word.Cfsa = true
-is_statement word.Cssa = true
-is_statement word.Cfmad = true
-is_statement word.Cfubc = true
-is_statement word.Cfubr = true
-is_statement word.Put = true
-is_statement word.Cccz = true
-is_statement word.Cccc = true
-is_statement word.Ctci = true
-is_statement word.Ctcd = true
-is_statement word.Ctgl = true
-is_statement word.Ccci = true
-is_statement word.Cccd = true
-is_statement word.Cclm = true
-is_statement word.Cclc = true
-is_statement word.Ctlm = true
-is_statement word.If = true
-is_statement word.For = true
-is_statement word.While = true
-is_statement word.Lock = true
-is_statement word.Call = true
-is_statement w = false
+abbrev pub begins_statement : Keyword → Bool
+begins_statement word.Cdreg = true
+begins_statement word.Cfsa = true
+begins_statement word.Cssa = true
+begins_statement word.Cfmad = true
+begins_statement word.Cfubc = true
+begins_statement word.Cfubr = true
+begins_statement word.Put = true
+begins_statement word.Cccz = true
+begins_statement word.Cccc = true
+begins_statement word.Ctci = true
+begins_statement word.Ctcd = true
+begins_statement word.Ctgl = true
+begins_statement word.Ccci = true
+begins_statement word.Cccd = true
+begins_statement word.Cclm = true
+begins_statement word.Cclc = true
+begins_statement word.Ctlm = true
+begins_statement word.If = true
+begins_statement word.For = true
+begins_statement word.While = true
+begins_statement word.Lock = true
+begins_statement word.Call = true
+begins_statement w = false
 
 -- a name before `=` begins an assignment, but not after `for`
 abbrev pub assigns : (is_counted : Bool) → (next : Option Token) → Bool
@@ -63,7 +72,7 @@ assigns is_counted None = false
 assigns is_counted (Some t) = not is_counted && is_equals t.kind
 
 abbrev pub begins : (is_counted : Bool) → TokenKind → (next : Option Token) → Bool
-begins is_counted (Word w) next = is_statement w
+begins is_counted (Word w) next = begins_statement w
 begins is_counted (Name x) next = assigns is_counted next
 begins is_counted (Number n) next = false
 begins is_counted (Sign s) next = false
@@ -76,6 +85,9 @@ more n = min (n + 1) (2 ^ 64 - 1)
 abbrev pub counts : (bodies depth statements : ℕ) → (is_inside is_for : Bool) → Counted
 counts bodies depth statements is_inside is_for =
     record { bodies = bodies; depth = depth; statements = statements; is_inside = is_inside; is_for = is_for }
+
+abbrev pub at_start : Counted
+at_start = counts 0 0 0 false false
 
 abbrev pub outside : Counted → Counted
 outside w = counts w.bodies w.depth w.statements false false
@@ -96,6 +108,14 @@ walked w t next =
     else if is_right_brace t.kind then counts w.bodies (w.depth - 1) w.statements false false
     else if nat_eq w.depth 0 || is_else t.kind then outside w
     else inside w t next
+
+-- outside of bodies a declaration begins at its word, and in a body a statement
+abbrev pub declares : TokenKind → Bool
+declares (Word w) = begins_declaration w
+declares k = false
+
+abbrev pub starts : Counted → Token → (next : Option Token) → Bool
+starts w t next = if nat_eq w.depth 0 then declares t.kind else begins w.is_for t.kind next
 
 -- ---- the one at a place
 
@@ -129,4 +149,4 @@ abbrev pub bytes_from : List ℕ → (line column : ℕ) → ℕ
 bytes_from text line column = length (from_line text (line - 1)) - (column - 1)
 
 abbrev pub spot_at : List ℕ → List Token → (line column : ℕ) → Option Spot
-spot_at text ts line column = spots line (bytes_from text line column) (counts 0 0 0 false false) None ts
+spot_at text ts line column = spots line (bytes_from text line column) at_start None ts

@@ -11,6 +11,7 @@ ghost use Rattle.camac_word.specs.Writing.{Writes};
 
 use crate::fault::ToolFault;
 use crate::judging::Judged;
+use crate::mark::mark_of;
 use crate::outcome::Outcome;
 use crate::plan::PlanRefusal;
 use crate::refusals::push_also;
@@ -88,8 +89,9 @@ pub fn explain_headings<W: Write>(
 fn explain_finding(alloc: Global, text: &[u8], finding: Finding) -> Result<Vec<u8>, AllocError>
     ensures { IfOk result (λ more. Explained text.now finding more.items) }
 {
+    let mark = mark_of(alloc, text, finding)?;
     let sentence = sentence_of_text(alloc, text, finding)?;
-    explain_script(alloc, text, finding, sentence)
+    explain_script(alloc, text, finding, mark, sentence)
 }
 
 // What a rule that the text itself breaks knows, in words.

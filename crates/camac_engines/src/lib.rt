@@ -11,6 +11,7 @@ mod fault;
 mod headings;
 mod judging;
 mod known;
+mod mark;
 mod outcome;
 mod plan;
 mod reading;

@@ -1,7 +1,7 @@
 // The statement at a place of a text.
 
 ghost use Rattle.std.specs.Prelude.{◌≡◌, option_map};
-ghost use Rattle.camac_engines.specs.Spot.{begins, bytes_from, chosen, from_line, is_else, is_equals, is_for, is_left_brace, is_right_brace, is_statement, opened, spot_at, spot_of, walked};
+ghost use Rattle.camac_engines.specs.Spot.{at_start, begins, begins_declaration, begins_statement, bytes_from, chosen, declares, from_line, is_else, is_equals, is_for, is_left_brace, is_right_brace, opened, spot_at, spot_of, starts, walked};
 
 use camac_tokens::{Keyword, Sign, Token, TokenKind};
 
@@ -12,15 +12,41 @@ pub struct Spot {
     pub statement: usize,
 }
 
-// What was counted up to a token: bodies that have begun, blocks that are open, and statements of the body; whether the token is one of a
-// statement; and whether it is a `for`, whose `=` begins none.
+/// What was counted up to a token: bodies that have begun, blocks that are open, and statements of the body; whether the token is one of a
+/// statement; and whether it is a `for`, whose `=` begins none.
 #[derive(Clone, Copy)]
-struct Counted {
+pub struct Counted {
     bodies: usize,
     depth: usize,
     statements: usize,
     is_inside: bool,
     is_for: bool,
+}
+
+impl Counted {
+    /// Before the first token.
+    pub fn at_start() -> Self
+        ensures { result ≡ at_start }
+    {
+        Counted {
+            bodies: 0,
+            depth: 0,
+            statements: 0,
+            is_inside: false,
+            is_for: false,
+        }
+    }
+
+    /// Whether a declaration or a statement begins at a token, with the one after it: outside of bodies a declaration, in one a statement.
+    pub fn starts(self, token: &Token, next: Option<&Token>) -> bool
+        ensures { result ≡ starts self token.now (option_map (λ t. t.now) next.entry) }
+    {
+        if self.depth == 0 {
+            declares(&token.kind)
+        } else {
+            begins(self.is_for, token, next)
+        }
+    }
 }
 
 /// The statement at a place: at the last token of the line that begins at or before the column, or else at the first one. None if the line has no
@@ -30,13 +56,7 @@ pub fn spot_at(text: &[u8], tokens: &[Token], line: u32, column: u32) -> Option<
 {
     let from = bytes_from(text, line, column);
     let mut rest = tokens;
-    let mut counted = Counted {
-        bodies: 0,
-        depth: 0,
-        statements: 0,
-        is_inside: false,
-        is_for: false,
-    };
+    let mut counted = Counted::at_start();
     let mut found = None;
     while let [token, after @ ..] = rest {
         counted = walked(counted, token, after.first());
@@ -114,8 +134,8 @@ fn spot_of(counted: Counted) -> Option<Spot>
     })
 }
 
-// What is counted at a token, with the one after it.
-fn walked(counted: Counted, token: &Token, next: Option<&Token>) -> Counted
+/// What is counted at a token, with the one after it.
+pub fn walked(counted: Counted, token: &Token, next: Option<&Token>) -> Counted
     ensures { result ≡ walked counted token.now (option_map (λ t. t.now) next.entry) }
 {
     let outside = Counted {
@@ -168,12 +188,22 @@ fn opened(counted: Counted) -> Counted
     }
 }
 
+// Whether a declaration begins with a token.
+fn declares(kind: &TokenKind) -> bool
+    ensures { result ≡ declares kind.now }
+{
+    match kind {
+        TokenKind::Keyword(keyword) => begins_declaration(*keyword),
+        _ => false,
+    }
+}
+
 // Whether a statement begins at a token: at its word, or at a variable before the `=` of an assignment.
 fn begins(is_counted: bool, token: &Token, next: Option<&Token>) -> bool
     ensures { result ≡ begins is_counted token.now.kind (option_map (λ t. t.now) next.entry) }
 {
     match &token.kind {
-        TokenKind::Keyword(keyword) => is_statement(*keyword),
+        TokenKind::Keyword(keyword) => begins_statement(*keyword),
         TokenKind::Name(_) => match next {
             Some(next) => !is_counted && is_equals(next),
             None => false,
@@ -182,8 +212,17 @@ fn begins(is_counted: bool, token: &Token, next: Option<&Token>) -> bool
     }
 }
 
-fn is_statement(keyword: Keyword) -> bool
-    ensures { result ≡ is_statement keyword }
+fn begins_declaration(keyword: Keyword) -> bool
+    ensures { result ≡ begins_declaration keyword }
+{
+    matches!(
+        keyword,
+        Keyword::Table | Keyword::Cdlam | Keyword::Var | Keyword::Proc | Keyword::Service
+    )
+}
+
+pub fn begins_statement(keyword: Keyword) -> bool
+    ensures { result ≡ begins_statement keyword }
 {
     match keyword {
         Keyword::Cdreg

@@ -1,4 +1,4 @@
 pub mod Told
-pub mod Mends
+pub mod Fixes
 pub mod Places
 pub mod Pieces

@@ -13,9 +13,9 @@ pub in_no_script : (sentence : Script → Option (List ℕ)) (r : Result Script 
 in_no_script sentence (Ok s) e = absurd (cc e)
 in_no_script sentence (Err f) e = refl
 
-pub same_advice : (why mend code code' : List ℕ) (t : Told) → why ≡ t.why → mend ≡ t.mend → code ≡ code' → advice_text (told why mend) code ≡ advice_text t code'
-same_advice why mend code code' t e f g =
-    ap (λ x. advice_text (told x mend) code) e ∙ ap (λ y. advice_text (told t.why y) code) f ∙ ap (λ z. advice_text (told t.why t.mend) z) g
+pub same_advice : (why fix code code' : List ℕ) (t : Told) → why ≡ t.why → fix ≡ t.fix → code ≡ code' → advice_text (told why fix) code ≡ advice_text t code'
+same_advice why fix code code' t e f g =
+    ap (λ x. advice_text (told x fix) code) e ∙ ap (λ y. advice_text (told t.why y) code) f ∙ ap (λ z. advice_text (told t.why t.fix) z) g
 
 -- source line, sentence and advice
 pub explained : (source l1 l2 l3 advice wanted : List ℕ) (s t : Option (List ℕ)) → l1 ≡ source → l2 ≡ l1 ++ sentence_line s → s ≡ t → l3 ≡ l2 ++ advice

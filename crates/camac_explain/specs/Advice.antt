@@ -21,10 +21,10 @@ use Rattle.camac_lines.specs.Codes.{plan_code, text_code, link_code, check_code}
 
 pub record Told : Type 0 where
   pub why : List ℕ
-  pub mend : List ℕ
+  pub fix : List ℕ
 
 abbrev pub told : List ℕ → List ℕ → Told
-told why mend = record { why = why; mend = mend }
+told why fix = record { why = why; fix = fix }
 
 abbrev pub plan_told : PlanRule → Told
 plan_told plan.NotToml =
@@ -96,14 +96,14 @@ link_told link.EventAboveBuffer =
     (codes "write a smaller number after `event`, or a larger `buffer` in the plan, at most 4096.")
 
 -- E3: by what the function does
-abbrev pub class_mend : FunctionClass → List ℕ
-class_mend Read = codes "with a function that reads, write `-> v` after the register of `cfsa` or `cssa`, and name no `table` in `cfubc` or `cfubr`."
-class_mend Write = codes "with a function that writes, write `<- e` after the register of `cfsa` or `cssa`, and name a `table` in `cfubc` or `cfubr`; `cfmad` only reads."
-class_mend Control = codes "with a function that moves no data, write `cfsa` or `cssa` without an arrow."
+abbrev pub class_fix : FunctionClass → List ℕ
+class_fix Read = codes "with a function that reads, write `-> v` after the register of `cfsa` or `cssa`, and name no `table` in `cfubc` or `cfubr`."
+class_fix Write = codes "with a function that writes, write `<- e` after the register of `cfsa` or `cssa`, and name a `table` in `cfubc` or `cfubr`; `cfmad` only reads."
+class_fix Control = codes "with a function that moves no data, write `cfsa` or `cssa` without an arrow."
 
-abbrev pub direction_mend : Case → List ℕ
-direction_mend (Direction f class moves) = class_mend class
-direction_mend case = class_mend Control
+abbrev pub direction_fix : Case → List ℕ
+direction_fix (Direction f class moves) = class_fix class
+direction_fix case = class_fix Control
 
 -- several numbers may stand there
 abbrev pub is_open : Numbers → Bool
@@ -122,8 +122,8 @@ abbrev pub is_difference : Case → Bool
 is_difference (Operation Sub left right) = is_open left && is_open right && has_room left right
 is_difference case = false
 
-abbrev pub known_mend : Case → List ℕ
-known_mend case =
+abbrev pub known_fix : Case → List ℕ
+known_fix case =
     if is_difference case then codes "ranges know no relation between two variables: add the greatest number of the right side first, as in `v + 4095 - w`, and test the result by `if`."
     else codes "test the variables by `if` before, or in the condition of a `while`, bound them by `%`, or let a loop `keep` them in a range."
 
@@ -135,11 +135,11 @@ abbrev pub is_side_forgotten : Case → Bool
 is_side_forgotten (Operation operator left right) = is_forgotten left || is_forgotten right
 is_side_forgotten case = false
 
-abbrev pub operation_mend : Case → List ℕ
-operation_mend case =
+abbrev pub operation_fix : Case → List ℕ
+operation_fix case =
     if is_right_forgotten case then codes "a loop forgets what its body writes: let it `keep` such a right side in a range, as `camac-check --keeps` finds it; then add its greatest number first, as in `v + 4095 - w`, and test the result by `if`."
     else if is_side_forgotten case then codes "bound the variable by `if` or `%` before. A loop forgets what its body writes: let it `keep` such a variable in a range, as `camac-check --keeps` finds it."
-    else known_mend case
+    else known_fix case
 
 -- E5, E16: of a value that may be any number
 abbrev pub is_any : Case → Bool
@@ -147,22 +147,22 @@ is_any (Width most bits) = nat_eq most greatest
 is_any (Word most) = nat_eq most greatest
 is_any case = false
 
-abbrev pub width_mend : Case → List ℕ
-width_mend case =
+abbrev pub width_fix : Case → List ℕ
+width_fix case =
     if is_any case then codes "bound the value by `%` or `if`. A loop forgets what its body writes: let it `keep` such a variable in a range, as `camac-check --keeps` finds it."
     else codes "bound the value by `%` or `if`, write a smaller word into the table, or correct the `width` in the plan."
 
-abbrev pub word_mend : Case → List ℕ
-word_mend case =
+abbrev pub word_fix : Case → List ℕ
+word_fix case =
     if is_any case then codes "bound the value by `% 16777216` or `if`. A loop forgets what its body writes: for such a variable write `keep v in 0..16777215` after its head, as `camac-check --keeps` finds it."
     else codes "bound the value by `% 16777216`, or by an `if` on a variable that has it; let a loop `keep` it in a range, or put it as two words."
 
 -- E10: a larger number after `turns`, where that is allowed
-abbrev pub turns_mend : Case → List ℕ
-turns_mend (Turns needed allowed) =
+abbrev pub turns_fix : Case → List ℕ
+turns_fix (Turns needed allowed) =
     if nat_le needed turn_limit then codes "write a larger number after `turns`, or begin with a smaller value."
     else codes "no larger number is allowed: bound the variable after `by` or the ends of the `for` by `if` or `%`, or write two loops, one in the other."
-turns_mend case = codes "write at most 65535 after `turns`; for more turns write two loops, one in the other."
+turns_fix case = codes "write at most 65535 after `turns`; for more turns write two loops, one in the other."
 
 -- E11, E12, E18: a larger number in the heading, where one is large enough
 abbrev pub is_within : (most : ℕ) → Case → Bool
@@ -170,8 +170,8 @@ is_within most (Budget body needed allowed) = nat_le needed most
 is_within most case = false
 
 -- the greatest buffer of a plan
-abbrev pub words_mend : Case → List ℕ
-words_mend case =
+abbrev pub words_fix : Case → List ℕ
+words_fix case =
     if is_within 4096 case then codes "write a larger number after `event`, as `camac bounds` prints it, or keep fewer words."
     else codes "keep fewer words: the plan's buffer holds at most 4096."
 
@@ -185,13 +185,13 @@ larger_cycles case =
     if is_of_procedure case then codes "write a larger number after `within`, as `camac bounds` prints it, or make fewer cycles."
     else codes "write a larger number after `within`, as `camac bounds` prints it, make fewer cycles, or make several in one `lock`."
 
-abbrev pub cycles_mend : Case → List ℕ
-cycles_mend case =
+abbrev pub cycles_fix : Case → List ℕ
+cycles_fix case =
     if is_within greatest case then larger_cycles case
     else codes "make fewer cycles, or fewer turns: no number after `within` can be that large."
 
-abbrev pub steps_mend : Case → List ℕ
-steps_mend case =
+abbrev pub steps_fix : Case → List ℕ
+steps_fix case =
     if is_within greatest case then codes "write a larger number after `steps`, as `camac bounds` prints it, or make fewer turns."
     else codes "make fewer turns: no heading allows more than 4294967295 steps."
 
@@ -204,13 +204,13 @@ check_told check.CommandNotDeclared case =
     (codes "correct the function, or the address in the `cdreg` or `cdlam`; or add the command to the type in the plan; or bound a computed number by `if` or `%`.")
 check_told check.WrongDirection case =
     told (codes "F0 to F7 read, F16 to F23 write, and the others move no data; `cfmad` reads, and a block transfer writes if it names a table.")
-    (direction_mend case)
+    (direction_fix case)
 check_told check.ValueOutOfRange case =
     told (codes "no result may be below 0 or above 4294967295, for all values that the variables may have here.")
-    (operation_mend case)
+    (operation_fix case)
 check_told check.ValueTooWide case =
     told (codes "a write sends all bits of its value, so the value has to fit the register's width in the plan, and for `cssa` 16 bits.")
-    (width_mend case)
+    (width_fix case)
 check_told check.RegisterUnset case =
     told (codes "on some path to this line no `cdreg` has set the register; at the start of each turn of a loop, registers that its body sets count as unset.")
     (codes "set it in the same block before this line, as in `cdreg r 1 c n a`.")
@@ -225,13 +225,13 @@ check_told check.KeepFailsAfterTurn case =
     (codes "a sum grows in each turn, so a wider range is refused again: add only where an `if` leaves room, as in `if k <= 49140 - 4095 { k = k + v }`. A value that is set again needs a bound or a wider range. `camac-check --keeps` finds what a loop has to keep.")
 check_told check.TooManyTurns case =
     told (codes "a loop makes at most 65535 turns, and a `while` at most those after `turns`.")
-    (turns_mend case)
+    (turns_fix case)
 check_told check.TooManyWords case =
     told (codes "each `put` is a word, and so is each that a block read or an address scan may keep.")
-    (words_mend case)
+    (words_fix case)
 check_told check.TooManyCycles case =
     told (codes "auxiliary controllers may take up to the crate's `waits` before each of ours, and each of their cycles counts.")
-    (cycles_mend case)
+    (cycles_fix case)
 check_told check.ScanCratesDiffer case =
     told (codes "an address scan goes from station to station of one crate.")
     (codes "give both registers the same crate, a known one, and scan each crate by its own `cfmad`.")
@@ -243,13 +243,13 @@ check_told check.CrateUnfit case =
     (codes "write the number of a crate of the plan, or remove the inner `lock`.")
 check_told check.WordTooWide case =
     told (codes "a word of an event has 24 bits.")
-    (word_mend case)
+    (word_fix case)
 check_told check.LoopVariableAssigned case =
     told (codes "a `for` counts its variable itself, so nothing in its body may write it.")
     (codes "use another variable in the body.")
 check_told check.TooManySteps case =
     told (codes "each statement, each turn of a loop and each cycle of a transfer is a step; a service may take at most 4294967295.")
-    (steps_mend case)
+    (steps_fix case)
 check_told check.ArgumentOutOfRange case =
     told (codes "a procedure's body is checked once, for the ranges in its heading, so each argument has to be in the range of its parameter.")
     (codes "bound the argument by `%` or `if`, or widen the range in the heading.")

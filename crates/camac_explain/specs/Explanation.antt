@@ -26,7 +26,7 @@ line_of label text = label ++ text ++ codes "\n"
 
 abbrev pub advice_text : Told → (code : List ℕ) → List ℕ
 advice_text told code =
-    line_of (codes "Why: ") told.why ++ line_of (codes "Fix: ") told.mend ++ line_of (codes "More: docs/REFUSALS.md, ") code
+    line_of (codes "Why: ") told.why ++ line_of (codes "Fix: ") told.fix ++ line_of (codes "More: docs/REFUSALS.md, ") code
 
 -- a sentence is one line, since a line feed would be shown as `?`
 abbrev pub sentence_line : Option (List ℕ) → List ℕ
@@ -48,9 +48,9 @@ sentence_of text (Check rule line case) of_text = in_script (λ s. check_sentenc
 abbrev pub explanation : (source : List ℕ) → (sentence : Option (List ℕ)) → Told → (code : List ℕ) → List ℕ
 explanation source sentence told code = source ++ sentence_line sentence ++ advice_text told code
 
--- of a script's refusal
-abbrev pub explanation_of : (text : List ℕ) → Finding → (of_text : Option (List ℕ)) → List ℕ
-explanation_of text f of_text = explanation (source_of text f) (sentence_of text f of_text) (told_of f) (code_of (refusal_of f)).0
+-- of a script's refusal, with a mark in its line, if its place is known
+abbrev pub explanation_of : (text : List ℕ) → Finding → (mark : Option ℕ) → (of_text : Option (List ℕ)) → List ℕ
+explanation_of text f mark of_text = explanation (source_of text f mark) (sentence_of text f of_text) (told_of f) (code_of (refusal_of f)).0
 
 -- of a refused plan, by its rule in this case
 abbrev pub IsPlanExplanation : (text : List ℕ) → PlanRule → PlanCase → List ℕ → Type 0

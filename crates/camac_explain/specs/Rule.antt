@@ -54,8 +54,8 @@ why_of (Link rule) = (link_told rule).why
 why_of (Check rule) = (check_told rule Malformed).why
 
 -- the fix of a rule in a case, and what it is for
-unfoldable pub mend_line : CheckRule → (purpose : List ℕ) → Case → List ℕ
-mend_line rule purpose case = codes "Fix" ++ line_of (purpose ++ codes ": ") (check_told rule case).mend
+unfoldable pub fix_line : CheckRule → (purpose : List ℕ) → Case → List ℕ
+fix_line rule purpose case = codes "Fix" ++ line_of (purpose ++ codes ": ") (check_told rule case).fix
 
 -- cases of the fixes
 abbrev pub moving : FunctionClass → Case
@@ -80,41 +80,41 @@ abbrev pub of_service : ℕ → Case
 of_service needed = needing (body.Service 0) needed
 
 -- each way to fix what a rule of the checker refuses
-abbrev pub check_mends : CheckRule → List ℕ
-check_mends check.WrongDirection =
-    mend_line check.WrongDirection (codes ", a function that reads") (moving class.Read)
-    ++ mend_line check.WrongDirection (codes ", a function that writes") (moving class.Write)
-    ++ mend_line check.WrongDirection (codes ", a function that moves no data") (moving class.Control)
-check_mends check.ValueOutOfRange =
-    mend_line check.ValueOutOfRange (codes ", of other results") (minus (1, 1) (1, 1))
-    ++ mend_line check.ValueOutOfRange (codes ", of a difference of two variables") (minus (0, 1) (0, 1))
-    ++ mend_line check.ValueOutOfRange (codes ", of a difference whose right side may be any number") (minus (0, 1) (0, greatest))
-    ++ mend_line check.ValueOutOfRange (codes ", of other results of a number that may be any") (minus (0, greatest) (1, 1))
-check_mends check.ValueTooWide =
-    mend_line check.ValueTooWide [] Malformed ++ mend_line check.ValueTooWide (codes ", of a value that may be any") any_value
-check_mends check.WordTooWide =
-    mend_line check.WordTooWide [] Malformed ++ mend_line check.WordTooWide (codes ", of a value that may be any") any_value
-check_mends check.TooManyTurns =
-    mend_line check.TooManyTurns (codes ", where at most 65535 turns are needed") (turns 65535)
-    ++ mend_line check.TooManyTurns (codes ", where more are needed") (turns 65536)
-    ++ mend_line check.TooManyTurns (codes ", where the number after `turns` is above 65535") Malformed
-check_mends check.TooManyWords =
-    mend_line check.TooManyWords (codes ", up to 4,096 words") (of_service 4096)
-    ++ mend_line check.TooManyWords (codes ", above that") (of_service 4097)
-check_mends check.TooManyCycles =
-    mend_line check.TooManyCycles [] (of_service greatest)
-    ++ mend_line check.TooManyCycles (codes ", of a procedure") (needing (body.Procedure 0) greatest)
-    ++ mend_line check.TooManyCycles (codes ", where more than 4294967295 are needed") (of_service (greatest + 1))
-check_mends check.TooManySteps =
-    mend_line check.TooManySteps [] (of_service greatest)
-    ++ mend_line check.TooManySteps (codes ", where more than 4294967295 are needed") (of_service (greatest + 1))
-check_mends rule = mend_line rule [] Malformed
+abbrev pub check_fixes : CheckRule → List ℕ
+check_fixes check.WrongDirection =
+    fix_line check.WrongDirection (codes ", a function that reads") (moving class.Read)
+    ++ fix_line check.WrongDirection (codes ", a function that writes") (moving class.Write)
+    ++ fix_line check.WrongDirection (codes ", a function that moves no data") (moving class.Control)
+check_fixes check.ValueOutOfRange =
+    fix_line check.ValueOutOfRange (codes ", of other results") (minus (1, 1) (1, 1))
+    ++ fix_line check.ValueOutOfRange (codes ", of a difference of two variables") (minus (0, 1) (0, 1))
+    ++ fix_line check.ValueOutOfRange (codes ", of a difference whose right side may be any number") (minus (0, 1) (0, greatest))
+    ++ fix_line check.ValueOutOfRange (codes ", of other results of a number that may be any") (minus (0, greatest) (1, 1))
+check_fixes check.ValueTooWide =
+    fix_line check.ValueTooWide [] Malformed ++ fix_line check.ValueTooWide (codes ", of a value that may be any") any_value
+check_fixes check.WordTooWide =
+    fix_line check.WordTooWide [] Malformed ++ fix_line check.WordTooWide (codes ", of a value that may be any") any_value
+check_fixes check.TooManyTurns =
+    fix_line check.TooManyTurns (codes ", where at most 65535 turns are needed") (turns 65535)
+    ++ fix_line check.TooManyTurns (codes ", where more are needed") (turns 65536)
+    ++ fix_line check.TooManyTurns (codes ", where the number after `turns` is above 65535") Malformed
+check_fixes check.TooManyWords =
+    fix_line check.TooManyWords (codes ", up to 4,096 words") (of_service 4096)
+    ++ fix_line check.TooManyWords (codes ", above that") (of_service 4097)
+check_fixes check.TooManyCycles =
+    fix_line check.TooManyCycles [] (of_service greatest)
+    ++ fix_line check.TooManyCycles (codes ", of a procedure") (needing (body.Procedure 0) greatest)
+    ++ fix_line check.TooManyCycles (codes ", where more than 4294967295 are needed") (of_service (greatest + 1))
+check_fixes check.TooManySteps =
+    fix_line check.TooManySteps [] (of_service greatest)
+    ++ fix_line check.TooManySteps (codes ", where more than 4294967295 are needed") (of_service (greatest + 1))
+check_fixes rule = fix_line rule [] Malformed
 
-abbrev pub mends_of : Rule → List ℕ
-mends_of (Plan rule) = line_of (codes "Fix: ") (plan_told rule).mend
-mends_of (Text rule) = line_of (codes "Fix: ") (text_told rule).mend
-mends_of (Link rule) = line_of (codes "Fix: ") (link_told rule).mend
-mends_of (Check rule) = check_mends rule
+abbrev pub fixes_of : Rule → List ℕ
+fixes_of (Plan rule) = line_of (codes "Fix: ") (plan_told rule).fix
+fixes_of (Text rule) = line_of (codes "Fix: ") (text_told rule).fix
+fixes_of (Link rule) = line_of (codes "Fix: ") (link_told rule).fix
+fixes_of (Check rule) = check_fixes rule
 
 -- something was put at the end
 abbrev pub Grows : (old new : List ℕ) → Type 0
@@ -127,6 +127,6 @@ IsRuleText rule bytes =
     × (bytes
     ≡ line_of ((rule_code rule).0 ++ codes ": ") (rule_code rule).1
     ++ line_of (codes "Why: ") (why_of rule)
-    ++ mends_of rule
+    ++ fixes_of rule
     ++ example
     ++ line_of (codes "More: docs/REFUSALS.md, ") (rule_code rule).0)

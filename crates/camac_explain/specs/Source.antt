@@ -1,5 +1,5 @@
 -- The line of a script as it is shown.
-use Rattle.std.specs.Prelude.{ℕ, zero, suc, ◌+◌, ◌-◌, Bool, ◌&&◌, ◌||◌, not, List, [], ◌∷◌, ◌++◌, codes, decimal, drop, take, take_while, length, map, min, nat_eq, nat_le, nat_lt, if◌then◌else◌}
+use Rattle.std.specs.Prelude.{ℕ, zero, suc, ◌+◌, ◌-◌, Bool, ◌&&◌, ◌||◌, not, List, [], ◌∷◌, ◌++◌, codes, decimal, drop, take, take_while, length, map, min, nat_eq, nat_le, nat_lt, Option, Some, None, if◌then◌else◌}
 use Rattle.std.specs.List.{flat_map}
 use Rattle.camac_tokens.specs.Scanning.{is_no_line_feed}
 use Rattle.camac_explain.specs.declared.finding.Finding.{Finding}
@@ -72,13 +72,14 @@ mark_from line column begin =
 abbrev pub mark_line : (line : List ℕ) → (column : ℕ) → List ℕ
 mark_line line column = mark_from line column (begin_of line column)
 
--- a line that is shown, and its mark
-abbrev pub marked_text : (text : List ℕ) → (number column : ℕ) → List ℕ
-marked_text text n column = source_text text n column ++ mark_line (first_line text) column
+-- a line that is shown, with a mark below the token from which on there are so many bytes of the text, if it is known
+abbrev pub marked_text : (text : List ℕ) → (number : ℕ) → (mark : Option ℕ) → List ℕ
+marked_text text n None = source_text text n 0
+marked_text text n (Some left) = source_text text n (length text - left) ++ mark_line (first_line text) (length text - left)
 
--- of a script's text; of a token, which stands at so many bytes before the text's end, the line around it with its mark
-abbrev pub source_of : List ℕ → Finding → List ℕ
-source_of text (Plan rule) = []
-source_of text (Text rule line left) = marked_text (from_line line text) line (length (from_line line text) - left)
-source_of text (Link rule line case) = source_text (from_line line text) line 0
-source_of text (Check rule line case) = source_text (from_line line text) line 0
+-- of a script's text
+abbrev pub source_of : List ℕ → Finding → (mark : Option ℕ) → List ℕ
+source_of text (Plan rule) mark = []
+source_of text (Text rule line left) mark = marked_text (from_line line text) line mark
+source_of text (Link rule line case) mark = marked_text (from_line line text) line mark
+source_of text (Check rule line case) mark = marked_text (from_line line text) line mark

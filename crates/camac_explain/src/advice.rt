@@ -3,7 +3,7 @@
 
 ghost use Rattle.std.specs.Prelude.{◌≡◌};
 ghost use Rattle.camac_explain.specs.Advice.{plan_told, text_told, link_told, check_told};
-ghost use Rattle.camac_explain.specs.Advice.{direction_mend, operation_mend, is_right_forgotten, is_side_forgotten, is_forgotten, is_difference, has_room, turns_mend, width_mend, word_mend, is_any, words_mend, cycles_mend, steps_mend, is_within, is_of_procedure};
+ghost use Rattle.camac_explain.specs.Advice.{direction_fix, operation_fix, is_right_forgotten, is_side_forgotten, is_forgotten, is_difference, has_room, turns_fix, width_fix, word_fix, is_any, words_fix, cycles_fix, steps_fix, is_within, is_of_procedure};
 
 use camac_func::FunctionClass;
 use camac_lang::limits;
@@ -21,15 +21,15 @@ pub struct Advice {
     /// Why the rule is there.
     pub why: &'static str,
     /// What to do where it is broken.
-    pub mend: &'static str,
+    pub fix: &'static str,
 }
 
 /// What is told of a rule of plans.
 pub fn plan_advice(rule: PlanRule) -> Advice
     ensures why { result.why.now ≡ (plan_told rule).why }
-    ensures mend { result.mend.now ≡ (plan_told rule).mend }
+    ensures fix { result.fix.now ≡ (plan_told rule).fix }
 {
-    let (why, mend) = match rule {
+    let (why, fix) = match rule {
         PlanRule::NotToml => (
             "a plan is a text in TOML, and here it breaks the grammar of TOML.",
             "correct it at the place given: write texts in double quotes, give each key one value, and begin a comment with `#`.",
@@ -71,15 +71,15 @@ pub fn plan_advice(rule: PlanRule) -> Advice
             "close the brackets that are still open, or write the tables as docs/PLANS.md shows them.",
         ),
     };
-    Advice { why, mend }
+    Advice { why, fix }
 }
 
 /// What is told of a rule of a script's text.
 pub fn text_advice(rule: TextRule) -> Advice
     ensures why { result.why.now ≡ (text_told rule).why }
-    ensures mend { result.mend.now ≡ (text_told rule).mend }
+    ensures fix { result.fix.now ≡ (text_told rule).fix }
 {
-    let (why, mend) = match rule {
+    let (why, fix) = match rule {
         TextRule::BadByte => (
             "outside of comments a script has letters, digits, blanks, `_` and the signs that docs/LANGUAGE.md lists.",
             "remove the byte, or begin a comment before it with `#`.",
@@ -109,15 +109,15 @@ pub fn text_advice(rule: TextRule) -> Advice
             "write 1, then the crate, the station and the sub-address.",
         ),
     };
-    Advice { why, mend }
+    Advice { why, fix }
 }
 
 /// What is told of a rule of linking.
 pub fn link_advice(rule: LinkRule) -> Advice
     ensures why { result.why.now ≡ (link_told rule).why }
-    ensures mend { result.mend.now ≡ (link_told rule).mend }
+    ensures fix { result.fix.now ≡ (link_told rule).fix }
 {
-    let (why, mend) = match rule {
+    let (why, fix) = match rule {
         LinkRule::LamNotInstalled => (
             "a LAM comes from a module, and the plan has none at this station.",
             "correct the crate or the station of the `cdlam`, or add the station to the plan.",
@@ -135,15 +135,15 @@ pub fn link_advice(rule: LinkRule) -> Advice
             "write a smaller number after `event`, or a larger `buffer` in the plan, at most 4096.",
         ),
     };
-    Advice { why, mend }
+    Advice { why, fix }
 }
 
 /// What is told of a rule of the checker in this case.
 pub fn check_advice(rule: CheckRule, case: Case) -> Advice
     ensures why { result.why.now ≡ (check_told rule case).why }
-    ensures mend { result.mend.now ≡ (check_told rule case).mend }
+    ensures fix { result.fix.now ≡ (check_told rule case).fix }
 {
-    let (why, mend) = match rule {
+    let (why, fix) = match rule {
         CheckRule::StationNotInstalled => (
             "a command goes only to a station with a module, or to station 28 or 30 of a crate's controller, whatever address the register may hold.",
             "correct the `cdreg`, add the station to the plan, or bound a computed number before the `cdreg` by `if` or `%`.",
@@ -154,15 +154,15 @@ pub fn check_advice(rule: CheckRule, case: Case) -> Advice
         ),
         CheckRule::WrongDirection => (
             "F0 to F7 read, F16 to F23 write, and the others move no data; `cfmad` reads, and a block transfer writes if it names a table.",
-            direction_mend(case),
+            direction_fix(case),
         ),
         CheckRule::ValueOutOfRange => (
             "no result may be below 0 or above 4294967295, for all values that the variables may have here.",
-            operation_mend(case),
+            operation_fix(case),
         ),
         CheckRule::ValueTooWide => (
             "a write sends all bits of its value, so the value has to fit the register's width in the plan, and for `cssa` 16 bits.",
-            width_mend(case),
+            width_fix(case),
         ),
         CheckRule::RegisterUnset => (
             "on some path to this line no `cdreg` has set the register; at the start of each turn of a loop, registers that its body sets count as unset.",
@@ -182,15 +182,15 @@ pub fn check_advice(rule: CheckRule, case: Case) -> Advice
         ),
         CheckRule::TooManyTurns => (
             "a loop makes at most 65535 turns, and a `while` at most those after `turns`.",
-            turns_mend(case),
+            turns_fix(case),
         ),
         CheckRule::TooManyWords => (
             "each `put` is a word, and so is each that a block read or an address scan may keep.",
-            words_mend(case),
+            words_fix(case),
         ),
         CheckRule::TooManyCycles => (
             "auxiliary controllers may take up to the crate's `waits` before each of ours, and each of their cycles counts.",
-            cycles_mend(case),
+            cycles_fix(case),
         ),
         CheckRule::ScanCratesDiffer => (
             "an address scan goes from station to station of one crate.",
@@ -204,26 +204,26 @@ pub fn check_advice(rule: CheckRule, case: Case) -> Advice
             "a crate call or a `lock` is for one crate of the plan, known before the run, and no crate is locked twice.",
             "write the number of a crate of the plan, or remove the inner `lock`.",
         ),
-        CheckRule::WordTooWide => ("a word of an event has 24 bits.", word_mend(case)),
+        CheckRule::WordTooWide => ("a word of an event has 24 bits.", word_fix(case)),
         CheckRule::LoopVariableAssigned => (
             "a `for` counts its variable itself, so nothing in its body may write it.",
             "use another variable in the body.",
         ),
         CheckRule::TooManySteps => (
             "each statement, each turn of a loop and each cycle of a transfer is a step; a service may take at most 4294967295.",
-            steps_mend(case),
+            steps_fix(case),
         ),
         CheckRule::ArgumentOutOfRange => (
             "a procedure's body is checked once, for the ranges in its heading, so each argument has to be in the range of its parameter.",
             "bound the argument by `%` or `if`, or widen the range in the heading.",
         ),
     };
-    Advice { why, mend }
+    Advice { why, fix }
 }
 
 // E3: by what the function does.
-fn direction_mend(case: Case) -> &'static str
-    ensures { result.now ≡ direction_mend case }
+fn direction_fix(case: Case) -> &'static str
+    ensures { result.now ≡ direction_fix case }
 {
     match case {
         Case::Direction {
@@ -241,8 +241,8 @@ fn direction_mend(case: Case) -> &'static str
 }
 
 // E4: a loop forgets what its body writes; a difference of two unknown numbers has a form of its own.
-fn operation_mend(case: Case) -> &'static str
-    ensures { result.now ≡ operation_mend case }
+fn operation_fix(case: Case) -> &'static str
+    ensures { result.now ≡ operation_fix case }
 {
     if is_right_forgotten(case) {
         "a loop forgets what its body writes: let it `keep` such a right side in a range, as `camac-check --keeps` finds it; then add its greatest number first, as in `v + 4095 - w`, and test the result by `if`."
@@ -306,8 +306,8 @@ fn has_room(left: Numbers, right: Numbers) -> bool
 }
 
 // E5: of a value of which nothing is known, too.
-fn width_mend(case: Case) -> &'static str
-    ensures { result.now ≡ width_mend case }
+fn width_fix(case: Case) -> &'static str
+    ensures { result.now ≡ width_fix case }
 {
     if is_any(case) {
         "bound the value by `%` or `if`. A loop forgets what its body writes: let it `keep` such a variable in a range, as `camac-check --keeps` finds it."
@@ -317,8 +317,8 @@ fn width_mend(case: Case) -> &'static str
 }
 
 // E16: of a word of which nothing is known, too.
-fn word_mend(case: Case) -> &'static str
-    ensures { result.now ≡ word_mend case }
+fn word_fix(case: Case) -> &'static str
+    ensures { result.now ≡ word_fix case }
 {
     if is_any(case) {
         "bound the value by `% 16777216` or `if`. A loop forgets what its body writes: for such a variable write `keep v in 0..16777215` after its head, as `camac-check --keeps` finds it."
@@ -339,8 +339,8 @@ fn is_any(case: Case) -> bool
 }
 
 // E10: a larger number after `turns`, where that is allowed.
-fn turns_mend(case: Case) -> &'static str
-    ensures { result.now ≡ turns_mend case }
+fn turns_fix(case: Case) -> &'static str
+    ensures { result.now ≡ turns_fix case }
 {
     match case {
         Case::Turns { needed, .. } if needed <= u64::from(limits::TURNS) => {
@@ -353,8 +353,8 @@ fn turns_mend(case: Case) -> &'static str
 }
 
 // E11: a larger number in the heading, where a plan's buffer can hold it.
-fn words_mend(case: Case) -> &'static str
-    ensures { result.now ≡ words_mend case }
+fn words_fix(case: Case) -> &'static str
+    ensures { result.now ≡ words_fix case }
 {
     if is_within(BUFFER, case) {
         "write a larger number after `event`, as `camac bounds` prints it, or keep fewer words."
@@ -364,8 +364,8 @@ fn words_mend(case: Case) -> &'static str
 }
 
 // E12: a larger number in the heading, where one is large enough. A procedure has no `lock`.
-fn cycles_mend(case: Case) -> &'static str
-    ensures { result.now ≡ cycles_mend case }
+fn cycles_fix(case: Case) -> &'static str
+    ensures { result.now ≡ cycles_fix case }
 {
     if !is_within(u32::MAX, case) {
         "make fewer cycles, or fewer turns: no number after `within` can be that large."
@@ -377,8 +377,8 @@ fn cycles_mend(case: Case) -> &'static str
 }
 
 // E18: a larger number in the heading, where one is large enough.
-fn steps_mend(case: Case) -> &'static str
-    ensures { result.now ≡ steps_mend case }
+fn steps_fix(case: Case) -> &'static str
+    ensures { result.now ≡ steps_fix case }
 {
     if is_within(u32::MAX, case) {
         "write a larger number after `steps`, as `camac bounds` prints it, or make fewer turns."

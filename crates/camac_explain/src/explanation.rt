@@ -36,18 +36,19 @@ pub fn explain_plan(
     Ok(lines)
 }
 
-/// Why a script's text is refused: the lines that follow the refusal, with this sentence where the text itself breaks a rule. Of a plan's
-/// refusal its rule's texts alone.
+/// Why a script's text is refused: the lines that follow the refusal, with a mark below the token from which on so many bytes of the text are
+/// left, if it is known, and with this sentence where the text itself breaks a rule. Of a plan's refusal its rule's texts alone.
 pub fn explain_script(
     alloc: Global,
     text: &[u8],
     finding: Finding,
+    mark: Option<usize>,
     of_text: Option<String>,
 ) -> Result<Vec<u8>, AllocError>
-    ensures { IfOk result (λ v. v.items ≡ explanation_of text.now finding (option_map string_bytes of_text)) }
+    ensures { IfOk result (λ v. v.items ≡ explanation_of text.now finding mark (option_map string_bytes of_text)) }
 {
     let mut lines = Vec::new(alloc);
-    push_source(&mut lines, text, finding)?;
+    push_source(&mut lines, text, finding, mark)?;
     let sentence = sentence(alloc, text, finding, of_text)?;
     let code = finding.refusal().code();
     push_sentence(&mut lines, sentence)?;
@@ -104,7 +105,7 @@ fn sentence_of_checker(
 
 fn advice_of(finding: Finding) -> Advice
     ensures why { result.why.now ≡ (told_of finding).why }
-    ensures mend { result.mend.now ≡ (told_of finding).mend }
+    ensures fix { result.fix.now ≡ (told_of finding).fix }
 {
     match finding {
         Finding::Plan(rule) => plan_advice(rule),
@@ -134,10 +135,10 @@ fn push_told(lines: &mut Vec<u8>, sentence: &[u8]) -> Result<(), AllocError>
 
 // Puts what is told of the rule of this code at the end.
 fn push_advice(lines: &mut Vec<u8>, code: &str, advice: Advice) -> Result<(), AllocError>
-    ensures { OnOk result (lines.new.items ≡ lines.old.items ++ advice_text (told advice.why.now advice.mend.now) code.now) }
+    ensures { OnOk result (lines.new.items ≡ lines.old.items ++ advice_text (told advice.why.now advice.fix.now) code.now) }
 {
     push_line(lines, "Why: ", advice.why)?;
-    push_line(lines, "Fix: ", advice.mend)?;
+    push_line(lines, "Fix: ", advice.fix)?;
     push_line(lines, "More: docs/REFUSALS.md, ", code)
 }
 

@@ -2,7 +2,7 @@
 
 ghost use Rattle.std.specs.Prelude.{◌≡◌, ◌++◌, ◌↔◌, IfNone, IfOk, IfSome, IsTrue, OnOk, codes};
 ghost use Rattle.camac_explain.specs.Explanation.{line_of};
-ghost use Rattle.camac_explain.specs.Rule.{Grows, IsEarly, IsRuleOf, IsRuleText, Names, any_value, check_mends, mend_line, mends_of, minus, moving, needing, of_service, rule_code, turns, why_of};
+ghost use Rattle.camac_explain.specs.Rule.{Grows, IsEarly, IsRuleOf, IsRuleText, Names, any_value, check_fixes, fix_line, fixes_of, minus, moving, needing, of_service, rule_code, turns, why_of};
 ghost use Rattle.camac_lines.specs.Codes.{check_code, link_code, plan_code, text_code};
 
 use crate::advice::{check_advice, link_advice, plan_advice, text_advice};
@@ -196,7 +196,7 @@ pub fn explain_rule(alloc: Global, rule: Rule) -> Result<Vec<u8>, AllocError>
     let mut lines = Vec::new(alloc);
     push_line(&mut lines, code.name, ": ", code.meaning)?;
     push_line(&mut lines, "Why", ": ", why_of(rule))?;
-    push_mends(&mut lines, rule)?;
+    push_fixes(&mut lines, rule)?;
     push_example(&mut lines, example_of(rule))?;
     push_line(&mut lines, "More", ": docs/REFUSALS.md, ", code.name)?;
     Ok(lines)
@@ -223,65 +223,65 @@ fn why_of(rule: Rule) -> &'static str
     }
 }
 
-fn push_mends(lines: &mut Vec<u8>, rule: Rule) -> Result<(), AllocError>
-    ensures { OnOk result (lines.new.items ≡ lines.old.items ++ mends_of rule) }
+fn push_fixes(lines: &mut Vec<u8>, rule: Rule) -> Result<(), AllocError>
+    ensures { OnOk result (lines.new.items ≡ lines.old.items ++ fixes_of rule) }
 {
     match rule {
-        Rule::Plan(rule) => push_line(lines, "Fix", ": ", plan_advice(rule).mend),
-        Rule::Text(rule) => push_line(lines, "Fix", ": ", text_advice(rule).mend),
-        Rule::Link(rule) => push_line(lines, "Fix", ": ", link_advice(rule).mend),
-        Rule::Check(rule) => push_check_mends(lines, rule),
+        Rule::Plan(rule) => push_line(lines, "Fix", ": ", plan_advice(rule).fix),
+        Rule::Text(rule) => push_line(lines, "Fix", ": ", text_advice(rule).fix),
+        Rule::Link(rule) => push_line(lines, "Fix", ": ", link_advice(rule).fix),
+        Rule::Check(rule) => push_check_fixes(lines, rule),
     }
 }
 
 // The fix of a rule in a case, and what it is for.
-#[tactic(auto, unfolding(crate::specs::Rule::mend_line))]
-fn push_mend(
+#[tactic(auto, unfolding(crate::specs::Rule::fix_line))]
+fn push_fix(
     lines: &mut Vec<u8>,
     rule: CheckRule,
     purpose: &str,
     case: Case,
 ) -> Result<(), AllocError>
-    ensures { OnOk result (lines.new.items ≡ lines.old.items ++ mend_line rule purpose.now case) }
+    ensures { OnOk result (lines.new.items ≡ lines.old.items ++ fix_line rule purpose.now case) }
 {
     lines.extend_from_slice(b"Fix")?;
-    push_line(lines, purpose, ": ", check_advice(rule, case).mend)
+    push_line(lines, purpose, ": ", check_advice(rule, case).fix)
 }
 
 // If the case decides what helps, a rule has several fixes.
-fn push_check_mends(lines: &mut Vec<u8>, rule: CheckRule) -> Result<(), AllocError>
-    ensures { OnOk result (lines.new.items ≡ lines.old.items ++ check_mends rule) }
+fn push_check_fixes(lines: &mut Vec<u8>, rule: CheckRule) -> Result<(), AllocError>
+    ensures { OnOk result (lines.new.items ≡ lines.old.items ++ check_fixes rule) }
 {
     match rule {
-        CheckRule::WrongDirection => push_direction_mends(lines),
-        CheckRule::ValueOutOfRange => push_operation_mends(lines),
-        CheckRule::ValueTooWide => push_width_mends(lines),
-        CheckRule::WordTooWide => push_word_mends(lines),
-        CheckRule::TooManyTurns => push_turn_mends(lines),
-        CheckRule::TooManyWords => push_event_mends(lines),
-        CheckRule::TooManyCycles => push_cycle_mends(lines),
-        CheckRule::TooManySteps => push_step_mends(lines),
-        _ => push_mend(lines, rule, "", Case::Malformed),
+        CheckRule::WrongDirection => push_direction_fixes(lines),
+        CheckRule::ValueOutOfRange => push_operation_fixes(lines),
+        CheckRule::ValueTooWide => push_width_fixes(lines),
+        CheckRule::WordTooWide => push_word_fixes(lines),
+        CheckRule::TooManyTurns => push_turn_fixes(lines),
+        CheckRule::TooManyWords => push_event_fixes(lines),
+        CheckRule::TooManyCycles => push_cycle_fixes(lines),
+        CheckRule::TooManySteps => push_step_fixes(lines),
+        _ => push_fix(lines, rule, "", Case::Malformed),
     }
 }
 
-fn push_direction_mends(lines: &mut Vec<u8>) -> Result<(), AllocError>
-    ensures { OnOk result (lines.new.items ≡ lines.old.items ++ check_mends CheckRule.WrongDirection) }
+fn push_direction_fixes(lines: &mut Vec<u8>) -> Result<(), AllocError>
+    ensures { OnOk result (lines.new.items ≡ lines.old.items ++ check_fixes CheckRule.WrongDirection) }
 {
     let rule = CheckRule::WrongDirection;
-    push_mend(
+    push_fix(
         lines,
         rule,
         ", a function that reads",
         moving(FunctionClass::Read),
     )?;
-    push_mend(
+    push_fix(
         lines,
         rule,
         ", a function that writes",
         moving(FunctionClass::Write),
     )?;
-    push_mend(
+    push_fix(
         lines,
         rule,
         ", a function that moves no data",
@@ -289,24 +289,24 @@ fn push_direction_mends(lines: &mut Vec<u8>) -> Result<(), AllocError>
     )
 }
 
-fn push_operation_mends(lines: &mut Vec<u8>) -> Result<(), AllocError>
-    ensures { OnOk result (lines.new.items ≡ lines.old.items ++ check_mends CheckRule.ValueOutOfRange) }
+fn push_operation_fixes(lines: &mut Vec<u8>) -> Result<(), AllocError>
+    ensures { OnOk result (lines.new.items ≡ lines.old.items ++ check_fixes CheckRule.ValueOutOfRange) }
 {
     let rule = CheckRule::ValueOutOfRange;
-    push_mend(lines, rule, ", of other results", minus((1, 1), (1, 1)))?;
-    push_mend(
+    push_fix(lines, rule, ", of other results", minus((1, 1), (1, 1)))?;
+    push_fix(
         lines,
         rule,
         ", of a difference of two variables",
         minus((0, 1), (0, 1)),
     )?;
-    push_mend(
+    push_fix(
         lines,
         rule,
         ", of a difference whose right side may be any number",
         minus((0, 1), (0, u32::MAX)),
     )?;
-    push_mend(
+    push_fix(
         lines,
         rule,
         ", of other results of a number that may be any",
@@ -314,34 +314,34 @@ fn push_operation_mends(lines: &mut Vec<u8>) -> Result<(), AllocError>
     )
 }
 
-fn push_width_mends(lines: &mut Vec<u8>) -> Result<(), AllocError>
-    ensures { OnOk result (lines.new.items ≡ lines.old.items ++ check_mends CheckRule.ValueTooWide) }
+fn push_width_fixes(lines: &mut Vec<u8>) -> Result<(), AllocError>
+    ensures { OnOk result (lines.new.items ≡ lines.old.items ++ check_fixes CheckRule.ValueTooWide) }
 {
     let rule = CheckRule::ValueTooWide;
-    push_mend(lines, rule, "", Case::Malformed)?;
-    push_mend(lines, rule, ", of a value that may be any", any_value())
+    push_fix(lines, rule, "", Case::Malformed)?;
+    push_fix(lines, rule, ", of a value that may be any", any_value())
 }
 
-fn push_word_mends(lines: &mut Vec<u8>) -> Result<(), AllocError>
-    ensures { OnOk result (lines.new.items ≡ lines.old.items ++ check_mends CheckRule.WordTooWide) }
+fn push_word_fixes(lines: &mut Vec<u8>) -> Result<(), AllocError>
+    ensures { OnOk result (lines.new.items ≡ lines.old.items ++ check_fixes CheckRule.WordTooWide) }
 {
     let rule = CheckRule::WordTooWide;
-    push_mend(lines, rule, "", Case::Malformed)?;
-    push_mend(lines, rule, ", of a value that may be any", any_value())
+    push_fix(lines, rule, "", Case::Malformed)?;
+    push_fix(lines, rule, ", of a value that may be any", any_value())
 }
 
-fn push_turn_mends(lines: &mut Vec<u8>) -> Result<(), AllocError>
-    ensures { OnOk result (lines.new.items ≡ lines.old.items ++ check_mends CheckRule.TooManyTurns) }
+fn push_turn_fixes(lines: &mut Vec<u8>) -> Result<(), AllocError>
+    ensures { OnOk result (lines.new.items ≡ lines.old.items ++ check_fixes CheckRule.TooManyTurns) }
 {
     let rule = CheckRule::TooManyTurns;
-    push_mend(
+    push_fix(
         lines,
         rule,
         ", where at most 65535 turns are needed",
         turns(65_535),
     )?;
-    push_mend(lines, rule, ", where more are needed", turns(65_536))?;
-    push_mend(
+    push_fix(lines, rule, ", where more are needed", turns(65_536))?;
+    push_fix(
         lines,
         rule,
         ", where the number after `turns` is above 65535",
@@ -349,26 +349,26 @@ fn push_turn_mends(lines: &mut Vec<u8>) -> Result<(), AllocError>
     )
 }
 
-fn push_event_mends(lines: &mut Vec<u8>) -> Result<(), AllocError>
-    ensures { OnOk result (lines.new.items ≡ lines.old.items ++ check_mends CheckRule.TooManyWords) }
+fn push_event_fixes(lines: &mut Vec<u8>) -> Result<(), AllocError>
+    ensures { OnOk result (lines.new.items ≡ lines.old.items ++ check_fixes CheckRule.TooManyWords) }
 {
     let rule = CheckRule::TooManyWords;
-    push_mend(lines, rule, ", up to 4,096 words", of_service(4096))?;
-    push_mend(lines, rule, ", above that", of_service(4097))
+    push_fix(lines, rule, ", up to 4,096 words", of_service(4096))?;
+    push_fix(lines, rule, ", above that", of_service(4097))
 }
 
-fn push_cycle_mends(lines: &mut Vec<u8>) -> Result<(), AllocError>
-    ensures { OnOk result (lines.new.items ≡ lines.old.items ++ check_mends CheckRule.TooManyCycles) }
+fn push_cycle_fixes(lines: &mut Vec<u8>) -> Result<(), AllocError>
+    ensures { OnOk result (lines.new.items ≡ lines.old.items ++ check_fixes CheckRule.TooManyCycles) }
 {
     let rule = CheckRule::TooManyCycles;
-    push_mend(lines, rule, "", of_service(u64::from(u32::MAX)))?;
-    push_mend(
+    push_fix(lines, rule, "", of_service(u64::from(u32::MAX)))?;
+    push_fix(
         lines,
         rule,
         ", of a procedure",
         of_procedure(u64::from(u32::MAX)),
     )?;
-    push_mend(
+    push_fix(
         lines,
         rule,
         ", where more than 4294967295 are needed",
@@ -376,12 +376,12 @@ fn push_cycle_mends(lines: &mut Vec<u8>) -> Result<(), AllocError>
     )
 }
 
-fn push_step_mends(lines: &mut Vec<u8>) -> Result<(), AllocError>
-    ensures { OnOk result (lines.new.items ≡ lines.old.items ++ check_mends CheckRule.TooManySteps) }
+fn push_step_fixes(lines: &mut Vec<u8>) -> Result<(), AllocError>
+    ensures { OnOk result (lines.new.items ≡ lines.old.items ++ check_fixes CheckRule.TooManySteps) }
 {
     let rule = CheckRule::TooManySteps;
-    push_mend(lines, rule, "", of_service(u64::from(u32::MAX)))?;
-    push_mend(
+    push_fix(lines, rule, "", of_service(u64::from(u32::MAX)))?;
+    push_fix(
         lines,
         rule,
         ", where more than 4294967295 are needed",

@@ -2,7 +2,7 @@
 
 ghost use Rattle.std.specs.Prelude.{◌≡◌, ◌≤◌, ◌++◌, length, map, take, OnOk};
 ghost use Rattle.std.specs.List.{flat_map};
-ghost use Rattle.camac_explain.specs.Source.{shown_byte, line_length, first_line, after_line, from_line, begin_of, dots, gap, blank_below, mark_line, shown_line, shown_or_end, number_column, source_text, source_of};
+ghost use Rattle.camac_explain.specs.Source.{shown_byte, line_length, first_line, after_line, from_line, begin_of, dots, gap, blank_below, mark_line, marked_text, shown_line, shown_or_end, number_column, source_text, source_of};
 
 use crate::finding::Finding;
 use itoa::Buffer;
@@ -12,22 +12,40 @@ use std::alloc::AllocError;
 const LONGEST_SHOWN: usize = 120;
 
 /// Puts the line of a finding at the end: its number in five columns, and at most 120 of its bytes, control bytes other than tabs as `?`.
-/// They are its first bytes; or, where the place of a token is known, those around it, and a `^` on a line below the token. `..` stands for
-/// the others. An empty line is told as the end of the script, since a rule is broken on no other.
-pub fn push_source(lines: &mut Vec<u8>, text: &[u8], finding: Finding) -> Result<(), AllocError>
-    ensures { OnOk result (lines.new.items ≡ lines.old.items ++ source_of text.now finding) }
+/// They are its first bytes; or, where a token is marked, those around it, and a `^` on a line below. The token begins where so many bytes of
+/// the text are left. `..` stands for the others. An empty line is told as the end of the script, since a rule is broken on no other.
+pub fn push_source(
+    lines: &mut Vec<u8>,
+    text: &[u8],
+    finding: Finding,
+    mark: Option<usize>,
+) -> Result<(), AllocError>
+    ensures { OnOk result (lines.new.items ≡ lines.old.items ++ source_of text.now finding mark) }
 {
     match finding {
         Finding::Plan(_) => Ok(()),
-        Finding::Text { line, left, .. } => {
-            let rest = from_line(text, line);
-            let column = rest.len().saturating_sub(left);
-            push_line(lines, rest, line, column)?;
-            push_mark(lines, first_line(rest), column)
+        Finding::Text { line, .. } | Finding::Link { line, .. } | Finding::Check { line, .. } => {
+            push_marked(lines, from_line(text, line), line, mark)
         }
-        Finding::Link { line, .. } | Finding::Check { line, .. } => {
-            push_line(lines, from_line(text, line), line, 0)
+    }
+}
+
+// Puts the first line of a text at the end, which has this number, and a mark below its token, if there is one.
+fn push_marked(
+    lines: &mut Vec<u8>,
+    text: &[u8],
+    line: u32,
+    mark: Option<usize>,
+) -> Result<(), AllocError>
+    ensures { OnOk result (lines.new.items ≡ lines.old.items ++ marked_text text.now line mark) }
+{
+    match mark {
+        Some(left) => {
+            let column = text.len().saturating_sub(left);
+            push_line(lines, text, line, column)?;
+            push_mark(lines, first_line(text), column)
         }
+        None => push_line(lines, text, line, 0),
     }
 }
 

@@ -336,7 +336,7 @@ mutual
 
 -- ---- headings
 
--- the number that is too small, without the mend
+-- the number that is too small, without the fix
 record IsOver (c : Context) (s : Section) (found : Verdict) (rule : CheckRule) (line : ℕ) (case : Case) : Type 0 where
   needed : ℕ
   allowed : ℕ
@@ -405,7 +405,7 @@ headings_are_shown c s found rule line case is e =
       above = h.above;
       shown = h.shown;
       line_is = h.line_is;
-      mended = λ other n same_body number le at shown e'.
+      fixed = λ other n same_body number le at shown e'.
           let g = heading_refused c other found rule at shown same_body e' in
           let one : ◌≡◌ {A = Option ℕ} (Some g.needed) (Some h.needed) = sym g.is_needed ∙ h.is_needed in
           let two : ◌≡◌ {A = Option ℕ} (Some g.allowed) (Some n) = sym g.is_allowed ∙ number in

@@ -76,7 +76,7 @@ while_turns_are_shown place line most m keeps body k at case e =
             is_step = h.is_step;
             is_needed = refl;
             above = leb-false ((range_at k.ranges m).hi / h.step) most (above_most (nat_le most turn_limit) (nat_le ((range_at k.ranges m).hi / h.step) most) h.test is);
-            mended = enough place line m keeps body k h.step h.is_step;
+            fixed = enough place line m keeps body k h.step h.is_step;
           },
         )
     by h false is f = subst (WhileShown place line most m keeps body k) f (refl, (refl, leb-false most turn_limit is))

@@ -71,7 +71,7 @@ pub record IsAboveHeading (c : Context) (s : Section) (found : Verdict) (rule : 
   pub shown : case ≡ budget (named c s) needed allowed
   pub line_is : line ≡ heading_line s
   -- of a body that costs the same, a heading with any number that is at least the cost is not refused by this rule
-  pub mended : (other : Section) (n : ℕ) → found_in c other ≡ Ok found → number_of rule (heading_of other) ≡ Some n → needed ≤ n
+  pub fixed : (other : Section) (n : ℕ) → found_in c other ≡ Ok found → number_of rule (heading_of other) ≡ Some n → needed ≤ n
       → (at : ℕ) (shown : Case) → accept_section c other ≡ Err (broken rule at shown) → ⊥
 
 -- Where the body of a procedure or service is accepted and the whole is not, its heading has too low a number.

@@ -74,7 +74,7 @@ pub record NeedsMore (place : Body) (line most m : ℕ) (keeps : List Keep) (bod
   pub is_needed : needed ≡ (range_at k.ranges m).hi / step
   pub above : most < needed
   -- with any number from there on that a loop may have, it is not refused by this rule
-  pub mended : (n : ℕ) → needed ≤ n → n ≤ turn_limit
+  pub fixed : (n : ℕ) → needed ≤ n → n ≤ turn_limit
       → (at : ℕ) (c : Case) → while_head place line n m keeps body k ≡ Err (broken TooManyTurns at c) → ⊥
 
 abbrev pub WhileShown : Body → (line most measure : ℕ) → List Keep → Block → Facts → Case → Type 0

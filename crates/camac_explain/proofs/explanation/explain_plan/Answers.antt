@@ -8,5 +8,5 @@ returns c = (
   option_map string_bytes c.in_ok-sentence.sentence,
   c.in_ok-sentence.ensures,
   explained [] _ _ _ _ _ _ _ c.new-lines.ensures.items c.in_ok-push_sentence.ensures refl c.in_ok-push_advice.ensures
-      (same_advice _ _ _ _ (plan_told c.args.rule) c.plan_advice.ensures.why c.plan_advice.ensures.mend c.code-code.ensures.name),
+      (same_advice _ _ _ _ (plan_told c.args.rule) c.plan_advice.ensures.why c.plan_advice.ensures.fix c.code-code.ensures.name),
 )

@@ -1,7 +1,7 @@
 use Rattle.std.proofs.Common.{◌≡◌, ◌++◌, codes, ap, ◌∙◌}
 use Rattle.camac_explain.specs.Explanation.{line_of}
-use Rattle.camac_explain.specs.Rule.{mends_of, rule_code, why_of}
-use Rattle.camac_explain.proofs.Mends.{rule_parts}
+use Rattle.camac_explain.specs.Rule.{fixes_of, rule_code, why_of}
+use Rattle.camac_explain.proofs.Fixes.{rule_parts}
 use Rattle.camac_explain.proofs.rule.explain_rule.Goals as goal
 
 pub returns : goal.returns
@@ -15,6 +15,6 @@ returns c =
     c.in_ok-push_line-2.ensures ∙ ap (λ w. c.push_line.new.lines.items ++ line_of (codes "Why: ") w) c.why_of.ensures in
     let page : c.push_line-3.new.lines.items ≡ c.push_example.new.lines.items ++ line_of (codes "More: docs/REFUSALS.md, ") (rule_code rule).0 =
     c.in_ok-push_line-3.ensures ∙ ap (λ n. c.push_example.new.lines.items ++ line_of (codes "More: docs/REFUSALS.md, ") n) name in
-    rule_parts c.push_line.new.lines.items c.push_line-2.new.lines.items c.push_mends.new.lines.items c.push_example.new.lines.items c.push_line-3.new.lines.items
-    (line_of ((rule_code rule).0 ++ codes ": ") (rule_code rule).1) (line_of (codes "Why: ") (why_of rule)) (mends_of rule) (line_of (codes "More: docs/REFUSALS.md, ") (rule_code rule).0)
-    head why c.in_ok-push_mends.ensures c.in_ok-push_example.ensures page
+    rule_parts c.push_line.new.lines.items c.push_line-2.new.lines.items c.push_fixes.new.lines.items c.push_example.new.lines.items c.push_line-3.new.lines.items
+    (line_of ((rule_code rule).0 ++ codes ": ") (rule_code rule).1) (line_of (codes "Why: ") (why_of rule)) (fixes_of rule) (line_of (codes "More: docs/REFUSALS.md, ") (rule_code rule).0)
+    head why c.in_ok-push_fixes.ensures c.in_ok-push_example.ensures page
