@@ -1,20 +1,25 @@
 -- The sentences on a text's fault: what its rule knew, with numbers in decimal and names in quotes.
-use Rattle.std.specs.Prelude.{◌≡◌, ◌⊎◌, ℕ, ◌==◌, List, [], ◌∷◌, ◌++◌, Option, Some, None, codes, decimal, length, nat_eq, nat_lt, take, if◌then◌else◌}
+use Rattle.std.specs.Prelude.{ℕ, ◌==◌, Bool, ◌&&◌, ◌||◌, not, List, [], ◌∷◌, ◌++◌, Option, Some, None, codes, decimal, length, nat_eq, nat_lt, option_map, take, if◌then◌else◌}
 use Rattle.std.specs.Char.{is_ascii_graphic}
-use Rattle.std.specs.Str.{is_utf8}
+use Rattle.std.specs.Str.{is_utf8, str_eq_ignore_ascii_case}
 use Rattle.std.specs.List.{concat}
 use Rattle.camac_lines.specs.Words.{quoted}
+use Rattle.camac_tokens.specs.Words.{or_else}
 use Rattle.camac_tokens.specs.declared.fault.Found.{Found}
 use Rattle.camac_tokens.specs.declared.fault.Found.TheVariants as found
 use Rattle.camac_tokens.specs.declared.fault.NameKind.{NameKind}
 use Rattle.camac_tokens.specs.declared.fault.NameKind.TheVariants as named
-use Rattle.camac_tokens.specs.declared.token.Token.{Token}
 use Rattle.camac_tokens.specs.declared.fault.TextCase.{TextCase}
 use Rattle.camac_tokens.specs.declared.fault.TextCase.TheVariants as told
-use Rattle.camac_explain_text.specs.Absent.{Told, absent_sign, absent_text, absent_word}
+use Rattle.camac_explain_text.specs.Absent.{Told, absent_sign, absent_text}
+use Rattle.camac_explain_text.specs.Before.{is_kind}
 use Rattle.camac_explain_text.specs.Declaring.{called_before, declared_line}
+use Rattle.camac_explain_text.specs.Expected.{Noted, expected_of, list_text}
 use Rattle.camac_explain_text.specs.Hint.{takes_text}
 use Rattle.camac_explain_text.specs.Limits.{limit_text}
+use Rattle.camac_explain_text.specs.Meant.{kind_hint, name_hint, own_sentence, unexpected_hint, word_before}
+use Rattle.camac_explain_text.specs.Mistake.{outside_of_bodies}
+use Rattle.camac_explain_text.specs.Place.{Place, absent_word_at, begins_statement_at, is_assigned, is_before}
 
 abbrev pub noun : NameKind → List ℕ
 noun named.Lam = codes "LAM"
@@ -90,43 +95,59 @@ abbrev pub arguments_text : (token : List ℕ) → Option (List ℕ) → (wanted
 arguments_text token None wanted = found_text token
 arguments_text token (Some procedure) wanted = codes "Found " ++ (quoted token ++ (codes ". " ++ takes_text procedure wanted))
 
--- the sentence, alone or with a hint
-abbrev pub Begins : (sentence bytes : List ℕ) → Type 0
-Begins sentence bytes = (hint : Option (List ℕ)) × (bytes ≡ with_hint sentence hint)
+abbrev pub start_text : (token : List ℕ) → List ℕ
+start_text [] = codes "Found the end of the script"
+start_text (b ∷ bs) = codes "Found " ++ quoted (b ∷ bs)
 
-abbrev pub IsTaken : List Token → (name : List ℕ) → (by : NameKind) → (bytes : List ℕ) → Type 0
-IsTaken ts name by bytes = Begins (taken_text name (declared_line by name ts) by) bytes
+-- of a token that may not stand where it is, with all that might
+unfoldable pub expected_sentence : (token : List ℕ) → Noted → List ℕ
+expected_sentence token noted = ((start_text token ++ codes "; expected ") ++ list_text (expected_of noted)) ++ codes "."
 
-abbrev pub IsOtherKind : List Token → (name : List ℕ) → (wanted is : NameKind) → (bytes : List ℕ) → Type 0
-IsOtherKind ts name wanted is bytes = Begins (other_text name (declared_line is name ts) wanted is) bytes
+abbrev pub or_sentence : Option (List ℕ) → List ℕ → List ℕ
+or_sentence (Some own) sentence = own
+or_sentence None sentence = sentence
 
--- a word of another language in the place of a variable, or a name
-abbrev pub IsMissing : (name : List ℕ) → NameKind → (bytes : List ℕ) → Type 0
-IsMissing name wanted bytes =
-    ((absent : Told) × (absent_word name ≡ Some absent) × (wanted ≡ named.Variable) × (bytes ≡ absent_text absent)) ⊎ Begins (missing_text name wanted) bytes
+unfoldable pub unexpected : Place → List ℕ
+unexpected p = or_sentence (own_sentence p) (with_hint (expected_sentence p.bytes p.noted) (unexpected_hint p))
 
-abbrev pub IsUndeclared : List Token → (name : List ℕ) → NameKind → Found → (bytes : List ℕ) → Type 0
-IsUndeclared ts name wanted found.Nothing bytes = IsMissing name wanted bytes
-IsUndeclared ts name wanted (found.Other kind) bytes = IsOtherKind ts name wanted kind bytes
-IsUndeclared ts name wanted found.Itself bytes =
-    bytes ≡ concat (codes "The procedure " ∷ quoted name ∷ codes " can be called only after its end." ∷ [])
-IsUndeclared ts name wanted found.Hidden bytes =
-    bytes ≡ concat (codes "A procedure does not see the variable " ∷ quoted name ∷ codes " of the script." ∷ [])
+unfoldable pub taken : Place → (by : NameKind) → List ℕ
+taken p by = with_hint (taken_text p.bytes (declared_line by p.bytes p.tokens) by) (or_else (outside_of_bodies p) (word_before p))
 
--- the bytes are told in this case of a token, with the text before it, the text from it on, and the tokens before it
-abbrev pub IsTold : (before rest : List ℕ) → List Token → (token : List ℕ) → TextCase → (bytes : List ℕ) → Type 0
-IsTold before rest ts token told.Byte bytes = bytes ≡ byte_text before rest
-IsTold before rest ts token told.Unexpected bytes = Unit {0}
-IsTold before rest ts token told.ZeroDivisor bytes = bytes ≡ concat (codes "Found " ∷ quoted token ∷ codes ". A divisor is a number of at least 1." ∷ [])
-IsTold before rest ts token told.LockInProcedure bytes = bytes ≡ codes "A procedure has no `lock`: put the `call` into one."
-IsTold before rest ts token (told.ArgumentCount wanted) bytes = bytes ≡ arguments_text token (called_before ts) wanted
-IsTold before rest ts token (told.Number most) bytes = bytes ≡ number_text token most
-IsTold before rest ts token (told.Taken by) bytes = IsTaken ts token by bytes
-IsTold before rest ts token told.KeptTwice bytes = bytes ≡ concat (codes "The variable " ∷ quoted token ∷ codes " is kept twice." ∷ [])
-IsTold before rest ts token told.CounterKept bytes =
-    bytes ≡ concat (codes "The `for` counts the variable " ∷ quoted token ∷ codes ", which needs no `keep`." ∷ [])
-IsTold before rest ts token told.MeasureKept bytes =
-    bytes ≡ concat (codes "The variable " ∷ quoted token ∷ codes " is the measure after `by`, and needs no `keep`." ∷ [])
-IsTold before rest ts token (told.Undeclared wanted what) bytes = IsUndeclared ts token wanted what bytes
-IsTold before rest ts token (told.Limit limit) bytes = bytes ≡ limit_text token limit
-IsTold before rest ts token told.Branch bytes = bytes ≡ concat (codes "The branch is " ∷ quoted token ∷ codes " here, and there is only branch 1." ∷ [])
+unfoldable pub other_kind : Place → (wanted is : NameKind) → List ℕ
+other_kind p wanted is = with_hint (other_text p.bytes (declared_line is p.bytes p.tokens) wanted is) (kind_hint p wanted is)
+
+abbrev pub is_truth : (word : List ℕ) → Bool
+is_truth word = str_eq_ignore_ascii_case word (codes "true") || str_eq_ignore_ascii_case word (codes "false")
+
+-- a truth value, or a word that is called, or begins a statement that is no assignment
+abbrev pub is_of_another_language : Place → Bool
+is_of_another_language p = is_truth p.bytes || (is_before p (codes "(") || (begins_statement_at p && not (is_assigned p)))
+
+abbrev pub absent_variable : Place → (wanted : NameKind) → Option Told
+absent_variable p wanted = if is_kind wanted named.Variable && is_of_another_language p then absent_word_at p else None
+
+-- a word of another language in the place of a variable, or a name that is not declared
+unfoldable pub not_there : Place → (wanted : NameKind) → List ℕ
+not_there p wanted = or_sentence (option_map absent_text (absent_variable p wanted)) (with_hint (missing_text p.bytes wanted) (name_hint p wanted))
+
+abbrev pub undeclared : Place → NameKind → Found → List ℕ
+undeclared p wanted found.Nothing = not_there p wanted
+undeclared p wanted (found.Other is) = other_kind p wanted is
+undeclared p wanted found.Itself = concat (codes "The procedure " ∷ quoted p.bytes ∷ codes " can be called only after its end." ∷ [])
+undeclared p wanted found.Hidden = concat (codes "A procedure does not see the variable " ∷ quoted p.bytes ∷ codes " of the script." ∷ [])
+
+-- what is told in this case at a place
+unfoldable pub case_text : Place → TextCase → List ℕ
+case_text p told.Byte = byte_text p.text p.rest
+case_text p told.Unexpected = unexpected p
+case_text p told.ZeroDivisor = concat (codes "Found " ∷ quoted p.bytes ∷ codes ". A divisor is a number of at least 1." ∷ [])
+case_text p told.LockInProcedure = codes "A procedure has no `lock`: put the `call` into one."
+case_text p (told.ArgumentCount wanted) = arguments_text p.bytes (called_before p.tokens) wanted
+case_text p (told.Number most) = number_text p.bytes most
+case_text p (told.Taken by) = taken p by
+case_text p told.KeptTwice = concat (codes "The variable " ∷ quoted p.bytes ∷ codes " is kept twice." ∷ [])
+case_text p told.CounterKept = concat (codes "The `for` counts the variable " ∷ quoted p.bytes ∷ codes ", which needs no `keep`." ∷ [])
+case_text p told.MeasureKept = concat (codes "The variable " ∷ quoted p.bytes ∷ codes " is the measure after `by`, and needs no `keep`." ∷ [])
+case_text p (told.Undeclared wanted what) = undeclared p wanted what
+case_text p (told.Limit limit) = limit_text p.bytes limit
+case_text p told.Branch = concat (codes "The branch is " ∷ quoted p.bytes ∷ codes " here, and there is only branch 1." ∷ [])

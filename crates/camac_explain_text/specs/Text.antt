@@ -7,9 +7,10 @@ use Rattle.camac_tokens.specs.declared.fault.TextCase.{TextCase}
 use Rattle.camac_tokens.specs.declared.token.TokenKind.{TokenKind}
 use Rattle.camac_tokens.specs.declared.token.TokenKind.TheVariants as kind
 use Rattle.camac_text.specs.Parser.{script_of}
-use Rattle.camac_explain_text.specs.Declaring.{tokens_in}
-use Rattle.camac_explain_text.specs.Found.{kind_at, rest_of, text_before, word_at}
-use Rattle.camac_explain_text.specs.Sentence.{IsTold}
+use Rattle.camac_explain_text.specs.Expected.{Noted}
+use Rattle.camac_explain_text.specs.Found.{kind_at, rest_of}
+use Rattle.camac_explain_text.specs.Place.{place_at}
+use Rattle.camac_explain_text.specs.Sentence.{case_text}
 
 abbrev pub is_buffer : TokenKind → Bool
 is_buffer (kind.Name name) = starts_with nat_eq name (codes "buffer")
@@ -23,15 +24,15 @@ is_plan_start None rest = starts_with nat_eq rest (codes "[")
 abbrev pub begins_like_a_plan : (left : ℕ) → (text : List ℕ) → Bool
 begins_like_a_plan left text = is_plan_start (kind_at text) (rest_of left text)
 
-abbrev pub IsFaultTold : (is_plan : Bool) → (text : List ℕ) → TextCase → (left : ℕ) → (bytes : List ℕ) → Type 0
-IsFaultTold true text case left bytes = bytes ≡ codes "This begins like a plan: PLAN comes first, then SCRIPT."
-IsFaultTold false text case left bytes = IsTold (text_before left text) (rest_of left text) (tokens_in (text_before left text)) (word_at (rest_of left text)) case bytes
+abbrev pub fault_text : (is_plan : Bool) → Noted → (text : List ℕ) → TextCase → (left : ℕ) → List ℕ
+fault_text true noted text case left = codes "This begins like a plan: PLAN comes first, then SCRIPT."
+fault_text false noted text case left = case_text (place_at noted left text) case
 
--- of a script nothing, else the sentence on its first fault
-abbrev pub IsSentenceOf : (text : List ℕ) → Result Script Fault → Option (List ℕ) → Type 0
-IsSentenceOf text (Ok s) told = told ≡ None
-IsSentenceOf text (Err f) None = ⊥
-IsSentenceOf text (Err f) (Some bytes) = IsFaultTold (begins_like_a_plan f.left text) text f.case f.left bytes
+-- of a script nothing, else the sentence on its first fault, at whose place these choices were noted
+abbrev pub sentence_of : Noted → (text : List ℕ) → Result Script Fault → Option (List ℕ)
+sentence_of noted text (Ok s) = None
+sentence_of noted text (Err f) = Some (fault_text (begins_like_a_plan f.left text) noted text f.case f.left)
 
+-- of which choices the parser noted, no clause speaks
 abbrev pub IsTextSentence : (text : List ℕ) → Option (List ℕ) → Type 0
-IsTextSentence text told = IsSentenceOf text (script_of text) told
+IsTextSentence text told = (noted : Noted) × (told ≡ sentence_of noted text (script_of text))

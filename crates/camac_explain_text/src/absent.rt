@@ -229,7 +229,8 @@ fn is_spelled(spellings: &[&str], word: &[u8]) -> bool
     false
 }
 
-fn is_same_word(known: &str, word: &[u8]) -> bool
+/// Whether a word is this one, in any case of its letters.
+pub fn is_same_word(known: &str, word: &[u8]) -> bool
     ensures { result ≡ str_eq_ignore_ascii_case known.now word.now }
 {
     known.as_bytes().eq_ignore_ascii_case(word)

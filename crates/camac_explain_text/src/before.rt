@@ -1,14 +1,13 @@
 // What stands before a place of a script.
 
-ghost use Rattle.std.specs.Prelude.{◌≡◌, ◌-◌, ◌==◌, length, nat_lt, not, option_copied, option_map, slice_get};
-ghost use Rattle.camac_tokens.specs.declared.token.Sign.TheVariants as sign;
-ghost use Rattle.camac_explain_text.specs.Before.{called_in, count_of, is_sign, word_of};
+ghost use Rattle.std.specs.Prelude.{◌≡◌, ◌+◌, IfOk, OnOk, option_copied, option_map, slice_get, take};
+ghost use Rattle.camac_explain_text.specs.Before.{assigned, begun, behind_token, called_in, closed, count_of, declared, declared_as, ended, in_body, is_before_variable, is_declared_before, is_in_brackets, is_of_for, is_sign, kind_behind, kind_declared_next, last_alone, longer, near, open_line, opened, parameters, serves_as, standing, standing_of, wants_new_name, with_parameters, word_of};
 
 use crate::expected::{begins_declaration, begins_statement};
 use camac_lang::Name;
 use camac_lines::is_near;
 use camac_text::NameKind;
-use camac_tokens::{Keyword, Sign, TokenKind, TokensLeft};
+use camac_tokens::{Keyword, Sign, Token, TokenKind};
 use std::alloc::{AllocError, Global};
 
 /// A name, and what it is declared as.
@@ -36,8 +35,10 @@ pub struct Before {
 }
 
 impl Before {
-    /// What stands in a text.
-    pub fn new(alloc: Global, text: &[u8]) -> Result<Self, AllocError> {
+    /// What these tokens come to.
+    pub fn new(alloc: Global, tokens: &[Token]) -> Result<Self, AllocError>
+        ensures { IfOk result (λ b. standing_of b ≡ standing tokens.now) }
+    {
         let mut before = Before {
             phrase: Vec::new(alloc),
             blocks: Vec::new(alloc),
@@ -45,13 +46,8 @@ impl Before {
             outside: 0,
             in_procedure: false,
         };
-        let mut tokens = TokensLeft::new(text);
-        for _at_most in 0..text.len() {
-            let Some(token) = tokens.first() else {
-                break;
-            };
+        'tokens: for token in tokens {
             before.take(&token.kind, token.line)?;
-            tokens.advance();
         }
         Ok(before)
     }
@@ -76,52 +72,52 @@ impl Before {
     }
 
     /// Whether a name that is new, or that of a variable, has to stand next.
-    pub fn wants_new_name(&self) -> bool {
-        let is_variable = match self.phrase.last() {
-            Some(TokenKind::Keyword(word)) => matches!(
-                word,
-                Keyword::For | Keyword::Keep | Keyword::By | Keyword::Tally
-            ),
-            Some(TokenKind::Sign(sign)) => *sign == Sign::Into,
-            _ => false,
-        };
-        is_variable || self.kind_declared_next().is_some()
+    pub fn wants_new_name(&self) -> bool
+        ensures { result ≡ wants_new_name (standing_of self.now) }
+    {
+        is_before_variable(self.phrase.last()) || self.kind_declared_next().is_some()
     }
 
     /// Whether it ends in brackets, and so in an expression.
     pub fn is_in_brackets(&self) -> bool
-        ensures { result ≡ nat_lt (count_of sign.RightBracket self.now.phrase.items) (count_of sign.LeftBracket self.now.phrase.items) }
+        ensures { result ≡ is_in_brackets (standing_of self.now) }
     {
         count_of(&self.phrase, Sign::LeftBracket) > count_of(&self.phrase, Sign::RightBracket)
     }
 
     /// Whether it ends in a body.
     pub fn in_body(&self) -> bool
-        ensures { result ≡ not (length self.now.blocks.items == 0) }
+        ensures { result ≡ in_body (standing_of self.now) }
     {
         !self.blocks.is_empty()
     }
 
     /// The line of the last `{` that is open.
     pub fn open_line(&self) -> Option<u32>
-        ensures { result ≡ slice_get self.now.blocks.items (length self.now.blocks.items - 1) }
+        ensures { result ≡ open_line (standing_of self.now) }
     {
         self.blocks.last().copied()
     }
 
     /// How many parameters the procedure in hand has.
-    pub fn parameters(&self) -> usize {
+    pub fn parameters(&self) -> usize
+        ensures { result ≡ parameters (standing_of self.now) }
+    {
         let own = self.names.iter().skip(self.outside);
         own.filter(|it| it.kind == NameKind::Parameter).count()
     }
 
     /// What a name is declared as.
-    pub fn declared(&self, name: &[u8]) -> Option<&Declared> {
+    pub fn declared(&self, name: &[u8]) -> Option<&Declared>
+        ensures { option_copied result ≡ declared name.now (standing_of self.now) }
+    {
         self.names.iter().find(|it| it.name.as_bytes() == name)
     }
 
     /// Whether a name is declared before the declaration or the statement in hand.
-    pub fn is_declared_before(&self, name: &[u8]) -> bool {
+    pub fn is_declared_before(&self, name: &[u8]) -> bool
+        ensures { result ≡ is_declared_before name.now (standing_of self.now) }
+    {
         let known = if self.in_body() {
             self.names.len()
         } else {
@@ -132,14 +128,19 @@ impl Before {
     }
 
     /// The first name of a kind that is near a word, of those that the body in hand sees: a procedure sees no variable of the script.
-    pub fn near(&self, word: &[u8], kind: NameKind) -> Option<&Declared> {
+    pub fn near(&self, word: &[u8], kind: NameKind) -> Option<&Declared>
+        ensures { option_copied result ≡ near word.now kind (standing_of self.now) }
+    {
         let is_hidden = self.in_procedure && kind == NameKind::Variable;
         let hidden = if is_hidden { self.outside } else { 0 };
         let mut seen = self.names.iter().skip(hidden);
-        seen.find(|it| is_of_kind(it, kind) && is_near(word, it.name.as_bytes()))
+        seen.find(|it| serves_as(it, kind) && is_near(word, it.name.as_bytes()))
     }
 
-    fn take(&mut self, kind: &TokenKind, line: u32) -> Result<(), AllocError> {
+    #[tactic(auto, unfolding(crate::specs::Before::behind_token))]
+    fn take(&mut self, kind: &TokenKind, line: u32) -> Result<(), AllocError>
+        ensures { OnOk result (standing_of self.new ≡ behind_token line kind.now (standing_of self.old)) }
+    {
         match kind {
             TokenKind::Sign(Sign::LeftBrace) => return self.open_block(line),
             TokenKind::Sign(Sign::RightBrace) => return self.close_block(),
@@ -153,29 +154,38 @@ impl Before {
     }
 
     // A word that begins a declaration or a statement ends the one before.
-    fn begin(&mut self, word: Keyword) {
-        if self.in_body() && begins_statement(word) {
-            self.phrase.clear();
-        }
-        if !self.in_body() && begins_declaration(word) {
+    fn begin(&mut self, word: Keyword)
+        ensures { standing_of self.new ≡ begun word (standing_of self.old) }
+    {
+        if self.in_body() {
+            if begins_statement(word) {
+                self.phrase.clear();
+            }
+        } else if begins_declaration(word) {
             self.phrase.clear();
             self.outside = self.names.len();
         }
     }
 
     // An `=` in a body makes the name before it the beginning of a statement, but in `for i =`.
-    fn begin_assignment(&mut self) -> Result<(), AllocError> {
-        let is_of_for = self.phrase.len() == 2 && self.first_word() == Some(Keyword::For);
-        if self.in_body() && !is_of_for {
-            if let Some(name) = self.phrase.pop() {
-                self.phrase.clear();
-                self.phrase.push(name)?;
-            }
+    fn begin_assignment(&mut self) -> Result<(), AllocError>
+        ensures { OnOk result (standing_of self.new ≡ assigned (standing_of self.old)) }
+    {
+        if self.in_body() && !self.is_of_for() {
+            keep_last(&mut self.phrase)?;
         }
         Ok(())
     }
 
-    fn declare(&mut self, name: &Name) -> Result<(), AllocError> {
+    fn is_of_for(&self) -> bool
+        ensures { result ≡ is_of_for (standing_of self.now) }
+    {
+        self.phrase.len() == 2 && self.first_word() == Some(Keyword::For)
+    }
+
+    fn declare(&mut self, name: &Name) -> Result<(), AllocError>
+        ensures { OnOk result (standing_of self.new ≡ declared_as (kind_declared_next (standing_of self.old)) name.now (standing_of self.old)) }
+    {
         let Some(kind) = self.kind_declared_next() else {
             return Ok(());
         };
@@ -190,20 +200,15 @@ impl Before {
     }
 
     // As what the phrase declares the name that follows it.
-    fn kind_declared_next(&self) -> Option<NameKind> {
-        Some(match (self.first_word()?, self.phrase.last()?) {
-            (Keyword::Cdreg, TokenKind::Keyword(_)) => NameKind::Register,
-            (Keyword::Cdlam, TokenKind::Keyword(_)) => NameKind::Lam,
-            (Keyword::Table, TokenKind::Keyword(_)) => NameKind::Table,
-            (Keyword::Proc, TokenKind::Keyword(Keyword::Proc)) => NameKind::Procedure,
-            (Keyword::Proc, TokenKind::Sign(Sign::LeftBracket | Sign::Comma)) =>
-                NameKind::Parameter,
-            (Keyword::Var, _) => NameKind::Variable,
-            _ => return None,
-        })
+    fn kind_declared_next(&self) -> Option<NameKind>
+        ensures { result ≡ kind_declared_next (standing_of self.now) }
+    {
+        kind_behind(self.first_word()?, self.phrase.last()?)
     }
 
-    fn open_block(&mut self, line: u32) -> Result<(), AllocError> {
+    fn open_block(&mut self, line: u32) -> Result<(), AllocError>
+        ensures { OnOk result (standing_of self.new ≡ opened line (standing_of self.old)) }
+    {
         if !self.in_body() {
             self.in_procedure = self.first_word() == Some(Keyword::Proc);
         }
@@ -212,7 +217,9 @@ impl Before {
         Ok(())
     }
 
-    fn close_block(&mut self) -> Result<(), AllocError> {
+    fn close_block(&mut self) -> Result<(), AllocError>
+        ensures { OnOk result (standing_of self.new ≡ closed (standing_of self.old)) }
+    {
         let _ = self.blocks.pop();
         self.phrase.clear();
         if self.in_body() {
@@ -222,18 +229,77 @@ impl Before {
     }
 
     // What the body declared is declared no more.
-    fn end_body(&mut self) -> Result<(), AllocError> {
+    fn end_body(&mut self) -> Result<(), AllocError>
+        ensures { OnOk result (standing_of self.new ≡ ended (standing_of self.old)) }
+    {
         let parameters = self.parameters();
-        let kept = self.outside.saturating_add(usize::from(self.in_procedure));
-        self.names.truncate(kept);
         if self.in_procedure {
-            if let Some(mut procedure) = self.names.pop() {
-                procedure.parameters = parameters;
-                self.names.push(procedure)?;
-            }
+            keep_one_more(&mut self.names, self.outside);
+            set_parameters(&mut self.names, parameters)?;
+        } else {
+            self.names.truncate(self.outside);
         }
         self.in_procedure = false;
         Ok(())
+    }
+}
+
+#[tactic(auto, using(crate::proofs::Lasts::last_of_more))]
+fn keep_last(phrase: &mut Vec<TokenKind>) -> Result<(), AllocError>
+    ensures { OnOk result (phrase.new.items ≡ last_alone phrase.old.items) }
+{
+    if let Some(last) = phrase.pop() {
+        phrase.clear();
+        phrase.push(last)?;
+    }
+    Ok(())
+}
+
+fn keep_one_more(names: &mut Vec<Declared>, count: usize)
+    ensures { names.new.items ≡ take (count + 1) names.old.items }
+{
+    if count < names.len() {
+        names.truncate(count + 1);
+    }
+}
+
+// The last of these names is that of a procedure with so many parameters.
+#[tactic(auto, using(crate::proofs::Lasts::with_last))]
+fn set_parameters(names: &mut Vec<Declared>, parameters: usize) -> Result<(), AllocError>
+    ensures { OnOk result (names.new.items ≡ with_parameters parameters names.old.items) }
+{
+    if let Some(mut procedure) = names.pop() {
+        procedure.parameters = parameters;
+        names.push(procedure)?;
+    }
+    Ok(())
+}
+
+fn is_before_variable(last: Option<&TokenKind>) -> bool
+    ensures { result ≡ is_before_variable (option_copied last.entry) }
+{
+    match last {
+        Some(TokenKind::Keyword(Keyword::For | Keyword::Keep | Keyword::By | Keyword::Tally)) => {
+            true
+        }
+        Some(TokenKind::Sign(Sign::Into)) => true,
+        _ => false,
+    }
+}
+
+// As what a phrase that begins with this word and ends in this token declares the name that follows it.
+fn kind_behind(first: Keyword, last: &TokenKind) -> Option<NameKind>
+    ensures { result ≡ kind_behind first last.now }
+{
+    match (first, last) {
+        (Keyword::Cdreg, TokenKind::Keyword(_)) => Some(NameKind::Register),
+        (Keyword::Cdlam, TokenKind::Keyword(_)) => Some(NameKind::Lam),
+        (Keyword::Table, TokenKind::Keyword(_)) => Some(NameKind::Table),
+        (Keyword::Proc, TokenKind::Keyword(Keyword::Proc)) => Some(NameKind::Procedure),
+        (Keyword::Proc, TokenKind::Sign(Sign::LeftBracket)) => Some(NameKind::Parameter),
+        (Keyword::Proc, TokenKind::Sign(Sign::Comma)) => Some(NameKind::Parameter),
+        (Keyword::Var, _) => Some(NameKind::Variable),
+        _ => None,
     }
 }
 
@@ -270,6 +336,8 @@ pub fn word_of(kind: Option<&TokenKind>) -> Option<Keyword>
 }
 
 // A parameter serves as a variable.
-fn is_of_kind(declared: &Declared, kind: NameKind) -> bool {
+fn serves_as(declared: &Declared, kind: NameKind) -> bool
+    ensures { result ≡ serves_as kind declared.now }
+{
     declared.kind == kind || (kind == NameKind::Variable && declared.kind == NameKind::Parameter)
 }

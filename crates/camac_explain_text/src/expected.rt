@@ -1,87 +1,310 @@
 // What might stand at a place, in words.
 
+ghost use Rattle.std.specs.Prelude.{◌≡◌, ◌++◌, IfOk, OnOk, Some, filter, length, map, string_bytes};
+ghost use Rattle.camac_explain_text.specs.Expected.{begins_declaration, begins_statement, expected_of, expected_text, group_text, has, is_comparison, is_condition, is_group, is_name, is_of_condition, is_operator, is_same, is_sign_alone, is_value, is_word_alone, items_from, list_text};
+ghost use Rattle.camac_explain_text.specs.declared.expected.Expected.TheVariants as expected;
+
+use crate::spelled::{sign_text, word_text};
+use camac_lines::before_item;
 use camac_text::{Choice, Choices};
 use camac_tokens::{KEYWORDS, Keyword, SIGNS, Sign};
 use std::alloc::{AllocError, Global};
 use std::fmt;
 
 /// Whether a word begins a declaration.
-pub fn begins_declaration(word: Keyword) -> bool {
+pub fn begins_declaration(word: Keyword) -> bool
+    ensures { result ≡ begins_declaration word }
+{
     Choice::Declaration.has_word(word)
 }
 
 /// Whether a word begins a statement.
-pub fn begins_statement(word: Keyword) -> bool {
+pub fn begins_statement(word: Keyword) -> bool
+    ensures { result ≡ begins_statement word }
+{
     Choice::Statement.has_word(word) || word == Keyword::Lock
 }
 
 /// Whether a sign is one of arithmetic.
-pub fn is_operator(sign: Sign) -> bool {
+pub fn is_operator(sign: Sign) -> bool
+    ensures { result ≡ is_operator sign }
+{
     Choice::Sum.has_sign(sign) || Choice::Product.has_sign(sign)
 }
 
 /// Whether a sign is one that compares.
-pub fn is_comparison(sign: Sign) -> bool {
+pub fn is_comparison(sign: Sign) -> bool
+    ensures { result ≡ is_comparison sign }
+{
     Choice::Comparison.has_sign(sign)
 }
+
+/// The choices of a set, as a list. No clause speaks of the set.
+pub fn noted(alloc: Global, choices: Choices) -> Result<Vec<Choice>, AllocError> {
+    let mut noted = Vec::new(alloc);
+    for word in KEYWORDS {
+        note(&mut noted, choices, Choice::Word(word))?;
+    }
+    for sign in SIGNS {
+        note(&mut noted, choices, Choice::Mark(sign))?;
+    }
+    for choice in [
+        Choice::Name,
+        Choice::Number,
+        Choice::Declaration,
+        Choice::Statement,
+        Choice::Flag,
+        Choice::Sum,
+        Choice::Comparison,
+    ] {
+        note(&mut noted, choices, choice)?;
+    }
+    Ok(noted)
+}
+
+fn note(noted: &mut Vec<Choice>, choices: Choices, choice: Choice) -> Result<(), AllocError> {
+    if choices.has(choice) {
+        noted.push(choice)?;
+    }
+    Ok(())
+}
+
+/// Whether a choice is among those that are noted.
+#[tactic(auto, unfolding(crate::specs::Expected::has))]
+pub fn has(noted: &[Choice], choice: Choice) -> bool
+    ensures { result ≡ has noted.now choice }
+{
+    'noted: for other in noted {
+        if is_same(choice, *other) {
+            return true;
+        }
+    }
+    false
+}
+
+fn is_same(choice: Choice, other: Choice) -> bool
+    ensures { result ≡ is_same choice other }
+{
+    match (choice, other) {
+        (Choice::Word(word), Choice::Word(other)) => word == other,
+        (Choice::Mark(sign), Choice::Mark(other)) => sign == other,
+        (Choice::Name, Choice::Name) => true,
+        (Choice::Number, Choice::Number) => true,
+        (Choice::Declaration, Choice::Declaration) => true,
+        (Choice::Statement, Choice::Statement) => true,
+        (Choice::Flag, Choice::Flag) => true,
+        (Choice::Switch, Choice::Switch) => true,
+        (Choice::Arrow, Choice::Arrow) => true,
+        (Choice::Sum, Choice::Sum) => true,
+        (Choice::Product, Choice::Product) => true,
+        (Choice::Comparison, Choice::Comparison) => true,
+        _ => false,
+    }
+}
+
+/// Tokens that an explanation names together.
+#[derive(Clone, Copy)]
+pub enum Group {
+    Declaration,
+    Statement,
+    Condition,
+    Expression,
+    Number,
+    Name,
+    Operator,
+    Comparison,
+}
+
+const GROUPS: [Group; 8] = [
+    Group::Declaration,
+    Group::Statement,
+    Group::Condition,
+    Group::Expression,
+    Group::Number,
+    Group::Name,
+    Group::Operator,
+    Group::Comparison,
+];
 
 /// What might stand at a place of a script.
 #[derive(Clone, Copy)]
 pub enum Expected {
-    Group(&'static str),
-    /// A sign or a word of the language.
-    Token(&'static str),
+    Group(Group),
+    Sign(Sign),
+    Word(Keyword),
 }
 
 impl fmt::Display for Expected {
+    ghost output = { λ e. Some (expected_text e) };
+
     fn fmt<W: fmt::Write>(&self, f: &mut fmt::Formatter<W>) -> fmt::Result {
         match self {
-            Expected::Group(group) => write!(f, "{group}"),
-            Expected::Token(token) => write!(f, "`{token}`"),
+            Expected::Group(group) => write!(f, "{}", group_text(*group)),
+            Expected::Sign(sign) => write!(f, "`{}`", sign_text(*sign)),
+            Expected::Word(word) => write!(f, "`{}`", word_text(*word)),
         }
+    }
+}
+
+fn group_text(group: Group) -> &'static str
+    ensures { result.now ≡ group_text group }
+{
+    match group {
+        Group::Declaration => "a declaration",
+        Group::Statement => "a statement",
+        Group::Condition => "a condition",
+        Group::Expression => "an expression",
+        Group::Number => "a number",
+        Group::Name => "a name",
+        Group::Operator => "an operator",
+        Group::Comparison => "a comparison",
     }
 }
 
 /// What might stand where these choices are: the groups, and each sign and word that is in none of them.
-pub fn expected_of(alloc: Global, choices: Choices) -> Result<Vec<Expected>, AllocError> {
-    // a second `not` may not stand after one
-    let is_condition = choices.has(Choice::Flag) && choices.has(Choice::Word(Keyword::Not));
-    let is_value = choices.has(Choice::Number) && choices.has(Choice::Mark(Sign::LeftBracket));
+#[tactic(auto, unfolding(crate::specs::Expected::expected_of))]
+fn expected_of(alloc: Global, noted: &[Choice]) -> Result<Vec<Expected>, AllocError>
+    ensures { IfOk result (λ v. v.items ≡ expected_of noted.now) }
+{
     let mut found = Vec::new(alloc);
-    for (group, is_there) in [
-        ("a declaration", choices.has(Choice::Declaration)),
-        ("a statement", choices.has(Choice::Statement)),
-        ("a condition", is_condition),
-        ("an expression", is_value && !is_condition),
-        ("a number", choices.has(Choice::Number) && !is_value),
-        ("a name", is_name(choices)),
-        ("an operator", choices.has(Choice::Sum)),
-        ("a comparison", choices.has(Choice::Comparison)),
-    ] {
-        if is_there {
-            found.push(Expected::Group(group))?;
-        }
-    }
-    for sign in SIGNS {
-        let is_of_group = is_operator(sign)
-            || is_comparison(sign)
-            || (sign == Sign::LeftBracket && is_value);
-        if choices.has(Choice::Mark(sign)) && !is_of_group {
-            found.push(Expected::Token(sign.spelling()))?;
-        }
-    }
-    for word in KEYWORDS {
-        let is_of_group = Choice::Declaration.has_word(word) && choices.has(Choice::Declaration)
-            || begins_statement(word)
-            || (is_condition && matches!(word, Keyword::Not | Keyword::Q | Keyword::X));
-        if choices.has(Choice::Word(word)) && !is_of_group {
-            found.push(Expected::Token(word.spelling()))?;
-        }
-    }
+    push_groups(&mut found, &GROUPS, noted)?;
+    push_signs(&mut found, &SIGNS, noted)?;
+    push_words(&mut found, &KEYWORDS, noted)?;
     Ok(found)
 }
 
+fn push_groups(
+    found: &mut Vec<Expected>,
+    groups: &[Group],
+    noted: &[Choice],
+) -> Result<(), AllocError>
+    ensures { OnOk result (found.new.items ≡ found.old.items ++ map expected.Group (filter (is_group noted.now) groups.now)) }
+{
+    'groups: for group in groups {
+        if is_group(noted, *group) {
+            found.push(Expected::Group(*group))?;
+        }
+    }
+    Ok(())
+}
+
+fn push_signs(
+    found: &mut Vec<Expected>,
+    signs: &[Sign],
+    noted: &[Choice],
+) -> Result<(), AllocError>
+    ensures { OnOk result (found.new.items ≡ found.old.items ++ map expected.Sign (filter (is_sign_alone noted.now) signs.now)) }
+{
+    'signs: for sign in signs {
+        if is_sign_alone(noted, *sign) {
+            found.push(Expected::Sign(*sign))?;
+        }
+    }
+    Ok(())
+}
+
+fn push_words(
+    found: &mut Vec<Expected>,
+    words: &[Keyword],
+    noted: &[Choice],
+) -> Result<(), AllocError>
+    ensures { OnOk result (found.new.items ≡ found.old.items ++ map expected.Word (filter (is_word_alone noted.now) words.now)) }
+{
+    'words: for word in words {
+        if is_word_alone(noted, *word) {
+            found.push(Expected::Word(*word))?;
+        }
+    }
+    Ok(())
+}
+
+fn is_group(noted: &[Choice], group: Group) -> bool
+    ensures { result ≡ is_group noted.now group }
+{
+    match group {
+        Group::Declaration => has(noted, Choice::Declaration),
+        Group::Statement => has(noted, Choice::Statement),
+        Group::Condition => is_condition(noted),
+        Group::Expression => is_value(noted) && !is_condition(noted),
+        Group::Number => has(noted, Choice::Number) && !is_value(noted),
+        Group::Name => is_name(noted),
+        Group::Operator => has(noted, Choice::Sum),
+        Group::Comparison => has(noted, Choice::Comparison),
+    }
+}
+
+// A second `not` may not stand after one.
+fn is_condition(noted: &[Choice]) -> bool
+    ensures { result ≡ is_condition noted.now }
+{
+    has(noted, Choice::Flag) && has(noted, Choice::Word(Keyword::Not))
+}
+
+fn is_value(noted: &[Choice]) -> bool
+    ensures { result ≡ is_value noted.now }
+{
+    has(noted, Choice::Number) && has(noted, Choice::Mark(Sign::LeftBracket))
+}
+
 /// Whether a name might stand at a place, and neither a number nor the beginning of a statement.
-pub fn is_name(choices: Choices) -> bool {
-    choices.has(Choice::Name) && !choices.has(Choice::Number) && !choices.has(Choice::Statement)
+pub fn is_name(noted: &[Choice]) -> bool
+    ensures { result ≡ is_name noted.now }
+{
+    has(noted, Choice::Name) && !has(noted, Choice::Number) && !has(noted, Choice::Statement)
+}
+
+// Whether a sign might stand there, and is in none of the groups.
+fn is_sign_alone(noted: &[Choice], sign: Sign) -> bool
+    ensures { result ≡ is_sign_alone noted.now sign }
+{
+    has(noted, Choice::Mark(sign))
+        && !(is_operator(sign)
+            || is_comparison(sign)
+            || (sign == Sign::LeftBracket && is_value(noted)))
+}
+
+fn is_word_alone(noted: &[Choice], word: Keyword) -> bool
+    ensures { result ≡ is_word_alone noted.now word }
+{
+    has(noted, Choice::Word(word))
+        && !((begins_declaration(word) && has(noted, Choice::Declaration))
+            || begins_statement(word)
+            || (is_of_condition(word) && is_condition(noted)))
+}
+
+fn is_of_condition(word: Keyword) -> bool
+    ensures { result ≡ is_of_condition word }
+{
+    word == Keyword::Not || word == Keyword::Q || word == Keyword::X
+}
+
+/// All that might stand where these choices are, as a list.
+pub fn expected_list(alloc: Global, noted: &[Choice]) -> Result<String, AllocError>
+    ensures { IfOk result (λ s. string_bytes s ≡ list_text (expected_of noted.now)) }
+{
+    let expected = expected_of(alloc, noted)?;
+    list_text(alloc, &expected)
+}
+
+fn list_text(alloc: Global, expected: &[Expected]) -> Result<String, AllocError>
+    ensures { IfOk result (λ s. string_bytes s ≡ items_from 0 (length expected.now) expected.now) }
+{
+    let mut text = String::new(alloc);
+    'items: for place in 0..expected.len() {
+        let before = before_item(place, expected.len(), " or ");
+        push_item(alloc, &mut text, before, expected[place])?;
+    }
+    Ok(text)
+}
+
+fn push_item(
+    alloc: Global,
+    text: &mut String,
+    before: &str,
+    item: Expected,
+) -> Result<(), AllocError>
+    ensures { OnOk result (string_bytes text.new ≡ string_bytes text.old ++ (before.now ++ expected_text item)) }
+{
+    let item = format!(in alloc; "{before}{item}")?;
+    text.push_str(item.as_str())
 }

@@ -1,17 +1,19 @@
 // The token at which a fault shows.
 
-ghost use Rattle.std.specs.Prelude.{◌≡◌, IfOk, IfSome, Some, [], ◌∷◌, length, option_map, take, take_while};
+ghost use Rattle.std.specs.Prelude.{◌≡◌, IfOk, [], ◌∷◌, drop, false, length, option_copied, option_map, take, take_while};
 ghost use Rattle.std.specs.Char.{is_ascii_digit};
 ghost use Rattle.camac_tokens.specs.Scanning.{is_name_byte, pair_at};
 ghost use Rattle.camac_tokens.specs.Words.{pair_signs, spelled_in};
-ghost use Rattle.camac_explain_text.specs.Absent.{absent_of, absent_sign, absent_word};
-ghost use Rattle.camac_explain_text.specs.Declaring.{tokens_in};
+ghost use Rattle.camac_explain_text.specs.Absent.{absent_of, absent_sign};
+ghost use Rattle.camac_explain_text.specs.Before.{standing_of, word_of};
 ghost use Rattle.camac_explain_text.specs.Found.{begun_length, kind_at, rest_of, sign_length, text_before, word_at, word_length};
+ghost use Rattle.camac_explain_text.specs.Place.{absent_word_at, adjoins_word, begins_line, begins_statement_at, ends_in_blanks, expects, is_assigned, is_before, is_free_name, last, needed, place_at, place_of, read_before, wants_register, without_blanks};
 
 use crate::absent::{Absent, absent_sign, absent_word};
 use crate::before::{Before, word_of};
 use crate::declaring::tokens_in;
-use camac_text::{Choice, Choices, NameKind, Token, TokenKind, TokensLeft};
+use crate::expected::has;
+use camac_text::{Choice, NameKind, Token, TokenKind, TokensLeft};
 use camac_tokens::Keyword;
 use std::alloc::{AllocError, Global};
 
@@ -29,7 +31,7 @@ pub struct Found<'a> {
     pub tokens: Vec<Token>,
     pub before: Before,
     /// What may stand in its place.
-    pub expected: Choices,
+    pub expected: &'a [Choice],
 }
 
 impl<'a> Found<'a> {
@@ -38,22 +40,15 @@ impl<'a> Found<'a> {
         alloc: Global,
         text: &'a [u8],
         left: usize,
-        expected: Choices,
+        expected: &'a [Choice],
     ) -> Result<Self, AllocError>
-        ensures word { IfOk result (λ f. f.word.now ≡ word_at (rest_of left text.now)) }
-        ensures kind { IfOk result (λ f. f.kind ≡ kind_at (rest_of left text.now)) }
-        ensures text { IfOk result (λ f. f.text.now ≡ text_before left text.now) }
-        ensures tokens { IfOk result (λ f. f.tokens.items ≡ tokens_in (text_before left text.now)) }
-        ensures rest { IfOk result (λ f. f.rest.now ≡ rest_of left text.now) }
+        ensures { IfOk result (λ f. place_of f ≡ place_at expected.now left text.now) }
     {
         let rest = rest_of(text, left);
         let text = text_before(text, left);
         let (word, kind) = (word_at(rest), kind_at(rest));
-        // A fault of a token is the first of its text, and needs nothing of what stands before.
-        let is_known = kind.is_some() || word.is_empty();
-        let read = if is_known { text } else { &text[..0] };
-        let before = Before::new(alloc, read)?;
         let tokens = tokens_in(alloc, text)?;
+        let before = Before::new(alloc, read_before(&kind, word, &tokens))?;
         Ok(Found {
             word,
             kind,
@@ -66,43 +61,62 @@ impl<'a> Found<'a> {
     }
 
     /// The token before, if it belongs to the same declaration or statement.
-    pub fn last(&self) -> Option<&TokenKind> {
+    pub fn last(&self) -> Option<&TokenKind>
+        ensures { option_copied result ≡ last (place_of self.now) }
+    {
         self.before.phrase.last()
     }
 
     /// The word of the language that it is.
-    pub fn keyword(&self) -> Option<Keyword> {
+    pub fn keyword(&self) -> Option<Keyword>
+        ensures { result ≡ word_of self.now.kind }
+    {
         word_of(self.kind.as_ref())
     }
 
     /// Whether it stands right after a name, a word or a number.
-    pub fn adjoins_word(&self) -> bool {
-        self.text.last().is_some_and(|b| is_name_byte(*b))
+    pub fn adjoins_word(&self) -> bool
+        ensures { result ≡ adjoins_word (place_of self.now) }
+    {
+        match self.text.last() {
+            Some(byte) => is_name_byte(*byte),
+            None => false,
+        }
     }
 
     /// Whether it is the first of its line.
-    pub fn begins_line(&self) -> bool {
-        let mut blanks = self
-            .text
-            .iter()
-            .rev()
-            .take_while(|b| b.is_ascii_whitespace());
-        blanks.any(|b| *b == b'\n')
+    pub fn begins_line(&self) -> bool
+        ensures { result ≡ begins_line (place_of self.now) }
+    {
+        ends_in_blanks(self.text)
     }
 
     /// Whether these bytes stand behind it, after blanks.
-    pub fn is_before(&self, bytes: &[u8]) -> bool {
-        let behind = self.rest.get(self.word.len()..).unwrap_or(b"");
-        behind.trim_ascii_start().starts_with(bytes)
+    pub fn is_before(&self, bytes: &[u8]) -> bool
+        ensures { result ≡ is_before (place_of self.now) bytes.now }
+    {
+        without_blanks(behind(self.rest, self.word.len())).starts_with(bytes)
+    }
+
+    /// Whether this may stand in its place.
+    pub fn expects(&self, choice: Choice) -> bool
+        ensures { result ≡ expects (place_of self.now) choice }
+    {
+        has(self.expected, choice)
     }
 
     /// Whether a statement may begin in its place.
-    pub fn begins_statement(&self) -> bool {
-        self.expected.has(Choice::Statement)
+    pub fn begins_statement(&self) -> bool
+        ensures { result ≡ begins_statement_at (place_of self.now) }
+    {
+        self.expects(Choice::Statement)
     }
 
     /// Whether an `=` that sets follows it.
-    pub fn is_assigned(&self) -> bool {
+    #[tactic(auto, unfolding(crate::specs::Place::is_assigned))]
+    pub fn is_assigned(&self) -> bool
+        ensures { result ≡ is_assigned (place_of self.now) }
+    {
         self.is_before(b"=") && !self.is_before(b"==")
     }
 
@@ -114,30 +128,88 @@ impl<'a> Found<'a> {
     }
 
     /// The word of another language that it is, unless the script declares it.
+    #[tactic(auto, unfolding(crate::specs::Place::absent_word_at))]
     pub fn absent_word(&self) -> Option<Absent<'a>>
-        ensures { IfSome result (λ a. absent_word self.now.word.now ≡ Some (absent_of a)) }
+        ensures { option_map absent_of result ≡ absent_word_at (place_of self.now) }
     {
-        let is_name = matches!(self.kind, Some(TokenKind::Name(_)));
-        if is_name && self.before.declared(self.word).is_none() {
+        if self.is_free_name() {
             absent_word(self.word)
         } else {
             None
         }
     }
 
+    fn is_free_name(&self) -> bool
+        ensures { result ≡ is_free_name (place_of self.now) }
+    {
+        matches!(self.kind, Some(TokenKind::Name(_))) && self.before.declared(self.word).is_none()
+    }
+
     /// The kind of name that its place needs.
-    pub fn needed(&self) -> NameKind {
-        use Keyword::{Call, Cclc, Cclm, Cfmad, Cfsa, Cfubc, Cfubr, Cssa, Ctlm, Service, Table};
-        let size = self.before.phrase.len();
-        match (self.before.first_word(), word_of(self.last())) {
-            (_, Some(Service | Cclm | Cclc | Ctlm)) => NameKind::Lam,
-            (_, Some(Call)) => NameKind::Procedure,
-            (_, Some(Table)) => NameKind::Table,
-            (Some(Cfsa | Cssa | Cfubc | Cfubr | Cfmad), _) if size == 2 => NameKind::Register,
-            (Some(Cfmad), _) if size == 3 => NameKind::Register,
+    #[tactic(auto, unfolding(crate::specs::Place::needed))]
+    pub fn needed(&self) -> NameKind
+        ensures { result ≡ needed (place_of self.now) }
+    {
+        use Keyword::{Call, Cclc, Cclm, Ctlm, Service, Table};
+        match word_of(self.last()) {
+            Some(Service | Cclm | Cclc | Ctlm) => NameKind::Lam,
+            Some(Call) => NameKind::Procedure,
+            Some(Table) => NameKind::Table,
+            _ if self.wants_register() => NameKind::Register,
             _ => NameKind::Variable,
         }
     }
+
+    // A register stands third in a transfer, and fourth in a scan.
+    fn wants_register(&self) -> bool
+        ensures { result ≡ wants_register (standing_of self.now.before) }
+    {
+        use Keyword::{Cfmad, Cfsa, Cfubc, Cfubr, Cssa};
+        match self.before.first_word() {
+            Some(Cfsa | Cssa | Cfubc | Cfubr) => self.before.phrase.len() == 2,
+            Some(Cfmad) => self.before.phrase.len() == 2 || self.before.phrase.len() == 3,
+            _ => false,
+        }
+    }
+}
+
+// A fault of a token is the first of its text, and needs nothing of what stands before.
+fn read_before<'a>(kind: &Option<TokenKind>, word: &[u8], tokens: &'a [Token]) -> &'a [Token]
+    ensures { result.now ≡ read_before kind.now word.now tokens.now }
+{
+    match (kind, word) {
+        (Some(_), _) => tokens,
+        (None, []) => tokens,
+        (None, [_, ..]) => &[],
+    }
+}
+
+// Whether only blanks stand behind the last line feed of a text.
+fn ends_in_blanks(text: &[u8]) -> bool
+    ensures { result ≡ ends_in_blanks false text.now }
+{
+    let mut is_blank_line = false;
+    'bytes: for byte in text {
+        is_blank_line = *byte == b'\n' || (is_blank_line && byte.is_ascii_whitespace());
+    }
+    is_blank_line
+}
+
+fn behind(text: &[u8], size: usize) -> &[u8]
+    ensures { result.now ≡ drop size text.now }
+{
+    if size < text.len() {
+        &text[size..]
+    } else {
+        &[]
+    }
+}
+
+#[tactic(auto, using(std::proofs::lemmas::Str::Ascii::trim_ascii_start_is))]
+fn without_blanks(text: &[u8]) -> &[u8]
+    ensures { result.now ≡ without_blanks text.now }
+{
+    text.trim_ascii_start()
 }
 
 /// A text from the place on where so many bytes are left.

@@ -1,13 +1,22 @@
 // What may be meant where a text is refused.
 
-ghost use Rattle.std.specs.Prelude.{◌≡◌, Some};
-ghost use Rattle.camac_lines.specs.Words.{shown_text};
+ghost use Rattle.std.specs.Prelude.{◌≡◌, Some, None, option_copied, option_map, if◌then◌else◌};
+ghost use Rattle.camac_lines.specs.Words.{is_near, shown_text};
+ghost use Rattle.camac_tokens.specs.declared.token.Keyword.TheVariants as keyword;
+ghost use Rattle.camac_text_cursor.specs.declared.choice.Choice.TheVariants as choice;
+ghost use Rattle.camac_explain_text.specs.Before.{standing_of};
 ghost use Rattle.camac_explain_text.specs.Hint.{arguments_of, call_text, hint_text};
+ghost use Rattle.camac_explain_text.specs.Meant.{arguments, arguments_of_call, begins_here, decimal_digits, fits, from_end, if_expected, kind_hint, meant_by_name, meant_by_sign, missing_arrow, name_hint, near_beginning, near_fitting, near_word, open_block, taken_for, unexpected_hint, word_before, word_before_beginning};
+ghost use Rattle.camac_explain_text.specs.Mistake.{is_either};
+ghost use Rattle.camac_explain_text.specs.Place.{expects, place_of};
+ghost use Rattle.camac_explain_text.specs.Spelled.{word_text};
 
 use crate::absent::Absent;
+use crate::before::Before;
 use crate::expected::{begins_declaration, begins_statement};
 use crate::found::Found;
 use crate::mistake::{told_of_kind, usual_mistake};
+use crate::spelled::{sign_text, word_text};
 use camac_lines::{Quote, is_near};
 use camac_text::{Choice, NameKind, TokenKind};
 use camac_tokens::{KEYWORDS, Keyword, Sign};
@@ -125,11 +134,14 @@ impl fmt::Display for Call<'_> {
 }
 
 /// What may be meant by a token that may not stand where it is, but for a word that is near, which may.
-pub fn unexpected_hint<'a>(found: &'a Found<'_>) -> Option<Hint<'a>> {
+#[tactic(auto, unfolding(crate::specs::Meant::unexpected_hint))]
+pub fn unexpected_hint<'a>(found: &'a Found<'_>) -> Option<Hint<'a>>
+    ensures { option_map hint_text result ≡ unexpected_hint (place_of found.now) }
+{
     if let Some(sign) = meant_by_sign(found) {
         return Some(Hint::Meant(sign));
     }
-    if let Some(told) = decimal(found) {
+    if let Some(told) = decimal_digits(found) {
         return Some(Hint::Told(told));
     }
     if let Some(hint) = missing_arrow(found) {
@@ -141,17 +153,21 @@ pub fn unexpected_hint<'a>(found: &'a Found<'_>) -> Option<Hint<'a>> {
     if let Some(word) = near_word(found) {
         return Some(Hint::Meant(word));
     }
-    if found.expected.has(Choice::Declaration) || found.expected.has(Choice::Statement) {
-        if let Some(hint) = word_before(found) {
-            return Some(hint);
-        }
+    if let Some(hint) = word_before_beginning(found) {
+        return Some(hint);
     }
-    arguments(found).or_else(|| open_block(found))
+    if let Some(hint) = arguments(found) {
+        return Some(hint);
+    }
+    open_block(found)
 }
 
 /// What may be meant by a name that is not declared: the near word of the language, which may stand there, else the near name.
-pub fn name_hint<'a>(found: &'a Found<'_>, wanted: NameKind) -> Option<Hint<'a>> {
-    if let Some(told) = decimal(found) {
+#[tactic(auto, unfolding(crate::specs::Meant::name_hint))]
+pub fn name_hint<'a>(found: &'a Found<'_>, wanted: NameKind) -> Option<Hint<'a>>
+    ensures { option_map hint_text result ≡ name_hint (place_of found.now) wanted }
+{
+    if let Some(told) = decimal_digits(found) {
         return Some(Hint::Told(told));
     }
     if let Some(word) = near_word(found) {
@@ -160,129 +176,251 @@ pub fn name_hint<'a>(found: &'a Found<'_>, wanted: NameKind) -> Option<Hint<'a>>
     if let Some(near) = found.before.near(found.word, wanted) {
         return Some(Hint::MeantName(near.name.as_bytes()));
     }
-    let is_called = wanted == NameKind::Variable && found.is_before(b"(");
-    is_called.then_some(Hint::Called(found.word))
+    if wanted == NameKind::Variable && found.is_before(b"(") {
+        return Some(Hint::Called(found.word));
+    }
+    None
+}
+
+fn word_before_beginning<'a>(found: &'a Found<'_>) -> Option<Hint<'a>>
+    ensures { option_map hint_text result ≡ word_before_beginning (place_of found.now) }
+{
+    if found.expects(Choice::Declaration) || found.begins_statement() {
+        word_before(found)
+    } else {
+        None
+    }
 }
 
 /// One of the two words before, where it is near a word that begins what may stand there, and no name that was declared before.
-pub fn word_before<'a>(found: &'a Found<'_>) -> Option<Hint<'a>> {
-    let is_beginning = |word: &Keyword| {
-        if found.before.in_body() {
-            begins_statement(*word)
-        } else {
-            begins_declaration(*word)
-        }
+#[tactic(auto, unfolding(crate::specs::Meant::word_before))]
+pub fn word_before<'a>(found: &'a Found<'_>) -> Option<Hint<'a>>
+    ensures { option_map hint_text result ≡ word_before (place_of found.now) }
+{
+    if let Some(hint) = meant_by_name(&found.before, from_end(&found.before, 1)) {
+        return Some(hint);
+    }
+    meant_by_name(&found.before, from_end(&found.before, 2))
+}
+
+// The token that stands so many before the end of the phrase, or its first one.
+fn from_end(before: &Before, count: usize) -> Option<&TokenKind>
+    ensures { option_copied result ≡ from_end count (standing_of before.now) }
+{
+    before.phrase.get(before.phrase.len().saturating_sub(count))
+}
+
+fn meant_by_name<'a>(before: &Before, kind: Option<&'a TokenKind>) -> Option<Hint<'a>>
+    ensures { option_map hint_text result ≡ meant_by_name (standing_of before.now) (option_copied kind.entry) }
+{
+    let Some(TokenKind::Name(name)) = kind else {
+        return None;
     };
-    for kind in found.before.phrase.iter().rev().take(2) {
-        if let TokenKind::Name(name) = kind {
-            let word = name.as_bytes();
-            if found.before.is_declared_before(word) {
-                continue;
-            }
-            let beginnings = KEYWORDS.iter().filter(|it| is_beginning(it));
-            let mut near = beginnings.map(|it| it.spelling());
-            if let Some(meant) = near.find(|it| is_near(word, it.as_bytes())) {
-                return Some(Hint::MeantBefore { word, meant });
-            }
+    let word = name.as_bytes();
+    if before.is_declared_before(word) {
+        return None;
+    }
+    match near_beginning(before, word, &KEYWORDS) {
+        Some(meant) => Some(Hint::MeantBefore { word, meant }),
+        None => None,
+    }
+}
+
+// The first of these words that begins a declaration or a statement here, and is near a name.
+#[tactic(auto, unfolding(crate::specs::Meant::near_beginning))]
+fn near_beginning(before: &Before, name: &[u8], words: &[Keyword]) -> Option<&'static str>
+    ensures { option_map (λ s. s.now) result ≡ near_beginning (standing_of before.now) name.now words.now }
+{
+    'words: for word in words {
+        if begins_here(before, *word) && is_near_word(name, *word) {
+            return Some(word_text(*word));
         }
     }
     None
 }
 
-// The first word of the language that is near a name and may stand in its place.
-fn near_word(found: &Found<'_>) -> Option<&'static str> {
-    if !matches!(found.kind, Some(TokenKind::Name(_))) {
-        return None;
+fn is_near_word(name: &[u8], word: Keyword) -> bool
+    ensures { result ≡ is_near name.now (word_text word) }
+{
+    is_near(name, word_text(word).as_bytes())
+}
+
+fn begins_here(before: &Before, word: Keyword) -> bool
+    ensures { result ≡ begins_here (standing_of before.now) word }
+{
+    if before.in_body() {
+        begins_statement(word)
+    } else {
+        begins_declaration(word)
     }
-    let is_lock = found.begins_statement() && !found.before.in_procedure;
-    let fits = |it: &&Keyword| {
-        found.expected.has(Choice::Word(**it)) || (is_lock && **it == Keyword::Lock)
-    };
-    let fitting = KEYWORDS.iter().filter(fits);
-    let mut words = fitting.map(|it| it.spelling());
-    words.find(|word| is_near(found.word, word.as_bytes()))
 }
 
-// A word right after a number, as in `0x1F`.
-fn decimal(found: &Found<'_>) -> Option<&'static str> {
-    let is_word = matches!(found.kind, Some(TokenKind::Name(_) | TokenKind::Keyword(_)));
-    let is_after_number = matches!(found.last(), Some(TokenKind::Number(_)));
-    (is_word && is_after_number && found.adjoins_word()).then_some(
-        "Write numbers in decimal digits.",
-    )
-}
-
-// A sign that is taken for another one, or for a word, that may stand there.
-fn meant_by_sign(found: &Found<'_>) -> Option<&'static str> {
-    let Some(TokenKind::Sign(sign)) = &found.kind else {
-        return None;
-    };
-    let meant = match sign {
-        Sign::Equals if found.expected.has(Choice::Comparison) => Sign::Same,
-        Sign::Equals | Sign::Less => Sign::From,
-        Sign::Same => Sign::Equals,
-        Sign::More | Sign::Minus => Sign::Into,
-        Sign::UpTo if found.expected.has(Choice::Word(Keyword::To)) => return Some(
-            Keyword::To.spelling(),
-        ),
-        _ => return None,
-    };
-    found
-        .expected
-        .has(Choice::Mark(meant))
-        .then_some(meant.spelling())
-}
-
-// What stands where the arrow of a cycle is missing: a name that then begins an assignment, or a number.
-fn missing_arrow<'a>(found: &'a Found<'_>) -> Option<Hint<'a>> {
-    use TokenKind::{Keyword as Word, Name, Number};
-    let is_set = found.expected.has(Choice::Mark(Sign::Equals));
-    match (found.before.phrase.as_slice(), &found.kind) {
-        (
-            [
-                Word(Keyword::Cfsa | Keyword::Cssa),
-                Number(_),
-                Name(_),
-                Name(value),
-            ],
-            _,
-        ) if is_set => { Some(Hint::NoArrow(value.as_bytes())) }
-        ([Word(Keyword::Cfsa | Keyword::Cssa), Number(_), Name(_)], Some(Number(_))) => Some(
-            Hint::NoArrow(found.word),
-        ),
+// The first word of the language that is near a name and may stand in its place.
+#[tactic(auto, unfolding(crate::specs::Meant::near_word))]
+fn near_word(found: &Found<'_>) -> Option<&'static str>
+    ensures { option_map (λ s. s.now) result ≡ near_word (place_of found.now) }
+{
+    match found.kind {
+        Some(TokenKind::Name(_)) => near_fitting(found, &KEYWORDS),
         _ => None,
     }
 }
 
-/// What a procedure or a register is for, in the place of a variable.
-pub fn kind_hint<'a>(found: &'a Found<'_>, wanted: NameKind, kind: NameKind) -> Option<Hint<'a>> {
-    if wanted == NameKind::Variable {
-        match kind {
-            NameKind::Procedure if found.begins_statement() => {
-                return Some(Hint::Called(found.word));
-            }
-            NameKind::Procedure => return Some(Hint::NoResult(found.word)),
-            NameKind::Register => return Some(Hint::Address(found.word)),
-            _ => {}
+#[tactic(auto, unfolding(crate::specs::Meant::near_fitting))]
+fn near_fitting(found: &Found<'_>, words: &[Keyword]) -> Option<&'static str>
+    ensures { option_map (λ s. s.now) result ≡ near_fitting (place_of found.now) words.now }
+{
+    'words: for word in words {
+        if fits(found, *word) && is_near_word(found.word, *word) {
+            return Some(word_text(*word));
         }
     }
-    let told = told_of_kind(wanted, kind)?;
-    Some(Hint::Told(told))
+    None
+}
+
+fn fits(found: &Found<'_>, word: Keyword) -> bool
+    ensures { result ≡ fits (place_of found.now) word }
+{
+    found.expects(Choice::Word(word))
+        || (found.begins_statement() && !found.before.in_procedure && word == Keyword::Lock)
+}
+
+// A word right after a number, as in `0x1F`.
+#[tactic(auto, unfolding(crate::specs::Meant::decimal_digits))]
+fn decimal_digits(found: &Found<'_>) -> Option<&'static str>
+    ensures { option_map (λ s. s.now) result ≡ decimal_digits (place_of found.now) }
+{
+    match (&found.kind, found.last()) {
+        (Some(TokenKind::Name(_) | TokenKind::Keyword(_)), Some(TokenKind::Number(_)))
+            if found.adjoins_word() => {
+            Some("Write numbers in decimal digits.")
+        }
+        _ => None,
+    }
+}
+
+// A sign that is taken for another one, or for a word, that may stand there.
+#[tactic(auto, unfolding(crate::specs::Meant::meant_by_sign))]
+fn meant_by_sign(found: &Found<'_>) -> Option<&'static str>
+    ensures { option_map (λ s. s.now) result ≡ meant_by_sign (place_of found.now) }
+{
+    match &found.kind {
+        Some(TokenKind::Sign(Sign::UpTo)) => meant_by_range(found),
+        Some(TokenKind::Sign(sign)) => if_expected(found, taken_for(found, *sign)),
+        _ => None,
+    }
+}
+
+fn meant_by_range(found: &Found<'_>) -> Option<&'static str>
+    ensures { option_map (λ s. s.now) result ≡ (if expects (place_of found.now) (choice.Word keyword.To) then Some (word_text keyword.To) else None) }
+{
+    if found.expects(Choice::Word(Keyword::To)) {
+        Some(word_text(Keyword::To))
+    } else {
+        None
+    }
+}
+
+// What a sign is taken for.
+fn taken_for(found: &Found<'_>, sign: Sign) -> Option<Sign>
+    ensures { result ≡ taken_for (place_of found.now) sign }
+{
+    match sign {
+        Sign::Equals if found.expects(Choice::Comparison) => Some(Sign::Same),
+        Sign::Equals => Some(Sign::From),
+        Sign::Less => Some(Sign::From),
+        Sign::Same => Some(Sign::Equals),
+        Sign::More => Some(Sign::Into),
+        Sign::Minus => Some(Sign::Into),
+        _ => None,
+    }
+}
+
+fn if_expected(found: &Found<'_>, meant: Option<Sign>) -> Option<&'static str>
+    ensures { option_map (λ s. s.now) result ≡ if_expected (place_of found.now) meant }
+{
+    match meant {
+        Some(sign) if found.expects(Choice::Mark(sign)) => Some(sign_text(sign)),
+        _ => None,
+    }
+}
+
+// What stands where the arrow of a cycle is missing: a name that then begins an assignment, or a number.
+#[tactic(auto, unfolding(crate::specs::Meant::missing_arrow))]
+fn missing_arrow<'a>(found: &'a Found<'_>) -> Option<Hint<'a>>
+    ensures { option_map hint_text result ≡ missing_arrow (place_of found.now) }
+{
+    use TokenKind::{Keyword as Word, Name, Number};
+    match found.before.phrase.as_slice() {
+        [Word(word), Number(_), Name(_), Name(value)]
+            if is_transfer(*word) && found.expects(Choice::Mark(Sign::Equals)) => {
+            Some(Hint::NoArrow(value.as_bytes()))
+        }
+        [Word(word), Number(_), Name(_)]
+            if is_transfer(*word) && matches!(found.kind, Some(Number(_))) => {
+            Some(Hint::NoArrow(found.word))
+        }
+        _ => None,
+    }
+}
+
+fn is_transfer(word: Keyword) -> bool
+    ensures { result ≡ is_either keyword.Cfsa keyword.Cssa word }
+{
+    word == Keyword::Cfsa || word == Keyword::Cssa
+}
+
+/// What a procedure or a register is for, in the place of a variable.
+#[tactic(auto, unfolding(crate::specs::Meant::kind_hint))]
+pub fn kind_hint<'a>(found: &'a Found<'_>, wanted: NameKind, kind: NameKind) -> Option<Hint<'a>>
+    ensures { option_map hint_text result ≡ kind_hint (place_of found.now) wanted kind }
+{
+    match (wanted, kind) {
+        (NameKind::Variable, NameKind::Procedure) if found.begins_statement() => Some(
+            Hint::Called(found.word),
+        ),
+        (NameKind::Variable, NameKind::Procedure) => Some(Hint::NoResult(found.word)),
+        (NameKind::Variable, NameKind::Register) => Some(Hint::Address(found.word)),
+        _ => match told_of_kind(wanted, kind) {
+            Some(told) => Some(Hint::Told(told)),
+            None => None,
+        },
+    }
 }
 
 // How many arguments the procedure of a call takes, unless they are complete.
-fn arguments<'a>(found: &'a Found<'_>) -> Option<Hint<'a>> {
-    let procedure = found.before.called()?;
-    if found.before.phrase.len() == 2 {
+#[tactic(auto, unfolding(crate::specs::Meant::arguments))]
+fn arguments<'a>(found: &'a Found<'_>) -> Option<Hint<'a>>
+    ensures { option_map hint_text result ≡ arguments (place_of found.now) }
+{
+    match found.before.called() {
+        Some(procedure) => arguments_of_call(&found.before, procedure),
+        None => None,
+    }
+}
+
+fn arguments_of_call<'a>(before: &Before, procedure: &'a [u8]) -> Option<Hint<'a>>
+    ensures { option_map hint_text result ≡ arguments_of_call (standing_of before.now) procedure.now }
+{
+    if before.phrase.len() == 2 {
         return Some(Hint::Brackets(procedure));
     }
-    let count = found.before.declared(procedure)?.parameters;
-    let takes = Hint::Takes { procedure, count };
-    found.before.is_in_brackets().then_some(takes)
+    match before.declared(procedure) {
+        Some(declared) if before.is_in_brackets() => {
+            let count = declared.parameters;
+            Some(Hint::Takes { procedure, count })
+        }
+        _ => None,
+    }
 }
 
 // The `{` that is open where the text ends.
-fn open_block<'a>(found: &'a Found<'_>) -> Option<Hint<'a>> {
-    let line = found.before.open_line()?;
-    found.word.is_empty().then_some(Hint::Open { line })
+#[tactic(auto, unfolding(crate::specs::Meant::open_block))]
+fn open_block<'a>(found: &'a Found<'_>) -> Option<Hint<'a>>
+    ensures { option_map hint_text result ≡ open_block (place_of found.now) }
+{
+    match found.before.open_line() {
+        Some(line) if found.word.is_empty() => Some(Hint::Open { line }),
+        _ => None,
+    }
 }

@@ -10,6 +10,8 @@ mod found;
 mod hint;
 mod limit;
 mod mistake;
+mod own;
 mod sentence;
+mod spelled;
 
 pub use sentence::text_sentence;

@@ -1,14 +1,19 @@
 // Mistakes that are made often.
 
-use crate::before::word_of;
-use crate::expected::{begins_declaration, begins_statement, is_comparison, is_name, is_operator};
+ghost use Rattle.std.specs.Prelude.{◌≡◌, option_copied, option_map};
+ghost use Rattle.camac_explain_text.specs.Before.{first_of, word_of};
+ghost use Rattle.camac_explain_text.specs.Mistake.{begins_action, compares_or_sets, ends_expression, is_of_condition, mistake_after, mistake_at, mistake_in, of_both, outside_of_bodies, told_of_kind, usual_mistake};
+ghost use Rattle.camac_explain_text.specs.Place.{last, place_of};
+
+use crate::expected::{begins_statement, is_comparison, is_name, is_operator};
 use crate::found::Found;
-use crate::hint::{Hint, word_before};
 use camac_text::{Choice, NameKind, TokenKind};
 use camac_tokens::{Keyword, Sign};
 
 /// What is to be known of a name of one kind in the place of another.
-pub fn told_of_kind(wanted: NameKind, found: NameKind) -> Option<&'static str> {
+pub fn told_of_kind(wanted: NameKind, found: NameKind) -> Option<&'static str>
+    ensures { option_map (λ s. s.now) result ≡ told_of_kind wanted found }
+{
     match (wanted, found) {
         (NameKind::Variable, NameKind::Table) => Some(
             "A table cannot be read: it is for block writes.",
@@ -19,158 +24,203 @@ pub fn told_of_kind(wanted: NameKind, found: NameKind) -> Option<&'static str> {
     }
 }
 
-/// What takes the place of all that might stand where a token may not: a word or a sign of another language, a declaration in a body, a word
-/// of the language where a name has to stand.
-pub fn own_sentence<'a>(found: &'a Found<'_>) -> Option<Hint<'a>> {
-    if let Some(absent) = found.absent_word() {
-        return Some(Hint::Absent(absent));
+/// Of a statement that stands outside of services and procedures.
+#[tactic(auto, unfolding(crate::specs::Mistake::outside_of_bodies))]
+pub fn outside_of_bodies(found: &Found<'_>) -> Option<&'static str>
+    ensures { option_map (λ s. s.now) result ≡ outside_of_bodies (place_of found.now) }
+{
+    if begins_action(found) && !found.before.in_body() {
+        return Some("A statement belongs in the braces of a service or a procedure.");
     }
-    // A sign of the language may begin as one of another, as `..` does.
-    if let (Some(TokenKind::Sign(_)), Some(absent)) = (&found.kind, found.absent_sign()) {
-        if absent.spelled.len() > 1 {
-            return Some(Hint::Absent(absent));
-        }
-    }
-    let keyword = found.keyword()?;
-    let word = keyword.spelling();
-    let is_declaration = begins_declaration(keyword)
-        && (keyword != Keyword::Table || found.begins_line());
-    if let (true, Some(line)) = (is_declaration, found.before.open_line()) {
-        return Some(Hint::Inside { word, line });
-    }
-    if found.before.wants_new_name() && !found.begins_line() && word_before(found).is_none() {
-        return Some(Hint::OfLanguage(word));
-    }
-    match keyword {
-        _ if !found.is_assigned() || begins_statement(keyword) => None,
-        Keyword::Q | Keyword::X => Some(Hint::Told(
-            "Each cycle sets the flags, and nothing else does.",
-        )),
-        _ => Some(Hint::OfLanguage(word)),
-    }
+    None
 }
 
-/// Of a statement that stands outside of services and procedures.
-pub fn outside_of_bodies(found: &Found<'_>) -> Option<&'static str> {
-    let is_statement = match found.kind.as_ref()? {
-        TokenKind::Keyword(word) => begins_statement(*word),
-        TokenKind::Name(_) => found.is_assigned(),
+fn begins_action(found: &Found<'_>) -> bool
+    ensures { result ≡ begins_action (place_of found.now) found.now.kind }
+{
+    match &found.kind {
+        Some(TokenKind::Keyword(word)) => begins_statement(*word),
+        Some(TokenKind::Name(_)) => found.is_assigned(),
         _ => false,
-    };
-    (is_statement && !found.before.in_body()).then_some(
-        "A statement belongs in the braces of a service or a procedure.",
-    )
+    }
 }
 
 /// What is to be known where a token may not stand.
-pub fn usual_mistake(found: &Found<'_>) -> Option<&'static str> {
-    outside_of_bodies(found)
-        .or_else(|| mistake_at(found))
-        .or_else(|| mistake_after(found))
-        .or_else(|| mistake_in(found))
+#[tactic(auto, unfolding(crate::specs::Mistake::usual_mistake))]
+pub fn usual_mistake(found: &Found<'_>) -> Option<&'static str>
+    ensures { option_map (λ s. s.now) result ≡ usual_mistake (place_of found.now) }
+{
+    if let Some(told) = outside_of_bodies(found) {
+        return Some(told);
+    }
+    if let Some(told) = told_at(found) {
+        return Some(told);
+    }
+    if let Some(told) = told_after(found) {
+        return Some(told);
+    }
+    told_in(found)
+}
+
+fn told_at(found: &Found<'_>) -> Option<&'static str>
+    ensures { option_map (λ s. s.now) result ≡ of_both (mistake_at (place_of found.now)) (word_of (first_of (place_of found.now).before)) found.now.kind }
+{
+    match (found.before.first_word(), &found.kind) {
+        (Some(first), Some(kind)) => mistake_at(found, first, kind),
+        _ => None,
+    }
+}
+
+fn told_after(found: &Found<'_>) -> Option<&'static str>
+    ensures { option_map (λ s. s.now) result ≡ of_both (mistake_after (place_of found.now)) (last (place_of found.now)) found.now.kind }
+{
+    match (found.last(), &found.kind) {
+        (Some(last), Some(kind)) => mistake_after(found, last, kind),
+        _ => None,
+    }
+}
+
+fn told_in(found: &Found<'_>) -> Option<&'static str>
+    ensures { option_map (λ s. s.now) result ≡ of_both (mistake_in (place_of found.now)) (word_of (first_of (place_of found.now).before)) found.now.kind }
+{
+    match (found.before.first_word(), &found.kind) {
+        (Some(first), Some(kind)) => mistake_in(found, first, kind),
+        _ => None,
+    }
 }
 
 // What is wrong with a token in a declaration or a statement of this kind.
-fn mistake_at(found: &Found<'_>) -> Option<&'static str> {
+#[tactic(auto, unfolding(crate::specs::Mistake::mistake_at))]
+fn mistake_at(found: &Found<'_>, first: Keyword, kind: &TokenKind) -> Option<&'static str>
+    ensures { option_map (λ s. s.now) result ≡ mistake_at (place_of found.now) first kind.now }
+{
     use TokenKind::{Keyword as Word, Sign as Mark};
-    let first = found.before.first_word()?;
-    Some(match (first, found.kind.as_ref()?) {
-        (Keyword::Var, Mark(Sign::Comma)) => "Write names without commas, as in `var v k`.",
-        (Keyword::Var, Mark(Sign::Equals)) =>
+    match (first, kind) {
+        (Keyword::Var, Mark(Sign::Comma)) => Some("Write names without commas, as in `var v k`."),
+        (Keyword::Var, Mark(Sign::Equals)) => Some(
             "A variable begins as 0: a service sets it, as in `v = 3`.",
-        (Keyword::Table, Mark(Sign::Comma)) => "Write words without commas, as in `table t = 1 2`.",
-        (Keyword::Put, Mark(Sign::Comma)) => "A `put` has one value: write `put` before each.",
-        (Keyword::Cfsa | Keyword::Cssa, Mark(Sign::Comma)) if found.begins_statement() => {
-            "A read sets one variable, and the flags `q` and `x` by themselves."
-        }
-        (Keyword::For, _) if found.before.phrase.len() == 2 => {
-            "A `for` is written `for i = A to B { .. }`."
-        }
-        (Keyword::If | Keyword::While, Word(Keyword::In)) => {
-            "A range is tested by two comparisons: `v >= A and v <= B`."
-        }
+        ),
+        (Keyword::Table, Mark(Sign::Comma)) => Some(
+            "Write words without commas, as in `table t = 1 2`.",
+        ),
+        (Keyword::Put, Mark(Sign::Comma)) => Some(
+            "A `put` has one value: write `put` before each.",
+        ),
+        (Keyword::Cfsa | Keyword::Cssa, Mark(Sign::Comma)) if found.begins_statement() => Some(
+            "A read sets one variable, and the flags `q` and `x` by themselves.",
+        ),
+        (Keyword::For, _) if found.before.phrase.len() == 2 => Some(
+            "A `for` is written `for i = A to B { .. }`.",
+        ),
+        (Keyword::If | Keyword::While, Word(Keyword::In)) => Some(
+            "A range is tested by two comparisons: `v >= A and v <= B`.",
+        ),
         (Keyword::If | Keyword::While, Mark(Sign::LeftBrace))
-            if found.expected.has(Choice::Comparison) => { "A condition compares, as in `v != 0`." }
+            if found.expects(Choice::Comparison) => {
+            Some("A condition compares, as in `v != 0`.")
+        }
         (_, Mark(sign))
             if is_comparison(*sign)
-                && found.expected.has(Choice::Word(Keyword::And))
-                && is_value(found.last()) => {
-            "Comparisons are joined by `and`: `a < v and v < b`."
+                && found.expects(Choice::Word(Keyword::And))
+                && ends_expression(found.last()) => {
+            Some("Comparisons are joined by `and`: `a < v and v < b`.")
         }
-        _ => return None,
-    })
+        _ => None,
+    }
 }
 
 // Whether a token ends an expression.
-fn is_value(kind: Option<&TokenKind>) -> bool {
+fn ends_expression(kind: Option<&TokenKind>) -> bool
+    ensures { result ≡ ends_expression (option_copied kind.entry) }
+{
     matches!(
         kind,
         Some(TokenKind::Name(_) | TokenKind::Number(_) | TokenKind::Sign(Sign::RightBracket))
     )
 }
 
+fn compares_or_sets(kind: &TokenKind) -> bool
+    ensures { result ≡ compares_or_sets (Some kind.now) }
+{
+    match kind {
+        TokenKind::Sign(sign) => is_comparison(*sign) || *sign == Sign::Equals,
+        _ => false,
+    }
+}
+
 // What is wrong with a token after the one before.
-fn mistake_after(found: &Found<'_>) -> Option<&'static str> {
-    use TokenKind::{Keyword as Word, Name};
-    let is_value = found.expected.has(Choice::Number);
-    Some(match (found.last()?, found.kind.as_ref()?) {
-        (Name(_), TokenKind::Sign(Sign::Minus)) if found.adjoins_word() => {
-            "A name has letters, digits and `_`, and no dash."
+#[tactic(auto, unfolding(crate::specs::Mistake::mistake_after))]
+fn mistake_after(found: &Found<'_>, before: &TokenKind, kind: &TokenKind) -> Option<&'static str>
+    ensures { option_map (λ s. s.now) result ≡ mistake_after (place_of found.now) before.now kind.now }
+{
+    use TokenKind::{Keyword as Word, Name, Sign as Mark};
+    match (before, kind) {
+        (Name(_), Mark(Sign::Minus)) if found.adjoins_word() => Some(
+            "A name has letters, digits and `_`, and no dash.",
+        ),
+        (Name(_), Mark(sign))
+            if is_operator(*sign) && found.expects(Choice::Mark(Sign::Equals)) => {
+            Some("Repeat the variable after the `=`, as in `v = v + 1`.")
         }
-        (Name(_), TokenKind::Sign(sign))
-            if is_operator(*sign) && found.expected.has(Choice::Mark(Sign::Equals)) => {
-            "Repeat the variable after the `=`, as in `v = v + 1`."
+        (Word(Keyword::Q | Keyword::X), _) if compares_or_sets(kind) => Some(
+            "Write a flag alone: `q`, or `not q`.",
+        ),
+        (Word(Keyword::Not), Word(Keyword::Not)) => Some(
+            "After `not`, write a comparison, `q` or `x`.",
+        ),
+        (Word(Keyword::Else), Word(Keyword::If)) => Some(
+            "Write the block of `else` in braces; an `if` may be in it.",
+        ),
+        (Word(_), Mark(Sign::LeftBracket)) => Some(
+            "What follows is written without brackets and commas.",
+        ),
+        (Mark(Sign::Into), _) => Some(
+            "A read sets a variable after `->`; a write has `<-` and a value.",
+        ),
+        (Mark(Sign::Over | Sign::Modulo), _) => Some("A divisor is a number of at least 1."),
+        (_, Mark(Sign::Minus)) if found.expects(Choice::Number) => Some(
+            "There are no numbers below 0.",
+        ),
+        (_, Word(Keyword::Q | Keyword::X))
+            if found.expects(Choice::Number) && !found.before.is_in_brackets() => {
+            Some("A flag is no number: write `v = 0  if q { v = 1 }`.")
         }
-        (Word(Keyword::Q | Keyword::X), TokenKind::Sign(sign))
-            if is_comparison(*sign) || *sign == Sign::Equals => {
-            "Write a flag alone: `q`, or `not q`."
-        }
-        (Word(Keyword::Not), Word(Keyword::Not)) => "After `not`, write a comparison, `q` or `x`.",
-        (Word(Keyword::Else), Word(Keyword::If)) => {
-            "Write the block of `else` in braces; an `if` may be in it."
-        }
-        (Word(_), TokenKind::Sign(Sign::LeftBracket)) => {
-            "What follows is written without brackets and commas."
-        }
-        (TokenKind::Sign(Sign::Into), _) => {
-            "A read sets a variable after `->`; a write has `<-` and a value."
-        }
-        (TokenKind::Sign(Sign::Over | Sign::Modulo), _) => "A divisor is a number of at least 1.",
-        (_, TokenKind::Sign(Sign::Minus)) if is_value => "There are no numbers below 0.",
-        (_, Word(Keyword::Q | Keyword::X)) if is_value && !found.before.is_in_brackets() => {
-            "A flag is no number: write `v = 0  if q { v = 1 }`."
-        }
-        _ => return None,
-    })
+        _ => None,
+    }
 }
 
 // What is wrong with a token in a declaration or a statement.
-fn mistake_in(found: &Found<'_>) -> Option<&'static str> {
-    let kind = found.kind.as_ref()?;
-    Some(match found.before.first_word()? {
-        Keyword::If | Keyword::While if is_of_condition(kind) && found.before.is_in_brackets() => {
-            "Brackets are for expressions, not for conditions."
+#[tactic(auto, unfolding(crate::specs::Mistake::mistake_in))]
+fn mistake_in(found: &Found<'_>, first: Keyword, kind: &TokenKind) -> Option<&'static str>
+    ensures { option_map (λ s. s.now) result ≡ mistake_in (place_of found.now) first kind.now }
+{
+    match (first, kind) {
+        (Keyword::If | Keyword::While, _)
+            if is_of_condition(kind) && found.before.is_in_brackets() => {
+            Some("Brackets are for expressions, not for conditions.")
         }
-        Keyword::Ctlm | Keyword::Ctci | Keyword::Ctcd | Keyword::Ctgl
-            if matches!(kind, TokenKind::Sign(Sign::Into)) => { "The answer is the flag `q`." }
-        Keyword::Cdlam | Keyword::Cdreg if found.expected.has(Choice::Number) => {
-            "An address is the branch, which is 1, then crate, station and sub-address."
-        }
-        _ if is_name(found.expected) => match found.needed() {
-            NameKind::Register => "Set a register to an address first, by `cdreg`.",
-            NameKind::Lam => "Write the name of a LAM here, which `cdlam` declares.",
-            _ => return None,
+        (
+            Keyword::Ctlm | Keyword::Ctci | Keyword::Ctcd | Keyword::Ctgl,
+            TokenKind::Sign(Sign::Into),
+        ) => Some("The answer is the flag `q`."),
+        (Keyword::Cdlam | Keyword::Cdreg, _) if found.expects(Choice::Number) => Some(
+            "An address is the branch, which is 1, then crate, station and sub-address.",
+        ),
+        _ if !is_name(found.expected) => None,
+        _ => match found.needed() {
+            NameKind::Register => Some("Set a register to an address first, by `cdreg`."),
+            NameKind::Lam => Some("Write the name of a LAM here, which `cdlam` declares."),
+            _ => None,
         },
-        _ => return None,
-    })
+    }
 }
 
-fn is_of_condition(kind: &TokenKind) -> bool {
+fn is_of_condition(kind: &TokenKind) -> bool
+    ensures { result ≡ is_of_condition kind.now }
+{
     match kind {
         TokenKind::Sign(sign) => is_comparison(*sign),
-        kind => matches!(
-            word_of(Some(kind)),
-            Some(Keyword::And | Keyword::Not | Keyword::Q | Keyword::X)
-        ),
+        TokenKind::Keyword(Keyword::And | Keyword::Not | Keyword::Q | Keyword::X) => true,
+        _ => false,
     }
 }

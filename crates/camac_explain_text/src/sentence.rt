@@ -1,21 +1,26 @@
 // The sentence on a text's fault.
 
-ghost use Rattle.std.specs.Prelude.{◌≡◌, Some, None, IfOk, option_map, string_bytes};
+ghost use Rattle.std.specs.Prelude.{◌≡◌, IfOk, option_map, string_bytes};
 ghost use Rattle.std.specs.Str.{is_utf8};
 ghost use Rattle.camac_explain_text.specs.Absent.{absent_of, absent_text};
+ghost use Rattle.camac_tokens.specs.Words.{or_else};
 ghost use Rattle.camac_explain_text.specs.Hint.{hint_text};
-ghost use Rattle.camac_explain_text.specs.Text.{IsFaultTold, IsTextSentence, begins_like_a_plan, is_buffer};
-ghost use Rattle.camac_explain_text.specs.Sentence.{arguments_text, IsMissing, IsOtherKind, IsTaken, IsTold, IsUndeclared, byte_text, character, character_size, first_byte, missing_text, noun, number_text, or_empty, other_byte_text, other_text, taken_text, with_hint};
+ghost use Rattle.camac_explain_text.specs.Meant.{word_before};
+ghost use Rattle.camac_explain_text.specs.Mistake.{outside_of_bodies};
+ghost use Rattle.camac_explain_text.specs.Place.{place_of};
+ghost use Rattle.camac_explain_text.specs.Text.{IsTextSentence, begins_like_a_plan, fault_text, is_buffer};
+ghost use Rattle.camac_explain_text.specs.Sentence.{absent_variable, arguments_text, byte_text, case_text, character, character_size, expected_sentence, first_byte, is_of_another_language, is_truth, missing_text, not_there, noun, number_text, or_empty, other_byte_text, other_kind, other_text, start_text, taken, taken_text, undeclared, unexpected, with_hint};
 
-use crate::absent::{Absent, absent_sign};
+use crate::absent::{Absent, absent_sign, is_same_word};
 use crate::declaring::{called_before, declared_line};
-use crate::expected::expected_of;
+use crate::expected::{expected_list, noted};
 use crate::found::{Found, kind_at, prefix, rest_of};
 use crate::hint::{Hint, kind_hint, name_hint, unexpected_hint, word_before};
 use crate::limit::limit_told;
-use crate::mistake::{outside_of_bodies, own_sentence};
-use camac_lines::{Quote, before_item};
-use camac_text::{Choices, NameKind, TextCase, TextFault, TokenKind, parse_expecting};
+use crate::mistake::outside_of_bodies;
+use crate::own::own_sentence;
+use camac_lines::Quote;
+use camac_text::{Choice, Choices, NameKind, TextCase, TextFault, TokenKind, parse_expecting};
 use std::alloc::{AllocError, Global};
 
 const PLAN_FIRST: &str = "This begins like a plan: PLAN comes first, then SCRIPT.";
@@ -30,7 +35,8 @@ pub fn text_sentence(alloc: Global, text: &[u8]) -> Result<Option<String>, Alloc
         Ok(_script) => Ok(None),
         Err(TextFault::OutOfMemory) => Err(AllocError),
         Err(TextFault::Broken { case, left, .. }) => {
-            let sentence = fault_told(alloc, text, case, left, expected)?;
+            let noted = noted(alloc, expected)?;
+            let sentence = fault_told(alloc, text, case, left, &noted)?;
             Ok(Some(sentence))
         }
     }
@@ -43,14 +49,14 @@ fn fault_told(
     text: &[u8],
     case: TextCase,
     left: usize,
-    expected: Choices,
+    noted: &[Choice],
 ) -> Result<String, AllocError>
-    ensures { IfOk result (λ s. IsFaultTold (begins_like_a_plan left text.now) text.now case left (string_bytes s)) }
+    ensures { IfOk result (λ s. string_bytes s ≡ fault_text (begins_like_a_plan left text.now) noted.now text.now case left) }
 {
     if begins_like_a_plan(text, left) {
         return String::from_str(alloc, PLAN_FIRST);
     }
-    let found = Found::new(alloc, text, left, expected)?;
+    let found = Found::new(alloc, text, left, noted)?;
     case_told(alloc, &found, case)
 }
 
@@ -73,8 +79,9 @@ fn is_buffer(kind: &TokenKind) -> bool
     }
 }
 
+#[tactic(auto, unfolding(crate::specs::Sentence::case_text))]
 fn case_told(alloc: Global, found: &Found<'_>, case: TextCase) -> Result<String, AllocError>
-    ensures { IfOk result (λ s. IsTold found.now.text.now found.now.rest.now found.now.tokens.items found.now.word.now case (string_bytes s)) }
+    ensures { IfOk result (λ s. string_bytes s ≡ case_text (place_of found.now) case) }
 {
     let word = Quote(found.word);
     match case {
@@ -216,23 +223,32 @@ fn character_size(first: u8) -> usize
     }
 }
 
-fn unexpected(alloc: Global, found: &Found<'_>) -> Result<String, AllocError> {
+#[tactic(auto, unfolding(crate::specs::Sentence::unexpected))]
+fn unexpected(alloc: Global, found: &Found<'_>) -> Result<String, AllocError>
+    ensures { IfOk result (λ s. string_bytes s ≡ unexpected (place_of found.now)) }
+{
     if let Some(own) = own_sentence(found) {
         return format!(in alloc; "{own}");
     }
-    let expected = expected_of(alloc, found.expected)?;
-    let mut sentence = if found.word.is_empty() {
-        String::from_str(alloc, "Found the end of the script")?
-    } else {
-        format!(in alloc; "Found {}", Quote(found.word))?
-    };
-    sentence.push_str("; expected ")?;
-    for (place, alternative) in expected.iter().enumerate() {
-        let before = before_item(place, expected.len(), " or ");
-        write!(sentence, "{before}{alternative}")?;
-    }
-    sentence.push_str(".")?;
+    let sentence = expected_told(alloc, found.word, found.expected)?;
     with_hint(alloc, sentence, unexpected_hint(found))
+}
+
+#[tactic(auto, unfolding(crate::specs::Sentence::expected_sentence))]
+fn expected_told(alloc: Global, token: &[u8], noted: &[Choice]) -> Result<String, AllocError>
+    ensures { IfOk result (λ s. string_bytes s ≡ expected_sentence token.now noted.now) }
+{
+    let (start, list) = (start_told(alloc, token)?, expected_list(alloc, noted)?);
+    format!(in alloc; "{start}; expected {list}.")
+}
+
+fn start_told(alloc: Global, token: &[u8]) -> Result<String, AllocError>
+    ensures { IfOk result (λ s. string_bytes s ≡ start_text token.now) }
+{
+    match token {
+        [] => String::from_str(alloc, "Found the end of the script"),
+        [_, ..] => format!(in alloc; "Found {}", Quote(token)),
+    }
 }
 
 // Of a call, where its procedure is known.
@@ -255,15 +271,21 @@ fn arguments_told(
     }
 }
 
-#[tactic(auto, using(crate::proofs::Told::begins))]
+#[tactic(auto, unfolding(crate::specs::Sentence::taken))]
 fn taken(alloc: Global, found: &Found<'_>, by: NameKind) -> Result<String, AllocError>
-    ensures { IfOk result (λ s. IsTaken found.now.tokens.items found.now.word.now by (string_bytes s)) }
+    ensures { IfOk result (λ s. string_bytes s ≡ taken (place_of found.now) by) }
 {
     let line = declared_line(&found.tokens, by, found.word);
     let sentence = taken_told(alloc, found.word, line, by)?;
+    with_hint(alloc, sentence, taken_hint(found))
+}
+
+fn taken_hint<'a>(found: &'a Found<'_>) -> Option<Hint<'a>>
+    ensures { option_map hint_text result ≡ or_else (outside_of_bodies (place_of found.now)) (word_before (place_of found.now)) }
+{
     match outside_of_bodies(found) {
-        Some(told) => with_hint(alloc, sentence, Some(Hint::Told(told))),
-        None => with_hint(alloc, sentence, word_before(found)),
+        Some(told) => Some(Hint::Told(told)),
+        None => word_before(found),
     }
 }
 
@@ -290,7 +312,7 @@ fn undeclared(
     wanted: NameKind,
     what: camac_text::Found,
 ) -> Result<String, AllocError>
-    ensures { IfOk result (λ s. IsUndeclared found.now.tokens.items found.now.word.now wanted what (string_bytes s)) }
+    ensures { IfOk result (λ s. string_bytes s ≡ undeclared (place_of found.now) wanted what) }
 {
     let name = Quote(found.word);
     match what {
@@ -306,14 +328,14 @@ fn undeclared(
 }
 
 // Of a name that is declared as another kind.
-#[tactic(auto, using(crate::proofs::Told::begins))]
+#[tactic(auto, unfolding(crate::specs::Sentence::other_kind))]
 fn other_kind(
     alloc: Global,
     found: &Found<'_>,
     wanted: NameKind,
     kind: NameKind,
 ) -> Result<String, AllocError>
-    ensures { IfOk result (λ s. IsOtherKind found.now.tokens.items found.now.word.now wanted kind (string_bytes s)) }
+    ensures { IfOk result (λ s. string_bytes s ≡ other_kind (place_of found.now) wanted kind) }
 {
     let line = declared_line(&found.tokens, kind, found.word);
     let sentence = other_told(alloc, found.word, line, wanted, kind)?;
@@ -338,17 +360,25 @@ fn other_told(
     }
 }
 
-#[tactic(auto, using(crate::proofs::Told::begins, crate::proofs::Told::missing_begins, crate::proofs::Told::missing_absent))]
+#[tactic(auto, unfolding(crate::specs::Sentence::not_there))]
 fn not_there(alloc: Global, found: &Found<'_>, wanted: NameKind) -> Result<String, AllocError>
-    ensures { IfOk result (λ s. IsMissing found.now.word.now wanted (string_bytes s)) }
+    ensures { IfOk result (λ s. string_bytes s ≡ not_there (place_of found.now) wanted) }
 {
-    if let (NameKind::Variable, Some(absent)) = (wanted, found.absent_word()) {
-        if is_of_another_language(found) {
-            return absent_told(alloc, absent);
-        }
+    if let Some(absent) = absent_variable(found, wanted) {
+        return absent_told(alloc, absent);
     }
     let sentence = missing_told(alloc, found.word, wanted)?;
     with_hint(alloc, sentence, name_hint(found, wanted))
+}
+
+fn absent_variable<'a>(found: &'a Found<'_>, wanted: NameKind) -> Option<Absent<'a>>
+    ensures { option_map absent_of result ≡ absent_variable (place_of found.now) wanted }
+{
+    if wanted == NameKind::Variable && is_of_another_language(found) {
+        found.absent_word()
+    } else {
+        None
+    }
 }
 
 fn missing_told(alloc: Global, name: &[u8], wanted: NameKind) -> Result<String, AllocError>
@@ -360,10 +390,18 @@ fn missing_told(alloc: Global, name: &[u8], wanted: NameKind) -> Result<String, 
 
 // Whether a word stands as in another language, and is no name of a variable that is not declared: it begins a statement that is no
 // assignment, or is called, or is a truth value.
-fn is_of_another_language(found: &Found<'_>) -> bool {
-    let is_truth = found.word.eq_ignore_ascii_case(b"true")
-        || found.word.eq_ignore_ascii_case(b"false");
-    is_truth || found.is_before(b"(") || (found.begins_statement() && !found.is_assigned())
+fn is_of_another_language(found: &Found<'_>) -> bool
+    ensures { result ≡ is_of_another_language (place_of found.now) }
+{
+    is_truth(found.word)
+        || found.is_before(b"(")
+        || (found.begins_statement() && !found.is_assigned())
+}
+
+fn is_truth(word: &[u8]) -> bool
+    ensures { result ≡ is_truth word.now }
+{
+    is_same_word("true", word) || is_same_word("false", word)
 }
 
 // What a name of a kind is called.

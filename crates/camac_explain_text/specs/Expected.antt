@@ -1,0 +1,117 @@
+-- What might stand at a place, in words: the choices that the parser noted there, as groups, signs and words.
+use Rattle.std.specs.Prelude.{ℕ, ◌+◌, Bool, true, false, ◌&&◌, ◌||◌, not, List, [], ◌∷◌, ◌++◌, Some, codes, filter, length, map}
+use Rattle.std.specs.List.{concat, list_any}
+use Rattle.camac_lines.specs.Words.{before_item}
+use Rattle.camac_tokens.specs.declared.signs.TheConstants.{SIGNS}
+use Rattle.camac_tokens.specs.declared.token.Keyword.{Keyword}
+use Rattle.camac_tokens.specs.declared.token.Keyword.TheVariants as word
+use Rattle.camac_tokens.specs.declared.token.Sign.{Sign}
+use Rattle.camac_tokens.specs.declared.token.Sign.TheVariants as sign
+use Rattle.camac_tokens.specs.declared.token.TokenKind.TheVariants as kind
+use Rattle.camac_tokens.specs.declared.words.TheConstants.{KEYWORDS}
+use Rattle.camac_text_cursor.specs.Choice.{takes}
+use Rattle.camac_text_cursor.specs.declared.choice.Choice.{Choice}
+use Rattle.camac_text_cursor.specs.declared.choice.Choice.TheVariants as choice
+use Rattle.camac_explain_text.specs.Spelled.{is_mark, is_word, sign_text, word_text}
+use Rattle.camac_explain_text.specs.declared.expected.Expected.{Expected}
+use Rattle.camac_explain_text.specs.declared.expected.Expected.TheVariants as expected
+use Rattle.camac_explain_text.specs.declared.expected.Group.{Group}
+use Rattle.camac_explain_text.specs.declared.expected.Group.TheVariants as group
+use Rattle.camac_explain_text.specs.declared.expected.TheConstants.{GROUPS}
+
+-- the choices that the parser noted at a place
+abbrev pub Noted : Type 0
+Noted = List Choice
+
+abbrev pub is_same : (c d : Choice) → Bool
+is_same (choice.Word w) (choice.Word v) = is_word w v
+is_same (choice.Mark s) (choice.Mark t) = is_mark s t
+is_same choice.Name choice.Name = true
+is_same choice.Number choice.Number = true
+is_same choice.Declaration choice.Declaration = true
+is_same choice.Statement choice.Statement = true
+is_same choice.Flag choice.Flag = true
+is_same choice.Switch choice.Switch = true
+is_same choice.Arrow choice.Arrow = true
+is_same choice.Sum choice.Sum = true
+is_same choice.Product choice.Product = true
+is_same choice.Comparison choice.Comparison = true
+is_same _ _ = false
+
+unfoldable pub has : Noted → Choice → Bool
+has noted c = list_any (is_same c) noted
+
+abbrev pub begins_declaration : Keyword → Bool
+begins_declaration w = takes choice.Declaration (Some (kind.Keyword w))
+
+abbrev pub begins_statement : Keyword → Bool
+begins_statement w = takes choice.Statement (Some (kind.Keyword w)) || is_word w word.Lock
+
+abbrev pub is_operator : Sign → Bool
+is_operator s = takes choice.Sum (Some (kind.Sign s)) || takes choice.Product (Some (kind.Sign s))
+
+abbrev pub is_comparison : Sign → Bool
+is_comparison s = takes choice.Comparison (Some (kind.Sign s))
+
+-- a second `not` may not stand after one
+abbrev pub is_condition : Noted → Bool
+is_condition noted = has noted choice.Flag && has noted (choice.Word word.Not)
+
+abbrev pub is_value : Noted → Bool
+is_value noted = has noted choice.Number && has noted (choice.Mark sign.LeftBracket)
+
+-- a name might stand at a place, and neither a number nor the beginning of a statement
+abbrev pub is_name : Noted → Bool
+is_name noted = has noted choice.Name && (not (has noted choice.Number) && not (has noted choice.Statement))
+
+abbrev pub is_group : Noted → Group → Bool
+is_group noted group.Declaration = has noted choice.Declaration
+is_group noted group.Statement = has noted choice.Statement
+is_group noted group.Condition = is_condition noted
+is_group noted group.Expression = is_value noted && not (is_condition noted)
+is_group noted group.Number = has noted choice.Number && not (is_value noted)
+is_group noted group.Name = is_name noted
+is_group noted group.Operator = has noted choice.Sum
+is_group noted group.Comparison = has noted choice.Comparison
+
+-- a sign and a word that might stand there, and are in none of the groups
+abbrev pub is_sign_alone : Noted → Sign → Bool
+is_sign_alone noted s =
+    has noted (choice.Mark s) && not (is_operator s || (is_comparison s || (is_mark s sign.LeftBracket && is_value noted)))
+
+abbrev pub is_of_condition : Keyword → Bool
+is_of_condition w = is_word w word.Not || (is_word w word.Q || is_word w word.X)
+
+abbrev pub is_word_alone : Noted → Keyword → Bool
+is_word_alone noted w =
+    has noted (choice.Word w)
+    && not ((begins_declaration w && has noted choice.Declaration) || (begins_statement w || (is_of_condition w && is_condition noted)))
+
+-- the groups, the signs and the words, each in the order of its list
+unfoldable pub expected_of : Noted → List Expected
+expected_of noted =
+    (map expected.Group (filter (is_group noted) GROUPS) ++ map expected.Sign (filter (is_sign_alone noted) SIGNS))
+    ++ map expected.Word (filter (is_word_alone noted) KEYWORDS)
+
+abbrev pub group_text : Group → List ℕ
+group_text group.Declaration = codes "a declaration"
+group_text group.Statement = codes "a statement"
+group_text group.Condition = codes "a condition"
+group_text group.Expression = codes "an expression"
+group_text group.Number = codes "a number"
+group_text group.Name = codes "a name"
+group_text group.Operator = codes "an operator"
+group_text group.Comparison = codes "a comparison"
+
+abbrev pub expected_text : Expected → List ℕ
+expected_text (expected.Group g) = group_text g
+expected_text (expected.Sign s) = concat (codes "`" ∷ sign_text s ∷ codes "`" ∷ [])
+expected_text (expected.Word w) = concat (codes "`" ∷ word_text w ∷ codes "`" ∷ [])
+
+-- a list, the first of which has this number among so many
+abbrev pub items_from : (number count : ℕ) → List Expected → List ℕ
+items_from number count [] = []
+items_from number count (e ∷ es) = (before_item number count (codes " or ") ++ expected_text e) ++ items_from (number + 1) count es
+
+abbrev pub list_text : List Expected → List ℕ
+list_text es = items_from 0 (length es) es

@@ -1,0 +1,183 @@
+-- What may be meant at a place, or is to be known there: which hint stands behind a sentence.
+use Rattle.std.specs.Prelude.{ℕ, ◌-◌, ◌==◌, nat_lt, Bool, true, false, ◌&&◌, ◌||◌, not, List, [], ◌∷◌, codes, find, is_none, length, option_and_then, option_map, slice_get, Option, Some, None, if◌then◌else◌}
+use Rattle.camac_lines.specs.Words.{is_near}
+use Rattle.camac_tokens.specs.Words.{or_else}
+use Rattle.camac_tokens.specs.declared.fault.NameKind.{NameKind}
+use Rattle.camac_tokens.specs.declared.fault.NameKind.TheVariants as named
+use Rattle.camac_tokens.specs.declared.token.Keyword.{Keyword}
+use Rattle.camac_tokens.specs.declared.token.Keyword.TheVariants as word
+use Rattle.camac_tokens.specs.declared.token.Sign.{Sign}
+use Rattle.camac_tokens.specs.declared.token.Sign.TheVariants as sign
+use Rattle.camac_tokens.specs.declared.token.TokenKind.{TokenKind}
+use Rattle.camac_tokens.specs.declared.token.TokenKind.TheVariants as kind
+use Rattle.camac_tokens.specs.declared.words.TheConstants.{KEYWORDS}
+use Rattle.camac_text_cursor.specs.Readers.{is_name, is_number}
+use Rattle.camac_text_cursor.specs.declared.choice.Choice.TheVariants as choice
+use Rattle.camac_explain_text.specs.Absent.{Told, absent_sign, absent_text}
+use Rattle.camac_explain_text.specs.Before.{Standing, called_in, declared, in_body, is_declared_before, is_in_brackets, is_kind, near, open_line, wants_new_name, word_of}
+use Rattle.camac_explain_text.specs.Expected.{begins_declaration, begins_statement}
+use Rattle.camac_explain_text.specs.Hint.{address_text, before_text, brackets_text, called_text, inside_text, meant_text, name_text, no_arrow_text, no_result_text, of_language_text, open_text, takes_text}
+use Rattle.camac_explain_text.specs.Mistake.{case, first_case, is_either, told_of_kind, usual_mistake}
+use Rattle.camac_explain_text.specs.Place.{Place, absent_word_at, adjoins_word, begins_line, begins_statement_at, expects, is_assigned, is_before, last}
+use Rattle.camac_explain_text.specs.Spelled.{is_word, sign_text, word_text}
+
+abbrev pub begins_here : Standing → Keyword → Bool
+begins_here s w = if in_body s then begins_statement w else begins_declaration w
+
+-- the first of these words that begins a declaration or a statement here, and is near a name
+unfoldable pub near_beginning : Standing → (name : List ℕ) → List Keyword → Option (List ℕ)
+near_beginning s name ws = option_map word_text (find (λ w. begins_here s w && is_near name (word_text w)) ws)
+
+abbrev pub meant_by_name : Standing → Option TokenKind → Option (List ℕ)
+meant_by_name s (Some (kind.Name name)) =
+    if is_declared_before name s then None else option_map (before_text name) (near_beginning s name KEYWORDS)
+meant_by_name s _ = None
+
+-- the token that stands so many before the end of a phrase, or its first one
+abbrev pub from_end : ℕ → Standing → Option TokenKind
+from_end n s = slice_get s.phrase (length s.phrase - n)
+
+-- one of the two words before, which is near a word that begins what may stand there, and no name that was declared before
+unfoldable pub word_before : Place → Option (List ℕ)
+word_before p = or_else (meant_by_name p.before (from_end 1 p.before)) (meant_by_name p.before (from_end 2 p.before))
+
+-- a word that may stand in its place; `lock` may begin a statement, but in a procedure
+abbrev pub fits : Place → Keyword → Bool
+fits p w = expects p (choice.Word w) || ((begins_statement_at p && not p.before.in_procedure) && is_word w word.Lock)
+
+unfoldable pub near_fitting : Place → List Keyword → Option (List ℕ)
+near_fitting p ws = option_map word_text (find (λ w. fits p w && is_near p.bytes (word_text w)) ws)
+
+-- a near word of the language in the place of a name
+unfoldable pub near_word : Place → Option (List ℕ)
+near_word p = if is_name p.token then near_fitting p KEYWORDS else None
+
+abbrev pub is_spelled_out : Option TokenKind → Bool
+is_spelled_out (Some (kind.Name n)) = true
+is_spelled_out (Some (kind.Keyword w)) = true
+is_spelled_out _ = false
+
+-- a word right after a number, as in `0x1F`
+unfoldable pub decimal_digits : Place → Option (List ℕ)
+decimal_digits p =
+    first_case (case (is_spelled_out p.token && (is_number (last p) && adjoins_word p)) (codes "Write numbers in decimal digits.") ∷ [])
+
+-- what a sign is taken for
+abbrev pub taken_for : Place → Sign → Option Sign
+taken_for p sign.Equals = Some (if expects p choice.Comparison then sign.Same else sign.From)
+taken_for p sign.Less = Some sign.From
+taken_for p sign.Same = Some sign.Equals
+taken_for p sign.More = Some sign.Into
+taken_for p sign.Minus = Some sign.Into
+taken_for p _ = None
+
+abbrev pub if_expected : Place → Option Sign → Option (List ℕ)
+if_expected p (Some s) = if expects p (choice.Mark s) then Some (sign_text s) else None
+if_expected p None = None
+
+abbrev pub meant_at_sign : Place → Option TokenKind → Option (List ℕ)
+meant_at_sign p (Some (kind.Sign sign.UpTo)) = if expects p (choice.Word word.To) then Some (word_text word.To) else None
+meant_at_sign p (Some (kind.Sign s)) = if_expected p (taken_for p s)
+meant_at_sign p _ = None
+
+-- the sign, or the `to`, for which a sign is taken, and which may stand there
+unfoldable pub meant_by_sign : Place → Option (List ℕ)
+meant_by_sign p = meant_at_sign p p.token
+
+abbrev pub arrow_in : Place → List TokenKind → Option (List ℕ)
+arrow_in p (kind.Keyword w ∷ kind.Number f ∷ kind.Name register ∷ kind.Name value ∷ []) =
+    if is_either word.Cfsa word.Cssa w && expects p (choice.Mark sign.Equals) then Some (no_arrow_text value) else None
+arrow_in p (kind.Keyword w ∷ kind.Number f ∷ kind.Name register ∷ []) =
+    if is_either word.Cfsa word.Cssa w && is_number p.token then Some (no_arrow_text p.bytes) else None
+arrow_in p _ = None
+
+-- what stands where the arrow of a cycle is missing: a name that then begins an assignment, or a number
+unfoldable pub missing_arrow : Place → Option (List ℕ)
+missing_arrow p = arrow_in p p.before.phrase
+
+abbrev pub takes_of : Standing → (procedure : List ℕ) → Option (List ℕ)
+takes_of s procedure = option_and_then (λ d. if is_in_brackets s then Some (takes_text procedure d.parameters) else None) (declared procedure s)
+
+abbrev pub arguments_of_call : Standing → (procedure : List ℕ) → Option (List ℕ)
+arguments_of_call s procedure = if length s.phrase == 2 then Some (brackets_text procedure) else takes_of s procedure
+
+-- the arguments of a call that is not complete
+unfoldable pub arguments : Place → Option (List ℕ)
+arguments p = option_and_then (arguments_of_call p.before) (called_in p.before.phrase)
+
+-- the `{` that is open where the text ends
+unfoldable pub open_block : Place → Option (List ℕ)
+open_block p = option_and_then (λ line. if length p.bytes == 0 then Some (open_text line) else None) (open_line p.before)
+
+abbrev pub word_before_beginning : Place → Option (List ℕ)
+word_before_beginning p = if expects p choice.Declaration || begins_statement_at p then word_before p else None
+
+-- behind the list of what might stand there: the first of these that is so
+unfoldable pub unexpected_hint : Place → Option (List ℕ)
+unexpected_hint p =
+    or_else (option_map meant_text (meant_by_sign p))
+    (or_else (decimal_digits p)
+    (or_else (missing_arrow p)
+    (or_else (usual_mistake p)
+    (or_else (option_map meant_text (near_word p))
+    (or_else (word_before_beginning p)
+    (or_else (arguments p) (open_block p)))))))
+
+abbrev pub near_name : Place → (wanted : NameKind) → Option (List ℕ)
+near_name p wanted = option_map (λ d. name_text d.name) (near p.bytes wanted p.before)
+
+-- behind a name that is not declared
+unfoldable pub name_hint : Place → (wanted : NameKind) → Option (List ℕ)
+name_hint p wanted =
+    or_else (decimal_digits p)
+    (or_else (option_map meant_text (near_word p))
+    (or_else (near_name p wanted)
+    (first_case (case (is_kind wanted named.Variable && is_before p (codes "(")) (called_text p.bytes) ∷ []))))
+
+-- behind a name that is declared as another kind: what a procedure or a register is for, in the place of a variable
+unfoldable pub kind_hint : Place → (wanted is : NameKind) → Option (List ℕ)
+kind_hint p wanted is =
+    or_else
+    (first_case (
+      case (is_kind wanted named.Variable && (is_kind is named.Procedure && begins_statement_at p)) (called_text p.bytes)
+      ∷ case (is_kind wanted named.Variable && is_kind is named.Procedure) (no_result_text p.bytes)
+      ∷ case (is_kind wanted named.Variable && is_kind is named.Register) (address_text p.bytes) ∷ []))
+    (told_of_kind wanted is)
+
+abbrev pub is_long_sign : Told → Bool
+is_long_sign t = nat_lt 1 (length t.spelled)
+
+-- a sign of the language that begins as one of another, as `..` does
+abbrev pub sign_of_another : Place → Option TokenKind → Option (List ℕ)
+sign_of_another p (Some (kind.Sign s)) = option_and_then (λ t. if is_long_sign t then Some (absent_text t) else None) (absent_sign p.text p.rest)
+sign_of_another p _ = None
+
+-- a declaration in a body; a `table` that begins its line, since others stand in statements
+unfoldable pub inside : Place → Keyword → Option (List ℕ)
+inside p w =
+    if begins_declaration w && (not (is_word w word.Table) || begins_line p) then option_map (inside_text (word_text w)) (open_line p.before) else None
+
+-- a word of the language where a new name has to stand
+abbrev pub is_name_wanted : Place → Bool
+is_name_wanted p = wants_new_name p.before && (not (begins_line p) && is_none (word_before p))
+
+-- a word of the language before an `=`
+abbrev pub is_set : Place → Keyword → Bool
+is_set p w = is_assigned p && not (begins_statement w)
+
+unfoldable pub kept_word : Place → Keyword → Option (List ℕ)
+kept_word p w =
+    first_case (
+      case (is_name_wanted p) (of_language_text (word_text w))
+      ∷ case (is_set p w && is_either word.Q word.X w) (codes "Each cycle sets the flags, and nothing else does.")
+      ∷ case (is_set p w) (of_language_text (word_text w)) ∷ [])
+
+abbrev pub own_of_word : Place → Keyword → Option (List ℕ)
+own_of_word p w = or_else (inside p w) (kept_word p w)
+
+-- what is told in place of all that might stand there: the first of these that is so
+unfoldable pub own_sentence : Place → Option (List ℕ)
+own_sentence p =
+    or_else (option_map absent_text (absent_word_at p))
+    (or_else (sign_of_another p p.token)
+    (option_and_then (own_of_word p) (word_of p.token)))

@@ -1,0 +1,25 @@
+-- How the words and signs of the language are spelled.
+use Rattle.std.specs.Prelude.{ℕ, Bool, List, [], ◌∷◌, ◌++◌, if◌then◌else◌}
+use denote.Enum.Bare.{sameb}
+use Rattle.camac_tokens.specs.Words.{Spelling, action_words, call_words, control_words, declaration_words, pair_signs, single_signs}
+use Rattle.camac_tokens.specs.contracts.token.Keyword as keyword_type
+use Rattle.camac_tokens.specs.contracts.token.Sign as sign_type
+use Rattle.camac_tokens.specs.declared.token.Keyword.{Keyword}
+use Rattle.camac_tokens.specs.declared.token.Sign.{Sign}
+
+abbrev pub is_word : (w v : Keyword) → Bool
+is_word w v = sameb keyword_type.the_type w v
+
+abbrev pub is_mark : (s t : Sign) → Bool
+is_mark s t = sameb sign_type.the_type s t
+
+-- the bytes of the first row that spells it
+abbrev pub bytes_in : {W : Type 0} → (is_it : W → Bool) → List (Spelling W) → List ℕ
+bytes_in is_it [] = []
+bytes_in is_it (s ∷ ss) = if is_it s.spelled then s.bytes else bytes_in is_it ss
+
+unfoldable pub word_text : Keyword → List ℕ
+word_text w = bytes_in (is_word w) (declaration_words ++ (action_words ++ (call_words ++ control_words)))
+
+unfoldable pub sign_text : Sign → List ℕ
+sign_text s = bytes_in (is_mark s) (pair_signs ++ single_signs)
