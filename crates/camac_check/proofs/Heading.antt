@@ -3,16 +3,12 @@ use Rattle.std.proofs.Common.{◌≡◌, ℕ, ◌+◌, ◌<◌, ◌≤◌, zero,
 use Rattle.std.specs.Prelude.{slice_get}
 use Rattle.camac_lang.specs.Headings.{changed_at}
 use Rattle.camac_lang.specs.Tree.{Procedure, Service, Item, next_table, next_lam, next_variables, next_procedure, next_service, Script}
-use Rattle.camac_lang.specs.View.{lam_of, procedure_of, table_of}
-use Rattle.camac_lang.specs.declared.script.Lam as rust_lam
-use Rattle.camac_lang.specs.declared.script.Procedure as rust_procedure
-use Rattle.camac_lang.specs.declared.script.Table as rust_table
-use Rattle.camac_branch.specs.Address.{Address}
+use Rattle.camac_lang.specs.View.{procedure_of}
 use Rattle.camac_branch.specs.Plan.{Layout}
-use Rattle.camac_model.specs.Meaning.{lam_address}
 use Rattle.camac_model.specs.Fine.{Bounds}
-use Rattle.camac_rules.specs.Cycles.{Context}
-use Rattle.camac_rules.specs.Accept.{with_procedure}
+use Rattle.camac_rules.specs.Accept.{bare, with_procedure}
+use Rattle.camac_check_simple.specs.declared.context.Context as code
+use Rattle.camac_check_simple.specs.Gives.{by_rules, rules_before, whole_of}
 use Rattle.camac_check.specs.declared.fault.LeastFault.{LeastFault}
 use Rattle.camac_check.specs.declared.fault.LeastFault.TheVariants as fault
 use Rattle.camac_check.specs.Least.{Finds, Heads, Headed, after_procedures, and_then, least_from, least_items, needing, procedure_first, procedure_needs, service_first, service_needing, service_needs}
@@ -58,17 +54,13 @@ map_take f (suc n) (x ∷ xs) = ap (λ ys. f x ∷ ys) (map_take f n xs)
 
 -- ---- one declaration
 
-abbrev pub context_of : Layout → List (List ℕ) → List Address → List Procedure → Context
-context_of plan tables lams procedures = record { plan = plan; tables = tables; lams = lams; procedures = procedures; limit = λ k. k }
-
 -- what code passes as what may be referred to after so many procedures
-pub same_context : (plan : Layout) (s : Script) (ts : List rust_table.Table) (ls : List rust_lam.Lam) (ps : List rust_procedure.Procedure) (done : ℕ)
-    → map table_of ts ≡ s.tables → map lam_of ls ≡ s.lams → map procedure_of ps ≡ s.procedures
-    → context_of plan (map (λ t. t.words) (map table_of ts)) (map lam_address (map lam_of ls)) (map procedure_of (take done ps)) ≡ after_procedures plan s done
-same_context plan s ts ls ps done et el ep =
-    ap (λ x. context_of plan (map (λ t. t.words) x) (map lam_address (map lam_of ls)) (map procedure_of (take done ps))) et
-    ∙ ap (λ x. context_of plan (map (λ t. t.words) s.tables) (map lam_address x) (map procedure_of (take done ps))) el
-    ∙ ap (context_of plan (map (λ t. t.words) s.tables) (map lam_address s.lams)) (map_take procedure_of done ps ∙ ap (take done) ep)
+pub same_context : (c : code.Context) (plan : Layout) (s : Script) (done : ℕ)
+    → by_rules c ≡ whole_of (λ k. k) plan s → map procedure_of c.procedures.now ≡ s.procedures
+    → rules_before c done ≡ after_procedures plan s done
+same_context c plan s done rules procedures =
+    ap (λ x. record x { procedures = map procedure_of (take done c.procedures.now) }) rules
+    ∙ ap (λ ps. record (bare (λ k. k) plan s) { procedures = ps }) (map_take procedure_of done c.procedures.now ∙ ap (take done) procedures)
 
 no_item : (plan : Layout) (s : Script) (k done served : ℕ) → slice_get s.order k ≡ None → least_from plan s k done served ≡ Ok (record { procedures = drop done s.procedures; services = drop served s.services })
 no_item plan s k done served e =

@@ -25,12 +25,7 @@ use std::alloc::Global;
 pub fn accept_script(alloc: Global, plan: &Plan, script: &Script) -> Result<Vec<Bounds>, CheckFault>
     ensures { Gives (λ v. v.items) result (accept plan.now script.now) }
 {
-    let whole = Context {
-        plan,
-        tables: script.tables(),
-        lams: script.lams(),
-        procedures: script.procedures(),
-    };
+    let whole = Context::of(plan, script);
     accept_items(alloc, &whole, script.order(), 0, script.services())
 }
 
@@ -51,7 +46,7 @@ fn accept_items(
         [Item::Procedure, rest @ ..] => match whole.procedures.get(done) {
             None => accept_items(alloc, whole, rest, done, services),
             Some(procedure) => {
-                let here = before(whole, done);
+                let here = whole.after(done);
                 let _found = accept_procedure(alloc, &here, procedure)?;
                 accept_items(alloc, whole, rest, done + 1, services)
             }
@@ -59,7 +54,7 @@ fn accept_items(
         [Item::Service, rest @ ..] => match services {
             [] => accept_items(alloc, whole, rest, done, services),
             [service, others @ ..] => {
-                let here = before(whole, done);
+                let here = whole.after(done);
                 let first = accept_service(alloc, &here, service)?;
                 let mut all = accept_items(alloc, whole, rest, done, others)?;
                 all.insert(0, first)?;
@@ -67,19 +62,6 @@ fn accept_items(
             }
         },
         [_, rest @ ..] => accept_items(alloc, whole, rest, done, services),
-    }
-}
-
-/// What may be referred to after so many procedures.
-pub fn before<'a>(whole: &Context<'a>, done: usize) -> Context<'a>
-    requires { done ≤ length whole.now.procedures.now }
-    ensures { by_rules result ≡ rules_before whole.now done }
-{
-    Context {
-        plan: whole.plan,
-        tables: whole.tables,
-        lams: whole.lams,
-        procedures: &whole.procedures[..done],
     }
 }
 

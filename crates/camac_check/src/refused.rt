@@ -8,7 +8,7 @@ ghost use Rattle.camac_rules.specs.Fault.{Fault};
 ghost use Rattle.camac_check_simple.specs.Gives.{Gives, rules_before};
 ghost use Rattle.camac_check.specs.Refusals.{fault_of, refusal_first, refusals, section_refusals};
 
-use crate::accept::{accept_procedure, accept_service, before};
+use crate::accept::{accept_procedure, accept_service};
 use camac_branch::Plan;
 use camac_check_known::CheckFault;
 use camac_check_simple::Context;
@@ -22,12 +22,7 @@ use std::alloc::{AllocError, Global};
 pub fn refusals(alloc: Global, script: &Script, plan: &Plan) -> Result<Vec<CheckFault>, AllocError>
     ensures { IfOk result (λ v. v.items ≡ map fault_of (refusals plan.now script.now)) }
 {
-    let whole = Context {
-        plan,
-        tables: script.tables(),
-        lams: script.lams(),
-        procedures: script.procedures(),
-    };
+    let whole = Context::of(plan, script);
     let mut found = Vec::new(alloc);
     push_refusals(
         alloc,
@@ -57,7 +52,7 @@ fn push_refusals(
         [Item::Procedure, rest @ ..] => match whole.procedures.get(done) {
             None => push_refusals(alloc, found, whole, rest, done, services),
             Some(procedure) => {
-                let here = before(whole, done);
+                let here = whole.after(done);
                 push_fault(found, accept_procedure(alloc, &here, procedure))?;
                 push_refusals(alloc, found, whole, rest, done + 1, services)
             }
@@ -65,7 +60,7 @@ fn push_refusals(
         [Item::Service, rest @ ..] => match services {
             [] => push_refusals(alloc, found, whole, rest, done, services),
             [service, others @ ..] => {
-                let here = before(whole, done);
+                let here = whole.after(done);
                 push_fault(found, accept_service(alloc, &here, service))?;
                 push_refusals(alloc, found, whole, rest, done, others)
             }

@@ -1,7 +1,6 @@
 -- The bodies of a script in the order of the text, with their bounds and the rows of their statements.
-use Rattle.std.specs.Prelude.{ℕ, ◌+◌, List, [], ◌∷◌, map, take, Some, Result, Ok, Err}
+use Rattle.std.specs.Prelude.{ℕ, ◌+◌, List, [], ◌∷◌, Some, Result, Ok, Err}
 use Rattle.camac_lang.specs.Tree.{Block, Procedure, Service, Script}
-use Rattle.camac_lang.specs.View.{procedure_of}
 use Rattle.camac_branch.specs.Plan.{Layout}
 use Rattle.camac_model.specs.Fine.{Bounds}
 use Rattle.camac_rules.specs.declared.case.Body.TheVariants as body
@@ -13,9 +12,6 @@ use Rattle.camac_rules.specs.Cycles.{Context, Around, alone_in}
 use Rattle.camac_rules.specs.Procedures.{at_entry}
 use Rattle.camac_rules.specs.Statements.{accept_block}
 use Rattle.camac_rules.specs.Accept.{Section, of_procedure, of_service, sections, at_start, bare, own_body, with_procedure}
-use Rattle.camac_rules.specs.Capped.{capped}
-use Rattle.camac_check_simple.specs.declared.context.Context as code
-use Rattle.camac_check_simple.specs.Gives.{by_code}
 use Rattle.camac_check_costs.specs.declared.bodies.Owner.{Owner}
 use Rattle.camac_check_costs.specs.declared.bodies.Owner.TheVariants as owner
 use Rattle.camac_check_rows.specs.declared.row.Row.{Row}
@@ -53,11 +49,3 @@ sections_of s = sections s.order s.procedures s.services
 -- the procedures and services of a script, where each cost is limited so
 abbrev pub costs_with : (Bounds → Bounds) → Layout → Script → List BodyRows
 costs_with limit plan s = costs_over (bare limit plan s) 0 0 (sections_of s)
-
--- all that a script may refer to, with costs in 64 bits
-abbrev pub context_of : Layout → Script → Context
-context_of plan s = record (bare capped plan s) { procedures = s.procedures }
-
--- of this after so many procedures
-abbrev pub code_before : code.Context → ℕ → Context
-code_before c n = record (by_code c) { procedures = map procedure_of (take n c.procedures.now) }

@@ -4,10 +4,9 @@ ghost use Rattle.std.specs.Prelude.{◌≡◌, ◌≤◌, ◌<◌, ◌+◌, ◌^
 ghost use Rattle.camac_lang.specs.View.{item_of, procedure_of, service_of, statements_of};
 ghost use Rattle.camac_rules.specs.Accept.{sections};
 ghost use Rattle.camac_rules.specs.Capped.{capped};
-ghost use Rattle.camac_check_simple.specs.Gives.{by_code};
-ghost use Rattle.camac_check_costs.specs.Bodies.{body_costs, code_before, context_of, costs_over, costs_with, procedure_costs, service_costs};
+ghost use Rattle.camac_check_simple.specs.Gives.{by_code, code_before};
+ghost use Rattle.camac_check_costs.specs.Bodies.{body_costs, costs_over, costs_with, procedure_costs, service_costs};
 
-use camac_branch::Plan;
 use camac_check::{CheckFault, Checked, Context, accept_block, at_entry};
 use camac_check_known::{Around, Costs, Facts};
 use camac_check_rows::{Row, Rows};
@@ -67,7 +66,7 @@ pub fn costs_of(alloc: Global, checked: &Checked) -> Result<Vec<BodyCosts>, Allo
     ensures { IfOk result (λ v. v.items ≡ costs_with capped checked.now.plan checked.now.script) }
 {
     let script = checked.script();
-    let whole = context_of(checked.plan(), script);
+    let whole = Context::of(checked.plan(), script);
     let mut all = Vec::new(alloc);
     push_bodies(
         alloc,
@@ -79,18 +78,6 @@ pub fn costs_of(alloc: Global, checked: &Checked) -> Result<Vec<BodyCosts>, Allo
         &mut all,
     )?;
     Ok(all)
-}
-
-/// All that a script may refer to: the plan, and its tables, LAMs and procedures.
-pub fn context_of<'a>(plan: &'a Plan, script: &'a Script) -> Context<'a>
-    ensures { by_code result ≡ context_of plan.now script.now }
-{
-    Context {
-        plan,
-        tables: script.tables(),
-        lams: script.lams(),
-        procedures: script.procedures(),
-    }
 }
 
 // Puts those of these declarations at the end, after so many procedures and services.
@@ -113,7 +100,7 @@ fn push_bodies(
         [Item::Procedure, rest @ ..] => match whole.procedures.get(done) {
             None => push_bodies(alloc, whole, rest, done, services, served, all),
             Some(procedure) => {
-                let here = before(whole, done);
+                let here = whole.after(done);
                 all.push(procedure_costs(alloc, &here, done, procedure)?)?;
                 push_bodies(alloc, whole, rest, done + 1, services, served, all)
             }
@@ -121,25 +108,12 @@ fn push_bodies(
         [Item::Service, rest @ ..] => match services {
             [] => push_bodies(alloc, whole, rest, done, services, served, all),
             [service, others @ ..] => {
-                let here = before(whole, done);
+                let here = whole.after(done);
                 all.push(service_costs(alloc, &here, served, service)?)?;
                 push_bodies(alloc, whole, rest, done, others, served + 1, all)
             }
         },
         [_, rest @ ..] => push_bodies(alloc, whole, rest, done, services, served, all),
-    }
-}
-
-/// What may be referred to after so many procedures.
-pub fn before<'a>(whole: &Context<'a>, done: usize) -> Context<'a>
-    requires { done ≤ length whole.now.procedures.now }
-    ensures { by_code result ≡ code_before whole.now done }
-{
-    Context {
-        plan: whole.plan,
-        tables: whole.tables,
-        lams: whole.lams,
-        procedures: &whole.procedures[..done],
     }
 }
 

@@ -5,12 +5,10 @@ ghost use Rattle.camac_lang.specs.View.{item_of, procedure_of, service_of, state
 ghost use Rattle.camac_rules.specs.Accept.{of_procedure, of_service, sections};
 ghost use Rattle.camac_rules.specs.Capped.{capped};
 ghost use Rattle.camac_rules.specs.Refusal.{if_reached};
-ghost use Rattle.camac_check_simple.specs.Gives.{Gives, by_code};
-ghost use Rattle.camac_check_costs.specs.Bodies.{code_before};
+ghost use Rattle.camac_check_simple.specs.Gives.{Gives, by_code, code_before};
 ghost use Rattle.camac_check_costs.specs.Stands.{place_found};
 ghost use Rattle.camac_check_costs.specs.Places.{past, past_block, place_in, place_in_block, place_of, place_over, place_with};
 
-use crate::bodies::{before, context_of};
 use camac_branch::Plan;
 use camac_check::{CheckFault, Context, accept_next, at_entry};
 use camac_check_known::{Around, Facts, split};
@@ -41,7 +39,7 @@ pub fn find_place<'a>(
 ) -> Result<Option<Standing<'a>>, CheckFault>
     ensures { Gives place_found result (place_with capped plan.now script.now body number) }
 {
-    let whole = context_of(plan, script);
+    let whole = Context::of(plan, script);
     place_over(
         alloc,
         &whole,
@@ -72,7 +70,7 @@ fn place_over<'a>(
             None => place_over(alloc, whole, rest, done, services, wanted),
             Some(procedure) => {
                 if body == 0 {
-                    return place_in_procedure(alloc, &before(whole, done), procedure, number);
+                    return place_in_procedure(alloc, &whole.after(done), procedure, number);
                 }
                 place_over(alloc, whole, rest, done + 1, services, (body - 1, number))
             }
@@ -81,7 +79,7 @@ fn place_over<'a>(
             [] => place_over(alloc, whole, rest, done, services, wanted),
             [service, others @ ..] => {
                 if body == 0 {
-                    return place_in_service(alloc, &before(whole, done), service, number);
+                    return place_in_service(alloc, &whole.after(done), service, number);
                 }
                 place_over(alloc, whole, rest, done, others, (body - 1, number))
             }

@@ -1,7 +1,11 @@
 -- The rules as the checker's code follows them.
 use Rattle.std.specs.Prelude.{ℕ, map, take}
+use Rattle.camac_branch.specs.Plan.{Layout}
+use Rattle.camac_lang.specs.Tree.{Script}
 use Rattle.camac_lang.specs.View.{lam_of, table_of, procedure_of}
 use Rattle.camac_model.specs.Meaning.{lam_address}
+use Rattle.camac_model.specs.Fine.{Bounds}
+use Rattle.camac_rules.specs.Accept.{bare}
 use Rattle.camac_rules.specs.Capped.{capped}
 use Rattle.camac_rules.specs.Costs.{Verdict, verdict}
 use Rattle.camac_rules.specs.Cycles.{Context}
@@ -23,3 +27,10 @@ by_rules c = record { plan = c.plan.now; tables = map (λ t. t.words) (map table
 -- after so many procedures
 abbrev pub rules_before : code.Context → ℕ → Context
 rules_before c n = record (by_rules c) { procedures = map procedure_of (take n c.procedures.now) }
+
+abbrev pub code_before : code.Context → ℕ → Context
+code_before c n = record (by_code c) { procedures = map procedure_of (take n c.procedures.now) }
+
+-- all that a script may refer to, where each cost is limited so
+abbrev pub whole_of : (Bounds → Bounds) → Layout → Script → Context
+whole_of limit plan s = record (bare limit plan s) { procedures = s.procedures }
