@@ -8,9 +8,15 @@ import json
 import re
 import select
 import subprocess
+import sys
 import time
 
 from support.program import ANSWERS, CLOSED, DEMAND, EVENT_FILE, EVENT_FILE_ONE, FULL, LISTING, PROGRAM, STRAIGHT_LINE, TOO_LONG, TOP, TWICE, VERDICT, Case, fault, keywords, lacks, run_tests, unwritten
+
+sys.path[:0] = [str(TOP / "python"), str(TOP / "tools")]
+import camac.layout
+import camac.names
+import oracle.reader.tokens
 
 WORDS = {"plan": ["PLAN"], "check": ["PLAN", "SCRIPT"], "explain": ["PLAN|CODE", "[SCRIPT]"], "bounds": ["PLAN", "SCRIPT"], "costs": ["PLAN", "SCRIPT"], "response": ["PLAN", "SCRIPT"], "run": ["PLAN", "SCRIPT", "ANSWERS", "EVENTS"], "drive": ["PLAN", "SCRIPT", "EVENTS"], "events": ["FILE"]}
 # The options of a command but those of help, with the values that they take.
@@ -526,6 +532,12 @@ class Pages(Case):
         self.assertEqual(sorted(" ".join(vim).split()), sorted(words))
         self.assertEqual(sorted("|".join(code).split("|")), sorted(words))
         self.assertEqual(sorted(re.findall(r'"(\w+)"', "".join(re.findall(r"'\(([^)]*)\)", emacs)))), sorted(words))
+        kate = re.findall(r"<item>(\w+)</item>", (TOP / "editors/kate/camac.xml").read_text())
+        for its in (kate, camac.names.WORDS, [it.decode() for it in oracle.reader.tokens.KEYWORDS]):
+            self.assertEqual(sorted(its), sorted(words))
+        for its, kind in ((camac.layout.DECLARATIONS | {"table"}, "declaration"), (camac.layout.STATEMENTS, "statement")):
+            code = re.search(rf"fn begins_{kind}\(.*?\n}}\n", (TOP / "crates/camac_engines/src/spot.rt").read_text(), re.S)[0]
+            self.assertEqual({it.lower() for it in re.findall(r"Keyword::(\w+)", code)}, its)
         self.assertEqual(page.split(), words)
 
 

@@ -33,7 +33,7 @@ impl Model for Handle {
 }
 
 impl Handle {
-    /// None.
+    /// The handle of no session.
     pub fn none(alloc: Global) -> Handle
         ensures { result.value ≡ None }
     {

@@ -193,7 +193,7 @@ fn next(session: &mut Session, answer: CamacAnswer, told: &mut Told)
     take(session, answer, told);
 }
 
-// The same, for both calls.
+// Takes an answer: the one body of `camac_next` and `camac_step`.
 #[inline(always)]
 fn take(session: &mut Session, answer: CamacAnswer, told: &mut Told)
     ensures { TellsNext answer session.old session.new told.new }
@@ -252,7 +252,7 @@ fn ahead(session: &Session, bytes: &mut [u8]) -> Told
     counted(write_numbers(numbers.as_slice(), bytes))
 }
 
-// So many there are.
+// What a call tells that counts.
 fn counted(count: usize) -> Told
     ensures { result ≡ counted count }
 {

@@ -97,8 +97,8 @@ pub fn procedure_within(
     procedure_in_64_bits(alloc, context, procedure, cycles, words, steps)
 }
 
-// The same by the costs of the code, which are 64 bits wide and stay at their greatest number. The rules count without bounds. That
-// both give one result is proved in the function above, from this clause.
+// The same with costs in 64 bits that stay at their greatest number, since the code has no larger ones. The rules count without bounds:
+// the function above proves from this clause that both give one result.
 #[tactic(auto, unfolding(camac_rules::specs::Refusal::go_on, camac_rules::specs::Refusal::if_reached))]
 fn procedure_in_64_bits(
     alloc: Global,

@@ -56,7 +56,7 @@ pub fn range_of(line: u32, e: &Expr, ranges: &[Range]) -> Result<Range, CheckFau
     }
 }
 
-// The same for every line. Where there is no range, the operator is written down: ranges are handed back quickly, since they are small.
+// The same for every line. An operator without a range is written to a place of its own: a range alone is returned in registers.
 #[cycle(reach)]
 #[tactic(auto, unfolding(camac_rules::specs::Refusal::go_on, camac_rules::specs::Refusal::required))]
 #[inline(always)]

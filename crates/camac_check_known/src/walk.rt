@@ -5,7 +5,7 @@ ghost use Rattle.camac_check_known.specs.Gives.{IsFirstFailing, IsHull};
 
 use camac_range::Range;
 
-/// The end of the numbers up to a last one that are below an end.
+/// Where a walk over the numbers up to `last` ends that has to stay below `end`.
 pub fn end_of(last: u32, end: u32) -> u32
     ensures end { result ≡ min (last + 1) end }
     ensures below { result ≤ end }

@@ -180,9 +180,9 @@ impl fmt::Display for Step<'_> {
 // The way to a table.
 #[derive(Clone, Copy)]
 pub(crate) struct Path<'a> {
-    // Where the table around it is known by.
+    // The table around this one, if it has a name or a number.
     pub(crate) around: Option<&'a Table>,
-    // The same of the table itself.
+    // This table, if it has one.
     pub(crate) own: Option<&'a Table>,
     pub(crate) table: PlanTable,
 }

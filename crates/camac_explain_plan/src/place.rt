@@ -67,7 +67,7 @@ fn characters(line: &[u8]) -> usize
     count
 }
 
-// No further byte of a character.
+// Whether a byte is the first of a character of UTF-8.
 fn begins_character(byte: u8) -> bool
     ensures { result ≡ begins_character byte }
 {

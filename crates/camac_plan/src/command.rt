@@ -125,7 +125,7 @@ fn declare_at(
     }
 }
 
-// The command is declared before, by the first table of its function and sub-address.
+// The fault of a command that a table before declares: it names the first.
 fn declared_twice(all: &TypeCommands, place: usize, f: Function, a: SubAddress) -> BrokenRule
     ensures { result ≡ declared_twice (commands_view all.now) place f a }
 {

@@ -69,7 +69,7 @@ fn add_crate(plan: &mut Plan, crates: &Array, line: &CrateLine) -> Result<(), Br
     }
 }
 
-// The crate has the number of the first table that has it.
+// The fault of a crate whose number a table before has: it names the first.
 fn crate_twice(crates: &Array, line: &CrateLine) -> BrokenRule
     ensures { result ≡ crate_twice (array_view crates.now) (crate_view line.now) }
 {

@@ -80,7 +80,7 @@ fn wrong_kind(at: PlanTable, key: PlanKey, kind: ValueKind) -> BrokenRule
     )
 }
 
-// The number at the key is below the least or above the greatest.
+// The fault of a number below the least or above the greatest.
 pub(crate) fn out_of_range(
     at: PlanTable,
     key: PlanKey,
@@ -217,7 +217,7 @@ fn are_tables(array: &Array) -> bool
     true
 }
 
-// No array of tables stands at the key.
+// The fault of a value that is no array of tables.
 pub(crate) fn no_tables(at: PlanTable, key: PlanKey) -> BrokenRule
     ensures { result ≡ no_tables at key }
 {

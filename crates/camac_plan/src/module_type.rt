@@ -75,7 +75,7 @@ fn add_type(alloc: Global, plan: &mut Plan, line: TypeLine) -> Result<(), PlanFa
     }
 }
 
-// The type of this place has the name of the first.
+// The fault of a type whose name one before has: it names the first.
 fn name_twice(place: usize, first: usize) -> BrokenRule
     ensures { result ≡ name_twice place first }
 {

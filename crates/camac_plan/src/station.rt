@@ -105,7 +105,7 @@ fn add_station(
     }
 }
 
-// No type has the name.
+// The fault of a name that no type has.
 fn unknown_type(k: &CrateLine, place: usize) -> BrokenRule
     ensures { result ≡ unknown_type (crate_view k.now) place }
 {
@@ -118,7 +118,7 @@ fn unknown_type(k: &CrateLine, place: usize) -> BrokenRule
     )
 }
 
-// The station has the number of the first table of its crate that has it.
+// The fault of a station whose number a table of its crate has before: it names the first.
 fn station_twice(k: &CrateLine, place: usize, n: Station) -> BrokenRule
     ensures { result ≡ station_twice (crate_view k.now) place n }
 {
@@ -136,7 +136,7 @@ fn station_twice(k: &CrateLine, place: usize, n: Station) -> BrokenRule
     )
 }
 
-// The station has the GL bit of the first table that has it.
+// The fault of a station whose GL bit a table before has: it names the first.
 fn bit_twice(crates: &Array, k: &CrateLine, place: usize, gl: Option<GlBit>) -> BrokenRule
     ensures { result ≡ bit_twice (array_view crates.now) (crate_view k.now) place gl }
 {

@@ -68,7 +68,7 @@ pub fn run(alloc: Global, checked: &Checked, answers: &[Answer]) -> Result<Log, 
     Ok(Log { items, events, end })
 }
 
-// The crates into which auxiliary controllers were let again.
+// The crates whose lockout was released.
 fn add_unlocks(items: &mut Items, unlocks: &[CrateNo]) -> Result<(), AllocError>
     ensures { OnOk result (items.new ≡ items.old ++ unlock_items unlocks.now) }
 {

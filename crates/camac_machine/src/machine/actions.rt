@@ -95,7 +95,7 @@ impl<'a, const V: usize, const DEPTH: usize, const CAP: usize> Machine<'a, V, DE
         self.variables[place] = value;
     }
 
-    // `cfsa`, `cssa`. What is wanted is written in its place, here and below: it is larger than a result that is handed back quickly.
+    // `cfsa`, `cssa`. What is wanted is written in its place, here and below: it is too large to be returned in registers.
     #[inline(always)]
     pub(crate) fn single(&self, action: &SingleAction, pending: &mut Option<Pending<'a>>)
         requires room { HasRoom self.now }
