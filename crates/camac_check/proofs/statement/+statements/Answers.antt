@@ -20,6 +20,7 @@ use Rattle.camac_check_rows.specs.Statements.{first_row}
 use Rattle.camac_check_rows.specs.Weights.{first_arm, inside_row, once, second_arm}
 use Rattle.camac_check_rows.proofs.Kept.{arms_put, block_put, no_more, then_rows}
 use Rattle.camac_check_rows.proofs.Trees.{choose_else_is, for_tree, next_of, while_tree}
+use Rattle.camac_check.specs.Ends.{loop_end}
 use Rattle.camac_check.proofs.Blocks.{rest_rule, capped_twice, block_starts, block_goes_on, block_stops, block_ends}
 use Rattle.camac_check.proofs.Rows.{choice_rows, end_is, for_is, for_rows, if_rows, lock_rows, loop_row_is, own_row_is, rows_next, while_is, while_rows}
 use Rattle.camac_check.proofs.statement.+statements.Goals as goal
@@ -145,12 +146,14 @@ accept_while-returns-clause-rows t c =
     let inner = block_rows (by_code context) around body arms.holds in
     let v = verdict_of c.in_ok-found.found in
     let turns : c.from-most.result ≡ turn_bound arms.holds it.turns = c.from-most.ensures ∙ c.turn_bound-most.ensures in
+    let ways = ap (λ ps. split it.line (map part_of ps) top) (sym c.deref.ensures.value) ∙ c.in_ok-ways.ensures in
+    let end = ap (λ ks. loop_end c.body-2.result it.line (map keep_of ks) arms.fails c.from-most.result (verdict_of c.in_ok-turn.turn)) (sym c.deref-2.ensures.value) ∙ c.in_ok-found.ensures in
     block_put c.args.rows.now c.inside-inner.result c.accept_block.new.rows c.put_block.new.self inner c.loop_row-own.result c.turning.result
     c.inside-inner.ensures c.in_ok-turn.ensures.rows c.in_ok-put_block.ensures
-    ∙ ap (with_rows c.args.rows.now) (sym (while_rows (by_code context) around it.line test it.turns it.measure keeps body c.args.known top arms v (ap (λ b. while_head b it.line it.turns it.measure keeps body c.args.known) (sym c.body.ensures) ∙ c.in_ok-top.ensures) c.in_ok-ways.ensures
+    ∙ ap (with_rows c.args.rows.now) (sym (while_rows (by_code context) around it.line test it.turns it.measure keeps body c.args.known top arms v (ap (λ b. while_head b it.line it.turns it.measure keeps body c.args.known) (sym c.body.ensures) ∙ c.in_ok-top.ensures) ways
     (while_is context around it.line test it.turns it.measure keeps body c.args.known top arms (verdict_of c.in_ok-turn.turn) v
-    (ap (λ b. while_head b it.line it.turns it.measure keeps body c.args.known) (sym c.body.ensures) ∙ c.in_ok-top.ensures) c.in_ok-ways.ensures c.in_ok-turn.ensures.found
-    (end_is c.body-2.result around.body it.line keeps arms.fails arms.fails c.from-most.result _ _ _ c.body-2.ensures refl turns c.in_ok-found.ensures))
+    (ap (λ b. while_head b it.line it.turns it.measure keeps body c.args.known) (sym c.body.ensures) ∙ c.in_ok-top.ensures) ways c.in_ok-turn.ensures.found
+    (end_is c.body-2.result around.body it.line keeps arms.fails arms.fails c.from-most.result _ _ _ c.body-2.ensures refl turns end))
     ∙ loop_row_is it.line kind.While v.costs c.from-most.result _ c.loop_row-own.result inner c.turning.result c.loop_row-own.ensures turns c.turning.ensures))
 
 pub accept_for-returns-clause-rows : goal.accept_for-returns-clause-rows
@@ -168,12 +171,13 @@ accept_for-returns-clause-rows t c =
     let rows_at : Around → Known → List Row = λ r h. block_rows (by_code context) r body h in
     let inner = rows_at (with_fixed it.variable around) (for_head it.variable l keeps body k) in
     let there = c.in_ok-turn.ensures.rows ∙ ap₂ (λ r h. with_rows c.inside-inner.result (rows_at r h)) c.in_ok-inside.ensures c.in_ok-facts.ensures.head in
+    let end = ap (λ ks. loop_end c.body.result it.line (map keep_of ks) (Some c.in_ok-facts.facts.after) c.turns-turns.result (verdict_of c.in_ok-turn.turn)) (sym c.deref.ensures.value) ∙ c.in_ok-found.ensures in
     let turn = ap₂ (λ r h. if_reached unreached h (accept_block (by_code context) r body)) (sym c.in_ok-inside.ensures) (sym c.in_ok-facts.ensures.head) ∙ c.in_ok-turn.ensures.found in
     block_put c.args.rows.now c.inside-inner.result c.accept_block.new.rows c.put_block.new.self inner c.loop_row-own.result c.turning.result
     c.inside-inner.ensures there c.in_ok-put_block.ensures
     ∙ ap (with_rows c.args.rows.now) (sym (for_rows (by_code context) around it.line it.variable first last keeps body k l v c.in_ok-limits.ensures.rule
     (for_is context around it.line it.variable first last keeps body k l (verdict_of c.in_ok-turn.turn) v c.in_ok-limits.ensures.rule turn
-    (end_is c.body.result around.body it.line keeps (Some c.in_ok-facts.facts.after) _ c.turns-turns.result _ _ _ c.body.ensures c.in_ok-facts.ensures.after c.turns-turns.ensures c.in_ok-found.ensures))
+    (end_is c.body.result around.body it.line keeps (Some c.in_ok-facts.facts.after) _ c.turns-turns.result _ _ _ c.body.ensures c.in_ok-facts.ensures.after c.turns-turns.ensures end))
     ∙ loop_row_is it.line kind.For v.costs c.turns-turns.result _ c.loop_row-own.result inner c.turning.result c.loop_row-own.ensures c.turns-turns.ensures c.turning.ensures))
 
 pub accept_reached-returns-in_ok-join-in-IfElse-clause-rows : goal.accept_reached-returns-in_ok-join-in-IfElse-clause-rows

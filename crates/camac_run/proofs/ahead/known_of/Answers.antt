@@ -6,7 +6,7 @@ use Rattle.camac_run.proofs.ahead.known_of.Goals as goal
 
 pub returns-in-Put : goal.returns-in-Put
 returns-in-Put c =
-    let s = c.in-Put._ in
+    let s = c.in-Put.field-0 in
     rw (c.in-Put.is, put_is s) (put_needs_none (context_in c.args.checked.now) c.args.variables.now c.args.registers.now s.line (expression_of s.value))
 
 pub returns-in-Assign : goal.returns-in-Assign

@@ -13,8 +13,8 @@ use Rattle.camac_machine.proofs.Calls.{callee, seen_fits, variables_room, regist
 use Rattle.camac_machine.proofs.Lams.{procedure_at}
 use Rattle.camac_machine.proofs.machine.Machine.call.Goals as goal
 
-pub offset_bounds-procedures-procedure : goal.offset_bounds-procedures-procedure
-offset_bounds-procedures-procedure g c =
+pub offset_bounds-procedures-call : goal.offset_bounds-procedures-call
+offset_bounds-procedures-call g c =
     let h = c.args.self.now in
     let s = h.checked.now.script in
     let i = c.args.call.now.procedure in
@@ -23,8 +23,8 @@ offset_bounds-procedures-procedure g c =
     let k = callee h i (map expression_of c.args.call.now.arguments.items) c.requires.room c.requires.fits in
     let lt : i < length s.procedures = number_below s.procedures i k.procedure k.there in omega (arith, few, lt)
 
-pub bounds-procedures-procedure : goal.bounds-procedures-procedure
-bounds-procedures-procedure g c =
+pub bounds-procedures-call : goal.bounds-procedures-call
+bounds-procedures-call g c =
     let h = c.args.self.now in
     let s = h.checked.now.script in
     let i = c.args.call.now.procedure in
@@ -39,15 +39,15 @@ pass-requires-clause-room g c =
     let s = h.checked.now.script in
     let i = c.args.call.now.procedure in
     let es = map expression_of c.args.call.now.arguments.items in
-    let r = c.index-procedures-procedure.result in
+    let r = c.index-procedures-call.result in
     let e : map procedure_of c.procedures.result.now ≡ s.procedures = c.procedures.ensures ∙ ap (λ s. s.procedures) c.script-script.ensures in
     let k = callee h i es c.requires.room c.requires.fits in
-    let there : slice_get s.procedures i ≡ Some (procedure_of r) = procedure_at c.procedures.result.now s.procedures i r e (number_below s.procedures i k.procedure k.there) c.index-procedures-procedure.is in
+    let there : slice_get s.procedures i ≡ Some (procedure_of r) = procedure_at c.procedures.result.now s.procedures i r e (number_below s.procedures i k.procedure k.there) c.index-procedures-call.is in
     let room = (variables_room h i es c.requires.room c.requires.fits (procedure_of r) there c.of_procedure-scope.result c.of_procedure-scope.ensures).1 in
-    omega (arith, room, length-map c.args.call.now.arguments.items expression_of, c.requires.room.variables)
+    omega (arith, room, length-map c.args.call.now.arguments.items expression_of, ap length c.deref.ensures.value, c.requires.room.variables)
 
 pub pass-requires-clause-have_values : goal.pass-requires-clause-have_values
-pass-requires-clause-have_values g c = call_has c.args.self.now c.args.call.now.procedure (map expression_of c.args.call.now.arguments.items) c.requires.fine
+pass-requires-clause-have_values g c = rw c.deref.ensures.value (call_has c.args.self.now c.args.call.now.procedure (map expression_of c.args.call.now.arguments.items) c.requires.fine)
 
 pub wipe-requires-clause-room : goal.wipe-requires-clause-room
 wipe-requires-clause-room g c =
@@ -55,10 +55,10 @@ wipe-requires-clause-room g c =
     let s = h.checked.now.script in
     let i = c.args.call.now.procedure in
     let es = map expression_of c.args.call.now.arguments.items in
-    let r = c.index-procedures-procedure.result in
+    let r = c.index-procedures-call.result in
     let e : map procedure_of c.procedures.result.now ≡ s.procedures = c.procedures.ensures ∙ ap (λ s. s.procedures) c.script-script.ensures in
     let k = callee h i es c.requires.room c.requires.fits in
-    let there : slice_get s.procedures i ≡ Some (procedure_of r) = procedure_at c.procedures.result.now s.procedures i r e (number_below s.procedures i k.procedure k.there) c.index-procedures-procedure.is in
+    let there : slice_get s.procedures i ≡ Some (procedure_of r) = procedure_at c.procedures.result.now s.procedures i r e (number_below s.procedures i k.procedure k.there) c.index-procedures-call.is in
     let room = (registers_room h i es c.requires.room c.requires.fits (procedure_of r) there c.of_procedure-scope.result c.of_procedure-scope.ensures).1 in
     omega (arith, room, c.requires.room.registers)
 
@@ -68,11 +68,11 @@ push-requires g c =
     let s = h.checked.now.script in
     let i = c.args.call.now.procedure in
     let es = map expression_of c.args.call.now.arguments.items in
-    let r = c.index-procedures-procedure.result in
+    let r = c.index-procedures-call.result in
     let F : Script → Type 0 = λ s. IsTrue (is_well_formed s) in
     let e : map procedure_of c.procedures.result.now ≡ s.procedures = c.procedures.ensures ∙ ap (λ s. s.procedures) c.script-script.ensures in
     let k = callee h i es c.requires.room c.requires.fits in
-    let there : slice_get s.procedures i ≡ Some (procedure_of r) = procedure_at c.procedures.result.now s.procedures i r e (number_below s.procedures i k.procedure k.there) c.index-procedures-procedure.is in
+    let there : slice_get s.procedures i ≡ Some (procedure_of r) = procedure_at c.procedures.result.now s.procedures i r e (number_below s.procedures i k.procedure k.there) c.index-procedures-call.is in
     let lt = callee_free h i es c.requires.room c.requires.fits (procedure_of r) there c.of_procedure-scope.result c.of_procedure-scope.ensures (subst F c.script-script.ensures c.well_formed-2.ensures) in (search rules, lt)
 
 pub returns : goal.returns
@@ -81,17 +81,17 @@ returns g c =
     let s = h.checked.now.script in
     let i = c.args.call.now.procedure in
     let es = map expression_of c.args.call.now.arguments.items in
-    let r = c.index-procedures-procedure.result in
+    let r = c.index-procedures-call.result in
     let sc = c.of_procedure-scope.result in
     let ws = c.pass.new.variables in
     let F : Script → Type 0 = λ s. IsTrue (is_well_formed s) in
     let e : map procedure_of c.procedures.result.now ≡ s.procedures = c.procedures.ensures ∙ ap (λ s. s.procedures) c.script-script.ensures in
     let k = callee h i es c.requires.room c.requires.fits in
-    let there : slice_get s.procedures i ≡ Some (procedure_of r) = procedure_at c.procedures.result.now s.procedures i r e (number_below s.procedures i k.procedure k.there) c.index-procedures-procedure.is in
+    let there : slice_get s.procedures i ≡ Some (procedure_of r) = procedure_at c.procedures.result.now s.procedures i r e (number_below s.procedures i k.procedure k.there) c.index-procedures-call.is in
     enters_filled h i es c.requires.room c.requires.fits (procedure_of r) there sc c.of_procedure-scope.ensures (subst F c.script-script.ensures c.well_formed-2.ensures)
     c.as_slice.result (ap statements_of c.as_slice.ensures.value) ws c.wipe.new.all c.push.new.self
     (record {
-      values = c.pass.ensures.values ∙ ap (λ n. Some (slice_range ws sc.variables.start (sc.variables.start + n))) (sym (length-map c.args.call.now.arguments.items expression_of));
+      values = (rw c.deref.ensures.value at c.pass.ensures.values) ∙ ap (λ n. Some (slice_range ws sc.variables.start (sc.variables.start + n))) (sym (length-map c.args.call.now.arguments.items expression_of));
       variables_before = c.pass.ensures.before;
       variables = c.pass.ensures.count;
       unset = c.wipe.ensures.wiped;
@@ -109,12 +109,12 @@ pass-requires-clause-after g c =
     omega (arith, e)
 
 pub pass-requires-clause-declared : goal.pass-requires-clause-declared
-pass-requires-clause-declared g c = c.requires.fits.refer
+pass-requires-clause-declared g c = rw c.deref.ensures.value c.requires.fits.refer
 
 pub wipe-requires-clause-order : goal.wipe-requires-clause-order
 wipe-requires-clause-order g c =
     let a : c.of_procedure-scope.result.registers.start ≡ c.args.self.now.scope.registers.end = ap (λ (s : Scope). s.registers.start) c.of_procedure-scope.ensures in
-    let b : c.of_procedure-scope.result.registers.end ≡ c.args.self.now.scope.registers.end + length (procedure_of c.index-procedures-procedure.result).registers = ap (λ (s : Scope). s.registers.end) c.of_procedure-scope.ensures in
+    let b : c.of_procedure-scope.result.registers.end ≡ c.args.self.now.scope.registers.end + length (procedure_of c.index-procedures-call.result).registers = ap (λ (s : Scope). s.registers.end) c.of_procedure-scope.ensures in
     omega (arith, a, b)
 
 pub of_procedure-scope-requires : goal.of_procedure-scope-requires
@@ -123,10 +123,10 @@ of_procedure-scope-requires g c =
     let s = h.checked.now.script in
     let i = c.args.call.now.procedure in
     let es = map expression_of c.args.call.now.arguments.items in
-    let r = c.index-procedures-procedure.result in
+    let r = c.index-procedures-call.result in
     let e : map procedure_of c.procedures.result.now ≡ s.procedures = c.procedures.ensures ∙ ap (λ s. s.procedures) c.script-script.ensures in
     let k = callee h i es c.requires.room c.requires.fits in
-    let there : slice_get s.procedures i ≡ Some (procedure_of r) = procedure_at c.procedures.result.now s.procedures i r e (number_below s.procedures i k.procedure k.there) c.index-procedures-procedure.is in
+    let there : slice_get s.procedures i ≡ Some (procedure_of r) = procedure_at c.procedures.result.now s.procedures i r e (number_below s.procedures i k.procedure k.there) c.index-procedures-call.is in
     let fit = seen_fits h i es c.requires.room c.requires.fits (procedure_of r) (same_Some k.procedure (procedure_of r) (sym k.there ∙ there)) in
     let m = fit.more_variables in
     let n = fit.more_registers in

@@ -14,15 +14,15 @@ use Rattle.camac_machine.proofs.Commands.{on_branch}
 use Rattle.camac_machine.proofs.Lams.{lam_at}
 use Rattle.camac_machine.proofs.machine.Machine.call_lam.Goals as goal
 
-pub bounds-lams-lam : goal.bounds-lams-lam
-bounds-lams-lam g c =
+pub bounds-lams-action : goal.bounds-lams-action
+bounds-lams-action g c =
     let ls = c.args.self.now.checked.now.script.lams in
     let e : map lam_of c.lams.result.now ≡ ls = c.lams.ensures ∙ ap (λ s. s.lams) c.script.ensures in
     let n : length ls ≡ length c.lams.result.now = sym (ap length e) ∙ length-map c.lams.result.now lam_of in
     omega (arith, c.requires.fits, n)
 
-pub offset_bounds-lams-lam : goal.offset_bounds-lams-lam
-offset_bounds-lams-lam g c =
+pub offset_bounds-lams-action : goal.offset_bounds-lams-action
+offset_bounds-lams-action g c =
     let ls = c.args.self.now.checked.now.script.lams in
     let e : map lam_of c.lams.result.now ≡ ls = c.lams.ensures ∙ ap (λ s. s.lams) c.script.ensures in
     let n : length ls ≡ length c.lams.result.now = sym (ap length e) ∙ length-map c.lams.result.now lam_of in
@@ -41,9 +41,9 @@ pub lam_call-requires : goal.lam_call-requires
 lam_call-requires g c =
     let P : Layout → Type 0 = λ p. AllowsCommands p in
     let h = c.args.self.now in
-    let l = c.index-lams-lam.result in
+    let l = c.index-lams-action.result in
     let e : map lam_of c.lams.result.now ≡ h.checked.now.script.lams = c.lams.ensures ∙ ap (λ s. s.lams) c.script.ensures in
-    let there : slice_get (context_in h.checked.now).lams c.args.action.now.lam ≡ Some (lam_address (lam_of l)) = lam_at c.lams.result.now h.checked.now.script.lams c.args.action.now.lam l e c.requires.fits c.index-lams-lam.is in
+    let there : slice_get (context_in h.checked.now).lams c.args.action.now.lam ≡ Some (lam_address (lam_of l)) = lam_at c.lams.result.now h.checked.now.script.lams c.args.action.now.lam l e c.requires.fits c.index-lams-action.is in
     subst (λ a. IsOnBranch (address l.crate_no l.station a)) (sym c.get.ensures.value)
     (on_branch h.checked.now.plan (subst P c.plan-plan.ensures c.allows_commands.ensures) (lam_address (lam_of l)) (lam_function c.args.action.now.call) moved.None
     (lam_can h c.args.action.now.call c.args.action.now.lam (lam_address (lam_of l)) there c.requires.fine).1)
@@ -51,9 +51,9 @@ lam_call-requires g c =
 pub returns : goal.returns
 returns g c =
     let h = c.args.self.now in
-    let l = c.index-lams-lam.result in
+    let l = c.index-lams-action.result in
     let e : map lam_of c.lams.result.now ≡ h.checked.now.script.lams = c.lams.ensures ∙ ap (λ s. s.lams) c.script.ensures in
-    let there : slice_get (context_in h.checked.now).lams c.args.action.now.lam ≡ Some (lam_address (lam_of l)) = lam_at c.lams.result.now h.checked.now.script.lams c.args.action.now.lam l e c.requires.fits c.index-lams-lam.is in
+    let there : slice_get (context_in h.checked.now).lams c.args.action.now.lam ≡ Some (lam_address (lam_of l)) = lam_at c.lams.result.now h.checked.now.script.lams c.args.action.now.lam l e c.requires.fits c.index-lams-action.is in
     lam_wants h c.args.action.now.call c.args.action.now.lam (lam_address (lam_of l)) c.lam_call.result there
     (c.lam_call.ensures ∙ ap (λ a. command_at (address l.crate_no l.station a) (lam_function c.args.action.now.call) moved.None) c.get.ensures.value)
     (lam_can h c.args.action.now.call c.args.action.now.lam (lam_address (lam_of l)) there c.requires.fine)
