@@ -6,6 +6,7 @@ use Rattle.camac_lang.specs.Tree.{Procedure, Service, Item, next_table, next_lam
 use Rattle.camac_lang.specs.View.{procedure_of}
 use Rattle.camac_branch.specs.Plan.{Layout}
 use Rattle.camac_model.specs.Fine.{Bounds}
+use Rattle.camac_rules.specs.Cycles.{Context}
 use Rattle.camac_rules.specs.Accept.{bare, with_procedure}
 use Rattle.camac_check_simple.specs.declared.context.Context as code
 use Rattle.camac_check_simple.specs.Gives.{by_rules, rules_before, whole_of}
@@ -59,8 +60,8 @@ pub same_context : (c : code.Context) (plan : Layout) (s : Script) (done : ℕ)
     → by_rules c ≡ whole_of (λ k. k) plan s → map procedure_of c.procedures.now ≡ s.procedures
     → rules_before c done ≡ after_procedures plan s done
 same_context c plan s done rules procedures =
-    ap (λ x. record x { procedures = map procedure_of (take done c.procedures.now) }) rules
-    ∙ ap (λ ps. record (bare (λ k. k) plan s) { procedures = ps }) (map_take procedure_of done c.procedures.now ∙ ap (take done) procedures)
+    ap (λ (x : Context). record x { procedures = map procedure_of (take done c.procedures.now) }) rules
+    ∙ ap (λ (ps : List Procedure). record (bare (λ k. k) plan s) { procedures = ps }) (map_take procedure_of done c.procedures.now ∙ ap (take done) procedures)
 
 no_item : (plan : Layout) (s : Script) (k done served : ℕ) → slice_get s.order k ≡ None → least_from plan s k done served ≡ Ok (record { procedures = drop done s.procedures; services = drop served s.services })
 no_item plan s k done served e =

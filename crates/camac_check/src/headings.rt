@@ -4,6 +4,7 @@ ghost use Rattle.std.specs.Prelude.{◌≡◌, ◌<◌, ◌≤◌, length, slice
 ghost use Rattle.camac_lang.specs.Headings.{unannotated};
 ghost use Rattle.camac_lang.specs.Tree.{Procedure as ProcedureTree, Service as ServiceTree};
 ghost use Rattle.camac_lang.specs.View.{item_of};
+ghost use Rattle.camac_check_simple.specs.Gives.{by_rules};
 ghost use Rattle.camac_check.specs.Least.{Finds, AreHeadings, Heads, after_procedures, least, least_from, procedure_needs, service_needs};
 
 use crate::accept::{procedure_within, service_needs};
@@ -82,6 +83,15 @@ fn item_at(script: &Script, k: usize) -> Option<Item>
     script.order().get(k).copied()
 }
 
+// What may be referred to after so many procedures.
+fn after_procedures<'a>(plan: &'a Plan, script: &'a Script, done: usize) -> Context<'a>
+    requires { done ≤ length script.now.procedures }
+    ensures { by_rules result ≡ after_procedures plan.now script.now done }
+{
+    let whole = Context::of(plan, script);
+    whole.after(done)
+}
+
 // What the procedure of this number needs, whatever its heading says.
 fn procedure_needs(
     alloc: Global,
@@ -93,7 +103,7 @@ fn procedure_needs(
     ensures { (p : ProcedureTree) → slice_get script.now.procedures i ≡ Some p
         → Finds (λ k. k) result (procedure_needs (after_procedures plan.now script.now i) p) }
 {
-    let here = Context::of(plan, script).after(i);
+    let here = after_procedures(plan, script, i);
     let procedure = &script.procedures()[i];
     let needs = procedure_within(alloc, &here, procedure, u32::MAX, u32::MAX, u32::MAX)?;
     Ok(needs)
@@ -112,6 +122,6 @@ fn needs_of_service(
     ensures { (v : ServiceTree) → slice_get script.now.services i ≡ Some v
         → Finds (λ k. k) result (service_needs (after_procedures plan.now script.now done) v) }
 {
-    let here = Context::of(plan, script).after(done);
+    let here = after_procedures(plan, script, done);
     service_needs(alloc, &here, &script.services()[i])
 }

@@ -17,7 +17,7 @@ use Rattle.camac_check_rows.specs.declared.row.Kind.TheVariants as kind
 use Rattle.camac_check_rows.specs.declared.row.Row.{Row}
 use Rattle.camac_check_rows.specs.Rows.{block_rows, statement_rows, times_at, with_rows}
 use Rattle.camac_check_rows.specs.Statements.{first_row}
-use Rattle.camac_check_rows.specs.Weights.{first_arm, inside_row, once, second_arm}
+use Rattle.camac_check_rows.specs.Weights.{inside_row, once}
 use Rattle.camac_check_rows.proofs.Kept.{arms_put, block_put, no_more, then_rows}
 use Rattle.camac_check_rows.proofs.Trees.{choose_else_is, for_tree, next_of, while_tree}
 use Rattle.camac_check.specs.Ends.{loop_end}
