@@ -11,14 +11,14 @@ use Rattle.camac_model.specs.Meaning.{lam_address}
 use Rattle.camac_run.proofs.Steps.{lam_makes, map_some}
 use Rattle.camac_run.proofs.ahead.call_of_lam.Goals as goal
 
-pub returns-then-lam-lams : goal.returns-then-lam-lams
-returns-then-lam-lams c =
+pub returns-then-action-lams : goal.returns-then-action-lams
+returns-then-action-lams c =
     let script = c.args.checked.now.script in
-    let l = c.index-lams-lam.result in
+    let l = c.index-lams-action.result in
     let e : map lam_of c.lams-lams.result.now ≡ script.lams = c.lams-lams.ensures ∙ ap (λ s. s.lams) c.script.ensures in
     let n : length script.lams ≡ length c.lams-lams.result.now = sym (ap length e) ∙ length-map c.lams-lams.result.now lam_of in
-    let less : c.args.action.now.lam < length script.lams = omega (arith, n, c.if-lam-lams.true) in
-    let there : slice_get (context_in c.args.checked.now).lams c.args.action.now.lam ≡ Some (lam_address (lam_of l)) = lam_at c.lams-lams.result.now script.lams c.args.action.now.lam l e less c.index-lams-lam.is in
+    let less : c.args.action.now.lam < length script.lams = omega (arith, n, c.if-action-lams.true) in
+    let there : slice_get (context_in c.args.checked.now).lams c.args.action.now.lam ≡ Some (lam_address (lam_of l)) = lam_at c.lams-lams.result.now script.lams c.args.action.now.lam l e less c.index-lams-action.is in
     map_some c.command_at.result _ _
     (λ k is known registers.
     lam_makes (context_in c.args.checked.now) known registers k c.args.action.now.line c.args.action.now.call c.args.action.now.lam (lam_address (lam_of l)) there
