@@ -6,7 +6,7 @@ use Rattle.camac_tokens.specs.declared.fault.TextFault.{TextFault}
 use Rattle.camac_tokens.specs.declared.fault.TextFault.TheVariants as text_fault
 use Rattle.camac_tokens.specs.Fault.{Fault, Answers}
 use Rattle.camac_tokens.specs.Scanning.{tokens_of, last_line}
-use Rattle.camac_text_cursor.specs.Reading.{State, fault_of, Fault}
+use Rattle.camac_text_cursor.specs.Reading.{State, Fault as Failure, fault_of}
 use Rattle.camac_text_cursor.proofs.Places.{hushed}
 use Rattle.camac_text.specs.Declarations.{declarations_at}
 use Rattle.camac_text.specs.Parser.{start, tree_in, tree_of_tokens, tree_after, script_of}

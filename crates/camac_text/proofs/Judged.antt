@@ -3,10 +3,11 @@ use Rattle.std.proofs.Common.{◌≡◌, ℕ, Bool, true, false, not, ◌&&◌, 
 use Rattle.std.specs.Prelude.{is_none}
 use Rattle.std.proofs.lemmas.Bool.{and_parts}
 use Rattle.camac_tokens.specs.declared.token.Token.{Token}
+use Rattle.camac_tokens.specs.Fault.{Fault}
 use Rattle.camac_tokens.specs.Left.{ahead_of, end_by}
 use Rattle.camac_tokens.specs.Scanning.{tokens_of, last_line}
 use Rattle.camac_text_cursor.specs.Parser.{line_in}
-use Rattle.camac_text_cursor.specs.Reading.{State, kind_of, Fault}
+use Rattle.camac_text_cursor.specs.Reading.{State, kind_of}
 use Rattle.camac_text.specs.Declarations.{declarations_at}
 use Rattle.camac_text.specs.Parser.{unread_in, judged}
 use Rattle.camac_text.proofs.LocalDeclarations.{local_declarations}

@@ -8,27 +8,22 @@ use Rattle.camac_tokens.specs.Scanning.{tokens_of, last_line}
 use Rattle.camac_text_cursor.specs.declared.choice.Choices.{Choices}
 use Rattle.camac_text_cursor.specs.Choice.{held}
 use Rattle.camac_text_cursor.specs.Parser.{FailsWith}
-use Rattle.camac_text_cursor.specs.Reading.{State}
+use Rattle.camac_text_cursor.specs.Reading.{State, Fault as Failure}
 use Rattle.camac_text_cursor.specs.Tried.{Tried, Told}
 use Rattle.camac_text.specs.Declarations.{declarations_at}
-use Rattle.camac_text.specs.Expecting.{TellsAfter, Tells}
+use Rattle.camac_text.specs.Expecting.{TellsAfter}
 use Rattle.camac_text.specs.Parser.{start, judged}
 
 -- nothing is told where a token has a fault
-pub told_none : {A : Type 0} (made : Result (List Token) Fault) (end_line : ℕ) (e : TextFault) (expected : Choices) → Fails e (judged made) → TellsAfter made end_line (let r : Result A TextFault = Err e in r) expected
+pub told_none : (made : Result (List Token) Fault) (end_line : ℕ) (e : TextFault) (expected : Choices) → Fails e (judged made) → TellsAfter made end_line e expected
 told_none (Ok ts) end_line text_fault.OutOfMemory expected failed = tt
 told_none (Ok ts) end_line (text_fault.Broken case line left) expected failed = absurd cc
 told_none (Err d) end_line e expected failed = tt
 
--- nor where all is read
-pub told_read : {A : Type 0} (made : Result (List Token) Fault) (end_line : ℕ) (x : A) (expected : Choices) → TellsAfter made end_line (let r : Result A TextFault = Ok x in r) expected
-told_read (Ok ts) end_line x expected = tt
-told_read (Err d) end_line x expected = tt
-
-told_by : {A : Type 0} (ts : List Token) (end_line : ℕ) (e : TextFault) (tried : Tried) (expected : Choices) → Told (held expected) ≡ tried → FailsWith e tried (declarations_at (start ts end_line)) → TellsAfter (Ok ts) end_line (let r : Result A TextFault = Err e in r) expected
+told_by : (ts : List Token) (end_line : ℕ) (e : TextFault) (tried : Tried) (expected : Choices) → Told (held expected) ≡ tried → FailsWith e tried (declarations_at (start ts end_line)) → TellsAfter (Ok ts) end_line e expected
 told_by ts end_line text_fault.OutOfMemory tried expected told failed = tt
 told_by ts end_line (text_fault.Broken case line left) tried expected told failed =
     failed ∙ ap (λ (t : Tried). let r : Result (Unit {0} × State) Failure = Err (record { case = case; line = line; left = left; tried = t }) in r) (sym told)
 
-pub told_fault : {A : Type 0} (text : List ℕ) (ts : List Token) (e : TextFault) (tried : Tried) (expected : Choices) → tokens_of text ≡ Ok ts → Told (held expected) ≡ tried → FailsWith e tried (declarations_at (start ts (last_line text))) → Tells text (let r : Result A TextFault = Err e in r) expected
-told_fault {A} text ts e tried expected made told failed = subst (λ (m : Result (List Token) Fault). TellsAfter m (last_line text) (let r : Result A TextFault = Err e in r) expected) (sym made) (told_by ts (last_line text) e tried expected told failed)
+pub told_fault : (text : List ℕ) (ts : List Token) (e : TextFault) (tried : Tried) (expected : Choices) → tokens_of text ≡ Ok ts → Told (held expected) ≡ tried → FailsWith e tried (declarations_at (start ts (last_line text))) → TellsAfter (tokens_of text) (last_line text) e expected
+told_fault text ts e tried expected made told failed = subst (λ (m : Result (List Token) Fault). TellsAfter m (last_line text) e expected) (sym made) (told_by ts (last_line text) e tried expected told failed)

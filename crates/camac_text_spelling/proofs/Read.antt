@@ -10,7 +10,8 @@ use Rattle.camac_lang.specs.Tree.{Text, Table, Lam, Procedure, Service, Item, ne
 use Rattle.camac_lang.proofs.Options.{unless_parts, then_parts}
 use Rattle.camac_tokens.specs.declared.token.Token.{Token}
 use Rattle.camac_tokens.specs.Scanning.{last_line}
-use Rattle.camac_text_cursor.specs.Reading.{State, kind_of, while_next, Fault}
+use Rattle.camac_tokens.specs.Fault.{Fault}
+use Rattle.camac_text_cursor.specs.Reading.{State, kind_of, while_next}
 use Rattle.camac_text_cursor.specs.Readers.{is_name as next_is_name}
 use Rattle.camac_text_cursor.specs.Declaring.{tree_so_far}
 use Rattle.camac_text.specs.Declarations.{declaration_at, is_token, declarations_at}

@@ -3,9 +3,9 @@ use Rattle.std.proofs.Common.{◌≡◌, ℕ, zero, suc, ◌<◌, Bool, true, fa
 use Rattle.camac_lang.specs.Tree.{Script}
 use Rattle.camac_tokens.specs.declared.token.Token.{Token}
 use Rattle.camac_tokens.specs.declared.token.TokenKind.{TokenKind}
-use Rattle.camac_text_cursor.specs.Reading.{Fault}
+use Rattle.camac_tokens.specs.Fault.{Fault}
 use Rattle.camac_tokens.specs.Scanning.{tokens_of, last_line}
-use Rattle.camac_text_cursor.specs.Reading.{State, Reader, ◌>>=◌, give, kind_of, turns, while_next, Fault}
+use Rattle.camac_text_cursor.specs.Reading.{State, Reader, ◌>>=◌, give, kind_of, turns, while_next, Fault as Failure}
 use Rattle.camac_text_cursor.specs.Declaring.{tree_so_far}
 use Rattle.camac_text.specs.Declarations.{declaration_at, is_token, declarations_at}
 use Rattle.camac_text.specs.Parser.{start, tree_in, tree_of_tokens, tree_after, script_of}

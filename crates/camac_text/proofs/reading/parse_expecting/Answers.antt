@@ -8,7 +8,7 @@ use Rattle.camac_text_cursor.specs.Reading.{State}
 use Rattle.camac_text.specs.Declarations.{declarations_at}
 use Rattle.camac_text.specs.Parser.{unread_in}
 use Rattle.camac_text.proofs.Judged.{all_tokens}
-use Rattle.camac_text.proofs.Told.{told_none, told_read, told_fault}
+use Rattle.camac_text.proofs.Told.{told_none, told_fault}
 use Rattle.camac_text.proofs.WellFormed.{read_well_formed}
 use Rattle.camac_text.proofs.reading.parse_expecting.Goals as goal
 
@@ -27,9 +27,6 @@ returns-in_err-read-clause-tells c =
     let failed = subst (λ (r : Result (Unit {0}) TextFault). Gives (λ _. tt) r c.declarations-read.new.parser (declarations_at (state c.new-parser.result))) c.in_err-read.was c.declarations-read.ensures in
     let here = subst (λ (s : State). FailsWith c.in_err-read.field-0.0 end.tried (declarations_at s)) (c.new-parser.ensures ∙ ap unread_in ahead) failed in
     rw (p.1, p.2) (told_fault text whole.0 c.in_err-read.field-0.0 end.tried c.missed.result whole.1 c.missed.ensures here)
-
-pub returns-clause-tells : goal.returns-clause-tells
-returns-clause-tells c = told_read (tokens_of c.args.text.now) (last_line c.args.text.now) c.into_script.result c.missed.result
 
 pub into_script-requires : goal.into_script-requires
 into_script-requires c =
