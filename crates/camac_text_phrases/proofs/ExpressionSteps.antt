@@ -1,5 +1,5 @@
 -- An expression, step by step: its first factor, the factors behind it, and the terms behind these.
-use Rattle.std.proofs.Common.{◌≡◌, ℕ, Option, Some, None, Ok, refl, ◌∙◌}
+use Rattle.std.proofs.Common.{◌≡◌, ℕ, Option, Some, None, Ok, refl}
 use Rattle.camac_lang.specs.declared.expression.Node.{Node}
 use Rattle.camac_text_cursor.specs.Tried.{Tried}
 use Rattle.camac_tokens.specs.declared.fault.TextFault.{TextFault}

@@ -6,7 +6,7 @@ use Rattle.camac_text_cursor.proofs.Loops.{until_goes, until_fails, until_ends}
 use Rattle.camac_text_phrases.proofs.BracketsRead.{product_progress, sum_progress, bracketed_ok}
 use Rattle.camac_text_cursor.specs.declared.choice.Choice.TheVariants as choice
 use Rattle.camac_text_cursor.specs.Reading.{until}
-use Rattle.camac_text_phrases.specs.Expressions.{counted, is_product_sign, is_sum_sign, brackets_with, bracketed, sum_turn, product_turn}
+use Rattle.camac_text_phrases.specs.Expressions.{counted, is_product_sign, is_sum_sign, bracketed, sum_turn, product_turn}
 use Rattle.camac_text_phrases.specs.Views.{Leaf, Puts}
 use Rattle.camac_text_phrases.proofs.NodesPut.{one_more, both, right_size}
 use Rattle.camac_text_phrases.proofs.expressions.+expression.Goals as goal

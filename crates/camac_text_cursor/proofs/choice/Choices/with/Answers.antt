@@ -1,4 +1,3 @@
-use Rattle.std.proofs.Common.{◌≡◌, ap, ◌∙◌}
 use Rattle.camac_text_cursor.proofs.Sets.{held_with}
 use Rattle.camac_text_cursor.proofs.choice.Choices.with.Goals as goal
 
