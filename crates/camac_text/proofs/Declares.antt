@@ -8,18 +8,19 @@ use Rattle.camac_tokens.specs.declared.fault.TextCase.TheVariants as told
 use Rattle.camac_tokens.specs.declared.token.Keyword.TheVariants as word
 use Rattle.camac_tokens.specs.declared.token.TokenKind.{TokenKind}
 use Rattle.camac_tokens.specs.declared.token.TokenKind.TheVariants as kind
-use Rattle.camac_text_cursor.specs.Reading.{State, give, change, kind_of, line_of, after_first, while_next}
+use Rattle.camac_text_cursor.specs.declared.choice.Choice.TheVariants as choice
+use Rattle.camac_text_cursor.specs.Reading.{State, give, change, kind_of, line_of, after_first, past, until, missed}
 use Rattle.camac_text_cursor.specs.Readers.{new_name, new_variable, is_name as next_is_name, expect, any_number, branch_number, sub_address_number, used_lam}
 use Rattle.camac_text_cursor.specs.Declaring.{with_lam, with_variables_of, with_service}
 use Rattle.camac_text_statements.specs.Statements.{block_at}
 use Rattle.camac_text.specs.Declarations.{lam_declaration, one_more_variable, variable_declaration, service_declaration, declaration_by, declaration_at, is_token}
-use Rattle.camac_text_cursor.proofs.Steps.{then_ok, ok_is, err_no_ok, Progresses, while_keeps}
-use Rattle.camac_text_cursor.proofs.Moves.{AllFit, Moves, kind_fit, after_less, stays, moved, then_moves, one_moves, check_ok, any_number_ok, branch_ok, sub_address_ok, expect_ok, new_name_ok}
+use Rattle.camac_text_cursor.proofs.Steps.{then_ok, ok_is, err_no_ok, Progresses, until_keeps}
+use Rattle.camac_text_cursor.proofs.Moves.{unmoved, AllFit, Moves, kind_fit, after_less, stays, moved, then_moves, one_moves, check_ok, any_number_ok, branch_ok, sub_address_ok, expect_ok, new_name_ok}
 use Rattle.camac_text_cursor.proofs.Uses.{used_lam_ok}
 use Rattle.camac_text_cursor.proofs.Registers.{below_le}
 use Rattle.camac_text_statements.proofs.Blocks.{Body, after_moves}
 use Rattle.camac_text_statements.proofs.Bodies.{block_ok}
-use Rattle.camac_text.proofs.Variables.{DeclaresVariables, new_variable_ok, no_variables, one_variable_more, variables_turn}
+use Rattle.camac_text.proofs.Variables.{DeclaresVariables, names_then_moves, new_variable_ok, no_variables, one_variable_more, variables_turn}
 use Rattle.camac_text.proofs.ProceduresRead.{ProcedureDeclaration, procedure_is}
 use Rattle.camac_text.proofs.TablesRead.{TableDeclaration, table_is}
 
@@ -35,20 +36,20 @@ pub record VariableDeclaration (s s' : State) : Type 0 where
   pub left : s' ≡ with_variables_of line count between
   pub less : length s'.rest < length s.rest
 
-at_least : (s : State) (n : ℕ) (u : State) → 1 ≤ n → (y : ℕ × State) → DeclaresVariables s n u → while_next next_is_name one_more_variable n u ≡ Ok y → DeclaresVariables s y.0 y.1 × (1 ≤ y.0)
+at_least : (s : State) (n : ℕ) (u : State) → 1 ≤ n → (y : ℕ × State) → DeclaresVariables s n u → until choice.Name next_is_name one_more_variable n u ≡ Ok y → DeclaresVariables s y.0 y.1 × (1 ≤ y.0)
 at_least s n u some y d e =
-    while_keeps (λ (m : ℕ) (t : State). DeclaresVariables s m t × (1 ≤ m)) next_is_name one_more_variable (λ m t k v both on took.
+    until_keeps (λ (m : ℕ) (t : State). DeclaresVariables s m t × (1 ≤ m)) choice.Name (λ m t both. (record { names = both.0.names; counted = both.0.counted; declares = names_then_moves s both.0.names t (missed choice.Name t) both.0.declares (unmoved choice.Name t) }, both.1)) next_is_name one_more_variable (λ m t k v both on took.
     let a = then_ok (new_variable t) (λ _. give (m + 1)) (k, v) took in
     (variables_turn s m t k v both.0 took, subst (λ (p : ℕ × State). 1 ≤ p.0) (ok_is (m + 1, a.0.1) (k, v) a.2) (let h : 1 ≤ m + 1 = omega arith in h))) n u y (d, some) e
 
 variables_is : (s : State) (k : TokenKind) (line : ℕ) (y : Unit {0} × State) → kind_of s.rest ≡ Some k → variable_declaration line s ≡ Ok y → VariableDeclaration s y.1
 unfolding variable_declaration
 variables_is s k line y next e =
-    let t : State = record s { rest = after_first s.rest } in
+    let t : State = past s in
     let a = then_ok (new_variable t) _ y e in
     let first = new_variable_ok t a.0 a.1 in
     let one : DeclaresVariables t 1 a.0.1 = one_variable_more t 0 t first.0 a.0.1 (no_variables t) first.1 in
-    let b = then_ok (while_next next_is_name one_more_variable 1 a.0.1) (λ count. change (with_variables_of line count)) y a.2 in
+    let b = then_ok (until choice.Name next_is_name one_more_variable 1 a.0.1) (λ count. change (with_variables_of line count)) y a.2 in
     let all = at_least t 1 a.0.1 (omega arith) b.0 one b.1 in
     let d = all.0 in
     let left : y.1 ≡ with_variables_of line b.0.0 b.0.1 = sym (ap (λ (p : Unit {0} × State). p.1) (ok_is (tt, with_variables_of line b.0.0 b.0.1) y b.2)) in
@@ -91,11 +92,11 @@ pub record LamDeclaration (s s' : State) : Type 0 where
 lam_is : (s : State) (k : TokenKind) (line : ℕ) (y : Unit {0} × State) → kind_of s.rest ≡ Some k → lam_declaration line s ≡ Ok y → LamDeclaration s y.1
 unfolding lam_declaration
 lam_is s k line y next e =
-    let t : State = record s { rest = after_first s.rest } in
+    let t : State = past s in
     let c0 = check_ok (nat_lt (length s.lams) 64) (told.Limit limit.Lams) _ s y e in
     let a = then_ok (new_name t) _ y c0.1 in
     let h = new_name_ok t a.0 a.1 in
-    let u : State = record a.0.1 { rest = after_first a.0.1.rest } in
+    let u : State = past a.0.1 in
     let b = then_ok (branch_number u) _ y a.2 in
     let branch = branch_ok u b.0 b.1 in
     let c = then_ok (any_number b.0.1) _ y b.2 in
@@ -146,7 +147,7 @@ pub record ServiceDeclaration (s s' : State) : Type 0 where
 service_is : (s : State) (k : TokenKind) (line : ℕ) (y : Unit {0} × State) → kind_of s.rest ≡ Some k → service_declaration line s ≡ Ok y → ServiceDeclaration s y.1
 unfolding service_declaration
 service_is s k line y next e =
-    let t : State = record s { rest = after_first s.rest } in
+    let t : State = past s in
     let c0 = check_ok (nat_lt (length s.services) 24) (told.Limit limit.Services) _ s y e in
     let a = then_ok (used_lam t) _ y c0.1 in
     let lam = used_lam_ok t a.0 a.1 in

@@ -15,3 +15,4 @@ pub mod LocalProcedures
 pub mod LocalDeclarations
 pub mod Faults
 pub mod Judged
+mod Told

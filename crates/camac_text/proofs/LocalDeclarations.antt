@@ -6,7 +6,8 @@ use Rattle.camac_tokens.specs.declared.fault.TextCase.TheVariants as told
 use Rattle.camac_tokens.specs.declared.token.Keyword.TheVariants as word
 use Rattle.camac_tokens.specs.declared.token.TokenKind.{TokenKind}
 use Rattle.camac_tokens.specs.declared.token.TokenKind.TheVariants as kind
-use Rattle.camac_text_cursor.specs.Reading.{State, Reader, ◌>>=◌, ◌>>◌, give, change, peek, advance, check, kind_of, line_of, while_next}
+use Rattle.camac_text_cursor.specs.declared.choice.Choice.TheVariants as choice
+use Rattle.camac_text_cursor.specs.Reading.{State, Reader, ◌>>=◌, ◌>>◌, give, change, peek, advance, check, kind_of, line_of, until}
 use Rattle.camac_text_cursor.specs.Readers.{is_name, expect, any_number, branch_number, sub_address_number, new_name, new_variable, used_lam}
 use Rattle.camac_text_cursor.specs.Declaring.{with_lam, with_variables_of, with_service}
 use Rattle.camac_text_statements.specs.Statements.{block_at}
@@ -15,7 +16,7 @@ use Rattle.camac_text.proofs.Declares.{declarations_progress}
 use Rattle.camac_text.proofs.Variables.{variables_progress}
 use Rattle.camac_text.proofs.LocalProcedures.{local_procedure}
 use Rattle.camac_text.proofs.LocalTables.{local_table}
-use Rattle.camac_text_cursor.proofs.Places.{IsLocal, local_then, local_peek, local_line, local_ask, local_change, local_give, local_fail, local_advance, local_check, local_while}
+use Rattle.camac_text_cursor.proofs.Places.{IsLocal, local_then, local_peek, local_line, local_ask, local_change, local_give, local_unexpected, local_advance, local_check, local_while, local_until}
 use Rattle.camac_text_cursor.proofs.Local.{local_expect, local_any_number, local_branch, local_sub_address, local_new_name, local_new_variable, local_used_lam}
 use Rattle.camac_text_statements.proofs.LocalStatements.{local_block}
 
@@ -38,10 +39,10 @@ local_lam line s =
 local_variables : (line : ℕ) (s : State) → IsLocal (variable_declaration line) s
 unfolding variable_declaration
 local_variables line s =
-    local_then advance (λ _. new_variable >> (while_next is_name one_more_variable 1 >>= λ count. change (with_variables_of line count))) s (local_advance s) (λ _ u _.
-    local_then new_variable (λ _. while_next is_name one_more_variable 1 >>= λ count. change (with_variables_of line count)) u (local_new_variable u) (λ _ u _.
-    local_then (while_next is_name one_more_variable 1) (λ count. change (with_variables_of line count)) u
-    (local_while is_name one_more_variable variables_progress (λ n v _. local_then new_variable (λ _. give (n + 1)) v (local_new_variable v) (λ _ w _. local_give (n + 1) w)) 1 u)
+    local_then advance (λ _. new_variable >> (until choice.Name is_name one_more_variable 1 >>= λ count. change (with_variables_of line count))) s (local_advance s) (λ _ u _.
+    local_then new_variable (λ _. until choice.Name is_name one_more_variable 1 >>= λ count. change (with_variables_of line count)) u (local_new_variable u) (λ _ u _.
+    local_then (until choice.Name is_name one_more_variable 1) (λ count. change (with_variables_of line count)) u
+    (local_until choice.Name is_name one_more_variable variables_progress (λ n v _. local_then new_variable (λ _. give (n + 1)) v (local_new_variable v) (λ _ w _. local_give (n + 1) w)) 1 u)
     (λ count v _. local_change (with_variables_of line count) (λ w ts n. refl) (λ w. refl) v)))
 
 -- a service from so many of its words on
@@ -75,7 +76,7 @@ local_declaration_by line (Some (kind.Keyword word.Proc)) s = local_procedure li
 local_declaration_by line (Some (kind.Keyword word.Cdlam)) s = local_lam line s
 local_declaration_by line (Some (kind.Keyword word.Var)) s = local_variables line s
 local_declaration_by line (Some (kind.Keyword word.Service)) s = local_service line s
-local_declaration_by line _ s = local_fail told.Unexpected s tt
+local_declaration_by line _ s = local_unexpected choice.Declaration s
 
 local_declaration : (s : State) → IsLocal declaration_at s
 unfolding declaration_at

@@ -5,12 +5,13 @@ use Rattle.camac_tokens.specs.declared.fault.Limit.TheVariants as limit
 use Rattle.camac_tokens.specs.declared.fault.TextCase.TheVariants as told
 use Rattle.camac_tokens.specs.declared.token.Keyword.TheVariants as word
 use Rattle.camac_tokens.specs.declared.token.Sign.TheVariants as sign
-use Rattle.camac_text_cursor.specs.Reading.{State, Reader, ◌>>=◌, ◌>>◌, give, ask, change, advance, check, kind_of, while_next, one_more}
+use Rattle.camac_text_cursor.specs.declared.choice.Choice.TheVariants as choice
+use Rattle.camac_text_cursor.specs.Reading.{State, Reader, ◌>>=◌, ◌>>◌, give, ask, change, advance, check, kind_of, one_more, until, miss}
 use Rattle.camac_text_cursor.specs.Readers.{is_sign, expect, expect_sign, any_number, new_name, new_parameter}
 use Rattle.camac_text_cursor.specs.Declaring.{in_heading, opened, with_procedure}
 use Rattle.camac_text_statements.specs.Statements.{block_at}
 use Rattle.camac_text.specs.Procedures.{parameter_at, next_parameter, parameter_list, parameters_at, Heading, heading_at, procedure_made, procedure_declaration}
-use Rattle.camac_text_cursor.proofs.Places.{IsLocal, local_then, local_peek, local_ask, local_change, local_give, local_advance, local_if, local_check, local_while}
+use Rattle.camac_text_cursor.proofs.Places.{IsLocal, local_then, local_peek, local_ask, local_change, local_give, local_miss, local_advance, local_if, local_check, local_until}
 use Rattle.camac_text_cursor.proofs.Local.{local_expect, local_expect_sign, local_any_number, local_new_name, local_new_parameter}
 use Rattle.camac_text_statements.proofs.LocalStatements.{local_block}
 use Rattle.camac_text.proofs.ParametersRead.{parameters_progress, from_steps, from_cycles, from_bracket}
@@ -36,15 +37,15 @@ local_next_parameter s = local_then advance (λ _. parameter_at) s (local_advanc
 local_list : (s : State) → IsLocal parameter_list s
 unfolding parameter_list
 local_list s =
-    local_then parameter_at (λ first. while_next (is_sign sign.Comma) (one_more next_parameter) (first ∷ [])) s (local_parameter s) (λ first u _.
-    local_while (is_sign sign.Comma) (one_more next_parameter) parameters_progress (λ ps v _.
+    local_then parameter_at (λ first. until (choice.Mark sign.Comma) (is_sign sign.Comma) (one_more next_parameter) (first ∷ [])) s (local_parameter s) (λ first u _.
+    local_until (choice.Mark sign.Comma) (is_sign sign.Comma) (one_more next_parameter) parameters_progress (λ ps v _.
     local_then next_parameter (λ p. give (ps ++ p ∷ [])) v (local_next_parameter v) (λ p w _. local_give (ps ++ p ∷ []) w)) (first ∷ []) u)
 
 local_parameters : (s : State) → IsLocal parameters_at s
 unfolding parameters_at
 local_parameters s =
-    local_peek (λ k. cond (is_sign sign.RightBracket k) (give []) parameter_list) s
-    (local_if (is_sign sign.RightBracket (kind_of s.rest)) (give []) parameter_list s (λ _. local_give [] s) (λ _. local_list s))
+    local_peek (λ k. cond (is_sign sign.RightBracket k) (give []) (miss (choice.Mark sign.RightBracket) >> parameter_list)) s
+    (local_if (is_sign sign.RightBracket (kind_of s.rest)) (give []) (miss (choice.Mark sign.RightBracket) >> parameter_list) s (λ _. local_give [] s) (λ _. local_then (miss (choice.Mark sign.RightBracket)) (λ _. parameter_list) s (local_miss (choice.Mark sign.RightBracket) s) (λ _ u _. local_list u)))
 
 abbrev heading_made : List Parameter → ℕ → ℕ → ℕ → Heading
 heading_made ps c w n = record { parameters = ps; cycles = c; words = w; steps = n }

@@ -4,11 +4,12 @@ use Rattle.camac_lang.specs.Tree.{Text, Table}
 use Rattle.camac_tokens.specs.declared.fault.Limit.TheVariants as limit
 use Rattle.camac_tokens.specs.declared.fault.TextCase.TheVariants as told
 use Rattle.camac_tokens.specs.declared.token.Sign.TheVariants as sign
-use Rattle.camac_text_cursor.specs.Reading.{State, ◌>>=◌, ◌>>◌, give, change, advance, check, while_next}
+use Rattle.camac_text_cursor.specs.declared.choice.Choice.TheVariants as choice
+use Rattle.camac_text_cursor.specs.Reading.{State, ◌>>=◌, ◌>>◌, give, change, advance, check, until}
 use Rattle.camac_text_cursor.specs.Readers.{is_number, expect_sign, number_here, new_name}
 use Rattle.camac_text_cursor.specs.Declaring.{with_table}
 use Rattle.camac_text.specs.Tables.{word_after, one_more_word, table_words, table_declaration}
-use Rattle.camac_text_cursor.proofs.Places.{IsLocal, local_then, local_ask, local_change, local_give, local_advance, local_check, local_while}
+use Rattle.camac_text_cursor.proofs.Places.{IsLocal, local_then, local_ask, local_change, local_give, local_advance, local_check, local_until}
 use Rattle.camac_text_cursor.proofs.Local.{local_take, local_expect_sign, local_number, number_at, local_new_name}
 use Rattle.camac_text.proofs.TablesRead.{words_progress}
 
@@ -22,8 +23,8 @@ local_word count s =
 local_words : (s : State) → IsLocal table_words s
 unfolding table_words
 local_words s =
-    local_then (word_after 0) (λ first. while_next is_number one_more_word (first ∷ [])) s (local_word 0 s) (λ first u _.
-    local_while is_number one_more_word words_progress (λ ws v _.
+    local_then (word_after 0) (λ first. until choice.Number is_number one_more_word (first ∷ [])) s (local_word 0 s) (λ first u _.
+    local_until choice.Number is_number one_more_word words_progress (λ ws v _.
     local_then (word_after (length ws)) (λ w. give (ws ++ w ∷ [])) v (local_word (length ws) v) (λ w z _. local_give (ws ++ w ∷ []) z)) (first ∷ []) u)
 
 abbrev made : ℕ → Text → List ℕ → Table

@@ -12,11 +12,12 @@ use Rattle.camac_tokens.specs.declared.token.Sign.{Sign}
 use Rattle.camac_tokens.specs.declared.token.Sign.TheVariants as sign
 use Rattle.camac_tokens.specs.declared.token.TokenKind.{TokenKind}
 use Rattle.camac_tokens.specs.declared.token.TokenKind.TheVariants as kind
-use Rattle.camac_text_cursor.specs.Reading.{State, Reader, ◌>>=◌, ◌>>◌, give, ask, check, kind_of, after_first, while_next, one_more}
+use Rattle.camac_text_cursor.specs.declared.choice.Choice.TheVariants as choice
+use Rattle.camac_text_cursor.specs.Reading.{State, Reader, ◌>>=◌, ◌>>◌, give, ask, check, kind_of, after_first, one_more, miss, missed, past, until}
 use Rattle.camac_text_cursor.specs.Readers.{is_sign, expect, expect_sign, any_number, new_name, added, new_parameter}
 use Rattle.camac_text.specs.Procedures.{parameter_at, next_parameter, parameter_list, parameters_at, Heading, heading_at}
-use Rattle.camac_text_cursor.proofs.Steps.{then_ok, ok_is, Progresses, while_keeps}
-use Rattle.camac_text_cursor.proofs.Moves.{AllFit, Moves, kind_fit, after_less, moved, then_moves, one_moves, check_ok, any_number_ok, expect_ok, expect_sign_ok, new_name_ok}
+use Rattle.camac_text_cursor.proofs.Steps.{then_ok, ok_is, Progresses, until_keeps}
+use Rattle.camac_text_cursor.proofs.Moves.{AllFit, Moves, kind_fit, after_less, moved, unmoved, then_moves, one_moves, check_ok, any_number_ok, expect_ok, expect_sign_ok, new_name_ok}
 use Rattle.camac_text_cursor.proofs.Registers.{both, each_push}
 use Rattle.camac_text.proofs.Variables.{DeclaresOne, added_ok, one_variable_less, DeclaresNames, no_names, one_name_more, names_then_moves}
 
@@ -70,9 +71,9 @@ parameter_ok s y e =
       fits = λ h. both _ _ (kind_fit b.0.1.rest (kind.Number c.0.0) low.next (to_b.fit h)) (kind_fit d.0.1.rest (kind.Number f.0.0) high.next (to_d.fit h));
     })
 
-pub next_parameter_ok : (s : State) (y : Parameter × State) → next_parameter s ≡ Ok y → ReadsParameter (record s { rest = after_first s.rest }) y.0 y.1
+pub next_parameter_ok : (s : State) (y : Parameter × State) → next_parameter s ≡ Ok y → ReadsParameter (past s) y.0 y.1
 unfolding next_parameter
-next_parameter_ok s y e = parameter_ok (record s { rest = after_first s.rest }) y e
+next_parameter_ok s y e = parameter_ok (past s) y e
 
 -- ---- parameters
 
@@ -108,7 +109,7 @@ one_parameter_more s ps u p t r x =
 parameters_turn : (s : State) (ps : List Parameter) (u : State) (qs : List Parameter) (t : State) → ReadsParameters s ps u → one_more next_parameter ps u ≡ Ok (qs, t) → ReadsParameters s qs t
 parameters_turn s ps u qs t r e =
     let m = then_ok (next_parameter u) (λ p. give (ps ++ p ∷ [])) (qs, t) e in
-    subst (λ (p : List Parameter × State). ReadsParameters s p.0 p.1) (ok_is (ps ++ m.0.0 ∷ [], m.0.1) (qs, t) m.2) (one_parameter_more s ps (record u { rest = after_first u.rest }) m.0.0 m.0.1 (parameters_then_moves s ps u (record u { rest = after_first u.rest }) r (moved u)) (next_parameter_ok u m.0 m.1))
+    subst (λ (p : List Parameter × State). ReadsParameters s p.0 p.1) (ok_is (ps ++ m.0.0 ∷ [], m.0.1) (qs, t) m.2) (one_parameter_more s ps (past u) m.0.0 m.0.1 (parameters_then_moves s ps u (past u) r (moved u)) (next_parameter_ok u m.0 m.1))
 
 parameter_less : (s : State) (p : Parameter) (s' : State) → ReadsParameter s p s' → length s'.rest < length s.rest
 parameter_less s p s' x =
@@ -124,7 +125,7 @@ pub next_parameter_less : (s : State) (y : Parameter × State) → is_sign sign.
 next_parameter_less s y on e =
     let k = sign_some sign.Comma (kind_of s.rest) on in
     let less : length (after_first s.rest) < length s.rest = after_less s.rest k.0 k.1 in
-    let more : length y.1.rest < length (after_first s.rest) = parameter_less (record s { rest = after_first s.rest }) y.0 y.1 (next_parameter_ok s y e) in
+    let more : length y.1.rest < length (after_first s.rest) = parameter_less (past s) y.0 y.1 (next_parameter_ok s y e) in
     omega arith
 
 pub parameters_progress : Progresses (is_sign sign.Comma) (one_more next_parameter)
@@ -135,12 +136,28 @@ parameters_progress ps s y s' on took =
 list_ok : (s : State) (y : List Parameter × State) → length s.variables ≤ 8 → parameter_list s ≡ Ok y → ReadsParameters s y.0 y.1
 unfolding parameter_list
 list_ok s y few e =
-    let m = then_ok (parameter_at s) (λ first. while_next (is_sign sign.Comma) (one_more next_parameter) (first ∷ [])) y e in
-    while_keeps (λ (ps : List Parameter) (u : State). ReadsParameters s ps u) (is_sign sign.Comma) (one_more next_parameter) (λ ps u qs t r on took. parameters_turn s ps u qs t r took) (m.0.0 ∷ []) m.0.1 y (one_parameter_more s [] s m.0.0 m.0.1 (no_parameters s few) (parameter_ok s m.0 m.1)) m.2
+    let m = then_ok (parameter_at s) (λ first. until (choice.Mark sign.Comma) (is_sign sign.Comma) (one_more next_parameter) (first ∷ [])) y e in
+    until_keeps (λ (ps : List Parameter) (u : State). ReadsParameters s ps u) (choice.Mark sign.Comma) (λ ps u r. parameters_then_moves s ps u (missed (choice.Mark sign.Comma) u) r (unmoved (choice.Mark sign.Comma) u)) (is_sign sign.Comma) (one_more next_parameter) (λ ps u qs t r on took. parameters_turn s ps u qs t r took) (m.0.0 ∷ []) m.0.1 y (one_parameter_more s [] s m.0.0 m.0.1 (no_parameters s few) (parameter_ok s m.0 m.1)) m.2
 
-choice_ok : (none : Bool) (s : State) (y : List Parameter × State) → length s.variables ≤ 8 → cond none (give []) parameter_list s ≡ Ok y → ReadsParameters s y.0 y.1
+moves_then_parameters : (s t : State) (ps : List Parameter) (u : State) → Moves s t → ReadsParameters t ps u → ReadsParameters s ps u
+moves_then_parameters s t ps u m r =
+    let shorter_t : length t.rest ≤ length s.rest = m.shorter in
+    let shorter_u : length u.rest ≤ length t.rest = r.names.shorter in
+    record {
+      names = record {
+        same = r.names.same ∙ ap (λ (w : State). record w { rest = u.rest; variables = w.variables ++ names_of ps; variable_count = w.variable_count + length (names_of ps); declared = w.declared ++ names_of ps; tried = u.tried }) m.same;
+        fit = λ h. r.names.fit (m.fit h);
+        shorter = omega arith;
+        few = λ h. r.names.few (subst (λ (w : State). w.variable_count ≤ 64) (sym m.same) h);
+        new = λ h. subst (λ (w : State). are_declarable (names_of ps) w.declared ≡ true) m.same (r.names.new (m.fit h));
+      };
+      few = subst (λ (w : State). length w.variables + length ps ≤ 8) m.same r.few;
+      fit = λ h. r.fit (m.fit h);
+    }
+
+choice_ok : (none : Bool) (s : State) (y : List Parameter × State) → length s.variables ≤ 8 → cond none (give []) (miss (choice.Mark sign.RightBracket) >> parameter_list) s ≡ Ok y → ReadsParameters s y.0 y.1
 choice_ok true s y few e = subst (λ (p : List Parameter × State). ReadsParameters s p.0 p.1) (ok_is ([], s) y e) (no_parameters s few)
-choice_ok false s y few e = list_ok s y few e
+choice_ok false s y few e = moves_then_parameters s (missed (choice.Mark sign.RightBracket) s) y.0 y.1 (unmoved (choice.Mark sign.RightBracket) s) (list_ok (missed (choice.Mark sign.RightBracket) s) y few e)
 
 parameters_ok : (s : State) (y : List Parameter × State) → length s.variables ≤ 8 → parameters_at s ≡ Ok y → ReadsParameters s y.0 y.1
 unfolding parameters_at
@@ -153,22 +170,6 @@ pub record ReadsHeading (s : State) (h : Heading) (s' : State) : Type 0 where
   pub cycles_fit : AllFit s.rest → is_number h.cycles ≡ true
   pub words_fit : AllFit s.rest → is_number h.words ≡ true
   pub steps_fit : AllFit s.rest → is_number h.steps ≡ true
-
-moves_then_parameters : (s t : State) (ps : List Parameter) (u : State) → Moves s t → ReadsParameters t ps u → ReadsParameters s ps u
-moves_then_parameters s t ps u m r =
-    let shorter_t : length t.rest ≤ length s.rest = m.shorter in
-    let shorter_u : length u.rest ≤ length t.rest = r.names.shorter in
-    record {
-      names = record {
-        same = r.names.same ∙ ap (λ (w : State). record w { rest = u.rest; variables = w.variables ++ names_of ps; variable_count = w.variable_count + length (names_of ps); declared = w.declared ++ names_of ps }) m.same;
-        fit = λ h. r.names.fit (m.fit h);
-        shorter = omega arith;
-        few = λ h. r.names.few (subst (λ (w : State). w.variable_count ≤ 64) (sym m.same) h);
-        new = λ h. subst (λ (w : State). are_declarable (names_of ps) w.declared ≡ true) m.same (r.names.new (m.fit h));
-      };
-      few = subst (λ (w : State). length w.variables + length ps ≤ 8) m.same r.few;
-      fit = λ h. r.fit (m.fit h);
-    }
 
 -- the numbers after the parameters
 record ReadsNumbers (s : State) (ps : List Parameter) (h : Heading) (s' : State) : Type 0 where

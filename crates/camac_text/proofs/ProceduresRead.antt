@@ -7,7 +7,7 @@ use Rattle.camac_tokens.specs.declared.fault.Limit.TheVariants as limit
 use Rattle.camac_tokens.specs.declared.fault.TextCase.TheVariants as told
 use Rattle.camac_tokens.specs.declared.token.TokenKind.{TokenKind}
 use Rattle.camac_tokens.specs.declared.token.TokenKind.TheVariants as kind
-use Rattle.camac_text_cursor.specs.Reading.{State, Reader, ◌>>=◌, ◌>>◌, ask, change, advance, kind_of, after_first}
+use Rattle.camac_text_cursor.specs.Reading.{State, Reader, ◌>>=◌, ◌>>◌, ask, change, advance, kind_of, after_first, past}
 use Rattle.camac_text_cursor.specs.Readers.{new_name}
 use Rattle.camac_text_cursor.specs.Declaring.{in_heading, opened, with_procedure}
 use Rattle.camac_text_statements.specs.Statements.{block_at}
@@ -32,7 +32,7 @@ pub record ProcedureDeclaration (s s' : State) : Type 0 where
   pub free : is_new name s.declared ≡ true
   pub named : AllFit s.rest → is_name name ≡ true
   pub fit : AllFit s.rest → AllFit rest.rest
-  pub reads_heading : ReadsHeading (in_heading name (record s { rest = rest.rest })) heading between
+  pub reads_heading : ReadsHeading (in_heading name (record s { rest = rest.rest; tried = rest.tried })) heading between
   pub reads_body : Body 16 between body last
   pub left : s' ≡ with_procedure (procedure_made line name heading last.registers body) (length (s.declared ++ name ∷ [])) last
   pub less : length s'.rest < length s.rest
@@ -45,11 +45,11 @@ after_name line name =
 pub procedure_is : (s : State) (k : TokenKind) (line : ℕ) (y : Unit {0} × State) → kind_of s.rest ≡ Some k → procedure_declaration line s ≡ Ok y → ProcedureDeclaration s y.1
 unfolding procedure_declaration
 procedure_is s k line y next e =
-    let t : State = record s { rest = after_first s.rest } in
+    let t : State = past s in
     let c0 = check_ok (nat_lt (length s.procedures) 16) (told.Limit limit.Procedures) (advance >> (new_name >>= λ name. advance >> after_name line name)) s y e in
     let a = then_ok (new_name t) (λ name. advance >> after_name line name) y c0.1 in
     let h = new_name_ok t a.0 a.1 in
-    let u : State = record s { rest = after_first (after_first s.rest) } in
+    let u : State = past (past s) in
     let at : after_name line a.0.0 u ≡ Ok y = subst (λ (w : State). (advance >> after_name line a.0.0) w ≡ Ok y) h.left a.2 in
     let v : State = in_heading a.0.0 u in
     let b = then_ok (heading_at v) (λ g. block_at 16 >>= λ body. ask (λ w. w.registers) >>= λ registers. change (with_procedure (procedure_made line a.0.0 g registers body) (length v.declared))) y at in

@@ -47,13 +47,14 @@ module _ (s s' : State) (so : Sofar s) (d : ProcedureDeclaration s s') where
     procedures = s.procedures ++ p ∷ [];
     callables = s.callables ++ callable s.callables p ∷ [];
     order = s.order ++ next_procedure ∷ [];
+    tried = d.last.tried;
   }
 
   is_after : s' ≡ after_it
   is_after =
       d.left
       ∙ ap (λ (z : State). procedure_added p (length (s.declared ++ d.name ∷ [])) z) d.reads_body.same
-      ∙ ap (λ (z : State). procedure_added p (length (s.declared ++ d.name ∷ [])) (record z { rest = d.last.rest; registers = d.last.registers; statements = z.statements + statements (block_of d.body) })) d.reads_heading.parameters.names.same
+      ∙ ap (λ (z : State). procedure_added p (length (s.declared ++ d.name ∷ [])) (record z { rest = d.last.rest; registers = d.last.registers; statements = z.statements + statements (block_of d.body); tried = d.last.tried })) d.reads_heading.parameters.names.same
       ∙ ap (λ (ds : List Text). record after_it { declared = ds }) (take-append_seam (s.declared ++ d.name ∷ []) (names_of ps))
 
   fit_between : AllFit d.between.rest

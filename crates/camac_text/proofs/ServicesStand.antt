@@ -19,7 +19,7 @@ use Rattle.camac_text.proofs.Listed.{declared_push, at_place, total_push, same_n
 use Rattle.camac_text.proofs.Sofar.{before_of, Extends, Sofar}
 
 abbrev service_state : State → State → ℕ → ℕ → ℕ → ℕ → List Statement → State
-service_state s u line lam cycles words body = service_added line lam cycles words body (record s { rest = u.rest; registers = u.registers; statements = s.statements + statements (block_of body) })
+service_state s u line lam cycles words body = service_added line lam cycles words body (record s { rest = u.rest; registers = u.registers; statements = s.statements + statements (block_of body); tried = u.tried })
 
 abbrev service_made : State → ℕ → ℕ → ℕ → ℕ → List Statement → Service
 service_made u line lam cycles words body = record { line = line; lam = lam; cycles = cycles; words = words; registers = u.registers; body = block_of body }

@@ -60,7 +60,7 @@ pub record Sofar (s : State) : Type 0 where
 
 -- ---- one more table
 
-table_extends : (s u : State) (g : Table) (t : Script) → Extends (table_added g (record s { rest = u.rest })) t → Extends s t
+table_extends : (s u : State) (g : Table) (t : Script) → Extends (table_added g (record s { rest = u.rest; tried = u.tried })) t → Extends s t
 table_extends s u g t x = record {
   tables = g ∷ x.tables;
   tables_are = x.tables_are ∙ append_assoc s.tables (g ∷ []) x.tables;
@@ -74,7 +74,7 @@ table_extends s u g t x = record {
   services_are = x.services_are;
 }
 
-table_next : (s u : State) (g : Table) (names : List Text) (t : Script) → Extends (table_added g (record s { rest = u.rest })) t → table_stands (before_of names s) g ≡ true → declared t (before_of names s) next_table ≡ Some (before_of (g.name ∷ names) (table_added g (record s { rest = u.rest })))
+table_next : (s u : State) (g : Table) (names : List Text) (t : Script) → Extends (table_added g (record s { rest = u.rest; tried = u.tried })) t → table_stands (before_of names s) g ≡ true → declared t (before_of names s) next_table ≡ Some (before_of (g.name ∷ names) (table_added g (record s { rest = u.rest; tried = u.tried })))
 table_next s u g names t x stands =
     ap (option_and_then (λ (m : Table). unless_broken (table_stands (before_of names s) m) (with_table m.name (before_of names s)))) (ap (λ (gs : List Table). slice_get gs (length s.tables)) x.tables_are ∙ at_place s.tables g x.tables)
     ∙ ap (λ (b : Bool). unless_broken b (with_table g.name (before_of names s))) stands
@@ -84,7 +84,7 @@ pub table_sofar : (s s' : State) → Sofar s → TableDeclaration s s' → Sofar
 table_sofar s s' so d =
     let g = d.table in
     let u = d.between in
-    let v : State = table_added g (record s { rest = u.rest }) in
+    let v : State = table_added g (record s { rest = u.rest; tried = u.tried }) in
     let is : s' ≡ v = d.left ∙ ap (λ (w : State). table_added g w) d.moves.same in
     let free : is_new g.name so.names ≡ true = so.same_names g.name ∙ d.free in
     let name : are_declarable (g.name ∷ []) so.names ≡ true = both _ _ (both _ _ (d.named so.fit) refl) (both _ _ free refl) in
@@ -111,7 +111,7 @@ table_sofar s s' so d =
 
 -- ---- one more LAM
 
-lam_extends : (s u : State) (l : Lam) (t : Script) → Extends (lam_added l (record s { rest = u.rest })) t → Extends s t
+lam_extends : (s u : State) (l : Lam) (t : Script) → Extends (lam_added l (record s { rest = u.rest; tried = u.tried })) t → Extends s t
 lam_extends s u l t x = record {
   tables = x.tables;
   tables_are = x.tables_are;
@@ -128,7 +128,7 @@ lam_extends s u l t x = record {
 lam_keeps : (names : List Text) (s : State) (l : Lam) → are_declarable (l.name ∷ []) names ≡ true → is_number l.crate_no ≡ true → is_number l.station ≡ true → is_sub_address l.sub_address ≡ true → lam_stands (before_of names s) l ≡ true
 lam_keeps names s l name c n a = both _ _ name (both _ _ c (both _ _ n a))
 
-lam_next : (s u : State) (l : Lam) (names : List Text) (t : Script) → Extends (lam_added l (record s { rest = u.rest })) t → lam_stands (before_of names s) l ≡ true → declared t (before_of names s) next_lam ≡ Some (before_of (l.name ∷ names) (lam_added l (record s { rest = u.rest })))
+lam_next : (s u : State) (l : Lam) (names : List Text) (t : Script) → Extends (lam_added l (record s { rest = u.rest; tried = u.tried })) t → lam_stands (before_of names s) l ≡ true → declared t (before_of names s) next_lam ≡ Some (before_of (l.name ∷ names) (lam_added l (record s { rest = u.rest; tried = u.tried })))
 lam_next s u l names t x stands =
     ap (option_and_then (λ (m : Lam). unless_broken (lam_stands (before_of names s) m) (with_lam m.name (before_of names s)))) (ap (λ (ls : List Lam). slice_get ls (length s.lams)) x.lams_are ∙ at_place s.lams l x.lams)
     ∙ ap (λ (b : Bool). unless_broken b (with_lam l.name (before_of names s))) stands
@@ -138,7 +138,7 @@ pub lam_sofar : (s s' : State) → Sofar s → LamDeclaration s s' → Sofar s'
 lam_sofar s s' so d =
     let l = d.lam in
     let u = d.between in
-    let v : State = lam_added l (record s { rest = u.rest }) in
+    let v : State = lam_added l (record s { rest = u.rest; tried = u.tried }) in
     let is : s' ≡ v = d.left ∙ ap (λ (w : State). lam_added l w) d.moves.same in
     let free : is_new l.name so.names ≡ true = so.same_names l.name ∙ d.free in
     let name : are_declarable (l.name ∷ []) so.names ≡ true = both _ _ (both _ _ (d.named so.fit) refl) (both _ _ free refl) in
@@ -165,7 +165,7 @@ lam_sofar s s' so d =
 
 -- ---- more variables
 
-variables_extend : (s u : State) (line n : ℕ) (xs : List Text) (t : Script) → Extends (with_variables_of line n (record s { rest = u.rest; variables = s.variables ++ xs; variable_count = s.variable_count + length xs; declared = s.declared ++ xs })) t → Extends s t
+variables_extend : (s u : State) (line n : ℕ) (xs : List Text) (t : Script) → Extends (with_variables_of line n (record s { rest = u.rest; variables = s.variables ++ xs; variable_count = s.variable_count + length xs; declared = s.declared ++ xs; tried = u.tried })) t → Extends s t
 variables_extend s u line n xs t x = record {
   tables = x.tables;
   tables_are = x.tables_are;
@@ -182,7 +182,7 @@ variables_extend s u line n xs t x = record {
 variables_stand : (names xs : List Text) (n : ℕ) → length xs ≡ n → 1 ≤ n → are_declarable xs names ≡ true → (nat_le 1 n && (nat_eq (length xs) n && are_declarable xs names)) ≡ true
 variables_stand names xs n e some h = both _ _ (below_le 1 n some) (both _ _ (ap (λ (m : ℕ). nat_eq m n) e ∙ same_number n) h)
 
-variables_next : (s u : State) (line n : ℕ) (xs names : List Text) (t : Script) → Extends (with_variables_of line n (record s { rest = u.rest; variables = s.variables ++ xs; variable_count = s.variable_count + length xs; declared = s.declared ++ xs })) t → length xs ≡ n → 1 ≤ n → are_declarable xs names ≡ true → declared t (before_of names s) (next_variables line n) ≡ Some (before_of (xs ++ names) (with_variables_of line n (record s { rest = u.rest; variables = s.variables ++ xs; variable_count = s.variable_count + length xs; declared = s.declared ++ xs })))
+variables_next : (s u : State) (line n : ℕ) (xs names : List Text) (t : Script) → Extends (with_variables_of line n (record s { rest = u.rest; variables = s.variables ++ xs; variable_count = s.variable_count + length xs; declared = s.declared ++ xs; tried = u.tried })) t → length xs ≡ n → 1 ≤ n → are_declarable xs names ≡ true → declared t (before_of names s) (next_variables line n) ≡ Some (before_of (xs ++ names) (with_variables_of line n (record s { rest = u.rest; variables = s.variables ++ xs; variable_count = s.variable_count + length xs; declared = s.declared ++ xs; tried = u.tried })))
 variables_next s u line n xs names t x e some stands =
     let found : take n (drop (length s.variables) t.variables) ≡ xs = ap (λ (ys : List Text). take n (drop (length s.variables) ys)) x.variables_are ∙ ap (λ (m : ℕ). take m (drop (length s.variables) ((s.variables ++ xs) ++ x.variables))) (sym e) ∙ between s.variables xs x.variables in
     ap (λ (ys : List Text). unless_broken (nat_le 1 n && (nat_eq (length ys) n && are_declarable ys names)) (with_variables ys (before_of names s))) found
@@ -193,7 +193,7 @@ pub variables_sofar : (s s' : State) → Sofar s → VariableDeclaration s s' �
 variables_sofar s s' so d =
     let xs = d.variables.names in
     let u = d.between in
-    let v : State = with_variables_of d.line d.count (record s { rest = u.rest; variables = s.variables ++ xs; variable_count = s.variable_count + length xs; declared = s.declared ++ xs }) in
+    let v : State = with_variables_of d.line d.count (record s { rest = u.rest; variables = s.variables ++ xs; variable_count = s.variable_count + length xs; declared = s.declared ++ xs; tried = u.tried }) in
     let is : s' ≡ v = d.left ∙ ap (λ (w : State). with_variables_of d.line d.count w) d.variables.declares.same in
     let new : are_declarable xs so.names ≡ true = declarable_same xs so.names s.declared so.same_names ∙ d.variables.declares.new so.fit in
     let few : u.variable_count ≤ 64 = d.variables.declares.few so.few_variables in

@@ -8,12 +8,13 @@ use Rattle.camac_tokens.specs.declared.fault.TextCase.TheVariants as told
 use Rattle.camac_tokens.specs.declared.token.Sign.TheVariants as sign
 use Rattle.camac_tokens.specs.declared.token.TokenKind.{TokenKind}
 use Rattle.camac_tokens.specs.declared.token.TokenKind.TheVariants as kind
-use Rattle.camac_text_cursor.specs.Reading.{State, ◌>>◌, give, advance, check, kind_of, after_first, while_next}
+use Rattle.camac_text_cursor.specs.declared.choice.Choice.TheVariants as choice
+use Rattle.camac_text_cursor.specs.Reading.{State, ◌>>◌, give, advance, check, kind_of, after_first, missed, past, until}
 use Rattle.camac_text_cursor.specs.Readers.{is_number, expect_sign, number_here, new_name}
 use Rattle.camac_text_cursor.specs.Declaring.{with_table}
 use Rattle.camac_text.specs.Tables.{word_after, one_more_word, table_words, table_declaration}
-use Rattle.camac_text_cursor.proofs.Steps.{then_ok, ok_is, Progresses, while_keeps}
-use Rattle.camac_text_cursor.proofs.Moves.{AllFit, Moves, TakesOne, kind_fit, after_less, stays, moved, then_moves, one_moves, one_less, check_ok, number_ok, expect_sign_ok, new_name_ok}
+use Rattle.camac_text_cursor.proofs.Steps.{then_ok, ok_is, Progresses, until_keeps}
+use Rattle.camac_text_cursor.proofs.Moves.{AllFit, Moves, TakesOne, kind_fit, after_less, stays, moved, unmoved, then_moves, one_moves, one_less, check_ok, number_ok, expect_sign_ok, new_name_ok}
 use Rattle.camac_text_cursor.proofs.Registers.{below_le, each_push}
 
 -- ---- words
@@ -31,8 +32,8 @@ word_ok count s y e =
     let c = check_ok (nat_lt m.0.0 16777216) (told.Number 16777215) (check (nat_lt count 1024) (told.Limit limit.TableWords) >> (advance >> give m.0.0)) m.0.1 y m.2 in
     let d = check_ok (nat_lt count 1024) (told.Limit limit.TableWords) (advance >> give m.0.0) m.0.1 y c.1 in
     let below : m.0.0 < 16777216 = ltb-true m.0.0 16777216 c.0 in
-    subst (λ (p : ℕ × State). ReadsWord count s p.0 p.1) (ok_is (m.0.0, record m.0.1 { rest = after_first m.0.1.rest }) y d.1) (record {
-      one = record { next = h.0; left = ap (λ (w : State). record w { rest = after_first w.rest }) h.1 };
+    subst (λ (p : ℕ × State). ReadsWord count s p.0 p.1) (ok_is (m.0.0, past m.0.1) y d.1) (record {
+      one = record { next = h.0; left = ap past h.1 };
       fits = below_le m.0.0 16777215 (omega arith);
       room = ltb-true count 1024 d.0;
     })
@@ -68,8 +69,8 @@ words_turn s ws u xs t so e =
 words_ok : (s : State) (y : List ℕ × State) → table_words s ≡ Ok y → ReadsWords s y.0 y.1
 unfolding table_words
 words_ok s y e =
-    let m = then_ok (word_after 0 s) (λ first. while_next is_number one_more_word (first ∷ [])) y e in
-    while_keeps (λ (ws : List ℕ) (u : State). ReadsWords s ws u) is_number one_more_word (λ ws u xs t so on took. words_turn s ws u xs t so took) (m.0.0 ∷ []) m.0.1 y (one_longer s [] s m.0.0 m.0.1 (stays s) refl (word_ok 0 s m.0 m.1)) m.2
+    let m = then_ok (word_after 0 s) (λ first. until choice.Number is_number one_more_word (first ∷ [])) y e in
+    until_keeps (λ (ws : List ℕ) (u : State). ReadsWords s ws u) choice.Number (λ ws u r. record { moves = then_moves s u (missed choice.Number u) r.moves (unmoved choice.Number u); some = r.some; few = r.few; fit = r.fit }) is_number one_more_word (λ ws u xs t so on took. words_turn s ws u xs t so took) (m.0.0 ∷ []) m.0.1 y (one_longer s [] s m.0.0 m.0.1 (stays s) refl (word_ok 0 s m.0 m.1)) m.2
 
 -- ---- a table is declared
 
@@ -89,11 +90,11 @@ pub record TableDeclaration (s s' : State) : Type 0 where
 pub table_is : (s : State) (k : TokenKind) (line : ℕ) (y : Unit {0} × State) → kind_of s.rest ≡ Some k → table_declaration line s ≡ Ok y → TableDeclaration s y.1
 unfolding table_declaration
 table_is s k line y next e =
-    let t : State = record s { rest = after_first s.rest } in
+    let t : State = past s in
     let c0 = check_ok (nat_lt (length s.tables) 16) (told.Limit limit.Tables) _ s y e in
     let a = then_ok (new_name t) _ y c0.1 in
     let h = new_name_ok t a.0 a.1 in
-    let u : State = record a.0.1 { rest = after_first a.0.1.rest } in
+    let u : State = past a.0.1 in
     let b = then_ok (expect_sign sign.Equals u) _ y a.2 in
     let c = then_ok (table_words b.0.1) _ y b.2 in
     let read = words_ok b.0.1 c.0 c.1 in

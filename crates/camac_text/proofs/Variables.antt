@@ -8,7 +8,8 @@ use Rattle.camac_lang.specs.Tree.{Text}
 use Rattle.camac_tokens.specs.declared.fault.Limit.TheVariants as limit
 use Rattle.camac_tokens.specs.declared.fault.TextCase.TheVariants as told
 use Rattle.camac_tokens.specs.declared.token.TokenKind.TheVariants as kind
-use Rattle.camac_text_cursor.specs.Reading.{State, ◌>>◌, give, change, advance, kind_of, after_first}
+use Rattle.camac_text_cursor.specs.Tried.{cleared}
+use Rattle.camac_text_cursor.specs.Reading.{State, ◌>>◌, give, change, advance, kind_of, after_first, past}
 use Rattle.camac_text_cursor.specs.Readers.{new_name, with_variable, added, new_variable, is_name as next_is_name}
 use Rattle.camac_text.specs.Declarations.{one_more_variable}
 use Rattle.camac_text_cursor.proofs.Steps.{then_ok, ok_is, Progresses}
@@ -21,7 +22,7 @@ pub record DeclaresOne (s : State) (x : Text) (s' : State) : Type 0 where
   pub next : kind_of s.rest ≡ Some (kind.Name x)
   pub free : is_new x s.declared ≡ true
   pub room : s.variable_count < 64
-  pub left : s' ≡ with_variable x (record s { rest = after_first s.rest })
+  pub left : s' ≡ with_variable x (past s)
 
 pub added_ok : (s : State) (x : Text) (y : Unit {0} × State) → kind_of s.rest ≡ Some (kind.Name x) → is_new x s.declared ≡ true → added x s ≡ Ok y → DeclaresOne s x y.1
 unfolding added
@@ -31,7 +32,7 @@ added_ok s x y next free e =
       next = next;
       free = free;
       room = ltb-true s.variable_count 64 c.0;
-      left = sym (ap (λ (p : Unit {0} × State). p.1) (ok_is (tt, with_variable x (record s { rest = after_first s.rest })) y c.1));
+      left = sym (ap (λ (p : Unit {0} × State). p.1) (ok_is (tt, with_variable x (past s)) y c.1));
     }
 
 pub new_variable_ok : (s : State) (y : Unit {0} × State) → new_variable s ≡ Ok y → (x : Text) × DeclaresOne s x y.1
@@ -52,7 +53,7 @@ variables_progress count s y s' on took =
 
 -- these names are declared as variables
 pub record DeclaresNames (s : State) (names : List Text) (s' : State) : Type 0 where
-  pub same : s' ≡ record s { rest = s'.rest; variables = s.variables ++ names; variable_count = s.variable_count + length names; declared = s.declared ++ names }
+  pub same : s' ≡ record s { rest = s'.rest; variables = s.variables ++ names; variable_count = s.variable_count + length names; declared = s.declared ++ names; tried = s'.tried }
   pub fit : AllFit s.rest → AllFit s'.rest
   pub shorter : length s'.rest ≤ length s.rest
   pub few : s.variable_count ≤ 64 → s'.variable_count ≤ 64
@@ -75,7 +76,6 @@ one_name_more s xs u x t d one =
     let free : is_new x (s.declared ++ xs) ≡ true = subst (λ (known : List Text). is_new x known ≡ true) declared one.free in
     let parts : (is_new x s.declared && is_new x xs) ≡ true = sym (each_append _ s.declared xs) ∙ free in
     let longer : length (xs ++ x ∷ []) ≡ length xs + 1 = length-append xs (x ∷ []) in
-    let t_rest : t.rest ≡ after_first u.rest = ap (λ (w : State). w.rest) one.left in
     let less : length t.rest < length u.rest = one_variable_less u x t one in
     let shorter : length u.rest ≤ length s.rest = d.shorter in
     let room : u.variable_count < 64 = one.room in
@@ -83,11 +83,11 @@ one_name_more s xs u x t d one =
     let count : suc (s.variable_count + length xs) ≡ s.variable_count + length (xs ++ x ∷ []) = omega arith in
     record {
       same = one.left
-          ∙ ap (λ (w : State). with_variable x (record w { rest = after_first u.rest })) d.same
-          ∙ ap (λ (ts : _). record s { rest = ts; variables = (s.variables ++ xs) ++ x ∷ []; variable_count = suc (s.variable_count + length xs); declared = (s.declared ++ xs) ++ x ∷ [] }) (sym t_rest)
-          ∙ ap (λ (ys : List Text). record s { rest = t.rest; variables = ys; variable_count = suc (s.variable_count + length xs); declared = (s.declared ++ xs) ++ x ∷ [] }) (append_assoc s.variables xs (x ∷ []))
-          ∙ ap (λ (k : ℕ). record s { rest = t.rest; variables = s.variables ++ (xs ++ x ∷ []); variable_count = k; declared = (s.declared ++ xs) ++ x ∷ [] }) count
-          ∙ ap (λ (ys : List Text). record s { rest = t.rest; variables = s.variables ++ (xs ++ x ∷ []); variable_count = s.variable_count + length (xs ++ x ∷ []); declared = ys }) (append_assoc s.declared xs (x ∷ []));
+          ∙ ap (λ (w : State). with_variable x (record w { rest = after_first u.rest; tried = cleared u.tried })) d.same
+          ∙ ap (λ (w : State). record s { rest = w.rest; variables = (s.variables ++ xs) ++ x ∷ []; variable_count = suc (s.variable_count + length xs); declared = (s.declared ++ xs) ++ x ∷ []; tried = w.tried }) (sym one.left)
+          ∙ ap (λ (ys : List Text). record s { rest = t.rest; variables = ys; variable_count = suc (s.variable_count + length xs); declared = (s.declared ++ xs) ++ x ∷ []; tried = t.tried }) (append_assoc s.variables xs (x ∷ []))
+          ∙ ap (λ (k : ℕ). record s { rest = t.rest; variables = s.variables ++ (xs ++ x ∷ []); variable_count = k; declared = (s.declared ++ xs) ++ x ∷ []; tried = t.tried }) count
+          ∙ ap (λ (ys : List Text). record s { rest = t.rest; variables = s.variables ++ (xs ++ x ∷ []); variable_count = s.variable_count + length (xs ++ x ∷ []); declared = ys; tried = t.tried }) (append_assoc s.declared xs (x ∷ []));
       fit = λ h. subst (λ (w : State). AllFit w.rest) (sym one.left) ((moved u).fit (d.fit h));
       shorter = omega arith;
       few = λ h. omega arith;
@@ -99,7 +99,7 @@ names_then_moves s xs u t d m =
     let shorter_u : length u.rest ≤ length s.rest = d.shorter in
     let shorter_t : length t.rest ≤ length u.rest = m.shorter in
     record {
-      same = m.same ∙ ap (λ (w : State). record w { rest = t.rest }) d.same;
+      same = m.same ∙ ap (λ (w : State). record w { rest = t.rest; tried = t.tried }) d.same;
       fit = λ h. m.fit (d.fit h);
       shorter = omega arith;
       few = λ h. subst (λ (w : State). w.variable_count ≤ 64) (sym m.same) (d.few h);

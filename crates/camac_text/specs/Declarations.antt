@@ -5,7 +5,8 @@ use Rattle.camac_tokens.specs.declared.token.TokenKind.{TokenKind}
 use Rattle.camac_tokens.specs.declared.token.TokenKind.TheVariants as kind
 use Rattle.camac_tokens.specs.declared.fault.Limit.TheVariants as limit
 use Rattle.camac_tokens.specs.declared.fault.TextCase.TheVariants as told
-use Rattle.camac_text_cursor.specs.Reading.{Reader, ◌>>=◌, ◌>>◌, give, ask, change, peek, advance, line_here, fail, check, while_next}
+use Rattle.camac_text_cursor.specs.declared.choice.Choice.TheVariants as choice
+use Rattle.camac_text_cursor.specs.Reading.{Reader, ◌>>=◌, ◌>>◌, give, ask, change, peek, advance, line_here, unexpected, check, while_next, until}
 use Rattle.camac_text_cursor.specs.Readers.{is_name, expect, any_number, branch_number, sub_address_number, new_name, new_variable, used_lam}
 use Rattle.camac_text_cursor.specs.Declaring.{with_lam, with_variables_of, with_service}
 use Rattle.camac_text_statements.specs.Statements.{block_at}
@@ -33,7 +34,7 @@ unfoldable pub variable_declaration : ℕ → Reader (Unit {0})
 variable_declaration line = do
   advance
   new_variable
-  count ← while_next is_name one_more_variable 1
+  count ← until choice.Name is_name one_more_variable 1
   change (with_variables_of line count)
 
 unfoldable pub service_declaration : ℕ → Reader (Unit {0})
@@ -57,7 +58,7 @@ declaration_by line (Some (kind.Keyword word.Cdlam)) = lam_declaration line
 declaration_by line (Some (kind.Keyword word.Var)) = variable_declaration line
 declaration_by line (Some (kind.Keyword word.Proc)) = procedure_declaration line
 declaration_by line (Some (kind.Keyword word.Service)) = service_declaration line
-declaration_by line _ = fail told.Unexpected
+declaration_by line _ = unexpected choice.Declaration
 
 unfoldable pub declaration_at : Reader (Unit {0})
 declaration_at = do

@@ -3,4 +3,5 @@ pub mod Headings
 pub mod Tables
 pub mod Declarations
 pub mod Parser
+pub mod Expecting
 pub mod Places

@@ -5,7 +5,7 @@ use Rattle.camac_tokens.specs.declared.token.Token.{Token}
 use Rattle.camac_tokens.specs.Fault.{Fault}
 use Rattle.camac_tokens.specs.Left.{Ahead}
 use Rattle.camac_tokens.specs.Scanning.{tokens_of, last_line}
-use Rattle.camac_text_cursor.specs.Reading.{State}
+use Rattle.camac_text_cursor.specs.Reading.{State, Fault as Failure, fault_of}
 use Rattle.camac_text_cursor.specs.Declaring.{tree_so_far}
 use Rattle.camac_text_cursor.specs.Parser.{unread, line_in}
 use Rattle.camac_text.specs.Declarations.{declarations_at}
@@ -14,9 +14,9 @@ use Rattle.camac_text.specs.Declarations.{declarations_at}
 abbrev pub start : List Token → ℕ → State
 start tokens end_line = unread tokens end_line
 
-abbrev pub tree_in : Result (Unit {0} × State) Fault → Result Script Fault
+abbrev pub tree_in : Result (Unit {0} × State) Failure → Result Script Fault
 tree_in (Ok read) = Ok (tree_so_far read.1)
-tree_in (Err e) = Err e
+tree_in (Err e) = Err (fault_of e)
 
 -- the tree of a list of tokens, or its first fault
 unfoldable pub tree_of_tokens : List Token → ℕ → Result Script Fault

@@ -6,7 +6,8 @@ use Rattle.camac_tokens.specs.declared.token.Keyword.TheVariants as word
 use Rattle.camac_tokens.specs.declared.token.Sign.TheVariants as sign
 use Rattle.camac_tokens.specs.declared.fault.Limit.TheVariants as limit
 use Rattle.camac_tokens.specs.declared.fault.TextCase.TheVariants as told
-use Rattle.camac_text_cursor.specs.Reading.{Reader, ◌>>=◌, ◌>>◌, give, ask, change, peek, advance, check, while_next, one_more}
+use Rattle.camac_text_cursor.specs.declared.choice.Choice.TheVariants as choice
+use Rattle.camac_text_cursor.specs.Reading.{Reader, ◌>>=◌, ◌>>◌, give, ask, change, peek, advance, miss, check, until, one_more}
 use Rattle.camac_text_cursor.specs.Readers.{is_sign, expect, expect_sign, any_number, new_name, new_parameter}
 use Rattle.camac_text_cursor.specs.Declaring.{opened, with_procedure}
 use Rattle.camac_text_statements.specs.Statements.{block_at}
@@ -29,10 +30,10 @@ next_parameter = advance >> parameter_at
 unfoldable pub parameter_list : Reader (List Parameter)
 parameter_list = do
   first ← parameter_at
-  while_next (is_sign sign.Comma) (one_more next_parameter) (first ∷ [])
+  until (choice.Mark sign.Comma) (is_sign sign.Comma) (one_more next_parameter) (first ∷ [])
 
 unfoldable pub parameters_at : Reader (List Parameter)
-parameters_at = peek >>= λ k. if is_sign sign.RightBracket k then give [] else parameter_list
+parameters_at = peek >>= λ k. if is_sign sign.RightBracket k then give [] else (miss (choice.Mark sign.RightBracket) >> parameter_list)
 
 pub record Heading : Type 0 where
   pub parameters : List Parameter

@@ -3,7 +3,8 @@ use Rattle.std.specs.Prelude.{ℕ, List, [], ◌∷◌, ◌++◌, length, nat_lt
 use Rattle.camac_tokens.specs.declared.token.Sign.TheVariants as sign
 use Rattle.camac_tokens.specs.declared.fault.Limit.TheVariants as limit
 use Rattle.camac_tokens.specs.declared.fault.TextCase.TheVariants as told
-use Rattle.camac_text_cursor.specs.Reading.{Reader, ◌>>=◌, ◌>>◌, give, ask, change, advance, check, while_next}
+use Rattle.camac_text_cursor.specs.declared.choice.Choice.TheVariants as choice
+use Rattle.camac_text_cursor.specs.Reading.{Reader, ◌>>=◌, ◌>>◌, give, ask, change, advance, check, until}
 use Rattle.camac_text_cursor.specs.Readers.{is_number, expect_sign, number_here, new_name}
 use Rattle.camac_text_cursor.specs.Declaring.{with_table}
 
@@ -22,7 +23,7 @@ one_more_word words = word_after (length words) >>= λ w. give (words ++ w ∷ [
 unfoldable pub table_words : Reader (List ℕ)
 table_words = do
   first ← word_after 0
-  while_next is_number one_more_word (first ∷ [])
+  until choice.Number is_number one_more_word (first ∷ [])
 
 unfoldable pub table_declaration : ℕ → Reader (Unit {0})
 table_declaration line = do

@@ -1,7 +1,8 @@
 // Declarations.
 
 ghost use Rattle.std.specs.Prelude.{◌≡◌, suc};
-ghost use Rattle.camac_text_cursor.specs.Reading.{kind_of, while_next};
+ghost use Rattle.camac_text_cursor.specs.Reading.{kind_of, until};
+ghost use Rattle.camac_text_cursor.specs.declared.choice.Choice.TheVariants as choice;
 ghost use Rattle.camac_text_cursor.specs.Readers.{is_name};
 ghost use Rattle.camac_text.specs.Declarations.{lam_declaration, one_more_variable, variable_declaration, service_declaration, declaration_at, is_token, declarations_at};
 ghost use Rattle.camac_text_cursor.specs.Parser.{state, Gives};
@@ -80,13 +81,14 @@ fn variable_declaration(parser: &mut Parser<'_>, line: u32) -> Result<(), TextFa
 
 /// The number of variables of a declaration, of which one is read.
 fn more_variables(parser: &mut Parser<'_>) -> Result<usize, TextFault>
-    ensures { Gives (λ n. n) result parser.new (while_next is_name one_more_variable 1 (state parser.old)) }
+    ensures { Gives (λ n. n) result parser.new (until choice.Name is_name one_more_variable 1 (state parser.old)) }
 {
     let mut count = 1;
     while parser.next_is_name() {
         parser.new_variable()?;
         count += 1;
     }
+    parser.miss(Choice::Name);
     Ok(count)
 }
 

@@ -7,7 +7,7 @@ ghost use Rattle.camac_text.specs.Headings.{heading_of};
 ghost use Rattle.camac_text.specs.Procedures.{parameter_at, next_parameter, parameter_list, parameters_at, heading_at, procedure_declaration};
 
 use camac_lang::{Parameter, Procedure, limits};
-use camac_text_cursor::Parser;
+use camac_text_cursor::{Choice, Parser};
 use camac_text_statements::block;
 use camac_tokens::{Keyword, Limit, Sign, TextCase, TextFault};
 
@@ -78,6 +78,7 @@ fn parameters(parser: &mut Parser<'_>) -> Result<Vec<Parameter>, TextFault>
     if parser.next_is_sign(Sign::RightBracket) {
         return Ok(Vec::new(parser.alloc()));
     }
+    parser.miss(Choice::Mark(Sign::RightBracket));
     parameter_list(parser)
 }
 
@@ -92,6 +93,7 @@ fn parameter_list(parser: &mut Parser<'_>) -> Result<Vec<Parameter>, TextFault>
         let parameter = next_parameter(parser)?;
         parameters.push(parameter)?;
     }
+    parser.miss(Choice::Mark(Sign::Comma));
     Ok(parameters)
 }
 

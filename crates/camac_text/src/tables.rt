@@ -5,7 +5,7 @@ ghost use Rattle.camac_text_cursor.specs.Parser.{state, Gives};
 ghost use Rattle.camac_text.specs.Tables.{word_after, table_words, table_declaration};
 
 use camac_lang::{Table, limits};
-use camac_text_cursor::Parser;
+use camac_text_cursor::{Choice, Parser};
 use camac_tokens::{Limit, Sign, TextCase, TextFault};
 use camac_word::Word24;
 
@@ -36,6 +36,7 @@ fn table_words(parser: &mut Parser<'_>) -> Result<Vec<Word24>, TextFault>
         let word = word_after(parser, words.len())?;
         words.push(word)?;
     }
+    parser.miss(Choice::Number);
     Ok(words)
 }
 

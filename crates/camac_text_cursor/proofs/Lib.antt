@@ -1,3 +1,4 @@
+mod Sets
 pub mod Searches
 pub mod Sums
 pub mod Steps

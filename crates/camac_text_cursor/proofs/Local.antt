@@ -14,11 +14,12 @@ use Rattle.camac_tokens.specs.declared.token.Sign.{Sign}
 use Rattle.camac_tokens.specs.declared.token.Token.{Token}
 use Rattle.camac_tokens.specs.declared.token.TokenKind.{TokenKind}
 use Rattle.camac_tokens.specs.declared.token.TokenKind.TheVariants as kind
+use Rattle.camac_text_cursor.specs.declared.choice.Choice.TheVariants as choice
 use Rattle.camac_text_cursor.specs.Names.{place_of, lam_place, table_place, procedure_place}
-use Rattle.camac_text_cursor.specs.Reading.{State, Reader, ◌>>=◌, ◌>>◌, give, ask, change, advance, fail, check, kind_of}
+use Rattle.camac_text_cursor.specs.Reading.{State, Reader, ◌>>=◌, ◌>>◌, give, ask, change, advance, fail, check, kind_of, unexpected}
 use Rattle.camac_text_cursor.specs.Readers.{begin, is_keyword, is_sign, expect, expect_sign, name_of, name_here, number_of, number_here, any_number, branch_number, function_number, sub_address_number, declared_as, new_name, with_variable, added, new_variable, new_parameter, other_registers, with_register, register_at, set_name, found_here, undeclared, used_at, used, used_register, used_variable, used_lam, used_table, known_at, known, variable_here, procedure_here, callable_by, called}
 use Rattle.camac_text_cursor.proofs.Moves.{number_ok, name_ok}
-use Rattle.camac_text_cursor.proofs.Places.{with_rest, IsLocal, local_then, local_peek, local_ask, local_change, local_give, local_fail, local_advance, local_if, local_check}
+use Rattle.camac_text_cursor.proofs.Places.{with_rest, IsLocal, local_then, local_peek, local_ask, local_change, local_give, local_fail, local_unexpected, local_advance, local_if, local_check}
 
 -- ---- single tokens
 
@@ -27,15 +28,15 @@ local_take x s = local_then advance (λ _. give x) s (local_advance s) (λ _ u _
 
 pub local_expect : (w : Keyword) (s : State) → IsLocal (expect w) s
 unfolding expect
-local_expect w s = local_peek (λ k. cond (is_keyword w k) advance (fail told.Unexpected)) s (local_if (is_keyword w (kind_of s.rest)) advance (fail told.Unexpected) s (λ _. local_advance s) (λ _. local_fail told.Unexpected s tt))
+local_expect w s = local_peek (λ k. cond (is_keyword w k) advance (unexpected (choice.Word w))) s (local_if (is_keyword w (kind_of s.rest)) advance (unexpected (choice.Word w)) s (λ _. local_advance s) (λ _. local_unexpected (choice.Word w) s))
 
 pub local_expect_sign : (w : Sign) (s : State) → IsLocal (expect_sign w) s
 unfolding expect_sign
-local_expect_sign w s = local_peek (λ k. cond (is_sign w k) advance (fail told.Unexpected)) s (local_if (is_sign w (kind_of s.rest)) advance (fail told.Unexpected) s (λ _. local_advance s) (λ _. local_fail told.Unexpected s tt))
+local_expect_sign w s = local_peek (λ k. cond (is_sign w k) advance (unexpected (choice.Mark w))) s (local_if (is_sign w (kind_of s.rest)) advance (unexpected (choice.Mark w)) s (λ _. local_advance s) (λ _. local_unexpected (choice.Mark w) s))
 
 pub local_name_of : (k : Option TokenKind) (s : State) → IsLocal (name_of k) s
 local_name_of (Some (kind.Name n)) s = local_give n s
-local_name_of _ s = local_fail told.Unexpected s tt
+local_name_of _ s = local_unexpected choice.Name s
 
 pub local_name : (s : State) → IsLocal name_here s
 unfolding name_here
@@ -43,7 +44,7 @@ local_name s = local_peek name_of s (local_name_of (kind_of s.rest) s)
 
 pub local_number_of : (k : Option TokenKind) (s : State) → IsLocal (number_of k) s
 local_number_of (Some (kind.Number n)) s = local_give n s
-local_number_of _ s = local_fail told.Unexpected s tt
+local_number_of _ s = local_unexpected choice.Number s
 
 pub local_number : (s : State) → IsLocal number_here s
 unfolding number_here

@@ -9,7 +9,9 @@ use Rattle.camac_tokens.specs.declared.token.Sign.{Sign}
 use Rattle.camac_tokens.specs.declared.token.Token.{Token}
 use Rattle.camac_tokens.specs.declared.token.TokenKind.{TokenKind}
 use Rattle.camac_tokens.specs.declared.token.TokenKind.TheVariants as kind
-use Rattle.camac_text_cursor.specs.Reading.{State, Reader, ◌>>◌, give, advance, fail, check, kind_of, after_first}
+use Rattle.camac_text_cursor.specs.declared.choice.Choice.{Choice}
+use Rattle.camac_text_cursor.specs.declared.choice.Choice.TheVariants as choice
+use Rattle.camac_text_cursor.specs.Reading.{State, Reader, ◌>>◌, give, advance, check, kind_of, after_first, past, unexpected, missed}
 use Rattle.camac_text_cursor.specs.Readers.{is_keyword, is_sign, expect, expect_sign, name_of, name_here, number_of, number_here, any_number, branch_number, function_number, sub_address_number, declared_as, new_name}
 use Rattle.camac_text_cursor.proofs.Steps.{then_ok, ok_is, err_no_ok}
 
@@ -24,16 +26,16 @@ abbrev pub AllFit : List Token → Type 0
 AllFit [] = Unit {0}
 AllFit (t ∷ ts) = (kind_fits t.kind ≡ true) × AllFit ts
 
--- only the tokens move on
+-- only the tokens move on, and what was looked for
 pub record Moves (s s' : State) : Type 0 where
-  pub same : s' ≡ record s { rest = s'.rest }
+  pub same : s' ≡ record s { rest = s'.rest; tried = s'.tried }
   pub fit : AllFit s.rest → AllFit s'.rest
   pub shorter : length s'.rest ≤ length s.rest
 
 -- one token is taken, of this kind
 pub record TakesOne (s : State) (k : TokenKind) (s' : State) : Type 0 where
   pub next : kind_of s.rest ≡ Some k
-  pub left : s' ≡ record s { rest = after_first s.rest }
+  pub left : s' ≡ past s
 
 after_fit : (ts : List Token) → AllFit ts → AllFit (after_first ts)
 after_fit [] h = tt
@@ -54,12 +56,16 @@ kind_fit (t ∷ ts) k e h = let same : t.kind ≡ k = cc in subst (λ (j : Token
 pub stays : (s : State) → Moves s s
 stays s = record { same = refl; fit = λ h. h; shorter = omega arith }
 
-pub moved : (s : State) → Moves s (record s { rest = after_first s.rest })
+pub moved : (s : State) → Moves s (past s)
 moved s = record { same = refl; fit = after_fit s.rest; shorter = after_shorter s.rest }
+
+-- and what was looked for
+pub unmoved : (c : Choice) (s : State) → Moves s (missed c s)
+unmoved c s = record { same = refl; fit = λ h. h; shorter = omega arith }
 
 pub then_moves : (s t u : State) → Moves s t → Moves t u → Moves s u
 then_moves s t u a b = record {
-  same = b.same ∙ ap (λ (w : State). record w { rest = u.rest }) a.same;
+  same = b.same ∙ ap (λ (w : State). record w { rest = u.rest; tried = u.tried }) a.same;
   fit = λ h. b.fit (a.fit h);
   shorter = let x : length t.rest ≤ length s.rest = a.shorter in let y : length u.rest ≤ length t.rest = b.shorter in omega arith;
 }
@@ -90,7 +96,7 @@ unfolding any_number
 any_number_ok s y e =
     let m = then_ok (number_here s) _ y e in
     let h = number_ok s m.0 m.1 in
-    subst (λ (p : ℕ × State). TakesOne s (kind.Number p.0) p.1) (ok_is _ y m.2) (record { next = h.0; left = ap (λ (w : State). record w { rest = after_first w.rest }) h.1 })
+    subst (λ (p : ℕ × State). TakesOne s (kind.Number p.0) p.1) (ok_is _ y m.2) (record { next = h.0; left = ap past h.1 })
 
 pub branch_ok : (s : State) (y : Unit {0} × State) → branch_number s ≡ Ok y → (n : ℕ) × TakesOne s (kind.Number n) y.1
 unfolding branch_number
@@ -98,7 +104,7 @@ branch_ok s y e =
     let m = then_ok (number_here s) _ y e in
     let h = number_ok s m.0 m.1 in
     let c = check_ok (eqb m.0.0 1) told.Branch advance m.0.1 y m.2 in
-    (m.0.0, subst (λ (p : Unit {0} × State). TakesOne s (kind.Number m.0.0) p.1) (ok_is _ y c.1) (record { next = h.0; left = ap (λ (w : State). record w { rest = after_first w.rest }) h.1 }))
+    (m.0.0, subst (λ (p : Unit {0} × State). TakesOne s (kind.Number m.0.0) p.1) (ok_is _ y c.1) (record { next = h.0; left = ap past h.1 }))
 
 pub record TakesBelow (limit : ℕ) (s : State) (n : ℕ) (s' : State) : Type 0 where
   pub one : TakesOne s (kind.Number n) s'
@@ -110,7 +116,7 @@ function_ok s y e =
     let m = then_ok (number_here s) _ y e in
     let h = number_ok s m.0 m.1 in
     let c = check_ok (nat_lt m.0.0 32) (told.Number 31) (advance >> give m.0.0) m.0.1 y m.2 in
-    subst (λ (p : ℕ × State). TakesBelow 32 s p.0 p.1) (ok_is _ y c.1) (record { one = record { next = h.0; left = ap (λ (w : State). record w { rest = after_first w.rest }) h.1 }; below = c.0 })
+    subst (λ (p : ℕ × State). TakesBelow 32 s p.0 p.1) (ok_is _ y c.1) (record { one = record { next = h.0; left = ap past h.1 }; below = c.0 })
 
 pub sub_address_ok : (s : State) (y : ℕ × State) → sub_address_number s ≡ Ok y → TakesBelow 16 s y.0 y.1
 unfolding sub_address_number
@@ -118,19 +124,19 @@ sub_address_ok s y e =
     let m = then_ok (number_here s) _ y e in
     let h = number_ok s m.0 m.1 in
     let c = check_ok (nat_lt m.0.0 16) (told.Number 15) (advance >> give m.0.0) m.0.1 y m.2 in
-    subst (λ (p : ℕ × State). TakesBelow 16 s p.0 p.1) (ok_is _ y c.1) (record { one = record { next = h.0; left = ap (λ (w : State). record w { rest = after_first w.rest }) h.1 }; below = c.0 })
+    subst (λ (p : ℕ × State). TakesBelow 16 s p.0 p.1) (ok_is _ y c.1) (record { one = record { next = h.0; left = ap past h.1 }; below = c.0 })
 
-expected : (b : Bool) (s : State) (y : Unit {0} × State) → cond b advance (fail told.Unexpected) s ≡ Ok y → y.1 ≡ record s { rest = after_first s.rest }
-expected true s y e = sym (ap (λ (p : Unit {0} × State). p.1) (ok_is _ y e))
-expected false s y e = absurd (err_no_ok _ _ e)
+expected : (c : Choice) (b : Bool) (s : State) (y : Unit {0} × State) → cond b advance (unexpected c) s ≡ Ok y → y.1 ≡ past s
+expected c true s y e = sym (ap (λ (p : Unit {0} × State). p.1) (ok_is _ y e))
+expected c false s y e = absurd (err_no_ok _ _ e)
 
 pub expect_ok : (w : Keyword) (s : State) (y : Unit {0} × State) → expect w s ≡ Ok y → Moves s y.1
 unfolding expect
-expect_ok w s y e = subst (λ (u : State). Moves s u) (sym (expected (is_keyword w (kind_of s.rest)) s y e)) (moved s)
+expect_ok w s y e = subst (λ (u : State). Moves s u) (sym (expected (choice.Word w) (is_keyword w (kind_of s.rest)) s y e)) (moved s)
 
 pub expect_sign_ok : (w : Sign) (s : State) (y : Unit {0} × State) → expect_sign w s ≡ Ok y → Moves s y.1
 unfolding expect_sign
-expect_sign_ok w s y e = subst (λ (u : State). Moves s u) (sym (expected (is_sign w (kind_of s.rest)) s y e)) (moved s)
+expect_sign_ok w s y e = subst (λ (u : State). Moves s u) (sym (expected (choice.Mark w) (is_sign w (kind_of s.rest)) s y e)) (moved s)
 
 -- ---- names
 

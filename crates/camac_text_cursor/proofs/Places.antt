@@ -3,21 +3,35 @@ use Rattle.std.proofs.Common.{◌≡◌, ℕ, zero, suc, ◌<◌, Bool, true, fa
 use Rattle.camac_tokens.specs.declared.token.Token.{Token}
 use Rattle.camac_tokens.specs.declared.token.TokenKind.{TokenKind}
 use Rattle.camac_tokens.specs.declared.fault.TextCase.{TextCase}
-use Rattle.camac_tokens.specs.Fault.{Fault}
-use Rattle.camac_text_cursor.specs.Reading.{State, Reader, then_read, ◌>>=◌, ◌>>◌, give, ask, change, peek, advance, fail, check, line_here, kind_of, after_first, line_of, left_of, while_next}
+use Rattle.camac_tokens.specs.declared.fault.TextCase.TheVariants as told
+use Rattle.camac_text_cursor.specs.declared.choice.Choice.{Choice}
+use Rattle.camac_text_cursor.specs.Tried.{Untold}
+use Rattle.camac_text_cursor.specs.Reading.{State, Reader, then_read, ◌>>=◌, ◌>>◌, give, ask, change, peek, advance, fail, check, line_here, kind_of, after_first, line_of, left_of, while_next, miss, missed, missing, past, unexpected, Fault, until}
 use Rattle.camac_text_cursor.specs.Places.{CaseFits}
 use Rattle.camac_text_cursor.proofs.Steps.{then_ok, ok_is, err_is, err_no_ok, Progresses, while_choice}
 
--- this state with other tokens ahead
-abbrev pub with_rest : ℕ → State → List Token → State
-with_rest n s ts = record s { rest = ts; end_line = n }
+-- this state where nothing is noted
+abbrev pub hushed : State → State
+hushed s = record s { tried = Untold }
 
--- Where a reader stopped with a value: with the same tokens up to the next one it does the same.
+abbrev pub without : Fault → Fault
+without e = record e { tried = Untold }
+
+-- the same with other tokens ahead
+abbrev pub with_rest : ℕ → State → List Token → State
+with_rest n s ts = record s { rest = ts; end_line = n; tried = Untold }
+
+-- the tokens that are ahead, and the line of the text's end
+abbrev ahead : State → List Token × ℕ
+ahead s = (s.rest, s.end_line)
+
+-- Where a reader stopped with a value: with the same tokens up to the next one it does the same, and where nothing is noted.
 pub record StopsAt {A : Type 0} (f : Reader A) (s : State) (x : A) (s' : State) : Type 0 where
   pub taken : List Token
   pub parts : s.rest ≡ taken ++ s'.rest
   pub same_end : s'.end_line ≡ s.end_line
   pub again : (t : Token) (r r' : List Token) (n : ℕ) → s'.rest ≡ t ∷ r → f (with_rest n s (taken ++ t ∷ r')) ≡ Ok (x, with_rest n s' (t ∷ r'))
+  pub untold : f (hushed s) ≡ Ok (x, hushed s')
 
 -- Where a reader failed: with the same tokens up to the one there it fails in the same way.
 pub record FailsAt {A : Type 0} (f : Reader A) (s : State) (e : Fault) : Type 0 where
@@ -27,7 +41,8 @@ pub record FailsAt {A : Type 0} (f : Reader A) (s : State) (e : Fault) : Type 0 
   pub line : e.line ≡ line_of left s.end_line
   pub place : e.left ≡ left_of left
   pub fits : CaseFits e.case (kind_of left)
-  pub again : (t : Token) (r r' : List Token) (n : ℕ) → left ≡ t ∷ r → f (with_rest n s (taken ++ t ∷ r')) ≡ Err e
+  pub again : (t : Token) (r r' : List Token) (n : ℕ) → left ≡ t ∷ r → f (with_rest n s (taken ++ t ∷ r')) ≡ Err (without e)
+  pub untold : f (hushed s) ≡ Err (without e)
 
 pub record IsLocal {A : Type 0} (f : Reader A) (s : State) : Type 0 where
   pub stops : (x : A) (s' : State) → f s ≡ Ok (x, s') → StopsAt f s x s'
@@ -75,6 +90,7 @@ stops_then f g s x s' y s'' a b = record {
       let first = resumes f s x s' a b.taken t r r' n (b.parts ∙ ap (λ (w : List Token). b.taken ++ w) h) in
       let second = b.again t r r' n h in
       ap (λ (w : List Token). then_read (f (with_rest n s w)) g) (append_assoc a.taken b.taken (t ∷ r')) ∙ ap (λ (q : Result (_ × State) Fault). then_read q g) first ∙ second;
+  untold = ap (λ (q : Result (_ × State) Fault). then_read q g) a.untold ∙ b.untold;
 }
 
 fails_then : {A B : Type 0} (f : Reader A) (g : A → Reader B) (s : State) (x : A) (s' : State) (e : Fault) → StopsAt f s x s' → FailsAt (g x) s' e → FailsAt (f >>= g) s e
@@ -89,6 +105,7 @@ fails_then f g s x s' e a b = record {
       let first = resumes f s x s' a b.taken t r r' n (b.parts ∙ ap (λ (w : List Token). b.taken ++ w) h) in
       let second = b.again t r r' n h in
       ap (λ (w : List Token). then_read (f (with_rest n s w)) g) (append_assoc a.taken b.taken (t ∷ r')) ∙ ap (λ (q : Result (_ × State) Fault). then_read q g) first ∙ second;
+  untold = ap (λ (q : Result (_ × State) Fault). then_read q g) a.untold ∙ b.untold;
 }
 
 fails_first : {A B : Type 0} (f : Reader A) (g : A → Reader B) (s : State) (e : Fault) → FailsAt f s e → FailsAt (f >>= g) s e
@@ -100,6 +117,7 @@ fails_first f g s e a = record {
   place = a.place;
   fits = a.fits;
   again = λ t r r' n h. ap (λ (q : Result (_ × State) Fault). then_read q g) (a.again t r r' n h);
+  untold = ap (λ (q : Result (_ × State) Fault). then_read q g) a.untold;
 }
 
 -- the failure of the first, or of what follows it
@@ -123,38 +141,38 @@ pub local_same : {A : Type 0} (f g : Reader A) (s : State) → ((u : State) → 
 local_same f g s same at = record {
   stops = λ x s' e.
       let a = at.stops x s' (same s ∙ e) in
-      record { taken = a.taken; parts = a.parts; same_end = a.same_end; again = λ t r r' n h. sym (same (with_rest n s (a.taken ++ t ∷ r'))) ∙ a.again t r r' n h };
+      record { taken = a.taken; parts = a.parts; same_end = a.same_end; again = λ t r r' n h. sym (same (with_rest n s (a.taken ++ t ∷ r'))) ∙ a.again t r r' n h; untold = sym (same (hushed s)) ∙ a.untold };
   fails = λ e h.
       let a = at.fails e (same s ∙ h) in
-      record { taken = a.taken; left = a.left; parts = a.parts; line = a.line; place = a.place; fits = a.fits; again = λ t r r' n k. sym (same (with_rest n s (a.taken ++ t ∷ r'))) ∙ a.again t r r' n k };
+      record { taken = a.taken; left = a.left; parts = a.parts; line = a.line; place = a.place; fits = a.fits; again = λ t r r' n k. sym (same (with_rest n s (a.taken ++ t ∷ r'))) ∙ a.again t r r' n k; untold = sym (same (hushed s)) ∙ a.untold };
 }
 
 -- a look at something that stays the same with the same token ahead
-pub local_look : {A B : Type 0} (look : State → A) → ((s : State) (taken left : List Token) (t : Token) (r r' : List Token) (n : ℕ) → s.rest ≡ taken ++ left → left ≡ t ∷ r → look (with_rest n s (taken ++ t ∷ r')) ≡ look s) → (g : A → Reader B) (s : State) → IsLocal (g (look s)) s → IsLocal (λ u. g (look u) u) s
-local_look look same g s at = record {
+pub local_look : {A B : Type 0} (look : State → A) → ((s : State) (taken left : List Token) (t : Token) (r r' : List Token) (n : ℕ) → s.rest ≡ taken ++ left → left ≡ t ∷ r → look (with_rest n s (taken ++ t ∷ r')) ≡ look s) → ((s : State) → look (hushed s) ≡ look s) → (g : A → Reader B) (s : State) → IsLocal (g (look s)) s → IsLocal (λ u. g (look u) u) s
+local_look look same quiet g s at = record {
   stops = λ x s' e.
       let a = at.stops x s' e in
-      record { taken = a.taken; parts = a.parts; same_end = a.same_end; again = λ t r r' n h. ap (λ (v : _). g v (with_rest n s (a.taken ++ t ∷ r'))) (same s a.taken s'.rest t r r' n a.parts h) ∙ a.again t r r' n h };
+      record { taken = a.taken; parts = a.parts; same_end = a.same_end; again = λ t r r' n h. ap (λ (v : _). g v (with_rest n s (a.taken ++ t ∷ r'))) (same s a.taken s'.rest t r r' n a.parts h) ∙ a.again t r r' n h; untold = ap (λ (v : _). g v (hushed s)) (quiet s) ∙ a.untold };
   fails = λ e k.
       let a = at.fails e k in
-      record { taken = a.taken; left = a.left; parts = a.parts; line = a.line; place = a.place; fits = a.fits; again = λ t r r' n h. ap (λ (v : _). g v (with_rest n s (a.taken ++ t ∷ r'))) (same s a.taken a.left t r r' n a.parts h) ∙ a.again t r r' n h };
+      record { taken = a.taken; left = a.left; parts = a.parts; line = a.line; place = a.place; fits = a.fits; again = λ t r r' n h. ap (λ (v : _). g v (with_rest n s (a.taken ++ t ∷ r'))) (same s a.taken a.left t r r' n a.parts h) ∙ a.again t r r' n h; untold = ap (λ (v : _). g v (hushed s)) (quiet s) ∙ a.untold };
 }
 
 pub local_peek : {B : Type 0} (g : Option TokenKind → Reader B) (s : State) → IsLocal (g (kind_of s.rest)) s → IsLocal (peek >>= g) s
-local_peek g s at = local_look (λ (u : State). kind_of u.rest) (λ u taken left t r r' n p h. kind_same u.rest taken left t r r' p h) g s at
+local_peek g s at = local_look (λ (u : State). kind_of u.rest) (λ u taken left t r r' n p h. kind_same u.rest taken left t r r' p h) (λ u. refl) g s at
 
 pub local_line : {B : Type 0} (g : ℕ → Reader B) (s : State) → IsLocal (g (line_of s.rest s.end_line)) s → IsLocal (line_here >>= g) s
-local_line g s at = local_look (λ (u : State). line_of u.rest u.end_line) (λ u taken left t r r' n p h. line_same u.rest taken left u.end_line n t r r' p h) g s at
+local_line g s at = local_look (λ (u : State). line_of u.rest u.end_line) (λ u taken left t r r' n p h. line_same u.rest taken left u.end_line n t r r' p h) (λ u. refl) g s at
 
 -- a look at what is declared
 pub local_ask : {A B : Type 0} (look : State → A) → ((s : State) (ts : List Token) (n : ℕ) → look (with_rest n s ts) ≡ look s) → (g : A → Reader B) (s : State) → IsLocal (g (look s)) s → IsLocal (ask look >>= g) s
-local_ask look same g s at = local_look look (λ u taken left t r r' n p h. same u (taken ++ t ∷ r') n) g s at
+local_ask look same g s at = local_look look (λ u taken left t r r' n p h. same u (taken ++ t ∷ r') n) (λ u. same u u.rest u.end_line) g s at
 
 pub local_give : {A : Type 0} (x : A) (s : State) → IsLocal (give x) s
-local_give x s = local_ok (give x) s x s refl (record { taken = []; parts = refl; same_end = refl; again = λ t r r' n h. refl })
+local_give x s = local_ok (give x) s x s refl (record { taken = []; parts = refl; same_end = refl; again = λ t r r' n h. refl; untold = refl })
 
 pub local_fail : {A : Type 0} (case : TextCase) (s : State) → CaseFits case (kind_of s.rest) → IsLocal (let f : Reader A = fail case in f) s
-local_fail case s fits = local_err (fail case) s (record { case = case; line = line_of s.rest s.end_line; left = left_of s.rest }) refl (record { taken = []; left = s.rest; parts = refl; line = refl; place = refl; fits = fits; again = λ t r r' n h. rw h refl })
+local_fail case s fits = local_err (fail case) s (record { case = case; line = line_of s.rest s.end_line; left = left_of s.rest; tried = s.tried }) refl (record { taken = []; left = s.rest; parts = refl; line = refl; place = refl; fits = fits; again = λ t r r' n h. rw h refl; untold = refl })
 
 -- the tokens that one step takes
 first_of_rest : List Token → List Token
@@ -172,23 +190,33 @@ first_again [] t r r' h = absurd cc
 first_again (c ∷ cs) t r r' h = refl
 
 pub local_advance : (s : State) → IsLocal advance s
-local_advance s = local_ok advance s tt (record s { rest = after_first s.rest }) refl (record {
+local_advance s = local_ok advance s tt (past s) refl (record {
   taken = first_of_rest s.rest;
   parts = first_parts s.rest;
   same_end = refl;
-  again = λ t r r' n h. ap (λ (ts : List Token). let q : Result (Unit {0} × State) Fault = Ok (tt, record s { rest = ts; end_line = n }) in q) (first_again s.rest t r r' h);
+  again = λ t r r' n h. ap (λ (ts : List Token). let q : Result (Unit {0} × State) Fault = Ok (tt, record s { rest = ts; end_line = n; tried = Untold }) in q) (first_again s.rest t r r' h);
+  untold = refl;
 })
 
 -- a change of what is declared
-pub local_change : (to : State → State) → ((s : State) (ts : List Token) (n : ℕ) → to (with_rest n s ts) ≡ with_rest n (to s) ts) → ((s : State) → (to s).end_line ≡ s.end_line) → (s : State) → IsLocal (change to) s
-local_change to same same_end s =
-    let rest : (to s).rest ≡ s.rest = ap (λ (u : State). u.rest) (same s s.rest s.end_line) in
+pub local_change : (to : State → State) → ((s : State) (ts : List Token) (n : ℕ) → to (with_rest n s ts) ≡ with_rest n (to s) ts) → ((s : State) → ahead (to s) ≡ ahead s) → (s : State) → IsLocal (change to) s
+local_change to same stay s =
     local_ok (change to) s tt (to s) refl (record {
       taken = [];
-      parts = sym rest;
-      same_end = same_end s;
+      parts = sym (ap (λ (p : List Token × ℕ). p.0) (stay s));
+      same_end = ap (λ (p : List Token × ℕ). p.1) (stay s);
       again = λ t r r' n h. ap (λ (u : State). let q : Result (Unit {0} × State) Fault = Ok (tt, u) in q) (same s (t ∷ r') n);
+      untold = ap (λ (u : State). let q : Result (Unit {0} × State) Fault = Ok (tt, u) in q) (same s s.rest s.end_line ∙ ap (λ (p : List Token × ℕ). with_rest p.1 (to s) p.0) (sym (stay s)));
     })
+
+pub local_miss : (c : Choice) (s : State) → IsLocal (miss c) s
+local_miss c s = local_ok (miss c) s tt (missed c s) refl (record { taken = []; parts = refl; same_end = refl; again = λ t r r' n h. refl; untold = refl })
+
+pub local_missing : {A : Type 0} (c : Choice) (x : A) (s : State) → IsLocal (missing c x) s
+local_missing c x s = local_then (miss c) (λ _. give x) s (local_miss c s) (λ _ u _. local_give x u)
+
+pub local_unexpected : {A : Type 0} (c : Choice) (s : State) → IsLocal (let f : Reader A = unexpected c in f) s
+local_unexpected c s = local_then (miss c) (λ _. fail told.Unexpected) s (local_miss c s) (λ _ u _. local_fail told.Unexpected u tt)
 
 pub local_if : {A : Type 0} (b : Bool) (f g : Reader A) (s : State) → (b ≡ true → IsLocal f s) → (b ≡ false → IsLocal g s) → IsLocal (cond b f g) s
 local_if true f g s on off = on refl
@@ -196,7 +224,7 @@ local_if false f g s on off = off refl
 
 pub local_check : {B : Type 0} (holds : Bool) (case : TextCase) (g : Reader B) (s : State) → CaseFits case (kind_of s.rest) → (holds ≡ true → IsLocal g s) → IsLocal (check holds case >> g) s
 local_check true case g s fits next = local_then (give tt) (λ _. g) s (local_give tt s) (λ x s' e. subst (λ (p : Unit {0} × State). IsLocal g p.1) (ok_is (tt, s) (x, s') e) (next refl))
-local_check false case g s fits next = local_then {A = Unit {0}} (fail case) (λ _. g) s (local_fail case s fits) (λ x s' e. absurd (err_no_ok (record { case = case; line = line_of s.rest s.end_line; left = left_of s.rest }) (x, s') e))
+local_check false case g s fits next = local_then {A = Unit {0}} (fail case) (λ _. g) s (local_fail case s fits) (λ x s' e. absurd (err_no_ok (record { case = case; line = line_of s.rest s.end_line; left = left_of s.rest; tried = s.tried }) (x, s') e))
 
 local_turns : {A : Type 0} (goes_on : Option TokenKind → Bool) (turn : A → Reader A) → Progresses goes_on turn → ((x : A) (s : State) → goes_on (kind_of s.rest) ≡ true → IsLocal (turn x) s) → (n : ℕ) (x : A) (s : State) → length s.rest < n → IsLocal (while_next goes_on turn x) s
 local_turns goes_on turn progress each zero x s few = absurd (omega arith)
@@ -208,3 +236,6 @@ local_turns goes_on turn progress each (suc n) x s few =
 
 pub local_while : {A : Type 0} (goes_on : Option TokenKind → Bool) (turn : A → Reader A) → Progresses goes_on turn → ((x : A) (s : State) → goes_on (kind_of s.rest) ≡ true → IsLocal (turn x) s) → (x : A) (s : State) → IsLocal (while_next goes_on turn x) s
 local_while goes_on turn progress each x s = local_turns goes_on turn progress each (suc (length s.rest)) x s (omega arith)
+
+pub local_until : {A : Type 0} (c : Choice) (goes_on : Option TokenKind → Bool) (turn : A → Reader A) → Progresses goes_on turn → ((x : A) (s : State) → goes_on (kind_of s.rest) ≡ true → IsLocal (turn x) s) → (x : A) (s : State) → IsLocal (until c goes_on turn x) s
+local_until c goes_on turn progress each x s = local_then (while_next goes_on turn x) (missing c) s (local_while goes_on turn progress each x s) (λ y u _. local_missing c y u)

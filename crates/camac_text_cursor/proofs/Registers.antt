@@ -10,7 +10,7 @@ use Rattle.camac_tokens.specs.declared.fault.Limit.TheVariants as limit
 use Rattle.camac_tokens.specs.declared.fault.TextCase.TheVariants as told
 use Rattle.camac_tokens.specs.declared.token.TokenKind.TheVariants as kind
 use Rattle.camac_text_cursor.specs.Names.{place_of}
-use Rattle.camac_text_cursor.specs.Reading.{State, ◌>>◌, give, change, advance, kind_of, after_first}
+use Rattle.camac_text_cursor.specs.Reading.{State, ◌>>◌, give, change, advance, kind_of, past}
 use Rattle.camac_text_cursor.specs.Readers.{new_name, other_registers, with_register, register_at, set_name}
 use Rattle.camac_text_cursor.proofs.Steps.{then_ok, ok_is}
 use Rattle.camac_text_cursor.proofs.Searches.{is_new_none}
@@ -68,7 +68,7 @@ declarable_push xs x known e name free new =
 
 -- a register is set: its number, and the registers afterwards
 pub record SetsRegister (s : State) (r : ℕ) (s' : State) : Type 0 where
-  pub same : s' ≡ record s { rest = s'.rest; registers = s'.registers }
+  pub same : s' ≡ record s { rest = s'.rest; registers = s'.registers; tried = s'.tried }
   pub fit : AllFit s.rest → AllFit s'.rest
   pub shorter : length s'.rest ≤ length s.rest
   pub within : r ≤ length s.registers
@@ -78,7 +78,7 @@ pub record SetsRegister (s : State) (r : ℕ) (s' : State) : Type 0 where
 register_is : (s : State) (x : Text) (place : Option ℕ) (y : ℕ × State) → kind_of s.rest ≡ Some (kind.Name x) → is_new x s.declared ≡ true → place_of x s.registers ≡ place → register_at x place s ≡ Ok y → SetsRegister s y.0 y.1
 register_is s x (Some place) y next free at e =
     let below : place < length s.registers = inside (bytes_eq x) place s.registers at in
-    subst (λ (p : ℕ × State). SetsRegister s p.0 p.1) (ok_is (place, record s { rest = after_first s.rest }) y e) (record {
+    subst (λ (p : ℕ × State). SetsRegister s p.0 p.1) (ok_is (place, past s) y e) (record {
       same = refl;
       fit = (moved s).fit;
       shorter = (moved s).shorter;
@@ -91,7 +91,7 @@ register_is s x None y next free at e =
     let below : other_registers s + length s.registers < 64 = ltb-true (other_registers s + length s.registers) 64 c.0 in
     let one : length (s.registers ++ x ∷ []) ≡ length s.registers + 1 = length-append s.registers (x ∷ []) in
     let new : is_new x s.registers ≡ true = sym (is_new_none x s.registers) ∙ ap is_none at in
-    subst (λ (p : ℕ × State). SetsRegister s p.0 p.1) (ok_is (length s.registers, record s { rest = after_first s.rest; registers = s.registers ++ x ∷ [] }) y c.1) (record {
+    subst (λ (p : ℕ × State). SetsRegister s p.0 p.1) (ok_is (length s.registers, record (past s) { registers = s.registers ++ x ∷ [] }) y c.1) (record {
       same = refl;
       fit = (moved s).fit;
       shorter = (moved s).shorter;

@@ -1,8 +1,8 @@
 -- What follows from an answer of a reader made of others, and of a loop.
 use Rattle.std.proofs.Common.{◌≡◌, ℕ, zero, suc, ◌<◌, Bool, true, false, cond, length, Option, Result, Ok, Err, refl, ◌∙◌, subst, ◌⊎◌, inl, inr, arith}
 use Rattle.camac_tokens.specs.declared.token.TokenKind.{TokenKind}
-use Rattle.camac_tokens.specs.Fault.{Fault}
-use Rattle.camac_text_cursor.specs.Reading.{State, Reader, then_read, ◌>>=◌, give, peek, kind_of, turns, while_next}
+use Rattle.camac_text_cursor.specs.declared.choice.Choice.{Choice}
+use Rattle.camac_text_cursor.specs.Reading.{State, Reader, then_read, ◌>>=◌, give, peek, kind_of, turns, while_next, Fault, missed, missing, until}
 
 pub ok_is : {A : Type 0} (p q : A × State) → (let r : Result (A × State) Fault = Ok p in r) ≡ Ok q → p ≡ q
 ok_is p q e = cc
@@ -81,3 +81,8 @@ turns_keep P goes_on turn keeps (suc n) x s y p e =
 pub while_keeps : {A : Type 0} (P : A → State → Type 0) (goes_on : Option TokenKind → Bool) (turn : A → Reader A) → ((x : A) (s : State) (y : A) (s' : State) → P x s → goes_on (kind_of s.rest) ≡ true → turn x s ≡ Ok (y, s') → P y s') → (x : A) (s : State) (y : A × State) → P x s → while_next goes_on turn x s ≡ Ok y → P y.0 y.1
 unfolding while_next
 while_keeps P goes_on turn keeps x s y p e = turns_keep P goes_on turn keeps (suc (length s.rest)) x s y p e
+
+pub until_keeps : {A : Type 0} (P : A → State → Type 0) (c : Choice) → ((x : A) (s : State) → P x s → P x (missed c s)) → (goes_on : Option TokenKind → Bool) (turn : A → Reader A) → ((x : A) (s : State) (y : A) (s' : State) → P x s → goes_on (kind_of s.rest) ≡ true → turn x s ≡ Ok (y, s') → P y s') → (x : A) (s : State) (y : A × State) → P x s → until c goes_on turn x s ≡ Ok y → P y.0 y.1
+until_keeps P c stays goes_on turn keeps x s y p e =
+    let m = then_ok (while_next goes_on turn x s) (missing c) y e in
+    subst (λ (q : _ × State). P q.0 q.1) (ok_is (m.0.0, missed c m.0.1) y m.2) (stays m.0.0 m.0.1 (while_keeps P goes_on turn keeps x s m.0 p m.1))

@@ -9,7 +9,7 @@ use Rattle.camac_tokens.specs.declared.token.TokenKind.TheVariants as kind
 use Rattle.camac_tokens.specs.declared.fault.NameKind.{NameKind}
 use Rattle.camac_tokens.specs.declared.fault.Limit.TheVariants as limit
 use Rattle.camac_tokens.specs.declared.fault.TextCase.TheVariants as told
-use Rattle.camac_text_cursor.specs.Reading.{State, ◌>>=◌, ◌>>◌, give, ask, advance, kind_of, after_first}
+use Rattle.camac_text_cursor.specs.Reading.{State, ◌>>=◌, ◌>>◌, give, ask, advance, kind_of, past}
 use Rattle.camac_text_cursor.specs.Readers.{name_here, used_at, used, used_register, used_variable, used_lam, used_table, known_at, known, variable_here, procedure_here, callable_by, called}
 use Rattle.camac_text_cursor.proofs.Steps.{then_ok, ok_is, err_no_ok}
 use Rattle.camac_text_cursor.proofs.Moves.{Moves, moved, name_ok, check_ok}
@@ -31,8 +31,8 @@ inside test p xs e = let h : p < 0 + length xs = found_inside test 0 p xs e in o
 
 -- ---- names that are used
 
-used_is : (wanted : NameKind) (x : Text) (place : Option ℕ) (s : State) (y : ℕ × State) → used_at wanted x place s ≡ Ok y → (place ≡ Some y.0) × (y.1 ≡ record s { rest = after_first s.rest })
-used_is wanted x (Some place) s y e = subst (λ (p : ℕ × State). (Some place ≡ Some p.0) × (p.1 ≡ record s { rest = after_first s.rest })) (ok_is _ y e) (refl, refl)
+used_is : (wanted : NameKind) (x : Text) (place : Option ℕ) (s : State) (y : ℕ × State) → used_at wanted x place s ≡ Ok y → (place ≡ Some y.0) × (y.1 ≡ past s)
+used_is wanted x (Some place) s y e = subst (λ (p : ℕ × State). (Some place ≡ Some p.0) × (p.1 ≡ past s)) (ok_is _ y e) (refl, refl)
 used_is wanted x None s y e = absurd (err_no_ok _ _ e)
 
 -- a name is taken, which is found at this place
@@ -40,7 +40,7 @@ pub record Used (find : Text → State → Option ℕ) (s : State) (place : ℕ)
   pub name : Text
   pub next : kind_of s.rest ≡ Some (kind.Name name)
   pub found : find name s ≡ Some place
-  pub left : s' ≡ record s { rest = after_first s.rest }
+  pub left : s' ≡ past s
 
 pub used_ok : (wanted : NameKind) (find : Text → State → Option ℕ) (s : State) (y : ℕ × State) → used wanted find s ≡ Ok y → Used find s y.0 y.1
 unfolding used
@@ -117,7 +117,7 @@ callable_is : (room place : ℕ) (found : Option Callable) (s : State) (y : ℕ 
 callable_is room place None s y at e = absurd (err_no_ok _ _ e)
 callable_is room place (Some q) s y at e =
     let c = check_ok (nat_le q.depth room) (told.Limit limit.CallDepth) (advance >> give q.parameters) s y e in
-    subst (λ (p : ℕ × State). CanBeCalled room place s p.0 p.1) (ok_is (q.parameters, record s { rest = after_first s.rest }) y c.1) (record {
+    subst (λ (p : ℕ × State). CanBeCalled room place s p.0 p.1) (ok_is (q.parameters, past s) y c.1) (record {
       callable = q;
       found = at;
       wants = refl;

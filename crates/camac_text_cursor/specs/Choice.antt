@@ -1,5 +1,6 @@
 -- The tokens of which the grammar takes any one at a place.
-use Rattle.std.specs.Prelude.{Bool, true, false, Option, Some}
+use Rattle.std.specs.Prelude.{Bool, true, false, ◌||◌, ◌==◌, Option, Some, if◌then◌else◌}
+use Rattle.std.specs.Int.{bit_at}
 use Rattle.camac_tokens.specs.declared.token.Keyword.{Keyword}
 use Rattle.camac_tokens.specs.declared.token.Keyword.TheVariants as word
 use Rattle.camac_tokens.specs.declared.token.Sign.{Sign}
@@ -9,6 +10,8 @@ use Rattle.camac_tokens.specs.declared.token.TokenKind.TheVariants as kind
 use Rattle.camac_text_cursor.specs.Readers.{is_keyword, is_sign, is_name, is_number}
 use Rattle.camac_text_cursor.specs.declared.choice.Choice.{Choice}
 use Rattle.camac_text_cursor.specs.declared.choice.Choice.TheVariants as choice
+use Rattle.camac_text_cursor.specs.declared.choice.Choices.{Choices}
+use Rattle.camac_text_cursor.specs.Tried.{place}
 
 abbrev pub is_word_that : (Keyword → Bool) → Option TokenKind → Bool
 is_word_that test (Some (kind.Keyword w)) = test w
@@ -99,3 +102,33 @@ takes choice.Arrow at = is_sign_that is_arrow at
 takes choice.Sum at = is_sign_that is_of_sum at
 takes choice.Product at = is_sign_that is_of_product at
 takes choice.Comparison at = is_sign_that compares at
+
+-- ---- sets of choices
+
+-- The choice that takes all that this one takes and more, if there is one.
+abbrev pub group_of_word : Keyword → Choice
+group_of_word w =
+    if begins_declaration w then choice.Declaration
+    else (if begins_statement w then choice.Statement
+    else (if is_flag w then choice.Flag
+    else (if is_switch w then choice.Switch else choice.Word w)))
+
+abbrev pub group_of_sign : Sign → Choice
+group_of_sign s =
+    if is_arrow s then choice.Arrow
+    else (if is_of_sum s then choice.Sum
+    else (if is_of_product s then choice.Product
+    else (if compares s then choice.Comparison else choice.Mark s)))
+
+abbrev pub group : Choice → Choice
+group (choice.Word w) = group_of_word w
+group (choice.Mark s) = group_of_sign s
+group c = c
+
+-- whether all of a choice are in a set
+abbrev pub has : Choice → (Choice → Bool) → Bool
+has c set = set c || set (group c)
+
+-- the set that the program holds
+abbrev pub held : Choices → Choice → Bool
+held set c = bit_at set.0 (place c) == 1

@@ -1,4 +1,5 @@
 pub mod Names
+pub mod Tried
 pub mod Reading
 pub mod Readers
 pub mod Choice

@@ -4,11 +4,14 @@ use Rattle.camac_lang.specs.View.{item_of, table_of, lam_of, procedure_of, servi
 use Rattle.camac_tokens.specs.declared.fault.TextFault.{TextFault}
 use Rattle.camac_tokens.specs.declared.token.Token.{Token}
 use Rattle.camac_text_cursor.specs.declared.cursor.Parser.{Parser}
-use Rattle.camac_tokens.specs.Fault.{Fault, Fails}
-use Rattle.camac_text_cursor.specs.Reading.{State}
+use Rattle.camac_tokens.specs.declared.fault.TextFault.TheVariants as text_fault
+use Rattle.camac_tokens.specs.Fault as of_text
+use Rattle.camac_text_cursor.specs.Choice.{held}
+use Rattle.camac_text_cursor.specs.Tried.{none, Tried, Told}
+use Rattle.camac_text_cursor.specs.Reading.{State, Fault}
 
 -- the line of a text's end, or 0, the line of nothing, where a token fault ends the tokens
-abbrev pub line_in : Result ℕ Fault → ℕ
+abbrev pub line_in : Result ℕ of_text.Fault → ℕ
 line_in (Ok line) = line
 line_in (Err e) = 0
 
@@ -29,6 +32,7 @@ state p = record {
   declared = p.declared.items;
   registers = p.registers.items;
   statements = p.statements;
+  tried = Told (held p.missed);
 }
 
 -- the state before the first token, where nothing is declared
@@ -49,9 +53,15 @@ unread tokens end_line = record {
   declared = [];
   registers = [];
   statements = 0;
+  tried = Told none;
 }
+
+-- A fault that is returned is the one that is read, and this was looked for at its token, unless memory was refused.
+abbrev pub FailsWith : {A : Type 0} → TextFault → Tried → Result A Fault → Type 0
+FailsWith text_fault.OutOfMemory tried read = Unit {0}
+FailsWith (text_fault.Broken case line left) tried read = read ≡ Err (record { case = case; line = line; left = left; tried = tried })
 
 -- What a function returned, seen by view, and what it left are what is read, unless memory was refused.
 abbrev pub Gives : {X Y : Type 0} → (X → Y) → Result X TextFault → Parser → Result (Y × State) Fault → Type 0
 Gives view (Ok x) after read = read ≡ Ok (view x, state after)
-Gives view (Err e) after read = Fails e read
+Gives view (Err e) after read = FailsWith e (state after).tried read

@@ -16,8 +16,9 @@ use Rattle.camac_tokens.specs.declared.fault.Found.{Found}
 use Rattle.camac_tokens.specs.declared.fault.Found.TheVariants as found
 use Rattle.camac_tokens.specs.declared.fault.Limit.TheVariants as limit
 use Rattle.camac_tokens.specs.declared.fault.TextCase.TheVariants as told
+use Rattle.camac_text_cursor.specs.declared.choice.Choice.TheVariants as choice
 use Rattle.camac_text_cursor.specs.Names.{place_of, lam_place, table_place, procedure_place}
-use Rattle.camac_text_cursor.specs.Reading.{State, Reader, ◌>>=◌, ◌>>◌, give, ask, change, peek, advance, fail, check}
+use Rattle.camac_text_cursor.specs.Reading.{State, Reader, ◌>>=◌, ◌>>◌, give, ask, change, peek, advance, fail, unexpected, check}
 
 -- ---- single tokens
 
@@ -38,22 +39,22 @@ is_number (Some (kind.Number n)) = true
 is_number _ = false
 
 unfoldable pub expect : Keyword → Reader (Unit {0})
-expect w = peek >>= λ k. if is_keyword w k then advance else fail told.Unexpected
+expect w = peek >>= λ k. if is_keyword w k then advance else unexpected (choice.Word w)
 
 unfoldable pub expect_sign : Sign → Reader (Unit {0})
-expect_sign w = peek >>= λ k. if is_sign w k then advance else fail told.Unexpected
+expect_sign w = peek >>= λ k. if is_sign w k then advance else unexpected (choice.Mark w)
 
 -- the name or the number that stands next, and stays there
 abbrev pub name_of : Option TokenKind → Reader Text
 name_of (Some (kind.Name n)) = give n
-name_of _ = fail told.Unexpected
+name_of _ = unexpected choice.Name
 
 unfoldable pub name_here : Reader Text
 name_here = peek >>= name_of
 
 abbrev pub number_of : Option TokenKind → Reader ℕ
 number_of (Some (kind.Number n)) = give n
-number_of _ = fail told.Unexpected
+number_of _ = unexpected choice.Number
 
 unfoldable pub number_here : Reader ℕ
 number_here = peek >>= number_of

@@ -5,7 +5,10 @@ use Rattle.camac_lang.specs.Tree.{Text, Item, Table, Lam, Procedure, Service}
 use Rattle.camac_tokens.specs.declared.token.Token.{Token}
 use Rattle.camac_tokens.specs.declared.token.TokenKind.{TokenKind}
 use Rattle.camac_tokens.specs.declared.fault.TextCase.{TextCase}
-use Rattle.camac_tokens.specs.Fault.{Fault}
+use Rattle.camac_tokens.specs.declared.fault.TextCase.TheVariants as told
+use Rattle.camac_tokens.specs.Fault as of_text
+use Rattle.camac_text_cursor.specs.declared.choice.Choice.{Choice}
+use Rattle.camac_text_cursor.specs.Tried.{Tried, noted, cleared}
 
 pub record State : Type 0 where
   -- what is left of the tokens, and the line of the text's end
@@ -31,6 +34,18 @@ pub record State : Type 0 where
   pub registers : List Text
   -- the statements of all bodies
   pub statements : ℕ
+  -- what was looked for at the next token and is not there
+  pub tried : Tried
+
+-- a fault, and what was looked for at its token
+pub record Fault : Type 0 where
+  pub case : TextCase
+  pub line : ℕ
+  pub left : ℕ
+  pub tried : Tried
+
+abbrev pub fault_of : Fault → of_text.Fault
+fault_of e = record { case = e.case; line = e.line; left = e.left }
 
 abbrev pub Reader : Type 0 → Type 0
 Reader A = State → Result (A × State) Fault
@@ -82,12 +97,30 @@ line_here = ask (λ s. line_of s.rest s.end_line)
 abbrev pub peek : Reader (Option TokenKind)
 peek = ask (λ s. kind_of s.rest)
 
+-- the state behind the next token
+abbrev pub past : State → State
+past s = record s { rest = after_first s.rest; tried = cleared s.tried }
+
 abbrev pub advance : Reader (Unit {0})
-advance = change (λ s. record s { rest = after_first s.rest })
+advance = change past
+
+-- this was looked for at the next token, too
+abbrev pub missed : Choice → State → State
+missed c s = record s { tried = noted c s.tried }
+
+abbrev pub miss : Choice → Reader (Unit {0})
+miss c = change (missed c)
+
+abbrev pub missing : {A : Type 0} → Choice → A → Reader A
+missing c x = miss c >> give x
 
 -- a fault at the next token
 abbrev pub fail : {A : Type 0} → TextCase → Reader A
-fail case = λ s. Err (record { case = case; line = line_of s.rest s.end_line; left = left_of s.rest })
+fail case = λ s. Err (record { case = case; line = line_of s.rest s.end_line; left = left_of s.rest; tried = s.tried })
+
+-- a fault at the next token, in whose place this may stand, and what was looked for before
+abbrev pub unexpected : {A : Type 0} → Choice → Reader A
+unexpected c = miss c >> fail told.Unexpected
 
 -- a fault at the next token, unless this holds
 abbrev pub check : Bool → TextCase → Reader (Unit {0})
@@ -100,6 +133,10 @@ turns (suc n) goes_on turn x = peek >>= λ k. if goes_on k then turn x >>= turns
 
 unfoldable pub while_next : {A : Type 0} → (Option TokenKind → Bool) → (A → Reader A) → A → Reader A
 while_next goes_on turn x = λ s. turns (suc (length s.rest)) goes_on turn x s
+
+-- the same, where the token behind the last turn is none of these, any of which would go on
+abbrev pub until : {A : Type 0} → Choice → (Option TokenKind → Bool) → (A → Reader A) → A → Reader A
+until c goes_on turn x = while_next goes_on turn x >>= missing c
 
 -- a list, one after the other while the next token is of a kind
 abbrev pub one_more : {A : Type 0} → Reader A → List A → Reader (List A)

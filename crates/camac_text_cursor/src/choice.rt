@@ -2,7 +2,8 @@
 
 ghost use Rattle.std.specs.Prelude.{◌≡◌, Some};
 ghost use Rattle.camac_tokens.specs.declared.token.TokenKind.TheVariants as kind;
-ghost use Rattle.camac_text_cursor.specs.Choice.{takes};
+ghost use Rattle.camac_text_cursor.specs.Choice.{takes, group_of_word, group_of_sign, group};
+ghost use Rattle.camac_text_cursor.specs.Tried.{place};
 
 use camac_tokens::{Keyword, Sign, TokenKind};
 
@@ -89,92 +90,104 @@ impl Choice {
         }
     }
 
-    // Its bits in a set.
-    #[inline(always)]
-    fn bits(self) -> u64 {
+    /// The choice that takes all that this one takes and more, if there is one, else itself.
+    fn group(self) -> Choice
+        ensures { result ≡ group self }
+    {
         match self {
-            Choice::Word(word) => bit_of_word(word),
-            Choice::Mark(sign) => bit_of_sign(sign),
-            Choice::Name => 1 << 40,
-            Choice::Number => 1 << 41,
-            Choice::Declaration => bit_of_word(Keyword::Table) | bit_of_word(Keyword::Var),
-            Choice::Statement => bit_of_word(Keyword::Put),
-            Choice::Flag => bit_of_word(Keyword::Q),
-            Choice::Switch => bit_of_word(Keyword::On),
-            Choice::Arrow => bit_of_sign(Sign::Into),
-            Choice::Sum => bit_of_sign(Sign::Plus),
-            Choice::Product => bit_of_sign(Sign::Times),
-            Choice::Comparison => bit_of_sign(Sign::Less),
+            Choice::Word(word) => group_of_word(word),
+            Choice::Mark(sign) => group_of_sign(sign),
+            _ => self,
+        }
+    }
+
+    // Its place in a set.
+    #[inline(always)]
+    fn place(self) -> u32
+        ensures { result ≡ place self }
+    {
+        match self {
+            Choice::Word(word) => word as u32,
+            Choice::Mark(sign) => 47 + sign as u32,
+            Choice::Name => 67,
+            Choice::Number => 68,
+            Choice::Declaration => 69,
+            Choice::Statement => 70,
+            Choice::Flag => 71,
+            Choice::Switch => 72,
+            Choice::Arrow => 73,
+            Choice::Sum => 74,
+            Choice::Product => 75,
+            Choice::Comparison => 76,
         }
     }
 }
 
-// Words that may stand at the same places alone have the same bit.
-#[inline(always)]
-fn bit_of_word(word: Keyword) -> u64 {
-    match word {
-        Keyword::Table => 1 << 0,
-        Keyword::Cdlam | Keyword::Var | Keyword::Proc | Keyword::Service => 1 << 1,
-        Keyword::Within => 1 << 2,
-        Keyword::Cycles => 1 << 3,
-        Keyword::Event => 1 << 4,
-        Keyword::Words => 1 << 5,
-        Keyword::Steps => 1 << 6,
-        Keyword::Max => 1 << 7,
-        Keyword::Limit => 1 << 8,
-        Keyword::Tally => 1 << 9,
-        Keyword::On | Keyword::Off => 1 << 10,
-        Keyword::Else => 1 << 11,
-        Keyword::To => 1 << 12,
-        Keyword::Turns => 1 << 13,
-        Keyword::By => 1 << 14,
-        Keyword::Keep => 1 << 15,
-        Keyword::In => 1 << 16,
-        Keyword::Lock => 1 << 17,
-        Keyword::And => 1 << 18,
-        Keyword::Not => 1 << 19,
-        Keyword::Q | Keyword::X => 1 << 20,
-        _ => 1 << 21,
+fn group_of_word(word: Keyword) -> Choice
+    ensures { result ≡ group_of_word word }
+{
+    if Choice::Declaration.has_word(word) {
+        Choice::Declaration
+    } else if Choice::Statement.has_word(word) {
+        Choice::Statement
+    } else if Choice::Flag.has_word(word) {
+        Choice::Flag
+    } else if Choice::Switch.has_word(word) {
+        Choice::Switch
+    } else {
+        Choice::Word(word)
     }
 }
 
-// The same of signs.
-#[inline(always)]
-fn bit_of_sign(sign: Sign) -> u64 {
-    match sign {
-        Sign::LeftBrace => 1 << 22,
-        Sign::RightBrace => 1 << 23,
-        Sign::LeftBracket => 1 << 24,
-        Sign::RightBracket => 1 << 25,
-        Sign::Plus | Sign::Minus => 1 << 26,
-        Sign::Times | Sign::Over | Sign::Modulo => 1 << 27,
-        Sign::Equals => 1 << 28,
-        Sign::Comma => 1 << 29,
-        Sign::Into | Sign::From => 1 << 30,
-        Sign::UpTo => 1 << 31,
-        _ => 1 << 32,
+fn group_of_sign(sign: Sign) -> Choice
+    ensures { result ≡ group_of_sign sign }
+{
+    if Choice::Arrow.has_sign(sign) {
+        Choice::Arrow
+    } else if Choice::Sum.has_sign(sign) {
+        Choice::Sum
+    } else if Choice::Product.has_sign(sign) {
+        Choice::Product
+    } else if Choice::Comparison.has_sign(sign) {
+        Choice::Comparison
+    } else {
+        Choice::Mark(sign)
     }
 }
 
-/// All that may stand at a place. No clause says more of it than that a fault's token is none of these: tests/expected_test.py compares them
-/// with the parser.
+/// All that may stand at a place.
 #[derive(Clone, Copy, Debug, PartialEq, Eq)]
-pub struct Choices(u64);
+pub struct Choices(u128);
 
 impl Choices {
+    ghost use Rattle.camac_text_cursor.specs.Choice.{held, has};
+    ghost use Rattle.camac_text_cursor.specs.Tried.{none, added};
+
     /// Nothing.
-    pub fn none() -> Self {
+    pub fn none() -> Self
+        ensures { held result ≡ none }
+    {
         Choices(0)
     }
 
     /// These, and one choice more.
     #[inline(always)]
-    pub fn with(self, choice: Choice) -> Self {
-        Choices(self.0 | choice.bits())
+    pub fn with(self, choice: Choice) -> Self
+        ensures { held result ≡ added choice (held self) }
+    {
+        Choices(self.0 | 1 << choice.place())
     }
 
     /// Whether all of a choice are among these.
-    pub fn has(self, choice: Choice) -> bool {
-        self.0 & choice.bits() == choice.bits()
+    pub fn has(self, choice: Choice) -> bool
+        ensures { result ≡ has choice (held self) }
+    {
+        self.holds(choice) || self.holds(choice.group())
+    }
+
+    fn holds(self, choice: Choice) -> bool
+        ensures { result ≡ held self choice }
+    {
+        self.0 >> choice.place() & 1 == 1
     }
 }

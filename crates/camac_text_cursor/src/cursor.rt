@@ -1,10 +1,10 @@
 // The parser's state, and its steps over single tokens.
 
 ghost use Rattle.std.specs.Prelude.{◌≡◌, [], false, not, ◌&&◌, ◌==◌, is_none, option_copied};
-ghost use Rattle.camac_tokens.specs.Fault.{Fails};
-ghost use Rattle.camac_text_cursor.specs.Reading.{line_of, left_of, kind_of, after_first};
+ghost use Rattle.camac_text_cursor.specs.Reading.{line_of, left_of, kind_of, past, missed};
 ghost use Rattle.camac_text_cursor.specs.Readers.{begin, is_keyword, is_sign, is_name, is_number, expect, expect_sign, name_here, number_here, any_number, branch_number, function_number, sub_address_number};
-ghost use Rattle.camac_text_cursor.specs.Choice.{takes};
+ghost use Rattle.camac_text_cursor.specs.Choice.{takes, held};
+ghost use Rattle.camac_text_cursor.specs.Tried.{Told};
 ghost use Rattle.camac_text_cursor.specs.Parser.{state, unread, line_in, Gives};
 ghost use Rattle.camac_tokens.specs.declared.fault.TextCase.TheVariants.{Unexpected};
 
@@ -13,7 +13,6 @@ use camac_lang::{Callable, Item, Lam, Name, Node, Procedure, Service, Table, lim
 use camac_tokens::{Keyword, Limit, Sign, TextCase, TextFault, TokenKind, TokensLeft};
 use camac_word::{Function, SubAddress};
 use std::alloc::Global;
-use std::cell::Cell;
 use std::mem::replace;
 
 /// What is left of the tokens, and what is declared so far.
@@ -44,7 +43,7 @@ pub struct Parser<'a> {
     // Room for the nodes of the next expression.
     nodes: Vec<Node>,
     // What was looked for at the next token and is not there.
-    missed: Cell<Choices>,
+    missed: Choices,
 }
 
 impl<'a> Parser<'a> {
@@ -69,7 +68,7 @@ impl<'a> Parser<'a> {
             registers: Vec::new(alloc),
             statements: 0,
             nodes: Vec::new(alloc),
-            missed: Cell::new(Choices::none()),
+            missed: Choices::none(),
         }
     }
 
@@ -156,62 +155,51 @@ impl Parser<'_> {
 
     /// Remembers that the next token is none of these, any of which may stand in its place.
     #[inline(always)]
-    pub fn miss(&self, choice: Choice)
-        requires { takes choice (kind_of (state self.now).rest) ≡ false }
+    pub fn miss(&mut self, choice: Choice)
+        requires { takes choice (kind_of (state self.old).rest) ≡ false }
+        ensures { state self.new ≡ missed choice (state self.old) }
     {
-        self.missed.set(self.missed.get().with(choice));
+        self.missed = self.missed.with(choice);
     }
 
     /// The fault of the next token, which is none of these. What was looked for before may stand in its place, too.
     #[inline(never)]
-    pub fn unexpected(&self, choice: Choice) -> TextFault
-        requires { takes choice (kind_of (state self.now).rest) ≡ false }
-        ensures { result ≡ TextFault.Broken Unexpected (line_of (state self.now).rest (state self.now).end_line) (left_of (state self.now).rest) }
+    pub fn unexpected(&mut self, choice: Choice) -> TextFault
+        requires { takes choice (kind_of (state self.old).rest) ≡ false }
+        ensures fault { result ≡ TextFault.Broken Unexpected (line_of (state self.old).rest (state self.old).end_line) (left_of (state self.old).rest) }
+        ensures missed { state self.new ≡ missed choice (state self.old) }
     {
         self.miss(choice);
         self.fault(TextCase::Unexpected)
     }
 
     /// What was looked for at the next token and is not there: at a fault all that may stand in its place.
-    pub fn missed(&self) -> Choices {
-        self.missed.get()
+    pub fn missed(&self) -> Choices
+        ensures { Told (held result) ≡ (state self.now).tried }
+    {
+        self.missed
     }
 
     /// Takes the next token, if there is one.
     pub fn advance(&mut self)
-        ensures { state self.new ≡ record (state self.old) { rest = after_first (state self.old).rest } }
+        ensures { state self.new ≡ past (state self.old) }
     {
-        self.missed.set(Choices::none());
+        self.missed = Choices::none();
         self.rest.advance();
     }
 
-    /// Whether this keyword stands next, which may stand there.
+    /// Whether this keyword stands next.
     pub fn next_is(&self, keyword: Keyword) -> bool
         ensures { result ≡ is_keyword keyword (kind_of (state self.now).rest) }
     {
-        let is_next = match self.peek() {
+        match self.peek() {
             Some(TokenKind::Keyword(next)) => *next == keyword,
             _ => false,
-        };
-        if !is_next {
-            self.miss(Choice::Word(keyword));
         }
-        is_next
     }
 
-    /// Whether this sign stands next, which may stand there.
+    /// Whether this sign stands next.
     pub fn next_is_sign(&self, sign: Sign) -> bool
-        ensures { result ≡ is_sign sign (kind_of (state self.now).rest) }
-    {
-        let is_next = self.shows_sign(sign);
-        if !is_next {
-            self.miss(Choice::Mark(sign));
-        }
-        is_next
-    }
-
-    /// Whether this sign stands next, if it may stand there or not.
-    pub fn shows_sign(&self, sign: Sign) -> bool
         ensures { result ≡ is_sign sign (kind_of (state self.now).rest) }
     {
         match self.peek() {
@@ -220,26 +208,18 @@ impl Parser<'_> {
         }
     }
 
-    /// Whether a name stands next, which may stand there.
+    /// Whether a name stands next.
     pub fn next_is_name(&self) -> bool
         ensures { result ≡ is_name (kind_of (state self.now).rest) }
     {
-        let is_next = matches!(self.peek(), Some(TokenKind::Name(_)));
-        if !is_next {
-            self.miss(Choice::Name);
-        }
-        is_next
+        matches!(self.peek(), Some(TokenKind::Name(_)))
     }
 
-    /// Whether a number stands next, which may stand there.
+    /// Whether a number stands next.
     pub fn next_is_number(&self) -> bool
         ensures { result ≡ is_number (kind_of (state self.now).rest) }
     {
-        let is_next = matches!(self.peek(), Some(TokenKind::Number(_)));
-        if !is_next {
-            self.miss(Choice::Number);
-        }
-        is_next
+        matches!(self.peek(), Some(TokenKind::Number(_)))
     }
 
     /// Takes this keyword, else answers S2 at what stands there.

@@ -29,7 +29,7 @@ impl Parser<'_> {
     {
         let here: &Self = self;
         let Some(TokenKind::Name(name)) = here.peek() else {
-            return Err(here.unexpected(Choice::Name));
+            return Err(self.unexpected(Choice::Name));
         };
         if !here.is_free(name) {
             let by = here.declared_as(name);
@@ -97,7 +97,7 @@ impl Parser<'_> {
     {
         let here: &Self = self;
         let Some(TokenKind::Name(name)) = here.peek() else {
-            return Err(here.unexpected(Choice::Name));
+            return Err(self.unexpected(Choice::Name));
         };
         if !here.is_free(name) {
             let by = here.declared_as(name);
@@ -173,7 +173,7 @@ impl Parser<'_> {
     {
         let here: &Self = self;
         let Some(TokenKind::Name(name)) = here.peek() else {
-            return Err(here.unexpected(Choice::Name));
+            return Err(self.unexpected(Choice::Name));
         };
         match place_of(&here.registers, name) {
             Some(place) => {
@@ -191,7 +191,7 @@ impl Parser<'_> {
     {
         let here: &Self = self;
         let Some(TokenKind::Name(name)) = here.peek() else {
-            return Err(here.unexpected(Choice::Name));
+            return Err(self.unexpected(Choice::Name));
         };
         match place_of(&here.variables, name) {
             Some(place) => {
@@ -209,7 +209,7 @@ impl Parser<'_> {
     {
         let here: &Self = self;
         let Some(TokenKind::Name(name)) = here.peek() else {
-            return Err(here.unexpected(Choice::Name));
+            return Err(self.unexpected(Choice::Name));
         };
         match lam_place(&here.lams, name) {
             Some(place) => {
@@ -227,7 +227,7 @@ impl Parser<'_> {
     {
         let here: &Self = self;
         let Some(TokenKind::Name(name)) = here.peek() else {
-            return Err(here.unexpected(Choice::Name));
+            return Err(self.unexpected(Choice::Name));
         };
         match place_of(&here.variables, name) {
             Some(place) => Ok(place),
@@ -242,7 +242,7 @@ impl Parser<'_> {
     {
         let here: &Self = self;
         let Some(TokenKind::Name(name)) = here.peek() else {
-            return Err(here.unexpected(Choice::Name));
+            return Err(self.unexpected(Choice::Name));
         };
         match table_place(&here.tables, name) {
             Some(place) => {
@@ -260,7 +260,7 @@ impl Parser<'_> {
     {
         let here: &Self = self;
         let Some(TokenKind::Name(name)) = here.peek() else {
-            return Err(here.unexpected(Choice::Name));
+            return Err(self.unexpected(Choice::Name));
         };
         match procedure_place(&here.procedures, name) {
             Some(place) => Ok(place),

@@ -4,7 +4,8 @@ use Rattle.camac_lang.specs.Depth.{expression_depth}
 use Rattle.camac_lang.specs.Expressions.{Scope, expression_fits}
 use Rattle.camac_lang.specs.Tests.{each, most}
 use Rattle.camac_lang.specs.Tree.{Expression}
-use Rattle.camac_tokens.specs.Fault.{Fault, Fails}
+use Rattle.camac_text_cursor.specs.Parser.{FailsWith}
+use Rattle.camac_text_cursor.specs.Tried.{Tried}
 use Rattle.camac_tokens.specs.declared.fault.TextFault.{TextFault}
 use Rattle.camac_tokens.specs.declared.fault.TextFault.TheVariants as fault
 use Rattle.camac_tokens.specs.declared.fault.Limit.TheVariants as limit
@@ -12,7 +13,8 @@ use Rattle.camac_tokens.specs.declared.fault.TextCase.TheVariants as told
 use Rattle.camac_tokens.specs.declared.token.Sign.{Sign}
 use Rattle.camac_tokens.specs.declared.token.Sign.TheVariants as sign
 use Rattle.camac_tokens.specs.declared.token.TokenKind.{TokenKind}
-use Rattle.camac_text_cursor.specs.Reading.{State, then_read, ◌>>=◌, give, advance, fail, kind_of}
+use Rattle.camac_text_cursor.specs.declared.choice.Choice.TheVariants as choice
+use Rattle.camac_text_cursor.specs.Reading.{State, then_read, ◌>>=◌, give, advance, fail, kind_of, Fault, unexpected}
 use Rattle.camac_text_cursor.specs.Readers.{is_sign, expect_sign}
 use Rattle.camac_text_cursor.proofs.Steps.{then_ok, ok_is, err_no_ok}
 use Rattle.camac_text_cursor.proofs.Moves.{AllFit, Moves, stays, moved, then_moves, expect_sign_ok}
@@ -25,14 +27,14 @@ use Rattle.camac_text_phrases.proofs.ConditionsRead.{most_push}
 
 -- ---- one argument
 
-counted_by : (on shown : Bool) (wanted : ℕ) (s : State) (y : Unit {0} × State) → cond on advance (cond shown (fail (told.ArgumentCount wanted)) (fail told.Unexpected)) s ≡ Ok y → Moves s y.1
-counted_by true shown wanted s y e = subst (λ (p : Unit {0} × State). Moves s p.1) (ok_is _ y e) (moved s)
-counted_by false true wanted s y e = absurd (err_no_ok _ _ e)
-counted_by false false wanted s y e = absurd (err_no_ok _ _ e)
+counted_by : (w : Sign) (on shown : Bool) (wanted : ℕ) (s : State) (y : Unit {0} × State) → cond on advance (cond shown (fail (told.ArgumentCount wanted)) (unexpected (choice.Mark w))) s ≡ Ok y → Moves s y.1
+counted_by w true shown wanted s y e = subst (λ (p : Unit {0} × State). Moves s p.1) (ok_is _ y e) (moved s)
+counted_by w false true wanted s y e = absurd (err_no_ok _ _ e)
+counted_by w false false wanted s y e = absurd (err_no_ok _ _ e)
 
 pub counted_sign_ok : (w : Sign) (shows : Option TokenKind → Bool) (wanted : ℕ) (s : State) (y : Unit {0} × State) → counted_sign w shows wanted s ≡ Ok y → Moves s y.1
 unfolding counted_sign
-counted_sign_ok w shows wanted s y e = counted_by (is_sign w (kind_of s.rest)) (shows (kind_of s.rest)) wanted s y e
+counted_sign_ok w shows wanted s y e = counted_by w (is_sign w (kind_of s.rest)) (shows (kind_of s.rest)) wanted s y e
 
 first_ok : (b : Bool) (wanted room : ℕ) (s : State) (y : Expression × State) → cond b (fail (told.ArgumentCount wanted)) (expression_at room) s ≡ Ok y → ReadsExpression room s y.0 y.1
 first_ok true wanted room s y e = absurd (err_no_ok _ _ e)
@@ -82,7 +84,7 @@ none_yet : (room : ℕ) (s : State) → ReadsArguments room 0 s [] s
 none_yet room s = record { moves = stays s; counted = refl; fit = λ h. refl; deep = omega arith }
 
 -- in their brackets
-no_room : (b : Bool) (s : State) (y : List Expression × State) → cond b (fail (told.Limit limit.Depth)) (fail told.Unexpected) s ≡ Ok y → ⊥
+no_room : (b : Bool) (s : State) (y : List Expression × State) → cond b (fail (told.Limit limit.Depth)) (unexpected (choice.Mark sign.LeftBracket)) s ≡ Ok y → ⊥
 no_room true s y e = err_no_ok _ _ e
 no_room false s y e = err_no_ok _ _ e
 
@@ -118,10 +120,10 @@ pub arguments_go : (wanted room n : ℕ) (es : List Expression) (s : State) (e :
 unfolding more_arguments
 arguments_go wanted room n es s e t total took so_far = ap (λ (r : Result (Expression × State) Fault). then_read r (λ x. more_arguments wanted room n (es ++ x ∷ []))) (sym took) ∙ so_far
 
-pub arguments_fail : (wanted room n : ℕ) (es : List Expression) (s : State) (f : TextFault) (total : Result (List Expression × State) Fault) → Fails f (argument_after wanted room es s) → more_arguments wanted room (suc n) es s ≡ total → Fails f total
+pub arguments_fail : (wanted room n : ℕ) (es : List Expression) (s : State) (f : TextFault) (tried : Tried) (total : Result (List Expression × State) Fault) → FailsWith f tried (argument_after wanted room es s) → more_arguments wanted room (suc n) es s ≡ total → FailsWith f tried total
 unfolding more_arguments
-arguments_fail wanted room n es s fault.OutOfMemory total failed so_far = tt
-arguments_fail wanted room n es s (fault.Broken case line left) total failed so_far = sym so_far ∙ ap (λ (r : Result (Expression × State) Fault). then_read r (λ x. more_arguments wanted room n (es ++ x ∷ []))) failed
+arguments_fail wanted room n es s fault.OutOfMemory tried total failed so_far = tt
+arguments_fail wanted room n es s (fault.Broken case line left) tried total failed so_far = sym so_far ∙ ap (λ (r : Result (Expression × State) Fault). then_read r (λ x. more_arguments wanted room n (es ++ x ∷ []))) failed
 
 pub arguments_end : (wanted room : ℕ) (es : List Expression) (s : State) (total : Result (List Expression × State) Fault) → more_arguments wanted room 0 es s ≡ total → total ≡ Ok (es, s)
 unfolding more_arguments

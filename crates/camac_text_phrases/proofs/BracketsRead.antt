@@ -6,7 +6,7 @@ use Rattle.camac_lang.specs.Tree.{Expression, group, multiply, divide, remainder
 use Rattle.camac_tokens.specs.declared.token.Sign.TheVariants as sign
 use Rattle.camac_tokens.specs.declared.token.TokenKind.{TokenKind}
 use Rattle.camac_tokens.specs.declared.token.TokenKind.TheVariants as kind
-use Rattle.camac_text_cursor.specs.Reading.{State, Reader, ◌>>=◌, ◌>>◌, give, kind_of, after_first}
+use Rattle.camac_text_cursor.specs.Reading.{State, Reader, ◌>>=◌, ◌>>◌, give, kind_of, after_first, past}
 use Rattle.camac_text_cursor.specs.Readers.{expect_sign}
 use Rattle.camac_text_phrases.specs.Expressions.{Counted, counted, operator, divisor, factor_with, is_product_sign, product_by, product_turn, product_with, is_sum_sign, joined, sum_turn, sum_with, bracketed, expression_at}
 use Rattle.camac_text_cursor.proofs.Steps.{then_ok, ok_is, err_no_ok, Progresses}
@@ -76,7 +76,7 @@ pub bracketed_ok : (room so_far : ℕ) (s : State) (y : Counted × State) → br
 unfolding bracketed
 bracketed_ok zero so_far s y e = absurd (err_no_ok _ _ e)
 bracketed_ok (suc room) so_far s y e =
-    let t : State = record s { rest = after_first s.rest } in
+    let t : State = past s in
     let a = then_ok (sum_with (bracketed room) so_far t) (λ inner. expect_sign sign.RightBracket >> give (counted (group inner.value) inner.operators)) y e in
     let inner = sum_ok room (bracketed room) (bracketed_ok room) so_far t a.0 a.1 in
     let b = then_ok (expect_sign sign.RightBracket a.0.1) (λ _. give (counted (group a.0.0.value) a.0.0.operators)) y a.2 in

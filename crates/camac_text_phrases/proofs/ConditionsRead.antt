@@ -14,12 +14,13 @@ use Rattle.camac_tokens.specs.declared.token.Keyword.TheVariants as word
 use Rattle.camac_tokens.specs.declared.token.Sign.TheVariants as sign
 use Rattle.camac_tokens.specs.declared.token.TokenKind.{TokenKind}
 use Rattle.camac_tokens.specs.declared.token.TokenKind.TheVariants as kind
-use Rattle.camac_text_cursor.specs.Reading.{State, ◌>>=◌, give, peek, fail, kind_of, after_first, while_next}
+use Rattle.camac_text_cursor.specs.declared.choice.Choice.TheVariants as choice
+use Rattle.camac_text_cursor.specs.Reading.{State, ◌>>=◌, give, peek, fail, kind_of, after_first, missed, past, until}
 use Rattle.camac_text_cursor.specs.Readers.{is_keyword, variable_here}
 use Rattle.camac_text_phrases.specs.Expressions.{expression_at}
 use Rattle.camac_text_phrases.specs.Conditions.{comparison_by, comparison_sign, compared, test_by, test_at, part_by, part_at, no_part_by, part_limit, and_part, one_more_part, condition_at}
-use Rattle.camac_text_cursor.proofs.Steps.{then_ok, ok_is, err_no_ok, Progresses, while_keeps}
-use Rattle.camac_text_cursor.proofs.Moves.{AllFit, Moves, after_less, moved, then_moves}
+use Rattle.camac_text_cursor.proofs.Steps.{then_ok, ok_is, err_no_ok, Progresses, until_keeps}
+use Rattle.camac_text_cursor.proofs.Moves.{AllFit, Moves, after_less, moved, unmoved, then_moves}
 use Rattle.camac_text_cursor.proofs.Uses.{scope_of, same_scope}
 use Rattle.camac_text_phrases.proofs.BracketsRead.{expression_ok}
 use Rattle.camac_text_cursor.proofs.Registers.{both, below_le, each_push}
@@ -27,12 +28,12 @@ use Rattle.camac_text_cursor.proofs.Registers.{both, below_le, each_push}
 -- ---- comparisons
 
 comparison_is : (k : Option TokenKind) (s : State) (y : Cmp × State) → comparison_by k s ≡ Ok y → Moves s y.1
-comparison_is (Some (kind.Sign sign.Less)) s y e = subst (λ (p : Cmp × State). Moves s p.1) (ok_is (cmp.Less, record s { rest = after_first s.rest }) y e) (moved s)
-comparison_is (Some (kind.Sign sign.AtMost)) s y e = subst (λ (p : Cmp × State). Moves s p.1) (ok_is (cmp.AtMost, record s { rest = after_first s.rest }) y e) (moved s)
-comparison_is (Some (kind.Sign sign.More)) s y e = subst (λ (p : Cmp × State). Moves s p.1) (ok_is (cmp.More, record s { rest = after_first s.rest }) y e) (moved s)
-comparison_is (Some (kind.Sign sign.AtLeast)) s y e = subst (λ (p : Cmp × State). Moves s p.1) (ok_is (cmp.AtLeast, record s { rest = after_first s.rest }) y e) (moved s)
-comparison_is (Some (kind.Sign sign.Same)) s y e = subst (λ (p : Cmp × State). Moves s p.1) (ok_is (cmp.Same, record s { rest = after_first s.rest }) y e) (moved s)
-comparison_is (Some (kind.Sign sign.Differs)) s y e = subst (λ (p : Cmp × State). Moves s p.1) (ok_is (cmp.Differs, record s { rest = after_first s.rest }) y e) (moved s)
+comparison_is (Some (kind.Sign sign.Less)) s y e = subst (λ (p : Cmp × State). Moves s p.1) (ok_is (cmp.Less, past s) y e) (moved s)
+comparison_is (Some (kind.Sign sign.AtMost)) s y e = subst (λ (p : Cmp × State). Moves s p.1) (ok_is (cmp.AtMost, past s) y e) (moved s)
+comparison_is (Some (kind.Sign sign.More)) s y e = subst (λ (p : Cmp × State). Moves s p.1) (ok_is (cmp.More, past s) y e) (moved s)
+comparison_is (Some (kind.Sign sign.AtLeast)) s y e = subst (λ (p : Cmp × State). Moves s p.1) (ok_is (cmp.AtLeast, past s) y e) (moved s)
+comparison_is (Some (kind.Sign sign.Same)) s y e = subst (λ (p : Cmp × State). Moves s p.1) (ok_is (cmp.Same, past s) y e) (moved s)
+comparison_is (Some (kind.Sign sign.Differs)) s y e = subst (λ (p : Cmp × State). Moves s p.1) (ok_is (cmp.Differs, past s) y e) (moved s)
 comparison_is _ s y e = absurd (err_no_ok _ _ e)
 
 comparison_ok : (s : State) (y : Cmp × State) → comparison_sign s ≡ Ok y → Moves s y.1
@@ -65,9 +66,9 @@ compared_ok room s y e =
     most_of_two a b n p q = omega arith
 
 test_is : (room : ℕ) (k : Option TokenKind) (s : State) (y : Test × State) → test_by room k s ≡ Ok y → ReadsTest room s y.0 y.1
-test_is room (Some (kind.Keyword word.Q)) s y e = subst (λ (p : Test × State). ReadsTest room s p.0 p.1) (ok_is (flag_q, record s { rest = after_first s.rest }) y e) (record { moves = moved s; fits = λ h. refl; deep = omega arith })
-test_is room (Some (kind.Keyword word.X)) s y e = subst (λ (p : Test × State). ReadsTest room s p.0 p.1) (ok_is (flag_x, record s { rest = after_first s.rest }) y e) (record { moves = moved s; fits = λ h. refl; deep = omega arith })
-test_is room _ s y e = compared_ok room s y e
+test_is room (Some (kind.Keyword word.Q)) s y e = subst (λ (p : Test × State). ReadsTest room s p.0 p.1) (ok_is (flag_q, past s) y e) (record { moves = moved s; fits = λ h. refl; deep = omega arith })
+test_is room (Some (kind.Keyword word.X)) s y e = subst (λ (p : Test × State). ReadsTest room s p.0 p.1) (ok_is (flag_x, past s) y e) (record { moves = moved s; fits = λ h. refl; deep = omega arith })
+test_is room _ s y e = let read = compared_ok room (missed choice.Flag s) y e in record { moves = then_moves s (missed choice.Flag s) y.1 (unmoved choice.Flag s) read.moves; fits = read.fits; deep = read.deep }
 
 test_ok : (room : ℕ) (s : State) (y : Test × State) → test_at room s ≡ Ok y → ReadsTest room s y.0 y.1
 unfolding test_at
@@ -88,7 +89,7 @@ plain_is room s y e =
 
 part_is : (room : ℕ) (k : Option TokenKind) (s : State) (y : Part × State) → part_by room k s ≡ Ok y → ReadsPart room s y.0 y.1
 part_is room (Some (kind.Keyword word.Not)) s y e =
-    let t : State = record s { rest = after_first s.rest } in
+    let t : State = past s in
     let m = then_ok (test_at room t) (λ x. give (negated x)) y e in
     let test = test_ok room t m.0 m.1 in
     subst (λ (p : Part × State). ReadsPart room s p.0 p.1) (ok_is (negated m.0.0, m.0.1) y m.2) (record {
@@ -96,7 +97,10 @@ part_is room (Some (kind.Keyword word.Not)) s y e =
       fits = λ h. test.fits ((moved s).fit h);
       deep = test.deep;
     })
-part_is room _ s y e = plain_is room s y e
+part_is room _ s y e =
+    let t : State = missed (choice.Word word.Not) s in
+    let read = plain_is room t y e in
+    record { moves = then_moves s t y.1 (unmoved (choice.Word word.Not) s) read.moves; fits = read.fits; deep = read.deep }
 
 part_ok : (room : ℕ) (s : State) (y : Part × State) → part_at room s ≡ Ok y → ReadsPart room s y.0 y.1
 unfolding part_at
@@ -124,12 +128,12 @@ limit_ok count s y e = limit_is (nat_lt count 16) s y e
 -- a part after `and`
 pub record AndPart (room count : ℕ) (s : State) (x : Part) (s' : State) : Type 0 where
   pub room_left : count < 16
-  pub part : ReadsPart room (record s { rest = after_first s.rest }) x s'
+  pub part : ReadsPart room (past s) x s'
 
 pub and_part_ok : (room count : ℕ) (s : State) (y : Part × State) → and_part room count s ≡ Ok y → AndPart room count s y.0 y.1
 unfolding and_part
 and_part_ok room count s y e =
-    let t : State = record s { rest = after_first s.rest } in
+    let t : State = past s in
     let m = then_ok (part_limit count t) (λ _. part_at room) y e in
     let limit = limit_ok count t m.0 m.1 in
     let at : part_at room t ≡ Ok y = subst (λ (u : State). part_at room u ≡ Ok y) limit.1 m.2 in
@@ -154,9 +158,12 @@ first_part room s x s' p =
     let deep : part_depth x ≤ room = p.deep in
     record { moves = p.moves; fit = λ h. both _ _ (p.fits h) refl; some = omega arith; few = omega arith; deep = omega arith }
 
+still : (room : ℕ) (s : State) (xs : Condition) (u : State) → ReadsParts room s xs u → ReadsParts room s xs (missed (choice.Word word.And) u)
+still room s xs u r = record { moves = then_moves s u (missed (choice.Word word.And) u) r.moves (unmoved (choice.Word word.And) u); fit = r.fit; some = r.some; few = r.few; deep = r.deep }
+
 longer_parts : (room : ℕ) (s : State) (xs : Condition) (u : State) (x : Part) (t : State) → ReadsParts room s xs u → AndPart room (length xs) u x t → ReadsParts room s (xs ++ x ∷ []) t
 longer_parts room s xs u x t ps a =
-    let v : State = record u { rest = after_first u.rest } in
+    let v : State = past u in
     let to_v : Moves s v = then_moves s u v ps.moves (moved u) in
     let below : length xs < 16 = a.room_left in
     let some : 1 ≤ length xs = ps.some in
@@ -198,8 +205,8 @@ pub record ReadsCondition (room : ℕ) (s : State) (x : Condition) (s' : State) 
 pub condition_ok : (room : ℕ) (s : State) (y : Condition × State) → condition_at room s ≡ Ok y → ReadsCondition room s y.0 y.1
 unfolding condition_at
 condition_ok room s y e =
-    let m = then_ok (part_at room s) (λ first. while_next (is_keyword word.And) (one_more_part room) (first ∷ [])) y e in
-    let ps = while_keeps (λ (xs : Condition) (u : State). ReadsParts room s xs u) (is_keyword word.And) (one_more_part room) (λ xs u ys t ps on took. parts_turn room s xs u ys t ps took) (m.0.0 ∷ []) m.0.1 y (first_part room s m.0.0 m.0.1 (part_ok room s m.0 m.1)) m.2 in
+    let m = then_ok (part_at room s) (λ first. until (choice.Word word.And) (is_keyword word.And) (one_more_part room) (first ∷ [])) y e in
+    let ps = until_keeps (λ (xs : Condition) (u : State). ReadsParts room s xs u) (choice.Word word.And) (λ xs u r. still room s xs u r) (is_keyword word.And) (one_more_part room) (λ xs u ys t ps on took. parts_turn room s xs u ys t ps took) (m.0.0 ∷ []) m.0.1 y (first_part room s m.0.0 m.0.1 (part_ok room s m.0 m.1)) m.2 in
     record {
       moves = ps.moves;
       fits = λ h. both _ _ (below_le 1 (length y.0) ps.some) (both _ _ (below_le (length y.0) 16 ps.few) (ps.fit h));

@@ -9,11 +9,13 @@ use Rattle.camac_tokens.specs.declared.fault.TextCase.TheVariants as told
 use Rattle.camac_tokens.specs.declared.token.Sign.TheVariants as sign
 use Rattle.camac_tokens.specs.declared.token.TokenKind.{TokenKind}
 use Rattle.camac_tokens.specs.declared.token.TokenKind.TheVariants as kind
-use Rattle.camac_text_cursor.specs.Reading.{State, Reader, ◌>>=◌, ◌>>◌, give, advance, check, kind_of, after_first, while_next}
+use Rattle.camac_text_cursor.specs.declared.choice.Choice.{Choice}
+use Rattle.camac_text_cursor.specs.declared.choice.Choice.TheVariants as choice
+use Rattle.camac_text_cursor.specs.Reading.{State, Reader, ◌>>=◌, ◌>>◌, give, advance, check, kind_of, missed, past, until}
 use Rattle.camac_text_cursor.specs.Readers.{number_here, any_number, used_variable}
-use Rattle.camac_text_phrases.specs.Expressions.{Counted, counted, operator, divisor, factor_by, factor_with, is_product_sign, product_by, product_turn, product_with, is_sum_sign, joined, sum_turn, sum_with}
-use Rattle.camac_text_cursor.proofs.Steps.{then_ok, ok_is, err_no_ok, while_keeps}
-use Rattle.camac_text_cursor.proofs.Moves.{AllFit, Moves, TakesOne, kind_fit, moved, then_moves, one_moves, check_ok, number_ok, any_number_ok}
+use Rattle.camac_text_phrases.specs.Expressions.{Counted, counted, operator, divisor, bracket_by, factor_by, factor_with, is_product_sign, product_by, product_turn, product_with, is_sum_sign, joined, sum_turn, sum_with}
+use Rattle.camac_text_cursor.proofs.Steps.{then_ok, ok_is, err_no_ok, until_keeps}
+use Rattle.camac_text_cursor.proofs.Moves.{AllFit, Moves, TakesOne, kind_fit, moved, unmoved, then_moves, one_moves, check_ok, number_ok, any_number_ok}
 use Rattle.camac_text_cursor.proofs.Uses.{used_variable_ok}
 use Rattle.camac_text_cursor.proofs.Registers.{both, below_le}
 
@@ -21,13 +23,13 @@ use Rattle.camac_text_cursor.proofs.Registers.{both, below_le}
 pub record Operator (so_far : ℕ) (s : State) (n : ℕ) (s' : State) : Type 0 where
   pub room : so_far < 32
   pub next : n ≡ suc so_far
-  pub left : s' ≡ record s { rest = after_first s.rest }
+  pub left : s' ≡ past s
 
 pub operator_ok : (so_far : ℕ) (s : State) (y : ℕ × State) → operator so_far s ≡ Ok y → Operator so_far s y.0 y.1
 unfolding operator
 operator_ok so_far s y e =
     let c = check_ok (nat_lt so_far 32) (told.Limit limit.Operators) (advance >> give (suc so_far)) s y e in
-    subst (λ (p : ℕ × State). Operator so_far s p.0 p.1) (ok_is (suc so_far, record s { rest = after_first s.rest }) y c.1)
+    subst (λ (p : ℕ × State). Operator so_far s p.0 p.1) (ok_is (suc so_far, past s) y c.1)
     (record { room = ltb-true so_far 32 c.0; next = refl; left = refl })
 
 operator_moves : (so_far : ℕ) (s : State) (n : ℕ) (s' : State) → Operator so_far s n s' → Moves s s'
@@ -44,8 +46,8 @@ divisor_ok s y e =
     let h = number_ok s m.0 m.1 in
     let c = check_ok (nat_lt 0 m.0.0) told.ZeroDivisor (advance >> give m.0.0) m.0.1 y m.2 in
     let above : 0 < m.0.0 = ltb-true 0 m.0.0 c.0 in
-    subst (λ (p : ℕ × State). Divides s p.0 p.1) (ok_is (m.0.0, record m.0.1 { rest = after_first m.0.1.rest }) y c.1)
-    (record { one = record { next = h.0; left = ap (λ (w : State). record w { rest = after_first w.rest }) h.1 }; from_1 = below_le 1 m.0.0 (omega arith) })
+    subst (λ (p : ℕ × State). Divides s p.0 p.1) (ok_is (m.0.0, past m.0.1) y c.1)
+    (record { one = record { next = h.0; left = ap past h.1 }; from_1 = below_le 1 m.0.0 (omega arith) })
 
 -- a part of an expression is read, with so many operators before it
 pub record Reads (form : Expression → Bool) (room so_far : ℕ) (s : State) (x : Counted) (s' : State) : Type 0 where
@@ -76,6 +78,10 @@ wider form other room so_far s x s' holds r = record {
   few = r.few;
 }
 
+-- and what was looked for behind it
+still : (form : Expression → Bool) (room so_far : ℕ) (s : State) (c : Choice) (x : Counted) (u : State) → Reads form room so_far s x u → Reads form room so_far s x (missed c u)
+still form room so_far s c x u r = record { moves = then_moves s u (missed c u) r.moves (unmoved c u); refers = r.refers; grouped = r.grouped; stands = r.stands; deep = r.deep; counts = r.counts; few = r.few }
+
 -- the variables stay where only the tokens move on
 same_variables : (s t : State) (e : Expression) → Moves s t → refers (length t.variables) e ≡ true → refers (length s.variables) e ≡ true
 same_variables s t e m h = subst (λ (u : State). refers (length u.variables) e ≡ true) m.same h
@@ -85,6 +91,10 @@ joined_either P (Some (kind.Sign sign.Minus)) a b plus minus = minus
 joined_either P _ a b plus minus = plus
 
 module _ (room : ℕ) (inner : ℕ → Reader Counted) (inner_ok : (so_far : ℕ) (s : State) (y : Counted × State) → inner so_far s ≡ Ok y → Reads is_factor room so_far s y.0 y.1) where
+  bracket_is : (so_far : ℕ) (k : Option TokenKind) (s : State) (y : Counted × State) → bracket_by inner so_far k s ≡ Ok y → Reads is_factor room so_far s y.0 y.1
+  bracket_is so_far (Some (kind.Sign sign.LeftBracket)) s y e = inner_ok so_far s y e
+  bracket_is so_far _ s y e = absurd (err_no_ok _ _ e)
+
   factor_is : (so_far : ℕ) (k : Option TokenKind) (s : State) (y : Counted × State) → factor_by inner so_far k s ≡ Ok y → Reads is_factor room so_far s y.0 y.1
   factor_is so_far (Some (kind.Number n)) s y e =
       let m = then_ok (any_number s) (λ v. give (counted (number v) so_far)) y e in
@@ -110,8 +120,18 @@ module _ (room : ℕ) (inner : ℕ → Reader Counted) (inner_ok : (so_far : ℕ
         counts = omega arith;
         few = λ h. h;
       })
-  factor_is so_far (Some (kind.Sign sign.LeftBracket)) s y e = inner_ok so_far s y e
-  factor_is so_far _ s y e = absurd (err_no_ok _ _ e)
+  factor_is so_far k s y e =
+      let t : State = missed choice.Name (missed choice.Number s) in
+      let read = bracket_is so_far k t y e in
+      record {
+        moves = then_moves s t y.1 (then_moves s (missed choice.Number s) t (unmoved choice.Number s) (unmoved choice.Name (missed choice.Number s))) read.moves;
+        refers = read.refers;
+        grouped = read.grouped;
+        stands = read.stands;
+        deep = read.deep;
+        counts = read.counts;
+        few = read.few;
+      }
 
   pub factor_ok : (so_far : ℕ) (s : State) (y : Counted × State) → factor_with inner so_far s ≡ Ok y → Reads is_factor room so_far s y.0 y.1
   unfolding factor_with
@@ -185,8 +205,8 @@ module _ (room : ℕ) (inner : ℕ → Reader Counted) (inner_ok : (so_far : ℕ
   pub product_ok : (n : ℕ) (s : State) (y : Counted × State) → product_with inner n s ≡ Ok y → Reads is_term room n s y.0 y.1
   unfolding product_with
   product_ok n s y e =
-      let m = then_ok (factor_with inner n s) (while_next is_product_sign (product_turn inner)) y e in
-      while_keeps (λ (x : Counted) (u : State). Reads is_term room n s x u) is_product_sign (product_turn inner) (λ x u z t left on took. product_turn_ok n s x u (z, t) left took) m.0.0 m.0.1 y (wider is_factor is_term room n s m.0.0 m.0.1 factor_is_term (factor_ok n s m.0 m.1)) m.2
+      let m = then_ok (factor_with inner n s) (until choice.Product is_product_sign (product_turn inner)) y e in
+      until_keeps (λ (x : Counted) (u : State). Reads is_term room n s x u) choice.Product (still is_term room n s choice.Product) is_product_sign (product_turn inner) (λ x u z t left on took. product_turn_ok n s x u (z, t) left took) m.0.0 m.0.1 y (wider is_factor is_term room n s m.0.0 m.0.1 factor_is_term (factor_ok n s m.0 m.1)) m.2
 
   -- ---- sums
 
@@ -244,5 +264,5 @@ module _ (room : ℕ) (inner : ℕ → Reader Counted) (inner_ok : (so_far : ℕ
   pub sum_ok : (n : ℕ) (s : State) (y : Counted × State) → sum_with inner n s ≡ Ok y → Reads any_form room n s y.0 y.1
   unfolding sum_with
   sum_ok n s y e =
-      let m = then_ok (product_with inner n s) (while_next is_sum_sign (sum_turn inner)) y e in
-      while_keeps (λ (x : Counted) (u : State). Reads any_form room n s x u) is_sum_sign (sum_turn inner) (λ x u z t left on took. sum_turn_ok n s x u (z, t) left took) m.0.0 m.0.1 y (wider is_term any_form room n s m.0.0 m.0.1 (λ e h. refl) (product_ok n s m.0 m.1)) m.2
+      let m = then_ok (product_with inner n s) (until choice.Sum is_sum_sign (sum_turn inner)) y e in
+      until_keeps (λ (x : Counted) (u : State). Reads any_form room n s x u) choice.Sum (still any_form room n s choice.Sum) is_sum_sign (sum_turn inner) (λ x u z t left on took. sum_turn_ok n s x u (z, t) left took) m.0.0 m.0.1 y (wider is_term any_form room n s m.0.0 m.0.1 (λ e h. refl) (product_ok n s m.0 m.1)) m.2

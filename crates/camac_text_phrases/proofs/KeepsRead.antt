@@ -13,12 +13,13 @@ use Rattle.camac_tokens.specs.declared.token.Sign.{Sign}
 use Rattle.camac_tokens.specs.declared.token.Sign.TheVariants as sign
 use Rattle.camac_tokens.specs.declared.token.TokenKind.{TokenKind}
 use Rattle.camac_tokens.specs.declared.token.TokenKind.TheVariants as kind
-use Rattle.camac_text_cursor.specs.Reading.{State, Reader, ◌>>=◌, ◌>>◌, give, advance, check, kind_of, after_first, while_next}
+use Rattle.camac_text_cursor.specs.declared.choice.Choice.TheVariants as choice
+use Rattle.camac_text_cursor.specs.Reading.{State, Reader, ◌>>=◌, ◌>>◌, give, advance, check, kind_of, after_first, missed, missing, past, until}
 use Rattle.camac_text_cursor.specs.Readers.{is_keyword, is_sign, expect, expect_sign, any_number, variable_here}
 use Rattle.camac_text_phrases.specs.declared.keeping.Own.{Own}
 use Rattle.camac_text_phrases.specs.Keeps.{own_place, taken, is_free, kept_case, keep_at, next_keep, one_more_keep, keep_list, keeps_at}
-use Rattle.camac_text_cursor.proofs.Steps.{then_ok, ok_is, Progresses, while_keeps}
-use Rattle.camac_text_cursor.proofs.Moves.{AllFit, Moves, kind_fit, after_less, stays, moved, then_moves, one_moves, check_ok, any_number_ok, expect_ok, expect_sign_ok}
+use Rattle.camac_text_cursor.proofs.Steps.{then_ok, ok_is, Progresses, until_keeps}
+use Rattle.camac_text_cursor.proofs.Moves.{AllFit, Moves, kind_fit, after_less, moved, unmoved, then_moves, one_moves, check_ok, any_number_ok, expect_ok, expect_sign_ok}
 use Rattle.camac_text_cursor.proofs.Uses.{scope_of, variable_here_ok}
 use Rattle.camac_text_cursor.proofs.Registers.{both, first_of_both, second_of_both, each_push}
 
@@ -62,7 +63,7 @@ keep_ok own keeps s y e =
     let here = variable_here_ok s v.0 v.1 in
     let at : (check (is_free v.0.0 own keeps) (kept_case own v.0.0) >> range_of v.0.0) s ≡ Ok y = subst (λ (u : State). (check (is_free v.0.0 own keeps) (kept_case own v.0.0) >> range_of v.0.0) u ≡ Ok y) here.left v.2 in
     let c = check_ok (is_free v.0.0 own keeps) (kept_case own v.0.0) (range_of v.0.0) s y at in
-    let t : State = record s { rest = after_first s.rest } in
+    let t : State = past s in
     let a = then_ok (expect word.In t) (λ _. any_number >>= λ low. expect_sign sign.UpTo >> (any_number >>= λ high. give (kept v.0.0 low high))) y c.1 in
     let b = then_ok (any_number a.0.1) (λ low. expect_sign sign.UpTo >> (any_number >>= λ high. give (kept v.0.0 low high))) y a.2 in
     let low = any_number_ok a.0.1 b.0 b.1 in
@@ -80,9 +81,9 @@ keep_ok own keeps s y e =
       high_fits = λ h. kind_fit d.0.1.rest (kind.Number f.0.0) high.next (to_d.fit h);
     })
 
-pub next_keep_ok : (own : Own) (keeps : List Keep) (s : State) (y : Keep × State) → next_keep own keeps s ≡ Ok y → ReadsKeep own keeps (record s { rest = after_first s.rest }) y.0 y.1
+pub next_keep_ok : (own : Own) (keeps : List Keep) (s : State) (y : Keep × State) → next_keep own keeps s ≡ Ok y → ReadsKeep own keeps (past s) y.0 y.1
 unfolding next_keep
-next_keep_ok own keeps s y e = keep_ok own keeps (record s { rest = after_first s.rest }) y e
+next_keep_ok own keeps s y e = keep_ok own keeps (past s) y e
 
 sign_some : (w : Sign) (k : Option TokenKind) → is_sign w k ≡ true → (j : TokenKind) × (k ≡ Some j)
 sign_some w (Some j) on = (j, refl)
@@ -128,20 +129,20 @@ longer_keeps own s ks u k t r one =
 keeps_turn : (own : Own) (s : State) (ks : List Keep) (u : State) (js : List Keep) (t : State) → ReadsKeeps own s ks u → one_more_keep own ks u ≡ Ok (js, t) → ReadsKeeps own s js t
 keeps_turn own s ks u js t r e =
     let m = then_ok (next_keep own ks u) (λ k. give (ks ++ k ∷ [])) (js, t) e in
-    let v : State = record u { rest = after_first u.rest } in
+    let v : State = past u in
     subst (λ (p : List Keep × State). ReadsKeeps own s p.0 p.1) (ok_is (ks ++ m.0.0 ∷ [], m.0.1) (js, t) m.2) (longer_keeps own s ks v m.0.0 m.0.1 (shifted own s ks u v r (moved u)) (next_keep_ok own ks u m.0 m.1))
 
 keep_list_ok : (own : Own) (s : State) (y : List Keep × State) → keep_list own s ≡ Ok y → ReadsKeeps own s y.0 y.1
 unfolding keep_list
 keep_list_ok own s y e =
-    let t : State = record s { rest = after_first s.rest } in
-    let m = then_ok (keep_at own [] t) (λ first. while_next (is_sign sign.Comma) (one_more_keep own) (first ∷ [])) y e in
-    while_keeps (λ (ks : List Keep) (u : State). ReadsKeeps own s ks u) (is_sign sign.Comma) (one_more_keep own) (λ ks u js v r on took. keeps_turn own s ks u js v r took) (m.0.0 ∷ []) m.0.1 y
+    let t : State = past s in
+    let m = then_ok (keep_at own [] t) (λ first. until (choice.Mark sign.Comma) (is_sign sign.Comma) (one_more_keep own) (first ∷ [])) y e in
+    until_keeps (λ (ks : List Keep) (u : State). ReadsKeeps own s ks u) (choice.Mark sign.Comma) (λ ks u r. shifted own s ks u (missed (choice.Mark sign.Comma) u) r (unmoved (choice.Mark sign.Comma) u)) (is_sign sign.Comma) (one_more_keep own) (λ ks u js v r on took. keeps_turn own s ks u js v r took) (m.0.0 ∷ []) m.0.1 y
     (longer_keeps own s [] t m.0.0 m.0.1 (no_keeps own s t (moved s)) (keep_ok own [] t m.0 m.1)) m.2
 
-keeps_is : (b : Bool) (own : Own) (s : State) (y : List Keep × State) → cond b (keep_list own) (give []) s ≡ Ok y → ReadsKeeps own s y.0 y.1
+keeps_is : (b : Bool) (own : Own) (s : State) (y : List Keep × State) → cond b (keep_list own) (missing (choice.Word word.Keep) []) s ≡ Ok y → ReadsKeeps own s y.0 y.1
 keeps_is true own s y e = keep_list_ok own s y e
-keeps_is false own s y e = subst (λ (p : List Keep × State). ReadsKeeps own s p.0 p.1) (ok_is ([], s) y e) (no_keeps own s s (stays s))
+keeps_is false own s y e = subst (λ (p : List Keep × State). ReadsKeeps own s p.0 p.1) (ok_is ([], missed (choice.Word word.Keep) s) y e) (no_keeps own s (missed (choice.Word word.Keep) s) (unmoved (choice.Word word.Keep) s))
 
 pub keeps_ok : (own : Own) (s : State) (y : List Keep × State) → keeps_at own s ≡ Ok y → ReadsKeeps own s y.0 y.1
 unfolding keeps_at

@@ -6,7 +6,8 @@ use Rattle.camac_tokens.specs.declared.token.Keyword.TheVariants as word
 use Rattle.camac_tokens.specs.declared.token.Sign.TheVariants as sign
 use Rattle.camac_tokens.specs.declared.token.TokenKind.{TokenKind}
 use Rattle.camac_tokens.specs.declared.token.TokenKind.TheVariants as kind
-use Rattle.camac_text_cursor.specs.Reading.{State, ◌>>=◌, ◌>>◌, give, advance, check, kind_of, while_next}
+use Rattle.camac_text_cursor.specs.declared.choice.Choice.TheVariants as choice
+use Rattle.camac_text_cursor.specs.Reading.{State, ◌>>=◌, ◌>>◌, give, advance, check, kind_of, missing, until}
 use Rattle.camac_text_cursor.specs.Places.{IsName, CaseFits}
 use Rattle.camac_text_cursor.specs.Readers.{is_keyword, is_sign, expect, expect_sign, any_number, variable_here}
 use Rattle.camac_text_phrases.specs.declared.keeping.Own.{Own}
@@ -14,7 +15,7 @@ use Rattle.camac_text_phrases.specs.declared.keeping.Own.TheVariants as of_loop
 use Rattle.camac_text_phrases.specs.Keeps.{own_place, own_case, is_free, kept_case, keep_at, next_keep, one_more_keep, keep_list, keeps_at}
 use Rattle.camac_text_cursor.proofs.Uses.{variable_here_ok}
 use Rattle.camac_text_phrases.proofs.KeepsRead.{kept, range_of, keeps_progress}
-use Rattle.camac_text_cursor.proofs.Places.{IsLocal, local_then, local_peek, local_give, local_advance, local_if, local_check, local_while}
+use Rattle.camac_text_cursor.proofs.Places.{IsLocal, local_then, local_peek, local_give, local_missing, local_advance, local_if, local_check, local_until}
 use Rattle.camac_text_cursor.proofs.Local.{local_expect, local_expect_sign, local_any_number, local_variable_here}
 
 -- the name that was seen still stands there
@@ -54,13 +55,13 @@ local_next_keep own keeps s = local_then advance (λ _. keep_at own keeps) s (lo
 local_keep_list : (own : Own) (s : State) → IsLocal (keep_list own) s
 unfolding keep_list
 local_keep_list own s =
-    local_then advance (λ _. keep_at own [] >>= λ first. while_next (is_sign sign.Comma) (one_more_keep own) (first ∷ [])) s (local_advance s) (λ _ u _.
-    local_then (keep_at own []) (λ first. while_next (is_sign sign.Comma) (one_more_keep own) (first ∷ [])) u (local_keep own [] u) (λ first u _.
-    local_while (is_sign sign.Comma) (one_more_keep own) (keeps_progress own) (λ ks v _.
+    local_then advance (λ _. keep_at own [] >>= λ first. until (choice.Mark sign.Comma) (is_sign sign.Comma) (one_more_keep own) (first ∷ [])) s (local_advance s) (λ _ u _.
+    local_then (keep_at own []) (λ first. until (choice.Mark sign.Comma) (is_sign sign.Comma) (one_more_keep own) (first ∷ [])) u (local_keep own [] u) (λ first u _.
+    local_until (choice.Mark sign.Comma) (is_sign sign.Comma) (one_more_keep own) (keeps_progress own) (λ ks v _.
     local_then (next_keep own ks) (λ k. give (ks ++ k ∷ [])) v (local_next_keep own ks v) (λ k w _. local_give (ks ++ k ∷ []) w)) (first ∷ []) u))
 
 pub local_keeps : (own : Own) (s : State) → IsLocal (keeps_at own) s
 unfolding keeps_at
 local_keeps own s =
-    local_peek (λ k. cond (is_keyword word.Keep k) (keep_list own) (give [])) s
-    (local_if (is_keyword word.Keep (kind_of s.rest)) (keep_list own) (give []) s (λ _. local_keep_list own s) (λ _. local_give [] s))
+    local_peek (λ k. cond (is_keyword word.Keep k) (keep_list own) (missing (choice.Word word.Keep) [])) s
+    (local_if (is_keyword word.Keep (kind_of s.rest)) (keep_list own) (missing (choice.Word word.Keep) []) s (λ _. local_keep_list own s) (λ _. local_missing (choice.Word word.Keep) [] s))

@@ -9,7 +9,8 @@ use Rattle.camac_tokens.specs.declared.token.TokenKind.{TokenKind}
 use Rattle.camac_tokens.specs.declared.token.TokenKind.TheVariants as kind
 use Rattle.camac_tokens.specs.declared.fault.Limit.TheVariants as limit
 use Rattle.camac_tokens.specs.declared.fault.TextCase.TheVariants as told
-use Rattle.camac_text_cursor.specs.Reading.{Reader, ◌>>=◌, ◌>>◌, give, peek, advance, fail, while_next}
+use Rattle.camac_text_cursor.specs.declared.choice.Choice.TheVariants as choice
+use Rattle.camac_text_cursor.specs.Reading.{Reader, ◌>>=◌, ◌>>◌, give, peek, advance, miss, fail, unexpected, until}
 use Rattle.camac_text_cursor.specs.Readers.{is_keyword, variable_here}
 use Rattle.camac_text_phrases.specs.Expressions.{expression_at}
 
@@ -20,7 +21,7 @@ comparison_by (Some (kind.Sign sign.More)) = advance >> give cmp.More
 comparison_by (Some (kind.Sign sign.AtLeast)) = advance >> give cmp.AtLeast
 comparison_by (Some (kind.Sign sign.Same)) = advance >> give cmp.Same
 comparison_by (Some (kind.Sign sign.Differs)) = advance >> give cmp.Differs
-comparison_by _ = fail told.Unexpected
+comparison_by _ = unexpected choice.Comparison
 
 unfoldable pub comparison_sign : Reader Cmp
 comparison_sign = peek >>= comparison_by
@@ -36,7 +37,7 @@ compared room = do
 abbrev pub test_by : ℕ → Option TokenKind → Reader Test
 test_by room (Some (kind.Keyword word.Q)) = advance >> give flag_q
 test_by room (Some (kind.Keyword word.X)) = advance >> give flag_x
-test_by room _ = compared room
+test_by room _ = miss choice.Flag >> compared room
 
 unfoldable pub test_at : ℕ → Reader Test
 test_at room = peek >>= test_by room
@@ -47,6 +48,7 @@ part_by room (Some (kind.Keyword word.Not)) = do
   test ← test_at room
   give (negated test)
 part_by room _ = do
+  miss (choice.Word word.Not)
   test ← test_at room
   give (plain test)
 
@@ -61,7 +63,12 @@ no_part_by (Some (kind.Keyword word.Not)) = fail (told.Limit limit.Parts)
 no_part_by (Some (kind.Number n)) = fail (told.Limit limit.Parts)
 no_part_by (Some (kind.Name x)) = variable_here >> fail (told.Limit limit.Parts)
 no_part_by (Some (kind.Sign sign.LeftBracket)) = fail (told.Limit limit.Parts)
-no_part_by _ = fail told.Unexpected
+no_part_by _ = do
+  miss (choice.Word word.Not)
+  miss choice.Flag
+  miss choice.Number
+  miss choice.Name
+  unexpected (choice.Mark sign.LeftBracket)
 
 unfoldable pub part_limit : ℕ → Reader (Unit {0})
 part_limit count = if nat_lt count 16 then give tt else (peek >>= no_part_by)
@@ -79,4 +86,4 @@ one_more_part room parts = and_part room (length parts) >>= λ part. give (parts
 unfoldable pub condition_at : ℕ → Reader Condition
 condition_at room = do
   first ← part_at room
-  while_next (is_keyword word.And) (one_more_part room) (first ∷ [])
+  until (choice.Word word.And) (is_keyword word.And) (one_more_part room) (first ∷ [])

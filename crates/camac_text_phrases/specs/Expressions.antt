@@ -6,7 +6,8 @@ use Rattle.camac_tokens.specs.declared.token.TokenKind.{TokenKind}
 use Rattle.camac_tokens.specs.declared.token.TokenKind.TheVariants as kind
 use Rattle.camac_tokens.specs.declared.fault.Limit.TheVariants as limit
 use Rattle.camac_tokens.specs.declared.fault.TextCase.TheVariants as told
-use Rattle.camac_text_cursor.specs.Reading.{Reader, ◌>>=◌, ◌>>◌, give, peek, advance, fail, check, while_next}
+use Rattle.camac_text_cursor.specs.declared.choice.Choice.TheVariants as choice
+use Rattle.camac_text_cursor.specs.Reading.{Reader, ◌>>=◌, ◌>>◌, give, peek, advance, miss, fail, unexpected, check, until}
 use Rattle.camac_text_cursor.specs.Readers.{number_here, any_number, used_variable, expect_sign}
 
 -- an expression so far, and the operators that the whole one has up to its end
@@ -36,7 +37,7 @@ divisor = do
 
 abbrev pub bracket_by : (ℕ → Reader Counted) → ℕ → Option TokenKind → Reader Counted
 bracket_by bracketed so_far (Some (kind.Sign sign.LeftBracket)) = bracketed so_far
-bracket_by bracketed so_far _ = fail told.Unexpected
+bracket_by bracketed so_far _ = unexpected (choice.Mark sign.LeftBracket)
 
 -- brackets, which have to be next
 unfoldable pub brackets_with : (ℕ → Reader Counted) → ℕ → Reader Counted
@@ -50,7 +51,10 @@ factor_by bracketed so_far (Some (kind.Number n)) = do
 factor_by bracketed so_far (Some (kind.Name x)) = do
   place ← used_variable
   give (counted (variable place) so_far)
-factor_by bracketed so_far k = bracket_by bracketed so_far k
+factor_by bracketed so_far k = do
+  miss choice.Number
+  miss choice.Name
+  bracket_by bracketed so_far k
 
 unfoldable pub factor_with : (ℕ → Reader Counted) → ℕ → Reader Counted
 factor_with bracketed so_far = peek >>= factor_by bracketed so_far
@@ -80,7 +84,7 @@ unfoldable pub product_turn : (ℕ → Reader Counted) → Counted → Reader Co
 product_turn bracketed left = peek >>= product_by bracketed left
 
 unfoldable pub product_with : (ℕ → Reader Counted) → ℕ → Reader Counted
-product_with bracketed so_far = factor_with bracketed so_far >>= while_next is_product_sign (product_turn bracketed)
+product_with bracketed so_far = factor_with bracketed so_far >>= until choice.Product is_product_sign (product_turn bracketed)
 
 abbrev pub is_sum_sign : Option TokenKind → Bool
 is_sum_sign (Some (kind.Sign sign.Plus)) = true
@@ -99,7 +103,7 @@ sum_turn bracketed left = do
   give (counted (joined next left.value right.value) right.operators)
 
 unfoldable pub sum_with : (ℕ → Reader Counted) → ℕ → Reader Counted
-sum_with bracketed so_far = product_with bracketed so_far >>= while_next is_sum_sign (sum_turn bracketed)
+sum_with bracketed so_far = product_with bracketed so_far >>= until choice.Sum is_sum_sign (sum_turn bracketed)
 
 -- ---- expressions
 

@@ -8,7 +8,8 @@ use Rattle.camac_tokens.specs.declared.fault.TextCase.{TextCase}
 use Rattle.camac_tokens.specs.declared.fault.TextCase.TheVariants as told
 use Rattle.camac_text_phrases.specs.declared.keeping.Own.{Own}
 use Rattle.camac_text_phrases.specs.declared.keeping.Own.TheVariants as of_loop
-use Rattle.camac_text_cursor.specs.Reading.{Reader, ◌>>=◌, ◌>>◌, give, peek, advance, check, while_next}
+use Rattle.camac_text_cursor.specs.declared.choice.Choice.TheVariants as choice
+use Rattle.camac_text_cursor.specs.Reading.{Reader, ◌>>=◌, ◌>>◌, give, peek, advance, missing, check, until}
 use Rattle.camac_text_cursor.specs.Readers.{is_keyword, is_sign, expect, expect_sign, any_number, variable_here}
 
 -- the variable of a loop's own, and what is told where it is kept
@@ -53,8 +54,8 @@ unfoldable pub keep_list : Own → Reader (List Keep)
 keep_list own = do
   advance
   first ← keep_at own []
-  while_next (is_sign sign.Comma) (one_more_keep own) (first ∷ [])
+  until (choice.Mark sign.Comma) (is_sign sign.Comma) (one_more_keep own) (first ∷ [])
 
 -- the kept ranges of a loop with this variable of its own, if it has any
 unfoldable pub keeps_at : Own → Reader (List Keep)
-keeps_at own = peek >>= λ k. if is_keyword word.Keep k then keep_list own else give []
+keeps_at own = peek >>= λ k. if is_keyword word.Keep k then keep_list own else missing (choice.Word word.Keep) []

@@ -70,7 +70,7 @@ fn argument(
 fn first_argument(parser: &mut Parser<'_>, room: u32, count: usize) -> Result<Expr, TextFault>
     ensures { Gives expression_of result parser.new (argument_after count room [] (state parser.old)) }
 {
-    if parser.shows_sign(Sign::RightBracket) {
+    if parser.next_is_sign(Sign::RightBracket) {
         return Err(parser.fault(TextCase::ArgumentCount { wanted: count }));
     }
     expression(parser, room)
@@ -85,7 +85,7 @@ fn comma(parser: &mut Parser<'_>, count: usize) -> Result<(), TextFault>
         parser.advance();
         return Ok(());
     }
-    if parser.shows_sign(Sign::RightBracket) {
+    if parser.next_is_sign(Sign::RightBracket) {
         return Err(parser.fault(TextCase::ArgumentCount { wanted: count }));
     }
     Err(parser.unexpected(Choice::Mark(Sign::Comma)))
@@ -111,7 +111,7 @@ fn shows_more(parser: &Parser<'_>, count: usize) -> bool
     ensures { result ≡ shows_more count (kind_of (state parser.now).rest) }
 {
     if count > 0 {
-        return parser.shows_sign(Sign::Comma);
+        return parser.next_is_sign(Sign::Comma);
     }
     begins_value(parser)
 }

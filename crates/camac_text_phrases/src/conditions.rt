@@ -1,8 +1,14 @@
 // Conditions.
 
-ghost use Rattle.std.specs.Prelude.{◌≡◌};
+ghost use Rattle.std.specs.Prelude.{◌≡◌, false};
 ghost use Rattle.camac_lang.specs.View.{test_of, part_of, condition_of};
 ghost use Rattle.camac_text_phrases.specs.Conditions.{comparison_sign, compared, test_at, part_at, part_limit, and_part, condition_at};
+ghost use Rattle.camac_text_cursor.specs.Choice.{takes};
+ghost use Rattle.camac_text_cursor.specs.declared.choice.Choice.TheVariants as choice;
+ghost use Rattle.camac_text_cursor.specs.Reading.{kind_of, left_of, line_of, missed};
+ghost use Rattle.camac_tokens.specs.declared.fault.TextCase.TheVariants.{Unexpected};
+ghost use Rattle.camac_tokens.specs.declared.token.Keyword.TheVariants as word;
+ghost use Rattle.camac_tokens.specs.declared.token.Sign.TheVariants as sign;
 ghost use Rattle.camac_text_cursor.specs.Parser.{state, Gives};
 
 use crate::expressions::expression;
@@ -23,6 +29,7 @@ pub fn condition(parser: &mut Parser<'_>, room: u32) -> Result<Cond, TextFault>
         let part = and_part(parser, room, parts.len())?;
         parts.push(part)?;
     }
+    parser.miss(Choice::Word(Keyword::And));
     Ok(Cond { parts })
 }
 
@@ -56,14 +63,25 @@ fn part_limit(parser: &mut Parser<'_>, count: usize) -> Result<(), TextFault>
         Some(TokenKind::Sign(Sign::LeftBracket)) => Err(parser.fault(TextCase::Limit(
             Limit::Parts,
         ))),
-        _ => {
-            parser.miss(Choice::Word(Keyword::Not));
-            parser.miss(Choice::Flag);
-            parser.miss(Choice::Number);
-            parser.miss(Choice::Name);
-            Err(parser.unexpected(Choice::Mark(Sign::LeftBracket)))
-        }
+        _ => Err(no_part(parser)),
     }
+}
+
+/// The fault of a token that begins no part.
+fn no_part(parser: &mut Parser<'_>) -> TextFault
+    requires not { takes (choice.Word word.Not) (kind_of (state parser.old).rest) ≡ false }
+    requires flag { takes choice.Flag (kind_of (state parser.old).rest) ≡ false }
+    requires number { takes choice.Number (kind_of (state parser.old).rest) ≡ false }
+    requires name { takes choice.Name (kind_of (state parser.old).rest) ≡ false }
+    requires bracket { takes (choice.Mark sign.LeftBracket) (kind_of (state parser.old).rest) ≡ false }
+    ensures fault { result ≡ TextFault.Broken Unexpected (line_of (state parser.old).rest (state parser.old).end_line) (left_of (state parser.old).rest) }
+    ensures missed { state parser.new ≡ missed (choice.Mark sign.LeftBracket) (missed choice.Name (missed choice.Number (missed choice.Flag (missed (choice.Word word.Not) (state parser.old))))) }
+{
+    parser.miss(Choice::Word(Keyword::Not));
+    parser.miss(Choice::Flag);
+    parser.miss(Choice::Number);
+    parser.miss(Choice::Name);
+    parser.unexpected(Choice::Mark(Sign::LeftBracket))
 }
 
 #[tactic(auto, unfolding(crate::specs::Conditions::part_at))]

@@ -3,7 +3,8 @@
 ghost use Rattle.std.specs.Prelude.{◌≡◌, ℕ, Ok, ◌≤◌, ◌-◌, suc, IfOk, length};
 ghost use Rattle.camac_lang.specs.Tree.{Expression};
 ghost use Rattle.camac_lang.specs.View.{expression_of};
-ghost use Rattle.camac_text_cursor.specs.Reading.{State, kind_of, while_next};
+ghost use Rattle.camac_text_cursor.specs.Reading.{State, kind_of, until};
+ghost use Rattle.camac_text_cursor.specs.declared.choice.Choice.TheVariants as choice;
 ghost use Rattle.camac_text_phrases.specs.Expressions.{counted, operator, divisor, factor_with, brackets_with, is_product_sign, product_turn, product_with, is_sum_sign, sum_turn, sum_with, bracketed, expression_at};
 ghost use Rattle.camac_text_cursor.specs.Parser.{state, Gives};
 ghost use Rattle.camac_text_phrases.specs.Views.{Continues, Leaf, Puts};
@@ -23,6 +24,8 @@ pub fn expression(parser: &mut Parser<'_>, room: u32) -> Result<Expr, TextFault>
             if is_product_sign(parser) || is_sum_sign(parser) {
                 return long_expression(parser, room, Some(node));
             }
+            parser.miss(Choice::Product);
+            parser.miss(Choice::Sum);
             Ok(Expr::of_nodes(parser.alloc(), &[node])?)
         }
         None => long_expression(parser, room, None),
@@ -97,12 +100,13 @@ fn sums(
     so_far: u32,
     nodes: &mut Vec<Node>,
 ) -> Result<u32, TextFault>
-    ensures { (left : Expression) → Continues left nodes.old.items nodes.new.items result parser.new (while_next is_sum_sign (sum_turn (bracketed room)) (counted left so_far) (state parser.old)) }
+    ensures { (left : Expression) → Continues left nodes.old.items nodes.new.items result parser.new (until choice.Sum is_sum_sign (sum_turn (bracketed room)) (counted left so_far) (state parser.old)) }
 {
     let mut operators = so_far;
     while is_sum_sign(parser) {
         operators = sum_turn(parser, room, operators, nodes)?;
     }
+    parser.miss(Choice::Sum);
     Ok(operators)
 }
 
@@ -110,13 +114,10 @@ fn sums(
 fn is_sum_sign(parser: &Parser<'_>) -> bool
     ensures { result ≡ is_sum_sign (kind_of (state parser.now).rest) }
 {
-    match parser.peek() {
-        Some(TokenKind::Sign(Sign::Plus)) | Some(TokenKind::Sign(Sign::Minus)) => true,
-        _ => {
-            parser.miss(Choice::Sum);
-            false
-        }
-    }
+    matches!(
+        parser.peek(),
+        Some(TokenKind::Sign(Sign::Plus)) | Some(TokenKind::Sign(Sign::Minus))
+    )
 }
 
 /// A sum with one term more, where the nodes end with those of the sum before it.
@@ -131,7 +132,7 @@ fn sum_turn(
 ) -> Result<u32, TextFault>
     ensures { (left : Expression) → Continues left nodes.old.items nodes.new.items result parser.new (sum_turn (bracketed room) (counted left so_far) (state parser.old)) }
 {
-    let is_difference = parser.shows_sign(Sign::Minus);
+    let is_difference = parser.next_is_sign(Sign::Minus);
     let so_far = operator(parser, so_far)?;
     let left = nodes.len();
     let operators = product(parser, room, so_far, nodes)?;
@@ -181,12 +182,13 @@ fn products(
     so_far: u32,
     nodes: &mut Vec<Node>,
 ) -> Result<u32, TextFault>
-    ensures { (left : Expression) → Continues left nodes.old.items nodes.new.items result parser.new (while_next is_product_sign (product_turn (bracketed room)) (counted left so_far) (state parser.old)) }
+    ensures { (left : Expression) → Continues left nodes.old.items nodes.new.items result parser.new (until choice.Product is_product_sign (product_turn (bracketed room)) (counted left so_far) (state parser.old)) }
 {
     let mut operators = so_far;
     while is_product_sign(parser) {
         operators = product_turn(parser, room, operators, nodes)?;
     }
+    parser.miss(Choice::Product);
     Ok(operators)
 }
 
@@ -194,15 +196,12 @@ fn products(
 fn is_product_sign(parser: &Parser<'_>) -> bool
     ensures { result ≡ is_product_sign (kind_of (state parser.now).rest) }
 {
-    match parser.peek() {
+    matches!(
+        parser.peek(),
         Some(TokenKind::Sign(Sign::Times))
-        | Some(TokenKind::Sign(Sign::Over))
-        | Some(TokenKind::Sign(Sign::Modulo)) => true,
-        _ => {
-            parser.miss(Choice::Product);
-            false
-        }
-    }
+            | Some(TokenKind::Sign(Sign::Over))
+            | Some(TokenKind::Sign(Sign::Modulo))
+    )
 }
 
 /// A product with one factor or divisor more, where the nodes end with those of the product before it.

@@ -7,7 +7,7 @@ ghost use Rattle.camac_text_phrases.specs.Keeps.{own_place, own_case, is_free, k
 ghost use Rattle.camac_text_cursor.specs.Parser.{state, Gives};
 
 use camac_lang::Keep;
-use camac_text_cursor::Parser;
+use camac_text_cursor::{Choice, Parser};
 use camac_tokens::{Keyword, Sign, TextCase, TextFault};
 
 /// The variable of a loop's own, which it may not keep.
@@ -70,6 +70,7 @@ pub fn keeps(parser: &mut Parser<'_>, own: Own) -> Result<Vec<Keep>, TextFault>
     ensures { Gives (λ ks. map keep_of ks.items) result parser.new (keeps_at own (state parser.old)) }
 {
     if !parser.next_is(Keyword::Keep) {
+        parser.miss(Choice::Word(Keyword::Keep));
         return Ok(Vec::new(parser.alloc()));
     }
     keep_list(parser, own)
@@ -87,6 +88,7 @@ fn keep_list(parser: &mut Parser<'_>, own: Own) -> Result<Vec<Keep>, TextFault>
         let keep = next_keep(parser, own, &keeps)?;
         keeps.push(keep)?;
     }
+    parser.miss(Choice::Mark(Sign::Comma));
     Ok(keeps)
 }
 

@@ -25,6 +25,7 @@ use Rattle.camac_text_cursor.specs.Readers.{expect_sign, branch_number, function
 use Rattle.camac_text_phrases.specs.Expressions.{expression_at}
 use Rattle.camac_text_cursor.specs.Readers.{begin}
 use Rattle.camac_text_statements.specs.Statements.{assignment, register_setting, move_at, single_action, put_action, switch_by, switch, crate_action, crate_switch, lam_action, lam_switch, statement_by, statement_with, block_at}
+use Rattle.camac_text_cursor.proofs.Places.{hushed}
 use Rattle.camac_text_cursor.proofs.Uses.{scope_of}
 use Rattle.camac_text_statements.proofs.Acts.{begun}
 use Rattle.camac_text_cursor.proofs.Registers.{first_of_both, second_of_both}
@@ -40,11 +41,12 @@ use Rattle.camac_text_spelling.proofs.Runs.{Runs, left_at, begin_given, first_gi
 
 -- A statement that is spelled is read.
 abbrev pub IsGiven : Names → Statement → Type 0
-IsGiven n x = (room : ℕ) (s : State) (rest : List Token) (j k m : ℕ) → Runs n s j k m room (reached_by (scope_of s) j x) (statement_depth s.callables x) (statements_in x) → Prefix s.rest (spell.statement n x) rest → Ends (kind_of rest) → statement_with room (block_at room) s ≡ ok x (left_at n s rest k m)
+IsGiven n x = (room : ℕ) (s0 : State) → let s : State = hushed s0 in (rest : List Token) (j k m : ℕ) → Runs n s j k m room (reached_by (scope_of s) j x) (statement_depth s.callables x) (statements_in x) → Prefix s.rest (spell.statement n x) rest → Ends (kind_of rest) → statement_with room (block_at room) s ≡ ok x (left_at n s rest k m)
 
 pub put_given : (n : Names) (line : ℕ) (e : Expression) → IsGiven n (put line e)
 unfolding put_action
-put_given n line e room s rest j k m c f ends =
+put_given n line e room s0 rest j k m c f ends =
+    let s : State = hushed s0 in
     let w : Keyword = keyword.Put in
     let ps : List Piece = phrase.expression n e in
     let h = prefix_line s.rest s.end_line line (kind.Keyword w) ps rest f in
@@ -55,7 +57,8 @@ put_given n line e room s rest j k m c f ends =
 
 pub assignment_given : (n : Names) (line x : ℕ) (e : Expression) → IsGiven n (assign line x e)
 unfolding assignment
-assignment_given n line x e room s rest j k m c f ends =
+assignment_given n line x e room s0 rest j k m c f ends =
+    let s : State = hushed s0 in
     let ps : List Piece = sign mark.Equals ∷ phrase.expression n e in
     let named : TokenKind = kind.Name (text_at n.variables x) in
     let h = prefix_line s.rest s.end_line line named ps rest f in
@@ -68,13 +71,14 @@ assignment_given n line x e room s rest j k m c f ends =
     (after (expect_sign mark.Equals (begun s)) _ tt (at (begun s) ts) (expected_sign mark.Equals (begun s) q.0)
     (after (expression_at room (at (begun s) ts)) _ e (at (begun s) rest) (expression_given n e room (at (begun s) ts) rest c.finds (second_of_both (nat_lt x (length s.variables)) _ r.0) c.deep q.1 ends.signs) refl)))
 
-single_by : (size : WordSize) (room : ℕ) (block : Reader (List Statement)) (line : ℕ) (s : State) → statement_by room block line (Some (kind.Keyword (spell.single_word size))) s ≡ single_action size room line s
-single_by Full room block line s = refl
-single_by Short room block line s = refl
+single_by : (size : WordSize) (room : ℕ) (block : Reader (List Statement)) (line : ℕ) (s0 : State) → let s : State = hushed s0 in statement_by room block line (Some (kind.Keyword (spell.single_word size))) s ≡ single_action size room line s
+single_by Full room block line s0 = let s : State = hushed s0 in refl
+single_by Short room block line s0 = let s : State = hushed s0 in refl
 
 pub single_given : (n : Names) (line : ℕ) (size : WordSize) (g r : ℕ) (d : Move) → IsGiven n (single line size g r d)
 unfolding single_action
-single_given n line size g r d room s rest j k m c f ends =
+single_given n line size g r d room s0 rest j k m c f ends =
+    let s : State = hushed s0 in
     let w : Keyword = spell.single_word size in
     let h = prefix_line s.rest s.end_line line (kind.Keyword w) (numeral g ∷ name_at n.registers r ∷ phrase.move n d) rest f in
     let t1 : List Token = after_first s.rest in
@@ -97,7 +101,8 @@ single_given n line size g r d room s rest j k m c f ends =
 
 pub setting_given : (n : Names) (line r : ℕ) (e1 e2 e3 : Expression) → IsGiven n (set_register line r e1 e2 e3)
 unfolding register_setting
-setting_given n line r e1 e2 e3 room s rest j k m c f ends =
+setting_given n line r e1 e2 e3 room s0 rest j k m c f ends =
+    let s : State = hushed s0 in
     let x : Statement = set_register line r e1 e2 e3 in
     let w : Keyword = keyword.Cdreg in
     let p1 : List Piece = phrase.expression n e1 in
@@ -133,15 +138,16 @@ setting_given n line r e1 e2 e3 room s rest j k m c f ends =
 
 -- ---- calls
 
-switch_given : (b : Bool) (s : State) → kind_of s.rest ≡ Some (kind.Keyword (cond b keyword.On keyword.Off)) → switch s ≡ ok b (at s (after_first s.rest))
+switch_given : (b : Bool) (s0 : State) → let s : State = hushed s0 in kind_of s.rest ≡ Some (kind.Keyword (cond b keyword.On keyword.Off)) → switch s ≡ ok b (at s (after_first s.rest))
 unfolding switch
-switch_given true s e = ap (λ (k : Option TokenKind). switch_by k s) e
-switch_given false s e = ap (λ (k : Option TokenKind). switch_by k s) e
+switch_given true s0 e = let s : State = hushed s0 in ap (λ (k : Option TokenKind). switch_by k s) e
+switch_given false s0 e = let s : State = hushed s0 in ap (λ (k : Option TokenKind). switch_by k s) e
 
 -- a call on a crate without a switch
-crate_plain : (n : Names) (call : CrateCall) (line : ℕ) (e : Expression) (room : ℕ) (s : State) (rest : List Token) (j k m : ℕ) → Runs n s j k m room (reached_by (scope_of s) j (crate_call line call e)) (expression_depth e) 1 → Prefix (after_first s.rest) (phrase.expression n e ++ []) rest → NoSign (kind_of rest) → crate_action call room line s ≡ ok (crate_call line call e) (left_at n s rest k m)
+crate_plain : (n : Names) (call : CrateCall) (line : ℕ) (e : Expression) (room : ℕ) (s0 : State) → let s : State = hushed s0 in (rest : List Token) (j k m : ℕ) → Runs n s j k m room (reached_by (scope_of s) j (crate_call line call e)) (expression_depth e) 1 → Prefix (after_first s.rest) (phrase.expression n e ++ []) rest → NoSign (kind_of rest) → crate_action call room line s ≡ ok (crate_call line call e) (left_at n s rest k m)
 unfolding crate_action
-crate_plain n call line e room s rest j k m c f ends =
+crate_plain n call line e room s0 rest j k m c f ends =
+    let s : State = hushed s0 in
     let parts = prefix_split (after_first s.rest) (phrase.expression n e) [] rest f in
     let g : Prefix (after_first s.rest) (phrase.expression n e) rest = subst (λ (ts : List Token). Prefix (after_first s.rest) (phrase.expression n e) ts) parts.2 parts.1 in
     let r = unless_parts (head_fits (scope_of s) j (crate_call line call e)) j k c.reached in
@@ -152,9 +158,10 @@ switch_no_sign : (b : Bool) → NoSign (Some (kind.Keyword (cond b keyword.On ke
 switch_no_sign true = record { product = refl; sum = refl }
 switch_no_sign false = record { product = refl; sum = refl }
 
-crate_switched : (n : Names) (on off : CrateCall) (b : Bool) (line : ℕ) (e : Expression) (room : ℕ) (s : State) (rest : List Token) (j k m : ℕ) → Runs n s j k m room (reached_by (scope_of s) j (crate_call line (cond b on off) e)) (expression_depth e) 1 → Prefix (after_first s.rest) (phrase.expression n e ++ word (cond b keyword.On keyword.Off) ∷ []) rest → crate_switch on off room line s ≡ ok (crate_call line (cond b on off) e) (left_at n s rest k m)
+crate_switched : (n : Names) (on off : CrateCall) (b : Bool) (line : ℕ) (e : Expression) (room : ℕ) (s0 : State) → let s : State = hushed s0 in (rest : List Token) (j k m : ℕ) → Runs n s j k m room (reached_by (scope_of s) j (crate_call line (cond b on off) e)) (expression_depth e) 1 → Prefix (after_first s.rest) (phrase.expression n e ++ word (cond b keyword.On keyword.Off) ∷ []) rest → crate_switch on off room line s ≡ ok (crate_call line (cond b on off) e) (left_at n s rest k m)
 unfolding crate_switch
-crate_switched n on off b line e room s rest j k m c f =
+crate_switched n on off b line e room s0 rest j k m c f =
+    let s : State = hushed s0 in
     let w : Keyword = cond b keyword.On keyword.Off in
     let parts = prefix_split (after_first s.rest) (phrase.expression n e) (word w ∷ []) rest f in
     let us : List Token = parts.0 in
@@ -165,45 +172,56 @@ crate_switched n on off b line e room s rest j k m c f =
     (after (switch (at (begun s) us)) _ b (at (begun s) (after_first us)) (switch_given b (at (begun s) us) h.0) (left (crate_call line (cond b on off) e) (begun s) (after_first us) rest h.1)))
 
 pub crate_given : (n : Names) (line : ℕ) (call : CrateCall) (e : Expression) → IsGiven n (crate_call line call e)
-crate_given n line crate_word.Initialise e room s rest j k m c f ends =
+crate_given n line crate_word.Initialise e room s0 rest j k m c f ends =
+    let s : State = hushed s0 in
     let ps : List Piece = phrase.expression n e ++ [] in
     first_given line room (block_at room) (kind.Keyword keyword.Cccz) s ps rest f ∙ crate_plain n crate_word.Initialise line e room s rest j k m c (prefix_line s.rest s.end_line line (kind.Keyword keyword.Cccz) ps rest f).2 ends.signs
-crate_given n line crate_word.Clear e room s rest j k m c f ends =
+crate_given n line crate_word.Clear e room s0 rest j k m c f ends =
+    let s : State = hushed s0 in
     let ps : List Piece = phrase.expression n e ++ [] in
     first_given line room (block_at room) (kind.Keyword keyword.Cccc) s ps rest f ∙ crate_plain n crate_word.Clear line e room s rest j k m c (prefix_line s.rest s.end_line line (kind.Keyword keyword.Cccc) ps rest f).2 ends.signs
-crate_given n line crate_word.TestInhibit e room s rest j k m c f ends =
+crate_given n line crate_word.TestInhibit e room s0 rest j k m c f ends =
+    let s : State = hushed s0 in
     let ps : List Piece = phrase.expression n e ++ [] in
     first_given line room (block_at room) (kind.Keyword keyword.Ctci) s ps rest f ∙ crate_plain n crate_word.TestInhibit line e room s rest j k m c (prefix_line s.rest s.end_line line (kind.Keyword keyword.Ctci) ps rest f).2 ends.signs
-crate_given n line crate_word.TestDemandOutput e room s rest j k m c f ends =
+crate_given n line crate_word.TestDemandOutput e room s0 rest j k m c f ends =
+    let s : State = hushed s0 in
     let ps : List Piece = phrase.expression n e ++ [] in
     first_given line room (block_at room) (kind.Keyword keyword.Ctcd) s ps rest f ∙ crate_plain n crate_word.TestDemandOutput line e room s rest j k m c (prefix_line s.rest s.end_line line (kind.Keyword keyword.Ctcd) ps rest f).2 ends.signs
-crate_given n line crate_word.TestDemand e room s rest j k m c f ends =
+crate_given n line crate_word.TestDemand e room s0 rest j k m c f ends =
+    let s : State = hushed s0 in
     let ps : List Piece = phrase.expression n e ++ [] in
     first_given line room (block_at room) (kind.Keyword keyword.Ctgl) s ps rest f ∙ crate_plain n crate_word.TestDemand line e room s rest j k m c (prefix_line s.rest s.end_line line (kind.Keyword keyword.Ctgl) ps rest f).2 ends.signs
-crate_given n line crate_word.InhibitOn e room s rest j k m c f ends =
+crate_given n line crate_word.InhibitOn e room s0 rest j k m c f ends =
+    let s : State = hushed s0 in
     let ps : List Piece = phrase.expression n e ++ word keyword.On ∷ [] in
     first_given line room (block_at room) (kind.Keyword keyword.Ccci) s ps rest f ∙ crate_switched n crate_word.InhibitOn crate_word.InhibitOff true line e room s rest j k m c (prefix_line s.rest s.end_line line (kind.Keyword keyword.Ccci) ps rest f).2
-crate_given n line crate_word.InhibitOff e room s rest j k m c f ends =
+crate_given n line crate_word.InhibitOff e room s0 rest j k m c f ends =
+    let s : State = hushed s0 in
     let ps : List Piece = phrase.expression n e ++ word keyword.Off ∷ [] in
     first_given line room (block_at room) (kind.Keyword keyword.Ccci) s ps rest f ∙ crate_switched n crate_word.InhibitOn crate_word.InhibitOff false line e room s rest j k m c (prefix_line s.rest s.end_line line (kind.Keyword keyword.Ccci) ps rest f).2
-crate_given n line crate_word.DemandOn e room s rest j k m c f ends =
+crate_given n line crate_word.DemandOn e room s0 rest j k m c f ends =
+    let s : State = hushed s0 in
     let ps : List Piece = phrase.expression n e ++ word keyword.On ∷ [] in
     first_given line room (block_at room) (kind.Keyword keyword.Cccd) s ps rest f ∙ crate_switched n crate_word.DemandOn crate_word.DemandOff true line e room s rest j k m c (prefix_line s.rest s.end_line line (kind.Keyword keyword.Cccd) ps rest f).2
-crate_given n line crate_word.DemandOff e room s rest j k m c f ends =
+crate_given n line crate_word.DemandOff e room s0 rest j k m c f ends =
+    let s : State = hushed s0 in
     let ps : List Piece = phrase.expression n e ++ word keyword.Off ∷ [] in
     first_given line room (block_at room) (kind.Keyword keyword.Cccd) s ps rest f ∙ crate_switched n crate_word.DemandOn crate_word.DemandOff false line e room s rest j k m c (prefix_line s.rest s.end_line line (kind.Keyword keyword.Cccd) ps rest f).2
 
-lam_plain : (n : Names) (call : LamCall) (line l room : ℕ) (s : State) (rest : List Token) (j k m : ℕ) → Runs n s j k m room (reached_by (scope_of s) j (lam_call line call l)) 0 1 → Prefix (after_first s.rest) (name_at n.lams l ∷ []) rest → lam_action call line s ≡ ok (lam_call line call l) (left_at n s rest k m)
+lam_plain : (n : Names) (call : LamCall) (line l room : ℕ) (s0 : State) → let s : State = hushed s0 in (rest : List Token) (j k m : ℕ) → Runs n s j k m room (reached_by (scope_of s) j (lam_call line call l)) 0 1 → Prefix (after_first s.rest) (name_at n.lams l ∷ []) rest → lam_action call line s ≡ ok (lam_call line call l) (left_at n s rest k m)
 unfolding lam_action
-lam_plain n call line l room s rest j k m c f =
+lam_plain n call line l room s0 rest j k m c f =
+    let s : State = hushed s0 in
     let h = prefix_first (after_first s.rest) (name_at n.lams l) [] rest f in
     let r = unless_parts (head_fits (scope_of s) j (lam_call line call l)) j k c.reached in
     simple_given n (lam_call line call l) s rest j k m room _ _ (used_lam >>= λ lam. give (lam_call line call lam)) c r.1
     (after (used_lam (begun s)) _ l (at (begun s) (after_first (after_first s.rest))) (lam_given n (begun s) l c.finds r.0 h.0) (left (lam_call line call l) (begun s) (after_first (after_first s.rest)) rest h.1))
 
-lam_switched : (n : Names) (b : Bool) (line l room : ℕ) (s : State) (rest : List Token) (j k m : ℕ) → Runs n s j k m room (reached_by (scope_of s) j (lam_call line (cond b lam_word.Enable lam_word.Disable) l)) 0 1 → Prefix (after_first s.rest) (name_at n.lams l ∷ word (cond b keyword.On keyword.Off) ∷ []) rest → lam_switch line s ≡ ok (lam_call line (cond b lam_word.Enable lam_word.Disable) l) (left_at n s rest k m)
+lam_switched : (n : Names) (b : Bool) (line l room : ℕ) (s0 : State) → let s : State = hushed s0 in (rest : List Token) (j k m : ℕ) → Runs n s j k m room (reached_by (scope_of s) j (lam_call line (cond b lam_word.Enable lam_word.Disable) l)) 0 1 → Prefix (after_first s.rest) (name_at n.lams l ∷ word (cond b keyword.On keyword.Off) ∷ []) rest → lam_switch line s ≡ ok (lam_call line (cond b lam_word.Enable lam_word.Disable) l) (left_at n s rest k m)
 unfolding lam_switch
-lam_switched n b line l room s rest j k m c f =
+lam_switched n b line l room s0 rest j k m c f =
+    let s : State = hushed s0 in
     let call : LamCall = cond b lam_word.Enable lam_word.Disable in
     let w : Keyword = cond b keyword.On keyword.Off in
     let h = prefix_first (after_first s.rest) (name_at n.lams l) (word w ∷ []) rest f in
@@ -215,15 +233,19 @@ lam_switched n b line l room s rest j k m c f =
     (after (switch (at (begun s) ts)) _ b (at (begun s) (after_first ts)) (switch_given b (at (begun s) ts) g.0) (left (lam_call line call l) (begun s) (after_first ts) rest g.1)))
 
 pub lam_call_given : (n : Names) (line : ℕ) (call : LamCall) (l : ℕ) → IsGiven n (lam_call line call l)
-lam_call_given n line lam_word.Clear l room s rest j k m c f ends =
+lam_call_given n line lam_word.Clear l room s0 rest j k m c f ends =
+    let s : State = hushed s0 in
     let ps : List Piece = name_at n.lams l ∷ [] in
     first_given line room (block_at room) (kind.Keyword keyword.Cclc) s ps rest f ∙ lam_plain n lam_word.Clear line l room s rest j k m c (prefix_line s.rest s.end_line line (kind.Keyword keyword.Cclc) ps rest f).2
-lam_call_given n line lam_word.Test l room s rest j k m c f ends =
+lam_call_given n line lam_word.Test l room s0 rest j k m c f ends =
+    let s : State = hushed s0 in
     let ps : List Piece = name_at n.lams l ∷ [] in
     first_given line room (block_at room) (kind.Keyword keyword.Ctlm) s ps rest f ∙ lam_plain n lam_word.Test line l room s rest j k m c (prefix_line s.rest s.end_line line (kind.Keyword keyword.Ctlm) ps rest f).2
-lam_call_given n line lam_word.Enable l room s rest j k m c f ends =
+lam_call_given n line lam_word.Enable l room s0 rest j k m c f ends =
+    let s : State = hushed s0 in
     let ps : List Piece = name_at n.lams l ∷ word keyword.On ∷ [] in
     first_given line room (block_at room) (kind.Keyword keyword.Cclm) s ps rest f ∙ lam_switched n true line l room s rest j k m c (prefix_line s.rest s.end_line line (kind.Keyword keyword.Cclm) ps rest f).2
-lam_call_given n line lam_word.Disable l room s rest j k m c f ends =
+lam_call_given n line lam_word.Disable l room s0 rest j k m c f ends =
+    let s : State = hushed s0 in
     let ps : List Piece = name_at n.lams l ∷ word keyword.Off ∷ [] in
     first_given line room (block_at room) (kind.Keyword keyword.Cclm) s ps rest f ∙ lam_switched n false line l room s rest j k m c (prefix_line s.rest s.end_line line (kind.Keyword keyword.Cclm) ps rest f).2

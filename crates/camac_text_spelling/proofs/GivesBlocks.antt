@@ -9,6 +9,7 @@ use Rattle.camac_lang.proofs.Options.{then_parts}
 use Rattle.camac_tokens.specs.declared.token.Token.{Token}
 use Rattle.camac_text_cursor.specs.Reading.{State, kind_of, one_more, give}
 use Rattle.camac_text_statements.specs.Statements.{statement_with, is_no_end, block_at}
+use Rattle.camac_text_cursor.proofs.Places.{hushed}
 use Rattle.camac_text_cursor.proofs.Steps.{while_off}
 use Rattle.camac_text_cursor.proofs.Uses.{scope_of}
 use Rattle.camac_text_statements.proofs.Bodies.{statements_progress}
@@ -25,7 +26,8 @@ use Rattle.camac_text_spelling.proofs.GivesLoops.{count_given, while_given}
 use Rattle.camac_text_spelling.proofs.GivesCalls.{call_given}
 
 done_given : (n : Names) → AreGiven n done
-done_given n room acc s rest j k m c f brace =
+done_given n room acc s0 rest j k m c f brace =
+    let s : State = hushed s0 in
     let some_same : j ≡ k = same j k c.reached in
     let counted : m ≡ s.statements + 0 = c.counted in
     let is_m : s.statements ≡ m = omega arith in
@@ -39,7 +41,8 @@ done_given n room acc s rest j k m c f brace =
     same a b e = cc
 
 next_given : (n : Names) (x : Statement) (b : Block) → IsGiven n x → AreGiven n b → AreGiven n (next x b)
-next_given n x b first others room acc s rest j k m c f brace =
+next_given n x b first others room acc s0 rest j k m c f brace =
+    let s : State = hushed s0 in
     let parts = prefix_split s.rest (spell.statement n x) (spell.block n b) rest f in
     let us : List Token = parts.0 in
     let p = then_parts (λ i. after_block (scope_of s) i b) (reached_by (scope_of s) j x) k c.reached in
@@ -97,5 +100,5 @@ mutual
   block_given n (next x b) = next_given n x b (statement_given n x) (block_given n b)
 
 -- a body in its braces
-pub body_given : (n : Names) (b : Block) (room : ℕ) (s : State) (rest : List Token) (j k m : ℕ) → RunsBraced n s j k m room b → Prefix s.rest (spell.braced (spell.block n b)) rest → block_at room s ≡ ok (listed b) (left_at n s rest k m)
-body_given n b room s rest j k m c f = braced_given n b (block_given n b) room s rest j k m c f
+pub body_given : (n : Names) (b : Block) (room : ℕ) (s0 : State) → let s : State = hushed s0 in (rest : List Token) (j k m : ℕ) → RunsBraced n s j k m room b → Prefix s.rest (spell.braced (spell.block n b)) rest → block_at room s ≡ ok (listed b) (left_at n s rest k m)
+body_given n b room s0 rest j k m c f = let s : State = hushed s0 in braced_given n b (block_given n b) room s rest j k m c f

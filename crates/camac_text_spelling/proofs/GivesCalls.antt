@@ -15,12 +15,14 @@ use Rattle.camac_tokens.specs.declared.token.Sign.TheVariants as mark
 use Rattle.camac_tokens.specs.declared.token.Token.{Token}
 use Rattle.camac_tokens.specs.declared.fault.TextCase.TheVariants as told
 use Rattle.camac_tokens.specs.declared.token.TokenKind.TheVariants as kind
-use Rattle.camac_text_cursor.specs.Reading.{State, ◌>>◌, give, advance, kind_of, after_first, Reader, fail}
+use Rattle.camac_text_cursor.specs.declared.choice.Choice.TheVariants as choice
+use Rattle.camac_text_cursor.specs.Reading.{State, ◌>>◌, give, advance, kind_of, after_first, Reader, fail, unexpected}
 use Rattle.camac_text_cursor.specs.Readers.{expect_sign, procedure_here, callable_by, called, is_sign}
 use Rattle.camac_text_phrases.specs.Expressions.{expression_at}
 use Rattle.camac_text_phrases.specs.Arguments.{argument_after, more_arguments, arguments_at, counted_sign, shows_more}
 use Rattle.camac_text_statements.specs.Transfers.{call_statement}
 use Rattle.camac_text_statements.specs.Statements.{block_at}
+use Rattle.camac_text_cursor.proofs.Places.{hushed}
 use Rattle.camac_text_cursor.proofs.Uses.{scope_of}
 use Rattle.camac_text_statements.proofs.Acts.{begun}
 use Rattle.camac_text_cursor.proofs.Registers.{first_of_both, second_of_both}
@@ -37,12 +39,13 @@ use Rattle.camac_tokens.specs.declared.token.TokenKind.{TokenKind}
 
 -- ---- what is called
 
-procedure_seen : (n : Names) (s : State) (p : ℕ) → FindsAll n s → p < length s.callables → kind_of s.rest ≡ Some (kind.Name (text_at n.procedures p)) → procedure_here s ≡ ok p s
-procedure_seen n s p finds below e = known_seen _ _ s (text_at n.procedures p) p (finds.procedures p below) e
+procedure_seen : (n : Names) (s0 : State) → let s : State = hushed s0 in (p : ℕ) → FindsAll n s → p < length s.callables → kind_of s.rest ≡ Some (kind.Name (text_at n.procedures p)) → procedure_here s ≡ ok p s
+procedure_seen n s0 p finds below e = let s : State = hushed s0 in known_seen _ _ s (text_at n.procedures p) p (finds.procedures p below) e
 
-called_given : (room : ℕ) (s : State) (p : ℕ) (q : Callable) → slice_get s.callables p ≡ Some q → q.depth ≤ room → called room p s ≡ ok q.parameters (at s (after_first s.rest))
+called_given : (room : ℕ) (s0 : State) → let s : State = hushed s0 in (p : ℕ) (q : Callable) → slice_get s.callables p ≡ Some q → q.depth ≤ room → called room p s ≡ ok q.parameters (at s (after_first s.rest))
 unfolding called
-called_given room s p q found deep =
+called_given room s0 p q found deep =
+    let s : State = hushed s0 in
     ap (λ (o : Option Callable). callable_by room o s) found
     ∙ checked (nat_le q.depth room) _ (advance >> give q.parameters) s (le-leb q.depth room deep) refl
 
@@ -53,10 +56,11 @@ argument_ends : (n : Names) (es : List Expression) (ts rest : List Token) → Pr
 argument_ends n [] ts rest f ends = subst (λ (w : List Token). NoSign (kind_of w)) (sym f) ends
 argument_ends n (e ∷ es) ts rest f ends = no_sign (kind_of ts) _ (prefix_first ts (sign mark.Comma) (phrase.expression n e ++ others (sign mark.Comma) (phrase.expression n) es) rest f).0 (record { product = refl; sum = refl })
 
-counted_given : (w : Sign) (shows : Option TokenKind → Bool) (wanted : ℕ) (s : State) → kind_of s.rest ≡ Some (kind.Sign w) → counted_sign w shows wanted s ≡ ok tt (at s (after_first s.rest))
+counted_given : (w : Sign) (shows : Option TokenKind → Bool) (wanted : ℕ) (s0 : State) → let s : State = hushed s0 in kind_of s.rest ≡ Some (kind.Sign w) → counted_sign w shows wanted s ≡ ok tt (at s (after_first s.rest))
 unfolding counted_sign
-counted_given w shows wanted s e =
-    let other : Bool → Reader (Unit {0}) = λ b. cond b (fail (told.ArgumentCount wanted)) (fail told.Unexpected) in
+counted_given w shows wanted s0 e =
+    let s : State = hushed s0 in
+    let other : Bool → Reader (Unit {0}) = λ b. cond b (fail (told.ArgumentCount wanted)) (unexpected (choice.Mark w)) in
     ap (λ (b : Bool). cond b advance (other (shows (kind_of s.rest))) s) (ap (is_sign w) e ∙ sign_same w)
 
 -- an argument begins with no `)`
@@ -70,11 +74,13 @@ first_given_by : (wanted room : ℕ) (s : State) → is_sign mark.RightBracket (
 first_given_by wanted room s off = ap (λ (b : Bool). cond b (fail (told.ArgumentCount wanted)) (expression_at room) s) off
 
 -- those after the first
-others_read : (n : Names) (wanted : ℕ) (first : Expression) (before es : List Expression) (room : ℕ) (s : State) (rest : List Token) → FindsAll n s → each (expression_fits (scope_of s)) es ≡ true → most expression_depth es ≤ room → Prefix s.rest (others (sign mark.Comma) (phrase.expression n) es) rest → NoSign (kind_of rest) → more_arguments wanted room (length es) (first ∷ before) s ≡ ok (first ∷ (before ++ es)) (at s rest)
+others_read : (n : Names) (wanted : ℕ) (first : Expression) (before es : List Expression) (room : ℕ) (s0 : State) → let s : State = hushed s0 in (rest : List Token) → FindsAll n s → each (expression_fits (scope_of s)) es ≡ true → most expression_depth es ≤ room → Prefix s.rest (others (sign mark.Comma) (phrase.expression n) es) rest → NoSign (kind_of rest) → more_arguments wanted room (length es) (first ∷ before) s ≡ ok (first ∷ (before ++ es)) (at s rest)
 unfolding more_arguments
-others_read n wanted first before [] room s rest finds fit deep f ends =
+others_read n wanted first before [] room s0 rest finds fit deep f ends =
+    let s : State = hushed s0 in
     ap (λ (xs : List Expression). ok (first ∷ xs) s) (sym (append-nil before)) ∙ left (first ∷ (before ++ [])) s s.rest rest f
-others_read n wanted first before (e ∷ es) room s rest finds fit deep f ends =
+others_read n wanted first before (e ∷ es) room s0 rest finds fit deep f ends =
+    let s : State = hushed s0 in
     let m = prefix_split s.rest (sign mark.Comma ∷ phrase.expression n e) (others (sign mark.Comma) (phrase.expression n) es) rest f in
     let us : List Token = m.0 in
     let h = prefix_first s.rest (sign mark.Comma) (phrase.expression n e) us m.1 in
@@ -87,10 +93,11 @@ others_read n wanted first before (e ∷ es) room s rest finds fit deep f ends =
     (others_read n wanted first (before ++ e ∷ []) es room (at s us) rest finds (second_of_both (expression_fits (scope_of s) e) _ fit) deep_es m.2 ends
     ∙ ap (λ (xs : List Expression). ok (first ∷ xs) (at s rest)) (append_assoc before (e ∷ []) es))
 
-arguments_read : (n : Names) (wanted : ℕ) (es : List Expression) (room : ℕ) (s : State) (rest : List Token) → FindsAll n s → each (expression_fits (scope_of s)) es ≡ true → most expression_depth es ≤ room → Prefix s.rest (separated (sign mark.Comma) (phrase.expression n) es) rest → NoSign (kind_of rest) → more_arguments wanted room (length es) [] s ≡ ok es (at s rest)
+arguments_read : (n : Names) (wanted : ℕ) (es : List Expression) (room : ℕ) (s0 : State) → let s : State = hushed s0 in (rest : List Token) → FindsAll n s → each (expression_fits (scope_of s)) es ≡ true → most expression_depth es ≤ room → Prefix s.rest (separated (sign mark.Comma) (phrase.expression n) es) rest → NoSign (kind_of rest) → more_arguments wanted room (length es) [] s ≡ ok es (at s rest)
 unfolding more_arguments
-arguments_read n wanted [] room s rest finds fit deep f ends = left [] s s.rest rest f
-arguments_read n wanted (e ∷ es) room s rest finds fit deep f ends =
+arguments_read n wanted [] room s0 rest finds fit deep f ends = let s : State = hushed s0 in left [] s s.rest rest f
+arguments_read n wanted (e ∷ es) room s0 rest finds fit deep f ends =
+    let s : State = hushed s0 in
     let m = prefix_split s.rest (phrase.expression n e) (others (sign mark.Comma) (phrase.expression n) es) rest f in
     let us : List Token = m.0 in
     let deep_e : expression_depth e ≤ room = omega arith in
@@ -101,10 +108,11 @@ arguments_read n wanted (e ∷ es) room s rest finds fit deep f ends =
 abbrev bracketed : Names → List Expression → List Piece
 bracketed n es = sign mark.LeftBracket ∷ (separated (sign mark.Comma) (phrase.expression n) es ++ sign mark.RightBracket ∷ [])
 
-arguments_given : (n : Names) (es : List Expression) (room : ℕ) (s : State) (rest : List Token) → FindsAll n s → each (expression_fits (scope_of s)) es ≡ true → suc (most expression_depth es) ≤ room → Prefix s.rest (bracketed n es) rest → arguments_at room (length es) s ≡ ok es (at s rest)
+arguments_given : (n : Names) (es : List Expression) (room : ℕ) (s0 : State) → let s : State = hushed s0 in (rest : List Token) → FindsAll n s → each (expression_fits (scope_of s)) es ≡ true → suc (most expression_depth es) ≤ room → Prefix s.rest (bracketed n es) rest → arguments_at room (length es) s ≡ ok es (at s rest)
 unfolding arguments_at
-arguments_given n es zero s rest finds fit deep f = absurd (omega arith)
-arguments_given n es (suc room) s rest finds fit deep f =
+arguments_given n es zero s0 rest finds fit deep f = let s : State = hushed s0 in absurd (omega arith)
+arguments_given n es (suc room) s0 rest finds fit deep f =
+    let s : State = hushed s0 in
     let ps : List Piece = separated (sign mark.Comma) (phrase.expression n) es in
     let h = prefix_first s.rest (sign mark.LeftBracket) (ps ++ sign mark.RightBracket ∷ []) rest f in
     let t : State = at s (after_first s.rest) in
@@ -125,7 +133,8 @@ has_there (Some q) test e = (q, refl, e)
 
 pub call_given : (n : Names) (line p : ℕ) (es : List Expression) → IsGiven n (call line p es)
 unfolding call_statement
-call_given n line p es room s rest j k m c f ends =
+call_given n line p es room s0 rest j k m c f ends =
+    let s : State = hushed s0 in
     let x : Statement = call line p es in
     let ps : List Piece = name_at n.procedures p ∷ bracketed n es in
     let h = prefix_line s.rest s.end_line line (kind.Keyword keyword.Call) ps rest f in

@@ -8,12 +8,13 @@ use Rattle.camac_tokens.specs.declared.token.Keyword.TheVariants as keyword
 use Rattle.camac_tokens.specs.declared.token.Token.{Token}
 use Rattle.camac_tokens.specs.declared.token.TokenKind.{TokenKind}
 use Rattle.camac_tokens.specs.declared.token.TokenKind.TheVariants as kind
-use Rattle.camac_text_cursor.specs.Reading.{State, ◌>>◌, give, change, advance, kind_of, after_first, while_next}
+use Rattle.camac_text_cursor.specs.declared.choice.Choice.TheVariants as choice
+use Rattle.camac_text_cursor.specs.Reading.{State, ◌>>◌, give, change, advance, kind_of, after_first, until}
 use Rattle.camac_text_cursor.specs.Readers.{is_name, new_name, with_variable, new_variable, expect, any_number, branch_number, sub_address_number, used_lam, added}
 use Rattle.camac_text_cursor.specs.Declaring.{with_lam, with_variables_of, with_service}
 use Rattle.camac_text_statements.specs.Statements.{block_at}
 use Rattle.camac_text.specs.Declarations.{lam_declaration, one_more_variable, variable_declaration, service_declaration, declaration_by, declaration_at}
-use Rattle.camac_text_cursor.proofs.Steps.{while_off}
+use Rattle.camac_text_cursor.proofs.Places.{hushed}
 use Rattle.camac_text_cursor.proofs.Registers.{first_of_both, second_of_both}
 use Rattle.camac_text.proofs.Variables.{variables_progress}
 use Rattle.camac_text.proofs.Listed.{new_same, prefix_or_after}
@@ -21,7 +22,7 @@ use Rattle.camac_text_spelling.specs.Pieces.{Piece, first_piece, word, numeral, 
 use Rattle.camac_text_spelling.specs.Declarations as spell
 use Rattle.camac_text_spelling.specs.Statements.{braced, block}
 use Rattle.camac_text_spelling.proofs.Prefixes.{prefix_first, prefix_line}
-use Rattle.camac_text_spelling.proofs.Gives.{at, ok, after, checked, while_turn, expected, number_given, branch_given, sub_address_given, new_name_seen, lam_given}
+use Rattle.camac_text_spelling.proofs.Gives.{at, ok, after, checked, expected, number_given, branch_given, sub_address_given, new_name_seen, lam_given, until_off, until_turn}
 use Rattle.camac_text_spelling.proofs.Fresh.{take_all}
 use Rattle.camac_text_spelling.proofs.Runs.{left_at, listed, block_of_listed}
 use Rattle.camac_text_spelling.proofs.GivesStatements.{RunsBraced}
@@ -36,9 +37,10 @@ first_given line k s ps rest f =
 
 -- ---- a LAM
 
-pub lam_declared : (l : Lam) (s : State) (rest : List Token) → length s.lams < 64 → is_new l.name s.declared ≡ true → nat_lt l.sub_address 16 ≡ true → Prefix s.rest (spell.lam_declaration l) rest → declaration_at s ≡ ok tt (with_lam l (at s rest))
+pub lam_declared : (l : Lam) (s0 : State) → let s : State = hushed s0 in (rest : List Token) → length s.lams < 64 → is_new l.name s.declared ≡ true → nat_lt l.sub_address 16 ≡ true → Prefix s.rest (spell.lam_declaration l) rest → declaration_at s ≡ ok tt (with_lam l (at s rest))
 unfolding lam_declaration
-lam_declared l s rest room new below f =
+lam_declared l s0 rest room new below f =
+    let s : State = hushed s0 in
     let q4 : List Piece = numeral l.sub_address ∷ [] in
     let q3 : List Piece = numeral l.station ∷ q4 in
     let q2 : List Piece = numeral l.crate_no ∷ q3 in
@@ -70,16 +72,17 @@ abbrev pub with_names : State → List Token → List Text → State
 with_names s rest xs = record s { rest = rest; variables = s.variables ++ xs; variable_count = s.variable_count + length xs; declared = s.declared ++ xs }
 
 -- a variable or a parameter, whose name stands next
-pub name_added : (s : State) (x : Text) → s.variable_count < 64 → added x s ≡ ok tt (with_names s (after_first s.rest) (x ∷ []))
+pub name_added : (s0 : State) → let s : State = hushed s0 in (x : Text) → s.variable_count < 64 → added x s ≡ ok tt (with_names s (after_first s.rest) (x ∷ []))
 unfolding added
-name_added s x room =
+name_added s0 x room =
+    let s : State = hushed s0 in
     let one_more : suc s.variable_count ≡ s.variable_count + 1 = omega arith in
     checked (nat_lt s.variable_count 64) _ (advance >> change (with_variable x)) s (lt-ltb s.variable_count 64 room)
     (ap (λ (i : ℕ). ok tt (record s { rest = after_first s.rest; variables = s.variables ++ x ∷ []; variable_count = i; declared = s.declared ++ x ∷ [] })) one_more)
 
-variable_declared : (s : State) (x : Text) → kind_of s.rest ≡ Some (kind.Name x) → is_new x s.declared ≡ true → s.variable_count < 64 → new_variable s ≡ ok tt (with_names s (after_first s.rest) (x ∷ []))
+variable_declared : (s0 : State) → let s : State = hushed s0 in (x : Text) → kind_of s.rest ≡ Some (kind.Name x) → is_new x s.declared ≡ true → s.variable_count < 64 → new_variable s ≡ ok tt (with_names s (after_first s.rest) (x ∷ []))
 unfolding new_variable
-variable_declared s x e new room = after (new_name s) added x s (new_name_seen s x e new) (name_added s x room)
+variable_declared s0 x e new room = let s : State = hushed s0 in after (new_name s) added x s (new_name_seen s x e new) (name_added s x room)
 
 -- none more
 pub no_names : (s : State) (rest : List Token) → s.rest ≡ rest → s ≡ with_names s rest []
@@ -102,25 +105,28 @@ names_joined s between rest x xs =
     ∙ ap (λ (i : ℕ). record s { rest = rest; variables = s.variables ++ x ∷ xs; variable_count = i; declared = (s.declared ++ x ∷ []) ++ xs }) many
     ∙ ap (λ (ys : List Text). record s { rest = rest; variables = s.variables ++ x ∷ xs; variable_count = s.variable_count + suc (length xs); declared = ys }) (append_assoc s.declared (x ∷ []) xs)
 
-names_declared : (xs : List Text) (counted : ℕ) (s : State) (rest : List Token) → are_new xs s.declared ≡ true → s.variable_count + length xs ≤ 64 → Prefix s.rest (map name xs) rest → is_name (kind_of rest) ≡ false → while_next is_name one_more_variable counted s ≡ ok (counted + length xs) (with_names s rest xs)
-names_declared [] counted s rest new room f off =
-    while_off is_name one_more_variable counted s (ap (λ (ts : List Token). is_name (kind_of ts)) f ∙ off)
+names_declared : (xs : List Text) (counted : ℕ) (s0 : State) → let s : State = hushed s0 in (rest : List Token) → are_new xs s.declared ≡ true → s.variable_count + length xs ≤ 64 → Prefix s.rest (map name xs) rest → is_name (kind_of rest) ≡ false → until choice.Name is_name one_more_variable counted s ≡ ok (counted + length xs) (with_names s rest xs)
+names_declared [] counted s0 rest new room f off =
+    let s : State = hushed s0 in
+    until_off choice.Name is_name one_more_variable counted s (ap (λ (ts : List Token). is_name (kind_of ts)) f ∙ off)
     ∙ ap (λ (i : ℕ). ok i s) (let zero_more : counted ≡ counted + 0 = omega arith in zero_more)
     ∙ ap (λ (w : State). ok (counted + 0) w) (no_names s rest f)
-names_declared (x ∷ xs) counted s rest new room f off =
+names_declared (x ∷ xs) counted s0 rest new room f off =
+    let s : State = hushed s0 in
     let h = prefix_first s.rest (name x) (map name xs) rest f in
     let u : State = with_names s (after_first s.rest) (x ∷ []) in
     let total : (counted + 1) + length xs ≡ counted + suc (length xs) = omega arith in
-    while_turn is_name one_more_variable variables_progress counted s (counted + 1) u (ap is_name h.0)
+    until_turn choice.Name is_name one_more_variable variables_progress counted s (counted + 1) u (ap is_name h.0)
     (after (new_variable s) (λ _. give (counted + 1)) tt u (variable_declared s x h.0 (first_of_both (is_new x s.declared) _ new) (omega arith)) refl)
     (names_declared xs (counted + 1) u rest (new_after x xs s.declared (second_of_both (is_new x s.declared) _ new)) (omega arith) h.1 off
     ∙ ap (λ (i : ℕ). ok i (with_names u rest xs)) total
     ∙ ap (λ (w : State). ok (counted + suc (length xs)) w) (names_joined s (after_first s.rest) rest x xs))
 
-pub variables_declared : (line n : ℕ) (xs : List Text) (s : State) (rest : List Token) → 1 ≤ n → length xs ≡ n → are_new xs s.declared ≡ true → s.variable_count + length xs ≤ 64 → Prefix s.rest (spell.variable_declaration line xs) rest → is_name (kind_of rest) ≡ false → declaration_at s ≡ ok tt (with_variables_of line n (with_names s rest xs))
+pub variables_declared : (line n : ℕ) (xs : List Text) (s0 : State) → let s : State = hushed s0 in (rest : List Token) → 1 ≤ n → length xs ≡ n → are_new xs s.declared ≡ true → s.variable_count + length xs ≤ 64 → Prefix s.rest (spell.variable_declaration line xs) rest → is_name (kind_of rest) ≡ false → declaration_at s ≡ ok tt (with_variables_of line n (with_names s rest xs))
 unfolding variable_declaration
-variables_declared line n [] s rest some many new room f off = absurd (omega arith)
-variables_declared line n (x ∷ xs) s rest some many new room f off =
+variables_declared line n [] s0 rest some many new room f off = let s : State = hushed s0 in absurd (omega arith)
+variables_declared line n (x ∷ xs) s0 rest some many new room f off =
+    let s : State = hushed s0 in
     let h = prefix_line s.rest s.end_line line (kind.Keyword keyword.Var) (map name (x ∷ xs)) rest f in
     let t1 : List Token = after_first s.rest in
     let f1 = prefix_first t1 (name x) (map name xs) rest h.2 in
@@ -128,7 +134,7 @@ variables_declared line n (x ∷ xs) s rest some many new room f off =
     let is_n : 1 + length xs ≡ n = omega arith in
     first_given line (kind.Keyword keyword.Var) s (map name (x ∷ xs)) rest f
     ∙ after (new_variable (at s t1)) _ tt u (variable_declared (at s t1) x f1.0 (first_of_both (is_new x s.declared) _ new) (omega arith))
-    (after (while_next is_name one_more_variable 1 u) _ (1 + length xs) (with_names u rest xs) (names_declared xs 1 u rest (new_after x xs s.declared (second_of_both (is_new x s.declared) _ new)) (omega arith) f1.1 off)
+    (after (until choice.Name is_name one_more_variable 1 u) _ (1 + length xs) (with_names u rest xs) (names_declared xs 1 u rest (new_after x xs s.declared (second_of_both (is_new x s.declared) _ new)) (omega arith) f1.1 off)
     (ap (λ (i : ℕ). ok tt (with_variables_of line i (with_names u rest xs))) is_n
     ∙ ap (λ (w : State). ok tt (with_variables_of line n w)) (names_joined (at s t1) (after_first t1) rest x xs)))
 
@@ -138,9 +144,10 @@ variables_declared line n (x ∷ xs) s rest some many new room f off =
 abbrev pub with_body : State → List Token → Service → ℕ → State
 with_body s rest v m = record s { rest = rest; services = s.services ++ v ∷ []; registers = []; statements = m; order = s.order ++ next_service ∷ [] }
 
-pub service_declared : (t : Script) (v : Service) (s : State) (rest : List Token) (m : ℕ) → length s.services < 24 → nat_lt v.lam (length s.lams) ≡ true → RunsBraced (spell.service_names t v) s 0 (length v.registers) m 16 v.body → Prefix s.rest (spell.service_declaration t v) rest → declaration_at s ≡ ok tt (with_body s rest v m)
+pub service_declared : (t : Script) (v : Service) (s0 : State) → let s : State = hushed s0 in (rest : List Token) (m : ℕ) → length s.services < 24 → nat_lt v.lam (length s.lams) ≡ true → RunsBraced (spell.service_names t v) s 0 (length v.registers) m 16 v.body → Prefix s.rest (spell.service_declaration t v) rest → declaration_at s ≡ ok tt (with_body s rest v m)
 unfolding service_declaration
-service_declared t v s rest m room lam_fits c f =
+service_declared t v s0 rest m room lam_fits c f =
+    let s : State = hushed s0 in
     let n : Names = spell.service_names t v in
     let q8 : List Piece = braced (block n v.body) in
     let q7 : List Piece = word keyword.Words ∷ q8 in

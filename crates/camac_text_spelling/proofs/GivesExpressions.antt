@@ -10,18 +10,18 @@ use Rattle.camac_tokens.specs.declared.token.Sign.TheVariants as mark
 use Rattle.camac_tokens.specs.declared.token.Token.{Token}
 use Rattle.camac_tokens.specs.declared.token.TokenKind.{TokenKind}
 use Rattle.camac_tokens.specs.declared.token.TokenKind.TheVariants as kind
-use Rattle.camac_tokens.specs.Fault.{Fault}
-use Rattle.camac_text_cursor.specs.Reading.{State, Reader, ◌>>=◌, ◌>>◌, give, advance, kind_of, after_first, while_next}
+use Rattle.camac_text_cursor.specs.declared.choice.Choice.TheVariants as choice
+use Rattle.camac_text_cursor.specs.Reading.{Fault, State, Reader, ◌>>=◌, ◌>>◌, give, advance, kind_of, after_first, until}
 use Rattle.camac_text_cursor.specs.Readers.{number_here, any_number, used_variable, expect_sign}
 use Rattle.camac_text_phrases.specs.Expressions.{Counted, counted, operator, divisor, factor_by, factor_with, is_product_sign, product_by, product_turn, product_with, is_sum_sign, joined, sum_turn, sum_with, bracketed, expression_at}
-use Rattle.camac_text_cursor.proofs.Steps.{while_off}
+use Rattle.camac_text_cursor.proofs.Places.{hushed}
 use Rattle.camac_text_cursor.proofs.Uses.{scope_of}
 use Rattle.camac_text_cursor.proofs.Registers.{first_of_both, second_of_both}
 use Rattle.camac_text_phrases.proofs.BracketsRead.{product_progress, sum_progress, bracketed_ok}
 use Rattle.camac_text_spelling.specs.Pieces.{sign, numeral, Names, name_at, Prefix}
 use Rattle.camac_text_spelling.specs.Phrases.{expression}
 use Rattle.camac_text_spelling.proofs.Prefixes.{prefix_split, prefix_first}
-use Rattle.camac_text_spelling.proofs.Gives.{at, ok, after, checked, while_turn, left, expected_sign, number_seen, number_given, FindsAll, variable_given}
+use Rattle.camac_text_spelling.proofs.Gives.{at, ok, after, checked, left, expected_sign, number_seen, number_given, FindsAll, variable_given, until_off, until_turn}
 
 -- The expression may stand here, after so many operators.
 record Can (n : Names) (s : State) (room so_far : ℕ) (e : Expression) : Type 0 where
@@ -35,63 +35,67 @@ abbrev read : Expression → ℕ → State → List Token → Result (Counted ×
 read e m s rest = ok (counted e m) (at s rest)
 
 abbrev product_loop : ℕ → Counted → Reader Counted
-product_loop room x = while_next is_product_sign (product_turn (bracketed room)) x
+product_loop room x = until choice.Product is_product_sign (product_turn (bracketed room)) x
 
 abbrev sum_loop : ℕ → Counted → Reader Counted
-sum_loop room x = while_next is_sum_sign (sum_turn (bracketed room)) x
+sum_loop room x = until choice.Sum is_sum_sign (sum_turn (bracketed room)) x
 
 -- ---- what each reader answers before an expression
 
 record AtLevels (n : Names) (e : Expression) : Type 0 where
-  factor : (room so_far m : ℕ) (s : State) (rest : List Token) → Can n s room so_far e → is_factor e ≡ true → m ≡ so_far + operators e → Prefix s.rest (expression n e) rest → factor_with (bracketed room) so_far s ≡ read e m s rest
-  product : (room so_far m : ℕ) (s : State) (rest : List Token) → Can n s room so_far e → is_term e ≡ true → m ≡ so_far + operators e → Prefix s.rest (expression n e) rest → product_with (bracketed room) so_far s ≡ product_loop room (counted e m) (at s rest)
-  sum : (room so_far m : ℕ) (s : State) (rest : List Token) → Can n s room so_far e → m ≡ so_far + operators e → Prefix s.rest (expression n e) rest → is_product_sign (kind_of rest) ≡ false → sum_with (bracketed room) so_far s ≡ sum_loop room (counted e m) (at s rest)
+  factor : (room so_far m : ℕ) (s0 : State) → let s : State = hushed s0 in (rest : List Token) → Can n s room so_far e → is_factor e ≡ true → m ≡ so_far + operators e → Prefix s.rest (expression n e) rest → factor_with (bracketed room) so_far s ≡ read e m s rest
+  product : (room so_far m : ℕ) (s0 : State) → let s : State = hushed s0 in (rest : List Token) → Can n s room so_far e → is_term e ≡ true → m ≡ so_far + operators e → Prefix s.rest (expression n e) rest → product_with (bracketed room) so_far s ≡ product_loop room (counted e m) (at s rest)
+  sum : (room so_far m : ℕ) (s0 : State) → let s : State = hushed s0 in (rest : List Token) → Can n s room so_far e → m ≡ so_far + operators e → Prefix s.rest (expression n e) rest → is_product_sign (kind_of rest) ≡ false → sum_with (bracketed room) so_far s ≡ sum_loop room (counted e m) (at s rest)
 
-product_from_factor : (e : Expression) (room so_far m : ℕ) (s : State) (rest : List Token) → factor_with (bracketed room) so_far s ≡ read e m s rest → product_with (bracketed room) so_far s ≡ product_loop room (counted e m) (at s rest)
+product_from_factor : (e : Expression) (room so_far m : ℕ) (s0 : State) → let s : State = hushed s0 in (rest : List Token) → factor_with (bracketed room) so_far s ≡ read e m s rest → product_with (bracketed room) so_far s ≡ product_loop room (counted e m) (at s rest)
 unfolding product_with
-product_from_factor e room so_far m s rest h = after (factor_with (bracketed room) so_far s) (product_loop room) (counted e m) (at s rest) h refl
+product_from_factor e room so_far m s0 rest h = let s : State = hushed s0 in after (factor_with (bracketed room) so_far s) (product_loop room) (counted e m) (at s rest) h refl
 
-product_is : (e : Expression) (room so_far m : ℕ) (s : State) (rest : List Token) → is_product_sign (kind_of rest) ≡ false → product_with (bracketed room) so_far s ≡ product_loop room (counted e m) (at s rest) → product_with (bracketed room) so_far s ≡ read e m s rest
-product_is e room so_far m s rest off h = h ∙ while_off is_product_sign (product_turn (bracketed room)) (counted e m) (at s rest) off
+product_is : (e : Expression) (room so_far m : ℕ) (s0 : State) → let s : State = hushed s0 in (rest : List Token) → is_product_sign (kind_of rest) ≡ false → product_with (bracketed room) so_far s ≡ product_loop room (counted e m) (at s rest) → product_with (bracketed room) so_far s ≡ read e m s rest
+product_is e room so_far m s0 rest off h = let s : State = hushed s0 in h ∙ until_off choice.Product is_product_sign (product_turn (bracketed room)) (counted e m) (at s rest) off
 
-sum_from_product : (e : Expression) (room so_far m : ℕ) (s : State) (rest : List Token) → is_product_sign (kind_of rest) ≡ false → product_with (bracketed room) so_far s ≡ product_loop room (counted e m) (at s rest) → sum_with (bracketed room) so_far s ≡ sum_loop room (counted e m) (at s rest)
+sum_from_product : (e : Expression) (room so_far m : ℕ) (s0 : State) → let s : State = hushed s0 in (rest : List Token) → is_product_sign (kind_of rest) ≡ false → product_with (bracketed room) so_far s ≡ product_loop room (counted e m) (at s rest) → sum_with (bracketed room) so_far s ≡ sum_loop room (counted e m) (at s rest)
 unfolding sum_with
-sum_from_product e room so_far m s rest off h = after (product_with (bracketed room) so_far s) (sum_loop room) (counted e m) (at s rest) (product_is e room so_far m s rest off h) refl
+sum_from_product e room so_far m s0 rest off h = let s : State = hushed s0 in after (product_with (bracketed room) so_far s) (sum_loop room) (counted e m) (at s rest) (product_is e room so_far m s rest off h) refl
 
-operator_given : (so_far : ℕ) (s : State) → so_far < 32 → operator so_far s ≡ ok (suc so_far) (at s (after_first s.rest))
+operator_given : (so_far : ℕ) (s0 : State) → let s : State = hushed s0 in so_far < 32 → operator so_far s ≡ ok (suc so_far) (at s (after_first s.rest))
 unfolding operator
-operator_given so_far s below = checked (nat_lt so_far 32) _ (advance >> give (suc so_far)) s (lt-ltb so_far 32 below) refl
+operator_given so_far s0 below = let s : State = hushed s0 in checked (nat_lt so_far 32) _ (advance >> give (suc so_far)) s (lt-ltb so_far 32 below) refl
 
-divisor_given : (s : State) (d : ℕ) → kind_of s.rest ≡ Some (kind.Number d) → nat_le 1 d ≡ true → divisor s ≡ ok d (at s (after_first s.rest))
+divisor_given : (s0 : State) → let s : State = hushed s0 in (d : ℕ) → kind_of s.rest ≡ Some (kind.Number d) → nat_le 1 d ≡ true → divisor s ≡ ok d (at s (after_first s.rest))
 unfolding divisor
-divisor_given s d e from_1 =
+divisor_given s0 d e from_1 =
+    let s : State = hushed s0 in
     let above : nat_lt 0 d ≡ true = grind (arith, from_1) in
     after (number_here s) _ d s (number_seen s d e) (checked (nat_lt 0 d) _ (advance >> give d) s above refl)
 
 -- ---- factors
 
-number_factor : (n : Names) (k room so_far m : ℕ) (s : State) (rest : List Token) → m ≡ so_far → Prefix s.rest (expression n (number k)) rest → factor_with (bracketed room) so_far s ≡ read (number k) m s rest
+number_factor : (n : Names) (k room so_far m : ℕ) (s0 : State) → let s : State = hushed s0 in (rest : List Token) → m ≡ so_far → Prefix s.rest (expression n (number k)) rest → factor_with (bracketed room) so_far s ≡ read (number k) m s rest
 unfolding factor_with
-number_factor n k room so_far m s rest same f =
+number_factor n k room so_far m s0 rest same f =
+    let s : State = hushed s0 in
     let h = prefix_first s.rest (numeral k) [] rest f in
     ap (λ (o : Option TokenKind). factor_by (bracketed room) so_far o s) h.0
     ∙ after (any_number s) _ k (at s (after_first s.rest)) (number_given s k h.0) refl
     ∙ left (counted (number k) so_far) s (after_first s.rest) rest h.1
     ∙ ap (λ (j : ℕ). read (number k) j s rest) (rw same refl)
 
-variable_factor : (n : Names) (x room so_far m : ℕ) (s : State) (rest : List Token) → FindsAll n s → nat_lt x (length s.variables) ≡ true → m ≡ so_far → Prefix s.rest (expression n (variable x)) rest → factor_with (bracketed room) so_far s ≡ read (variable x) m s rest
+variable_factor : (n : Names) (x room so_far m : ℕ) (s0 : State) → let s : State = hushed s0 in (rest : List Token) → FindsAll n s → nat_lt x (length s.variables) ≡ true → m ≡ so_far → Prefix s.rest (expression n (variable x)) rest → factor_with (bracketed room) so_far s ≡ read (variable x) m s rest
 unfolding factor_with
-variable_factor n x room so_far m s rest finds fits same f =
+variable_factor n x room so_far m s0 rest finds fits same f =
+    let s : State = hushed s0 in
     let h = prefix_first s.rest (name_at n.variables x) [] rest f in
     ap (λ (o : Option TokenKind). factor_by (bracketed room) so_far o s) h.0
     ∙ after (used_variable s) _ x (at s (after_first s.rest)) (variable_given n s x finds fits h.0) refl
     ∙ left (counted (variable x) so_far) s (after_first s.rest) rest h.1
     ∙ ap (λ (j : ℕ). read (variable x) j s rest) (rw same refl)
 
-group_factor : (n : Names) (a : Expression) → AtLevels n a → (room so_far m : ℕ) (s : State) (rest : List Token) → Can n s room so_far (group a) → m ≡ so_far + operators a → Prefix s.rest (expression n (group a)) rest → factor_with (bracketed room) so_far s ≡ read (group a) m s rest
+group_factor : (n : Names) (a : Expression) → AtLevels n a → (room so_far m : ℕ) (s0 : State) → let s : State = hushed s0 in (rest : List Token) → Can n s room so_far (group a) → m ≡ so_far + operators a → Prefix s.rest (expression n (group a)) rest → factor_with (bracketed room) so_far s ≡ read (group a) m s rest
 unfolding factor_with bracketed
-group_factor n a levels zero so_far m s rest can same f = let deep : expression_depth (group a) ≤ 0 = can.deep in absurd (omega arith)
-group_factor n a levels (suc room) so_far m s rest can same f =
+group_factor n a levels zero so_far m s0 rest can same f = let s : State = hushed s0 in let deep : expression_depth (group a) ≤ 0 = can.deep in absurd (omega arith)
+group_factor n a levels (suc room) so_far m s0 rest can same f =
+    let s : State = hushed s0 in
     let h = prefix_first s.rest (sign mark.LeftBracket) (expression n a ++ sign mark.RightBracket ∷ []) rest f in
     let u : State = at s (after_first s.rest) in
     let parts = prefix_split (after_first s.rest) (expression n a) (sign mark.RightBracket ∷ []) rest h.1 in
@@ -100,16 +104,17 @@ group_factor n a levels (suc room) so_far m s rest can same f =
     let deep : suc (expression_depth a) ≤ suc room = can.deep in
     let can_inside : Can n u room so_far a = record { finds = can.finds; refers = can.refers; grouped = can.grouped; deep = omega arith; few = can.few } in
     let inside : sum_with (bracketed room) so_far u ≡ read a m u us =
-    levels.sum room so_far m u us can_inside same parts.1 (ap is_product_sign closing.0) ∙ while_off is_sum_sign (sum_turn (bracketed room)) (counted a m) (at u us) (ap is_sum_sign closing.0) in
+    levels.sum room so_far m u us can_inside same parts.1 (ap is_product_sign closing.0) ∙ until_off choice.Sum is_sum_sign (sum_turn (bracketed room)) (counted a m) (at u us) (ap is_sum_sign closing.0) in
     ap (λ (o : Option TokenKind). factor_by (bracketed (suc room)) so_far o s) h.0
     ∙ after (sum_with (bracketed room) so_far u) _ (counted a m) (at s us) inside
     (after (expect_sign mark.RightBracket (at s us)) _ tt (at s (after_first us)) (expected_sign mark.RightBracket (at s us) closing.0) (left (counted (group a) m) s (after_first us) rest closing.1))
 
 -- ---- products
 
-times_product : (n : Names) (a b : Expression) → AtLevels n a → AtLevels n b → (room so_far m : ℕ) (s : State) (rest : List Token) → Can n s room so_far (multiply a b) → m ≡ so_far + suc (operators a + operators b) → Prefix s.rest (expression n (multiply a b)) rest → product_with (bracketed room) so_far s ≡ product_loop room (counted (multiply a b) m) (at s rest)
+times_product : (n : Names) (a b : Expression) → AtLevels n a → AtLevels n b → (room so_far m : ℕ) (s0 : State) → let s : State = hushed s0 in (rest : List Token) → Can n s room so_far (multiply a b) → m ≡ so_far + suc (operators a + operators b) → Prefix s.rest (expression n (multiply a b)) rest → product_with (bracketed room) so_far s ≡ product_loop room (counted (multiply a b) m) (at s rest)
 unfolding product_turn
-times_product n a b at_a at_b room so_far m s rest can same f =
+times_product n a b at_a at_b room so_far m s0 rest can same f =
+    let s : State = hushed s0 in
     let parts = prefix_split s.rest (expression n a) (sign mark.Times ∷ expression n b) rest f in
     let us : List Token = parts.0 in
     let h = prefix_first us (sign mark.Times) (expression n b) rest parts.2 in
@@ -125,11 +130,12 @@ times_product n a b at_a at_b room so_far m s rest can same f =
     ap (λ (o : Option TokenKind). product_by (bracketed room) (counted a k) o (at s us)) h.0
     ∙ after (operator k (at s us)) _ (suc k) (at s (after_first us)) (operator_given k (at s us) (omega arith)) (after (factor_with (bracketed room) (suc k) (at s (after_first us))) _ (counted b m) (at s rest) right refl) in
     at_a.product room so_far k s us can_a (first_of_both (is_term a) _ right_forms) refl parts.1
-    ∙ while_turn is_product_sign (product_turn (bracketed room)) (product_progress room (bracketed room) (bracketed_ok room)) (counted a k) (at s us) (counted (multiply a b) m) (at s rest) (ap is_product_sign h.0) turn refl
+    ∙ until_turn choice.Product is_product_sign (product_turn (bracketed room)) (product_progress room (bracketed room) (bracketed_ok room)) (counted a k) (at s us) (counted (multiply a b) m) (at s rest) (ap is_product_sign h.0) turn refl
 
-over_product : (n : Names) (a : Expression) (d : ℕ) → AtLevels n a → (room so_far m : ℕ) (s : State) (rest : List Token) → Can n s room so_far (divide a d) → m ≡ so_far + suc (operators a) → Prefix s.rest (expression n (divide a d)) rest → product_with (bracketed room) so_far s ≡ product_loop room (counted (divide a d) m) (at s rest)
+over_product : (n : Names) (a : Expression) (d : ℕ) → AtLevels n a → (room so_far m : ℕ) (s0 : State) → let s : State = hushed s0 in (rest : List Token) → Can n s room so_far (divide a d) → m ≡ so_far + suc (operators a) → Prefix s.rest (expression n (divide a d)) rest → product_with (bracketed room) so_far s ≡ product_loop room (counted (divide a d) m) (at s rest)
 unfolding product_turn
-over_product n a d at_a room so_far m s rest can same f =
+over_product n a d at_a room so_far m s0 rest can same f =
+    let s : State = hushed s0 in
     let parts = prefix_split s.rest (expression n a) (sign mark.Over ∷ numeral d ∷ []) rest f in
     let us : List Token = parts.0 in
     let h = prefix_first us (sign mark.Over) (numeral d ∷ []) rest parts.2 in
@@ -145,11 +151,12 @@ over_product n a d at_a room so_far m s rest can same f =
     ∙ left (counted (divide a d) (suc k)) s (after_first (after_first us)) rest by.1
     ∙ ap (λ (j : ℕ). read (divide a d) j s rest) m_is in
     at_a.product room so_far k s us can_a (second_of_both (is_grouped a) _ can.grouped) refl parts.1
-    ∙ while_turn is_product_sign (product_turn (bracketed room)) (product_progress room (bracketed room) (bracketed_ok room)) (counted a k) (at s us) (counted (divide a d) m) (at s rest) (ap is_product_sign h.0) turn refl
+    ∙ until_turn choice.Product is_product_sign (product_turn (bracketed room)) (product_progress room (bracketed room) (bracketed_ok room)) (counted a k) (at s us) (counted (divide a d) m) (at s rest) (ap is_product_sign h.0) turn refl
 
-modulo_product : (n : Names) (a : Expression) (d : ℕ) → AtLevels n a → (room so_far m : ℕ) (s : State) (rest : List Token) → Can n s room so_far (remainder a d) → m ≡ so_far + suc (operators a) → Prefix s.rest (expression n (remainder a d)) rest → product_with (bracketed room) so_far s ≡ product_loop room (counted (remainder a d) m) (at s rest)
+modulo_product : (n : Names) (a : Expression) (d : ℕ) → AtLevels n a → (room so_far m : ℕ) (s0 : State) → let s : State = hushed s0 in (rest : List Token) → Can n s room so_far (remainder a d) → m ≡ so_far + suc (operators a) → Prefix s.rest (expression n (remainder a d)) rest → product_with (bracketed room) so_far s ≡ product_loop room (counted (remainder a d) m) (at s rest)
 unfolding product_turn
-modulo_product n a d at_a room so_far m s rest can same f =
+modulo_product n a d at_a room so_far m s0 rest can same f =
+    let s : State = hushed s0 in
     let parts = prefix_split s.rest (expression n a) (sign mark.Modulo ∷ numeral d ∷ []) rest f in
     let us : List Token = parts.0 in
     let h = prefix_first us (sign mark.Modulo) (numeral d ∷ []) rest parts.2 in
@@ -165,14 +172,15 @@ modulo_product n a d at_a room so_far m s rest can same f =
     ∙ left (counted (remainder a d) (suc k)) s (after_first (after_first us)) rest by.1
     ∙ ap (λ (j : ℕ). read (remainder a d) j s rest) m_is in
     at_a.product room so_far k s us can_a (second_of_both (is_grouped a) _ can.grouped) refl parts.1
-    ∙ while_turn is_product_sign (product_turn (bracketed room)) (product_progress room (bracketed room) (bracketed_ok room)) (counted a k) (at s us) (counted (remainder a d) m) (at s rest) (ap is_product_sign h.0) turn refl
+    ∙ until_turn choice.Product is_product_sign (product_turn (bracketed room)) (product_progress room (bracketed room) (bracketed_ok room)) (counted a k) (at s us) (counted (remainder a d) m) (at s rest) (ap is_product_sign h.0) turn refl
 
 -- ---- sums
 
 -- after a sum, its sign and a product
-sum_of : (n : Names) (made : Expression → Expression → Expression) (w : Sign) (a b : Expression) → AtLevels n a → AtLevels n b → (joined (Some (kind.Sign w)) a b ≡ made a b) → is_product_sign (Some (kind.Sign w)) ≡ false → is_sum_sign (Some (kind.Sign w)) ≡ true → (room so_far m : ℕ) (s : State) (rest : List Token) → FindsAll n s → (refers (length s.variables) a && refers (length s.variables) b) ≡ true → (is_grouped a && (is_grouped b && is_term b)) ≡ true → max (expression_depth a) (expression_depth b) ≤ room → so_far + suc (operators a + operators b) ≤ 32 → m ≡ so_far + suc (operators a + operators b) → Prefix s.rest (expression n a ++ sign w ∷ expression n b) rest → is_product_sign (kind_of rest) ≡ false → sum_with (bracketed room) so_far s ≡ sum_loop room (counted (made a b) m) (at s rest)
+sum_of : (n : Names) (made : Expression → Expression → Expression) (w : Sign) (a b : Expression) → AtLevels n a → AtLevels n b → (joined (Some (kind.Sign w)) a b ≡ made a b) → is_product_sign (Some (kind.Sign w)) ≡ false → is_sum_sign (Some (kind.Sign w)) ≡ true → (room so_far m : ℕ) (s0 : State) → let s : State = hushed s0 in (rest : List Token) → FindsAll n s → (refers (length s.variables) a && refers (length s.variables) b) ≡ true → (is_grouped a && (is_grouped b && is_term b)) ≡ true → max (expression_depth a) (expression_depth b) ≤ room → so_far + suc (operators a + operators b) ≤ 32 → m ≡ so_far + suc (operators a + operators b) → Prefix s.rest (expression n a ++ sign w ∷ expression n b) rest → is_product_sign (kind_of rest) ≡ false → sum_with (bracketed room) so_far s ≡ sum_loop room (counted (made a b) m) (at s rest)
 unfolding sum_turn
-sum_of n made w a b at_a at_b makes no_product is_sum room so_far m s rest finds refer group' deep few same f off =
+sum_of n made w a b at_a at_b makes no_product is_sum room so_far m s0 rest finds refer group' deep few same f off =
+    let s : State = hushed s0 in
     let parts = prefix_split s.rest (expression n a) (sign w ∷ expression n b) rest f in
     let us : List Token = parts.0 in
     let h = prefix_first us (sign w) (expression n b) rest parts.2 in
@@ -187,11 +195,11 @@ sum_of n made w a b at_a at_b makes no_product is_sum room so_far m s rest finds
     ∙ after (operator k (at s us)) _ (suc k) (at s (after_first us)) (operator_given k (at s us) (omega arith)) (after (product_with (bracketed room) (suc k) (at s (after_first us))) _ (counted b m) (at s rest) right refl)
     ∙ ap (λ (e : Expression). read e m s rest) makes in
     at_a.sum room so_far k s us can_a refl parts.1 (ap is_product_sign h.0 ∙ no_product)
-    ∙ while_turn is_sum_sign (sum_turn (bracketed room)) (sum_progress room (bracketed room) (bracketed_ok room)) (counted a k) (at s us) (counted (made a b) m) (at s rest) (ap is_sum_sign h.0 ∙ is_sum) turn refl
+    ∙ until_turn choice.Sum is_sum_sign (sum_turn (bracketed room)) (sum_progress room (bracketed room) (bracketed_ok room)) (counted a k) (at s us) (counted (made a b) m) (at s rest) (ap is_sum_sign h.0 ∙ is_sum) turn refl
 
 -- ---- every expression
 
-from_factor : (n : Names) (e : Expression) → ((room so_far m : ℕ) (s : State) (rest : List Token) → Can n s room so_far e → m ≡ so_far + operators e → Prefix s.rest (expression n e) rest → factor_with (bracketed room) so_far s ≡ read e m s rest) → AtLevels n e
+from_factor : (n : Names) (e : Expression) → ((room so_far m : ℕ) (s0 : State) → let s : State = hushed s0 in (rest : List Token) → Can n s room so_far e → m ≡ so_far + operators e → Prefix s.rest (expression n e) rest → factor_with (bracketed room) so_far s ≡ read e m s rest) → AtLevels n e
 from_factor n e given = record {
   factor = λ room so_far m s rest can form same f. given room so_far m s rest can same f;
   product = λ room so_far m s rest can form same f. product_from_factor e room so_far m s rest (given room so_far m s rest can same f);
@@ -233,11 +241,12 @@ pub record NoSign (k : Option TokenKind) : Type 0 where
   pub product : is_product_sign k ≡ false
   pub sum : is_sum_sign k ≡ false
 
-pub expression_given : (n : Names) (e : Expression) (room : ℕ) (s : State) (rest : List Token) → FindsAll n s → expression_fits (scope_of s) e ≡ true → expression_depth e ≤ room → Prefix s.rest (expression n e) rest → NoSign (kind_of rest) → expression_at room s ≡ ok e (at s rest)
+pub expression_given : (n : Names) (e : Expression) (room : ℕ) (s0 : State) → let s : State = hushed s0 in (rest : List Token) → FindsAll n s → expression_fits (scope_of s) e ≡ true → expression_depth e ≤ room → Prefix s.rest (expression n e) rest → NoSign (kind_of rest) → expression_at room s ≡ ok e (at s rest)
 unfolding expression_at
-expression_given n e room s rest finds fits deep f ends =
+expression_given n e room s0 rest finds fits deep f ends =
+    let s : State = hushed s0 in
     let forms = second_of_both (refers (length s.variables) e) _ fits in
     let few : operators e ≤ 32 = leb-true (operators e) 32 (second_of_both (is_grouped e) _ forms) in
     let can : Can n s room 0 e = record { finds = finds; refers = first_of_both (refers (length s.variables) e) _ fits; grouped = first_of_both (is_grouped e) _ forms; deep = deep; few = omega arith } in
     after (sum_with (bracketed room) 0 s) _ (counted e (operators e)) (at s rest)
-    ((levels n e).sum room 0 (operators e) s rest can (omega arith) f ends.product ∙ while_off is_sum_sign (sum_turn (bracketed room)) (counted e (operators e)) (at s rest) ends.sum) refl
+    ((levels n e).sum room 0 (operators e) s rest can (omega arith) f ends.product ∙ until_off choice.Sum is_sum_sign (sum_turn (bracketed room)) (counted e (operators e)) (at s rest) ends.sum) refl

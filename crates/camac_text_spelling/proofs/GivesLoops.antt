@@ -18,6 +18,7 @@ use Rattle.camac_text_phrases.specs.declared.keeping.Own.TheVariants as of_loop
 use Rattle.camac_text_phrases.specs.Keeps.{keeps_at}
 use Rattle.camac_text_cursor.specs.Readers.{begin}
 use Rattle.camac_text_statements.specs.Statements.{for_statement, while_statement, block_at}
+use Rattle.camac_text_cursor.proofs.Places.{hushed}
 use Rattle.camac_text_cursor.proofs.Uses.{scope_of}
 use Rattle.camac_text_statements.proofs.Acts.{begun}
 use Rattle.camac_text_cursor.proofs.Registers.{first_of_both, second_of_both}
@@ -42,7 +43,8 @@ keeps_first n (k ∷ ks) ts us f brace = no_sign (kind_of ts) _ (prefix_first ts
 
 pub count_given : (n : Names) (line v : ℕ) (e1 e2 : Expression) (ks : List Keep) (b : Block) → AreGiven n b → IsGiven n (for_ line v e1 e2 ks b)
 unfolding for_statement
-count_given n line v e1 e2 ks b given room s rest j k m c f ends =
+count_given n line v e1 e2 ks b given room s0 rest j k m c f ends =
+    let s : State = hushed s0 in
     let x : Statement = for_ line v e1 e2 ks b in
     let p1 : List Piece = phrase.expression n e1 in
     let p2 : List Piece = phrase.expression n e2 in
@@ -94,7 +96,8 @@ count_given n line v e1 e2 ks b given room s rest j k m c f ends =
 
 pub while_given : (n : Names) (line : ℕ) (t : Condition) (turns v : ℕ) (ks : List Keep) (b : Block) → AreGiven n b → IsGiven n (while_ line t turns v ks b)
 unfolding while_statement
-while_given n line t turns v ks b given room s rest j k m c f ends =
+while_given n line t turns v ks b given room s0 rest j k m c f ends =
+    let s : State = hushed s0 in
     let x : Statement = while_ line t turns v ks b in
     let p1 : List Piece = phrase.condition n t in
     let p3 : List Piece = phrase.keeps n ks in

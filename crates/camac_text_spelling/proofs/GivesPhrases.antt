@@ -13,18 +13,21 @@ use Rattle.camac_tokens.specs.declared.token.Sign.TheVariants as mark
 use Rattle.camac_tokens.specs.declared.token.Token.{Token}
 use Rattle.camac_tokens.specs.declared.token.TokenKind.{TokenKind}
 use Rattle.camac_tokens.specs.declared.token.TokenKind.TheVariants as kind
-use Rattle.camac_text_cursor.specs.Reading.{State, Reader, ◌>>=◌, give, peek, kind_of, after_first, while_next}
+use Rattle.camac_text_cursor.specs.declared.choice.Choice.{Choice}
+use Rattle.camac_text_cursor.specs.declared.choice.Choice.TheVariants as choice
+use Rattle.camac_text_cursor.specs.Reading.{State, Reader, ◌>>=◌, give, peek, kind_of, after_first, until}
 use Rattle.camac_text_cursor.specs.Readers.{is_keyword}
 use Rattle.camac_text_phrases.specs.Expressions.{expression_at}
 use Rattle.camac_text_phrases.specs.Conditions.{comparison_by, comparison_sign, compared, test_by, test_at, part_by, part_at, no_part_by, part_limit, and_part, condition_at}
-use Rattle.camac_text_cursor.proofs.Steps.{Progresses, while_off}
+use Rattle.camac_text_cursor.proofs.Places.{hushed}
+use Rattle.camac_text_cursor.proofs.Steps.{Progresses}
 use Rattle.camac_text_cursor.proofs.Uses.{scope_of}
 use Rattle.camac_text_cursor.proofs.Registers.{first_of_both, second_of_both}
 use Rattle.camac_text_phrases.proofs.ConditionsRead.{parts_progress}
 use Rattle.camac_text_spelling.specs.Pieces.{Piece, word, sign, numeral, others, Names, name_at, Prefix}
 use Rattle.camac_text_spelling.specs.Phrases as phrase
 use Rattle.camac_text_spelling.proofs.Prefixes.{prefix_split, prefix_first}
-use Rattle.camac_text_spelling.proofs.Gives.{at, ok, after, while_turn, left, keyword_same, FindsAll}
+use Rattle.camac_text_spelling.proofs.Gives.{at, ok, after, left, keyword_same, FindsAll, until_off, until_turn}
 use Rattle.camac_text_spelling.proofs.GivesExpressions.{NoSign, expression_given}
 
 -- ---- how expressions begin
@@ -56,10 +59,10 @@ no_sign k j e h = subst (λ (o : Option TokenKind). NoSign o) (sym e) h
 
 -- ---- conditions
 
-comparison_given : (s : State) (how : Cmp) → kind_of s.rest ≡ Some (kind.Sign (phrase.comparison how)) → comparison_sign s ≡ ok how (at s (after_first s.rest))
+comparison_given : (s0 : State) → let s : State = hushed s0 in (how : Cmp) → kind_of s.rest ≡ Some (kind.Sign (phrase.comparison how)) → comparison_sign s ≡ ok how (at s (after_first s.rest))
 unfolding comparison_sign
-comparison_given s how e = ap (λ (k : Option TokenKind). comparison_by k s) e ∙ by how where
-  by : (c : Cmp) → comparison_by (Some (kind.Sign (phrase.comparison c))) s ≡ ok c (at s (after_first s.rest))
+comparison_given s0 how e = let s : State = hushed s0 in ap (λ (k : Option TokenKind). comparison_by k s) e ∙ by how where
+  by : (c : Cmp) → comparison_by (Some (kind.Sign (phrase.comparison c))) (hushed s0) ≡ ok c (at (hushed s0) (after_first s0.rest))
   by cmp.Less = refl
   by cmp.AtMost = refl
   by cmp.More = refl
@@ -75,9 +78,10 @@ comparison_no_sign cmp.AtLeast = record { product = refl; sum = refl }
 comparison_no_sign cmp.Same = record { product = refl; sum = refl }
 comparison_no_sign cmp.Differs = record { product = refl; sum = refl }
 
-compared_given : (n : Names) (a b : Expression) (how : Cmp) (room : ℕ) (s : State) (rest : List Token) → FindsAll n s → test_fits (scope_of s) (compare a how b) ≡ true → test_depth (compare a how b) ≤ room → Prefix s.rest (phrase.test n (compare a how b)) rest → NoSign (kind_of rest) → compared room s ≡ ok (compare a how b) (at s rest)
+compared_given : (n : Names) (a b : Expression) (how : Cmp) (room : ℕ) (s0 : State) → let s : State = hushed s0 in (rest : List Token) → FindsAll n s → test_fits (scope_of s) (compare a how b) ≡ true → test_depth (compare a how b) ≤ room → Prefix s.rest (phrase.test n (compare a how b)) rest → NoSign (kind_of rest) → compared room s ≡ ok (compare a how b) (at s rest)
 unfolding compared
-compared_given n a b how room s rest finds fits deep f ends =
+compared_given n a b how room s0 rest finds fits deep f ends =
+    let s : State = hushed s0 in
     let m = prefix_split s.rest (phrase.expression n a) (sign (phrase.comparison how) ∷ phrase.expression n b) rest f in
     let us : List Token = m.0 in
     let h = prefix_first us (sign (phrase.comparison how)) (phrase.expression n b) rest m.2 in
@@ -87,17 +91,18 @@ compared_given n a b how room s rest finds fits deep f ends =
     (after (comparison_sign (at s us)) _ how (at s (after_first us)) (comparison_given (at s us) how h.0)
     (after (expression_at room (at s (after_first us))) _ b (at s rest) (expression_given n b room (at s (after_first us)) rest finds (second_of_both (expression_fits (scope_of s) a) _ fits) deep_b h.1 ends) refl))
 
-value_compared : (room : ℕ) (k : Option TokenKind) (s : State) → begins_value k ≡ true → test_by room k s ≡ compared room s
-value_compared room (Some (kind.Number j)) s e = refl
-value_compared room (Some (kind.Name x)) s e = refl
-value_compared room (Some (kind.Sign mark.LeftBracket)) s e = refl
-value_compared room _ s e = absurd cc
+value_compared : (room : ℕ) (k : Option TokenKind) (s0 : State) → let s : State = hushed s0 in begins_value k ≡ true → test_by room k s ≡ compared room s
+value_compared room (Some (kind.Number j)) s0 e = let s : State = hushed s0 in refl
+value_compared room (Some (kind.Name x)) s0 e = let s : State = hushed s0 in refl
+value_compared room (Some (kind.Sign mark.LeftBracket)) s0 e = let s : State = hushed s0 in refl
+value_compared room _ s0 e = let s : State = hushed s0 in absurd cc
 
-test_given : (n : Names) (t : Test) (room : ℕ) (s : State) (rest : List Token) → FindsAll n s → test_fits (scope_of s) t ≡ true → test_depth t ≤ room → Prefix s.rest (phrase.test n t) rest → NoSign (kind_of rest) → test_at room s ≡ ok t (at s rest)
+test_given : (n : Names) (t : Test) (room : ℕ) (s0 : State) → let s : State = hushed s0 in (rest : List Token) → FindsAll n s → test_fits (scope_of s) t ≡ true → test_depth t ≤ room → Prefix s.rest (phrase.test n t) rest → NoSign (kind_of rest) → test_at room s ≡ ok t (at s rest)
 unfolding test_at
-test_given n flag_q room s rest finds fits deep f ends = let h = prefix_first s.rest (word keyword.Q) [] rest f in ap (λ (k : Option TokenKind). test_by room k s) h.0 ∙ left flag_q s (after_first s.rest) rest h.1
-test_given n flag_x room s rest finds fits deep f ends = let h = prefix_first s.rest (word keyword.X) [] rest f in ap (λ (k : Option TokenKind). test_by room k s) h.0 ∙ left flag_x s (after_first s.rest) rest h.1
-test_given n (compare a how b) room s rest finds fits deep f ends =
+test_given n flag_q room s0 rest finds fits deep f ends = let s : State = hushed s0 in let h = prefix_first s.rest (word keyword.Q) [] rest f in ap (λ (k : Option TokenKind). test_by room k s) h.0 ∙ left flag_q s (after_first s.rest) rest h.1
+test_given n flag_x room s0 rest finds fits deep f ends = let s : State = hushed s0 in let h = prefix_first s.rest (word keyword.X) [] rest f in ap (λ (k : Option TokenKind). test_by room k s) h.0 ∙ left flag_x s (after_first s.rest) rest h.1
+test_given n (compare a how b) room s0 rest finds fits deep f ends =
+    let s : State = hushed s0 in
     let m = prefix_split s.rest (phrase.expression n a) (sign (phrase.comparison how) ∷ phrase.expression n b) rest f in
     value_compared room (kind_of s.rest) s (value_begins n a s.rest m.0 m.1) ∙ compared_given n a b how room s rest finds fits deep f ends
 
@@ -119,20 +124,22 @@ test_begins n (compare a how b) ts rest f =
     let m = prefix_split ts (phrase.expression n a) (sign (phrase.comparison how) ∷ phrase.expression n b) rest f in
     value_test (kind_of ts) (value_begins n a ts m.0 m.1)
 
-plain_by : (room : ℕ) (k : Option TokenKind) (s : State) → begins_test k ≡ true → part_by room k s ≡ (test_at room >>= λ t. give (plain t)) s
-plain_by room (Some (kind.Keyword keyword.Q)) s e = refl
-plain_by room (Some (kind.Keyword keyword.X)) s e = refl
-plain_by room (Some (kind.Number j)) s e = refl
-plain_by room (Some (kind.Name x)) s e = refl
-plain_by room (Some (kind.Sign mark.LeftBracket)) s e = refl
-plain_by room _ s e = absurd cc
+plain_by : (room : ℕ) (k : Option TokenKind) (s0 : State) → let s : State = hushed s0 in begins_test k ≡ true → part_by room k s ≡ (test_at room >>= λ t. give (plain t)) s
+plain_by room (Some (kind.Keyword keyword.Q)) s0 e = let s : State = hushed s0 in refl
+plain_by room (Some (kind.Keyword keyword.X)) s0 e = let s : State = hushed s0 in refl
+plain_by room (Some (kind.Number j)) s0 e = let s : State = hushed s0 in refl
+plain_by room (Some (kind.Name x)) s0 e = let s : State = hushed s0 in refl
+plain_by room (Some (kind.Sign mark.LeftBracket)) s0 e = let s : State = hushed s0 in refl
+plain_by room _ s0 e = let s : State = hushed s0 in absurd cc
 
-part_given : (n : Names) (p : Part) (room : ℕ) (s : State) (rest : List Token) → FindsAll n s → part_fits (scope_of s) p ≡ true → part_depth p ≤ room → Prefix s.rest (phrase.part n p) rest → NoSign (kind_of rest) → part_at room s ≡ ok p (at s rest)
+part_given : (n : Names) (p : Part) (room : ℕ) (s0 : State) → let s : State = hushed s0 in (rest : List Token) → FindsAll n s → part_fits (scope_of s) p ≡ true → part_depth p ≤ room → Prefix s.rest (phrase.part n p) rest → NoSign (kind_of rest) → part_at room s ≡ ok p (at s rest)
 unfolding part_at
-part_given n (plain t) room s rest finds fits deep f ends =
+part_given n (plain t) room s0 rest finds fits deep f ends =
+    let s : State = hushed s0 in
     plain_by room (kind_of s.rest) s (test_begins n t s.rest rest f)
     ∙ after (test_at room s) _ t (at s rest) (test_given n t room s rest finds fits deep f ends) refl
-part_given n (negated t) room s rest finds fits deep f ends =
+part_given n (negated t) room s0 rest finds fits deep f ends =
+    let s : State = hushed s0 in
     let h = prefix_first s.rest (word keyword.Not) (phrase.test n t) rest f in
     let u : State = at s (after_first s.rest) in
     ap (λ (k : Option TokenKind). part_by room k s) h.0
@@ -141,18 +148,20 @@ part_given n (negated t) room s rest finds fits deep f ends =
 -- ---- lists with separators
 
 -- the others of a list are read, each in its turn
-pub others_given : {A : Type 0} (sep : Piece) (f : A → List Piece) (goes_on : Option TokenKind → Bool) (read : List A → Reader A) → Progresses goes_on (λ xs. read xs >>= λ x. give (xs ++ x ∷ [])) → (Good : List A → List A → Type 0) (Follows : Option TokenKind → Type 0) (s : State) → ((acc : List A) (x : A) (xs : List A) (ts us : List Token) → Good acc (x ∷ xs) → Prefix ts (sep ∷ f x) us → Follows (kind_of us) → (read acc (at s ts) ≡ ok x (at s us)) × Good (acc ++ x ∷ []) xs) → goes_on (Some sep.kind) ≡ true → Follows (Some sep.kind) → (xs acc : List A) (ts rest : List Token) → Good acc xs → Prefix ts (others sep f xs) rest → Follows (kind_of rest) → goes_on (kind_of rest) ≡ false → while_next goes_on (λ xs. read xs >>= λ x. give (xs ++ x ∷ [])) acc (at s ts) ≡ ok (acc ++ xs) (at s rest)
-others_given {A} sep f goes_on read progress Good Follows s each_one on follows [] acc ts rest good prefix ends off =
-    while_off goes_on (λ xs. read xs >>= λ x. give (xs ++ x ∷ [])) acc (at s ts) (ap (λ (w : List Token). goes_on (kind_of w)) prefix ∙ off)
+pub others_given : {A : Type 0} (c : Choice) (sep : Piece) (f : A → List Piece) (goes_on : Option TokenKind → Bool) (read : List A → Reader A) → Progresses goes_on (λ xs. read xs >>= λ x. give (xs ++ x ∷ [])) → (Good : List A → List A → Type 0) (Follows : Option TokenKind → Type 0) (s0 : State) → let s : State = hushed s0 in ((acc : List A) (x : A) (xs : List A) (ts us : List Token) → Good acc (x ∷ xs) → Prefix ts (sep ∷ f x) us → Follows (kind_of us) → (read acc (at s ts) ≡ ok x (at s us)) × Good (acc ++ x ∷ []) xs) → goes_on (Some sep.kind) ≡ true → Follows (Some sep.kind) → (xs acc : List A) (ts rest : List Token) → Good acc xs → Prefix ts (others sep f xs) rest → Follows (kind_of rest) → goes_on (kind_of rest) ≡ false → until c goes_on (λ xs. read xs >>= λ x. give (xs ++ x ∷ [])) acc (at s ts) ≡ ok (acc ++ xs) (at s rest)
+others_given {A} c sep f goes_on read progress Good Follows s0 each_one on follows [] acc ts rest good prefix ends off =
+    let s : State = hushed s0 in
+    until_off c goes_on (λ xs. read xs >>= λ x. give (xs ++ x ∷ [])) acc (at s ts) (ap (λ (w : List Token). goes_on (kind_of w)) prefix ∙ off)
     ∙ ap (λ (xs : List A). ok xs (at s ts)) (sym (append-nil acc)) ∙ left (acc ++ []) s ts rest prefix
-others_given {A} sep f goes_on read progress Good Follows s each_one on follows (x ∷ xs) acc ts rest good prefix ends off =
+others_given {A} c sep f goes_on read progress Good Follows s0 each_one on follows (x ∷ xs) acc ts rest good prefix ends off =
+    let s : State = hushed s0 in
     let m = prefix_split ts (sep ∷ f x) (others sep f xs) rest prefix in
     let us : List Token = m.0 in
     let one = each_one acc x xs ts us good m.1 (follow_on xs us m.2) in
     let h = prefix_first ts sep (f x) us m.1 in
-    while_turn goes_on (λ xs. read xs >>= λ x. give (xs ++ x ∷ [])) progress acc (at s ts) (acc ++ x ∷ []) (at s us) (ap goes_on h.0 ∙ on)
+    until_turn c goes_on (λ xs. read xs >>= λ x. give (xs ++ x ∷ [])) progress acc (at s ts) (acc ++ x ∷ []) (at s us) (ap goes_on h.0 ∙ on)
     (after (read acc (at s ts)) (λ x. give (acc ++ x ∷ [])) x (at s us) one.0 refl)
-    (others_given sep f goes_on read progress Good Follows s each_one on follows xs (acc ++ x ∷ []) us rest one.1 m.2 ends off ∙ ap (λ (w : List A). ok w (at s rest)) (append_assoc acc (x ∷ []) xs))
+    (others_given c sep f goes_on read progress Good Follows s each_one on follows xs (acc ++ x ∷ []) us rest one.1 m.2 ends off ∙ ap (λ (w : List A). ok w (at s rest)) (append_assoc acc (x ∷ []) xs))
   where
     follow_on : (ys : List A) (vs : List Token) → Prefix vs (others sep f ys) rest → Follows (kind_of vs)
     follow_on [] vs g = subst (λ (w : List Token). Follows (kind_of w)) (sym g) ends
@@ -165,13 +174,14 @@ record GoodParts (s : State) (room : ℕ) (acc xs : Condition) : Type 0 where
   few : length acc + length xs ≤ 16
   deep : most part_depth xs ≤ room
 
-limit_given : (count : ℕ) (s : State) → count < 16 → part_limit count s ≡ ok tt s
+limit_given : (count : ℕ) (s0 : State) → let s : State = hushed s0 in count < 16 → part_limit count s ≡ ok tt s
 unfolding part_limit
-limit_given count s below = ap (λ (b : Bool). cond b (give tt) (peek >>= no_part_by) s) (lt-ltb count 16 below)
+limit_given count s0 below = let s : State = hushed s0 in ap (λ (b : Bool). cond b (give tt) (peek >>= no_part_by) s) (lt-ltb count 16 below)
 
-and_part_given : (n : Names) (room : ℕ) (s : State) → FindsAll n s → (acc : Condition) (x : Part) (xs : Condition) (ts us : List Token) → GoodParts s room acc (x ∷ xs) → Prefix ts (word keyword.And ∷ phrase.part n x) us → NoSign (kind_of us) → (and_part room (length acc) (at s ts) ≡ ok x (at s us)) × GoodParts s room (acc ++ x ∷ []) xs
+and_part_given : (n : Names) (room : ℕ) (s0 : State) → let s : State = hushed s0 in FindsAll n s → (acc : Condition) (x : Part) (xs : Condition) (ts us : List Token) → GoodParts s room acc (x ∷ xs) → Prefix ts (word keyword.And ∷ phrase.part n x) us → NoSign (kind_of us) → (and_part room (length acc) (at s ts) ≡ ok x (at s us)) × GoodParts s room (acc ++ x ∷ []) xs
 unfolding and_part
-and_part_given n room s finds acc x xs ts us good f ends =
+and_part_given n room s0 finds acc x xs ts us good f ends =
+    let s : State = hushed s0 in
     let h = prefix_first ts (word keyword.And) (phrase.part n x) us f in
     let u : State = at s (after_first ts) in
     let few : length acc + suc (length xs) ≤ 16 = good.few in
@@ -184,10 +194,11 @@ and_part_given n room s finds acc x xs ts us good f ends =
 and_no_sign : NoSign (Some (kind.Keyword keyword.And))
 and_no_sign = record { product = refl; sum = refl }
 
-pub condition_given : (n : Names) (c : Condition) (room : ℕ) (s : State) (rest : List Token) → FindsAll n s → condition_fits (scope_of s) c ≡ true → most part_depth c ≤ room → Prefix s.rest (phrase.condition n c) rest → NoSign (kind_of rest) → is_keyword keyword.And (kind_of rest) ≡ false → condition_at room s ≡ ok c (at s rest)
+pub condition_given : (n : Names) (c : Condition) (room : ℕ) (s0 : State) → let s : State = hushed s0 in (rest : List Token) → FindsAll n s → condition_fits (scope_of s) c ≡ true → most part_depth c ≤ room → Prefix s.rest (phrase.condition n c) rest → NoSign (kind_of rest) → is_keyword keyword.And (kind_of rest) ≡ false → condition_at room s ≡ ok c (at s rest)
 unfolding condition_at
-condition_given n [] room s rest finds fits deep f ends off = absurd cc
-condition_given n (p ∷ ps) room s rest finds fits deep f ends off =
+condition_given n [] room s0 rest finds fits deep f ends off = let s : State = hushed s0 in absurd cc
+condition_given n (p ∷ ps) room s0 rest finds fits deep f ends off =
+    let s : State = hushed s0 in
     let m = prefix_split s.rest (phrase.part n p) (others (word keyword.And) (phrase.part n) ps) rest f in
     let us : List Token = m.0 in
     let some = second_of_both (nat_le 1 (suc (length ps))) _ fits in
@@ -195,7 +206,7 @@ condition_given n (p ∷ ps) room s rest finds fits deep f ends off =
     let all_fit = second_of_both (nat_le (suc (length ps)) 16) _ some in
     let good : GoodParts s room (p ∷ []) ps = record { fit = second_of_both (part_fits (scope_of s) p) _ all_fit; few = omega arith; deep = omega arith } in
     after (part_at room s) _ p (at s us) (part_given n p room s us finds (first_of_both (part_fits (scope_of s) p) _ all_fit) (omega arith) m.1 (follow_on ps us m.2))
-    (others_given (word keyword.And) (phrase.part n) (is_keyword keyword.And) (λ parts. and_part room (length parts)) (parts_progress room) (GoodParts s room) NoSign s (and_part_given n room s finds) (keyword_same keyword.And) and_no_sign ps (p ∷ []) us rest good m.2 ends off)
+    (others_given (choice.Word keyword.And) (word keyword.And) (phrase.part n) (is_keyword keyword.And) (λ parts. and_part room (length parts)) (parts_progress room) (GoodParts s room) NoSign s (and_part_given n room s finds) (keyword_same keyword.And) and_no_sign ps (p ∷ []) us rest good m.2 ends off)
   where
     follow_on : (qs : Condition) (vs : List Token) → Prefix vs (others (word keyword.And) (phrase.part n) qs) rest → NoSign (kind_of vs)
     follow_on [] vs g = subst (λ (w : List Token). NoSign (kind_of w)) (sym g) ends

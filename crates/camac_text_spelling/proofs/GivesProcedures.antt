@@ -11,10 +11,11 @@ use Rattle.camac_tokens.specs.declared.token.Sign.TheVariants as mark
 use Rattle.camac_tokens.specs.declared.token.Token.{Token}
 use Rattle.camac_tokens.specs.declared.token.TokenKind.{TokenKind}
 use Rattle.camac_tokens.specs.declared.token.TokenKind.TheVariants as kind
-use Rattle.camac_text_cursor.specs.Reading.{State, ◌>>◌, give, kind_of, after_first, while_next, one_more}
+use Rattle.camac_text_cursor.specs.declared.choice.Choice.TheVariants as choice
+use Rattle.camac_text_cursor.specs.Reading.{State, ◌>>◌, give, kind_of, after_first, one_more, miss, until}
 use Rattle.camac_text_cursor.specs.Readers.{is_sign, expect, expect_sign, any_number, new_name, added, new_parameter}
 use Rattle.camac_text_cursor.specs.Declaring.{in_heading, with_procedure}
-use Rattle.camac_text_cursor.proofs.Steps.{while_off}
+use Rattle.camac_text_cursor.proofs.Places.{hushed}
 use Rattle.camac_text_cursor.proofs.Registers.{first_of_both, second_of_both}
 use Rattle.camac_text_statements.specs.Statements.{block_at}
 use Rattle.camac_text.specs.Declarations.{declaration_at}
@@ -24,7 +25,7 @@ use Rattle.camac_text_spelling.specs.Pieces.{Piece, word, sign, numeral, name, o
 use Rattle.camac_text_spelling.specs.Declarations as spell
 use Rattle.camac_text_spelling.specs.Statements.{braced, block}
 use Rattle.camac_text_spelling.proofs.Prefixes.{prefix_split, prefix_first, prefix_line}
-use Rattle.camac_text_spelling.proofs.Gives.{at, ok, after, checked, while_turn, left, expected, expected_sign, sign_same, number_given, new_name_seen}
+use Rattle.camac_text_spelling.proofs.Gives.{at, ok, after, checked, left, expected, expected_sign, sign_same, number_given, new_name_seen, until_off, until_turn}
 use Rattle.camac_text_spelling.proofs.Fresh.{take_all}
 use Rattle.camac_text_spelling.proofs.Runs.{left_at, listed, block_of_listed}
 use Rattle.camac_text_spelling.proofs.GivesStatements.{RunsBraced}
@@ -33,16 +34,18 @@ use Rattle.camac_text_spelling.proofs.GivesDeclarations.{first_given, with_names
 
 -- ---- one parameter
 
-name_of_parameter : (s : State) (x : Text) → kind_of s.rest ≡ Some (kind.Name x) → is_new x s.declared ≡ true → length s.variables < 8 → s.variable_count < 64 → new_parameter s ≡ ok x (with_names s (after_first s.rest) (x ∷ []))
+name_of_parameter : (s0 : State) → let s : State = hushed s0 in (x : Text) → kind_of s.rest ≡ Some (kind.Name x) → is_new x s.declared ≡ true → length s.variables < 8 → s.variable_count < 64 → new_parameter s ≡ ok x (with_names s (after_first s.rest) (x ∷ []))
 unfolding new_parameter
-name_of_parameter s x e new few room =
+name_of_parameter s0 x e new few room =
+    let s : State = hushed s0 in
     after (new_name s) _ x s (new_name_seen s x e new)
     (checked (nat_lt (length s.variables) 8) _ (added x >> give x) s (lt-ltb (length s.variables) 8 few)
     (after (added x s) (λ _. give x) tt (with_names s (after_first s.rest) (x ∷ [])) (name_added s x room) refl))
 
-parameter_given : (s : State) (p : Parameter) (rest : List Token) → is_new p.name s.declared ≡ true → length s.variables < 8 → s.variable_count < 64 → Prefix s.rest (spell.parameter p) rest → parameter_at s ≡ ok p (with_names s rest (p.name ∷ []))
+parameter_given : (s0 : State) → let s : State = hushed s0 in (p : Parameter) (rest : List Token) → is_new p.name s.declared ≡ true → length s.variables < 8 → s.variable_count < 64 → Prefix s.rest (spell.parameter p) rest → parameter_at s ≡ ok p (with_names s rest (p.name ∷ []))
 unfolding parameter_at
-parameter_given s p rest new few room f =
+parameter_given s0 p rest new few room f =
+    let s : State = hushed s0 in
     let q3 : List Piece = numeral p.high ∷ [] in
     let q2 : List Piece = sign mark.UpTo ∷ q3 in
     let q1 : List Piece = numeral p.low ∷ q2 in
@@ -67,28 +70,31 @@ parameter_given s p rest new few room f =
 abbrev comma_first : List Parameter → List Piece
 comma_first ps = others (sign mark.Comma) spell.parameter ps
 
-parameters_more : (ps acc : List Parameter) (s : State) (rest : List Token) → are_new (names_of ps) s.declared ≡ true → length s.variables + length ps ≤ 8 → s.variable_count + length ps ≤ 64 → Prefix s.rest (comma_first ps) rest → is_sign mark.Comma (kind_of rest) ≡ false → while_next (is_sign mark.Comma) (one_more next_parameter) acc s ≡ ok (acc ++ ps) (with_names s rest (names_of ps))
+parameters_more : (ps acc : List Parameter) (s0 : State) → let s : State = hushed s0 in (rest : List Token) → are_new (names_of ps) s.declared ≡ true → length s.variables + length ps ≤ 8 → s.variable_count + length ps ≤ 64 → Prefix s.rest (comma_first ps) rest → is_sign mark.Comma (kind_of rest) ≡ false → until (choice.Mark mark.Comma) (is_sign mark.Comma) (one_more next_parameter) acc s ≡ ok (acc ++ ps) (with_names s rest (names_of ps))
 unfolding next_parameter
-parameters_more [] acc s rest new few room f off =
-    while_off (is_sign mark.Comma) (one_more next_parameter) acc s (ap (λ (ts : List Token). is_sign mark.Comma (kind_of ts)) f ∙ off)
+parameters_more [] acc s0 rest new few room f off =
+    let s : State = hushed s0 in
+    until_off (choice.Mark mark.Comma) (is_sign mark.Comma) (one_more next_parameter) acc s (ap (λ (ts : List Token). is_sign mark.Comma (kind_of ts)) f ∙ off)
     ∙ ap (λ (xs : List Parameter). ok xs s) (sym (append-nil acc))
     ∙ ap (λ (w : State). ok (acc ++ []) w) (no_names s rest f)
-parameters_more (p ∷ ps) acc s rest new few room f off =
+parameters_more (p ∷ ps) acc s0 rest new few room f off =
+    let s : State = hushed s0 in
     let m = prefix_split s.rest (sign mark.Comma ∷ spell.parameter p) (comma_first ps) rest f in
     let us : List Token = m.0 in
     let h = prefix_first s.rest (sign mark.Comma) (spell.parameter p) us m.1 in
     let t : State = at s (after_first s.rest) in
     let u : State = with_names s us (p.name ∷ []) in
     let longer : length (s.variables ++ p.name ∷ []) ≡ length s.variables + 1 = length-append s.variables (p.name ∷ []) in
-    while_turn (is_sign mark.Comma) (one_more next_parameter) parameters_progress acc s (acc ++ p ∷ []) u (ap (is_sign mark.Comma) h.0 ∙ sign_same mark.Comma)
+    until_turn (choice.Mark mark.Comma) (is_sign mark.Comma) (one_more next_parameter) parameters_progress acc s (acc ++ p ∷ []) u (ap (is_sign mark.Comma) h.0 ∙ sign_same mark.Comma)
     (after (next_parameter s) (λ q. give (acc ++ q ∷ [])) p u (parameter_given t p us (first_of_both (is_new p.name s.declared) _ new) (omega arith) (omega arith) h.1) refl)
     (parameters_more ps (acc ++ p ∷ []) u rest (new_after p.name (names_of ps) s.declared (second_of_both (is_new p.name s.declared) _ new)) (omega arith) (omega arith) m.2 off
     ∙ ap (λ (xs : List Parameter). ok xs (with_names u rest (names_of ps))) (append_assoc acc (p ∷ []) ps)
     ∙ ap (λ (w : State). ok (acc ++ p ∷ ps) w) (names_joined s us rest p.name (names_of ps)))
 
-parameters_listed : (p : Parameter) (ps : List Parameter) (s : State) (rest : List Token) → are_new (names_of (p ∷ ps)) s.declared ≡ true → length s.variables + suc (length ps) ≤ 8 → s.variable_count + suc (length ps) ≤ 64 → Prefix s.rest (separated (sign mark.Comma) spell.parameter (p ∷ ps)) rest → is_sign mark.Comma (kind_of rest) ≡ false → parameter_list s ≡ ok (p ∷ ps) (with_names s rest (names_of (p ∷ ps)))
+parameters_listed : (p : Parameter) (ps : List Parameter) (s0 : State) → let s : State = hushed s0 in (rest : List Token) → are_new (names_of (p ∷ ps)) s.declared ≡ true → length s.variables + suc (length ps) ≤ 8 → s.variable_count + suc (length ps) ≤ 64 → Prefix s.rest (separated (sign mark.Comma) spell.parameter (p ∷ ps)) rest → is_sign mark.Comma (kind_of rest) ≡ false → parameter_list s ≡ ok (p ∷ ps) (with_names s rest (names_of (p ∷ ps)))
 unfolding parameter_list
-parameters_listed p ps s rest new few room f off =
+parameters_listed p ps s0 rest new few room f off =
+    let s : State = hushed s0 in
     let m = prefix_split s.rest (spell.parameter p) (comma_first ps) rest f in
     let us : List Token = m.0 in
     let u : State = with_names s us (p.name ∷ []) in
@@ -98,15 +104,17 @@ parameters_listed p ps s rest new few room f off =
     ∙ ap (λ (w : State). ok (p ∷ ps) w) (names_joined s us rest p.name (names_of ps)))
 
 -- the bracket after them
-parameters_given : (ps : List Parameter) (s : State) (rest : List Token) → are_new (names_of ps) s.declared ≡ true → length s.variables + length ps ≤ 8 → s.variable_count + length ps ≤ 64 → Prefix s.rest (separated (sign mark.Comma) spell.parameter ps) rest → kind_of rest ≡ Some (kind.Sign mark.RightBracket) → parameters_at s ≡ ok ps (with_names s rest (names_of ps))
+parameters_given : (ps : List Parameter) (s0 : State) → let s : State = hushed s0 in (rest : List Token) → are_new (names_of ps) s.declared ≡ true → length s.variables + length ps ≤ 8 → s.variable_count + length ps ≤ 64 → Prefix s.rest (separated (sign mark.Comma) spell.parameter ps) rest → kind_of rest ≡ Some (kind.Sign mark.RightBracket) → parameters_at s ≡ ok ps (with_names s rest (names_of ps))
 unfolding parameters_at
-parameters_given [] s rest new few room f bracket =
-    ap (λ (k : Option TokenKind). cond (is_sign mark.RightBracket k) (give []) parameter_list s) (ap kind_of f ∙ bracket)
+parameters_given [] s0 rest new few room f bracket =
+    let s : State = hushed s0 in
+    ap (λ (k : Option TokenKind). cond (is_sign mark.RightBracket k) (give []) (miss (choice.Mark mark.RightBracket) >> parameter_list) s) (ap kind_of f ∙ bracket)
     ∙ ap (λ (w : State). ok [] w) (no_names s rest f)
-parameters_given (p ∷ ps) s rest new few room f bracket =
+parameters_given (p ∷ ps) s0 rest new few room f bracket =
+    let s : State = hushed s0 in
     let m = prefix_split s.rest (spell.parameter p) (comma_first ps) rest f in
     let h = prefix_first s.rest (name p.name) (word keyword.In ∷ numeral p.low ∷ sign mark.UpTo ∷ numeral p.high ∷ []) m.0 m.1 in
-    ap (λ (k : Option TokenKind). cond (is_sign mark.RightBracket k) (give []) parameter_list s) h.0
+    ap (λ (k : Option TokenKind). cond (is_sign mark.RightBracket k) (give []) (miss (choice.Mark mark.RightBracket) >> parameter_list) s) h.0
     ∙ parameters_listed p ps s rest new few room f (ap (is_sign mark.Comma) bracket)
 
 -- ---- the heading
@@ -124,9 +132,10 @@ heading p ps =
     sign mark.LeftBracket ∷ (separated (sign mark.Comma) spell.parameter p.parameters ++ sign mark.RightBracket ∷ after_bracket p ps)
 
 -- the heading is read, and what is left of the tokens
-heading_given : (p : Procedure) (s : State) (ps : List Piece) (rest : List Token) → are_new (names_of p.parameters) s.declared ≡ true → length s.variables + length p.parameters ≤ 8 → s.variable_count + length p.parameters ≤ 64 → Prefix s.rest (heading p ps) rest → (us : List Token) × (heading_at s ≡ ok (heading_of p) (with_names s us (names_of p.parameters))) × Prefix us ps rest
+heading_given : (p : Procedure) (s0 : State) → let s : State = hushed s0 in (ps : List Piece) (rest : List Token) → are_new (names_of p.parameters) s.declared ≡ true → length s.variables + length p.parameters ≤ 8 → s.variable_count + length p.parameters ≤ 64 → Prefix s.rest (heading p ps) rest → (us : List Token) × (heading_at s ≡ ok (heading_of p) (with_names s us (names_of p.parameters))) × Prefix us ps rest
 unfolding heading_at
-heading_given p s ps rest new few room f =
+heading_given p s0 ps rest new few room f =
+    let s : State = hushed s0 in
     let q0 : List Piece = separated (sign mark.Comma) spell.parameter p.parameters in
     let q8 : List Piece = numeral p.steps ∷ ps in
     let q7 : List Piece = word keyword.Steps ∷ q8 in
@@ -193,9 +202,10 @@ with_procedure_body s rest p m = record s {
   order = s.order ++ next_procedure ∷ [];
 }
 
-pub procedure_declared : (t : Script) (p : Procedure) (s : State) (rest : List Token) (m : ℕ) → length s.procedures < 16 → is_new p.name s.declared ≡ true → are_new (names_of p.parameters) (s.declared ++ p.name ∷ []) ≡ true → length p.parameters ≤ 8 → s.variable_count + length p.parameters ≤ 64 → RunsBraced (spell.procedure_names t p) (inside s s.rest p) 0 (length p.registers) m 16 p.body → Prefix s.rest (spell.procedure_declaration t p) rest → declaration_at s ≡ ok tt (with_procedure_body s rest p m)
+pub procedure_declared : (t : Script) (p : Procedure) (s0 : State) → let s : State = hushed s0 in (rest : List Token) (m : ℕ) → length s.procedures < 16 → is_new p.name s.declared ≡ true → are_new (names_of p.parameters) (s.declared ++ p.name ∷ []) ≡ true → length p.parameters ≤ 8 → s.variable_count + length p.parameters ≤ 64 → RunsBraced (spell.procedure_names t p) (inside s s.rest p) 0 (length p.registers) m 16 p.body → Prefix s.rest (spell.procedure_declaration t p) rest → declaration_at s ≡ ok tt (with_procedure_body s rest p m)
 unfolding procedure_declaration
-procedure_declared t p s rest m room new new_parameters few count c f =
+procedure_declared t p s0 rest m room new new_parameters few count c f =
+    let s : State = hushed s0 in
     let n : Names = spell.procedure_names t p in
     let body : List Piece = braced (block n p.body) in
     let q1 : List Piece = heading p body in

@@ -18,6 +18,7 @@ use Rattle.camac_text_phrases.specs.Expressions.{expression_at}
 use Rattle.camac_text_phrases.specs.Conditions.{condition_at}
 use Rattle.camac_text_cursor.specs.Readers.{begin}
 use Rattle.camac_text_statements.specs.Statements.{else_by, if_statement, lock_statement, statement_with, is_no_end, block_at}
+use Rattle.camac_text_cursor.proofs.Places.{hushed}
 use Rattle.camac_text_cursor.proofs.Uses.{scope_of}
 use Rattle.camac_text_statements.proofs.Acts.{begun}
 use Rattle.camac_text_cursor.proofs.Registers.{first_of_both, second_of_both}
@@ -33,16 +34,17 @@ use Rattle.camac_text_spelling.proofs.GivesActions.{IsGiven}
 
 -- The statements of a block that is spelled are read, up to its brace.
 abbrev pub AreGiven : Names → Block → Type 0
-AreGiven n b = (room : ℕ) (acc : List Statement) (s : State) (rest : List Token) (j k m : ℕ) → Runs n s j k m room (after_block (scope_of s) j b) (inner_depth s.callables b) (statements b) → Prefix s.rest (spell.block n b) rest → kind_of rest ≡ Some (kind.Sign mark.RightBrace) → while_next is_no_end (one_more (statement_with room (block_at room))) acc s ≡ ok (acc ++ listed b) (left_at n s rest k m)
+AreGiven n b = (room : ℕ) (acc : List Statement) (s0 : State) → let s : State = hushed s0 in (rest : List Token) (j k m : ℕ) → Runs n s j k m room (after_block (scope_of s) j b) (inner_depth s.callables b) (statements b) → Prefix s.rest (spell.block n b) rest → kind_of rest ≡ Some (kind.Sign mark.RightBrace) → while_next is_no_end (one_more (statement_with room (block_at room))) acc s ≡ ok (acc ++ listed b) (left_at n s rest k m)
 
 -- a block in its braces
 abbrev pub RunsBraced : Names → State → ℕ → ℕ → ℕ → ℕ → Block → Type 0
 RunsBraced n s j k m room b = Runs n s j k m room (after_block (scope_of s) j b) (suc (inner_depth s.callables b)) (statements b)
 
-pub braced_given : (n : Names) (b : Block) → AreGiven n b → (room : ℕ) (s : State) (rest : List Token) (j k m : ℕ) → RunsBraced n s j k m room b → Prefix s.rest (spell.braced (spell.block n b)) rest → block_at room s ≡ ok (listed b) (left_at n s rest k m)
+pub braced_given : (n : Names) (b : Block) → AreGiven n b → (room : ℕ) (s0 : State) → let s : State = hushed s0 in (rest : List Token) (j k m : ℕ) → RunsBraced n s j k m room b → Prefix s.rest (spell.braced (spell.block n b)) rest → block_at room s ≡ ok (listed b) (left_at n s rest k m)
 unfolding block_at many
-braced_given n b given zero s rest j k m c f = let deep : suc (inner_depth s.callables b) ≤ 0 = c.deep in absurd (omega arith)
-braced_given n b given (suc room) s rest j k m c f =
+braced_given n b given zero s0 rest j k m c f = let s : State = hushed s0 in let deep : suc (inner_depth s.callables b) ≤ 0 = c.deep in absurd (omega arith)
+braced_given n b given (suc room) s0 rest j k m c f =
+    let s : State = hushed s0 in
     let ps : List Piece = spell.block n b in
     let h = prefix_first s.rest (sign mark.LeftBrace) (ps ++ sign mark.RightBrace ∷ []) rest f in
     let u : State = at s (after_first s.rest) in
@@ -76,7 +78,8 @@ brace_first n b ts rest f = (prefix_first ts (sign mark.LeftBrace) (spell.block 
 
 pub locked_given : (n : Names) (line : ℕ) (e : Expression) (b : Block) → AreGiven n b → IsGiven n (locked line e b)
 unfolding lock_statement
-locked_given n line e b given room s rest j k m c f ends =
+locked_given n line e b given room s0 rest j k m c f ends =
+    let s : State = hushed s0 in
     let x : Statement = locked line e b in
     let p1 : List Piece = phrase.expression n e in
     let body : List Piece = spell.braced (spell.block n b) in
@@ -107,13 +110,14 @@ locked_given n line e b given room s rest j k m c f ends =
 
 -- ---- `if`
 
-no_else_by : (block : Reader (List Statement)) (line : ℕ) (c : Condition) (xs : List Statement) (o : Option TokenKind) (s : State) → is_keyword keyword.Else o ≡ false → else_by block line c xs o s ≡ ok (choose line c (block_of xs)) s
-no_else_by block line c xs (Some (kind.Keyword keyword.Else)) s off = absurd cc
-no_else_by block line c xs _ s off = refl
+no_else_by : (block : Reader (List Statement)) (line : ℕ) (c : Condition) (xs : List Statement) (o : Option TokenKind) (s0 : State) → let s : State = hushed s0 in is_keyword keyword.Else o ≡ false → else_by block line c xs o s ≡ ok (choose line c (block_of xs)) s
+no_else_by block line c xs (Some (kind.Keyword keyword.Else)) s0 off = let s : State = hushed s0 in absurd cc
+no_else_by block line c xs _ s0 off = let s : State = hushed s0 in refl
 
 pub choose_given : (n : Names) (line : ℕ) (t : Condition) (b : Block) → AreGiven n b → IsGiven n (choose line t b)
 unfolding if_statement
-choose_given n line t b given room s rest j k m c f ends =
+choose_given n line t b given room s0 rest j k m c f ends =
+    let s : State = hushed s0 in
     let x : Statement = choose line t b in
     let p1 : List Piece = phrase.condition n t in
     let body : List Piece = spell.braced (spell.block n b) in
@@ -145,7 +149,8 @@ choose_given n line t b given room s rest j k m c f ends =
 
 pub choose_else_given : (n : Names) (line : ℕ) (t : Condition) (a b : Block) → AreGiven n a → AreGiven n b → IsGiven n (choose_else line t a b)
 unfolding if_statement
-choose_else_given n line t a b given_a given_b room s rest j k m c f ends =
+choose_else_given n line t a b given_a given_b room s0 rest j k m c f ends =
+    let s : State = hushed s0 in
     let x : Statement = choose_else line t a b in
     let p1 : List Piece = phrase.condition n t in
     let body : List Piece = spell.braced (spell.block n a) in

@@ -19,6 +19,7 @@ use Rattle.camac_text_phrases.specs.Expressions.{expression_at}
 use Rattle.camac_text_statements.specs.Statements.{block_at}
 use Rattle.camac_text_statements.specs.Transfers.{last_bound, table_by, table_at, scan_statement, q_stop_statement, q_repeat_statement}
 use Rattle.camac_text_statements.proofs.Acts.{begun}
+use Rattle.camac_text_cursor.proofs.Places.{hushed}
 use Rattle.camac_text_cursor.proofs.Uses.{scope_of}
 use Rattle.camac_text_cursor.proofs.Registers.{first_of_both, second_of_both}
 use Rattle.camac_text_spelling.specs.Pieces.{Piece, word, numeral, name_at, text_at, Names, Prefix}
@@ -32,14 +33,16 @@ use Rattle.camac_text_spelling.proofs.GivesActions.{IsGiven}
 
 -- ---- their parts
 
-function_read : (s : State) (g : ℕ) → is_function g ≡ true → kind_of s.rest ≡ Some (kind.Number g) → function_number s ≡ ok g (at s (after_first s.rest))
-function_read s g fits next =
+function_read : (s0 : State) → let s : State = hushed s0 in (g : ℕ) → is_function g ≡ true → kind_of s.rest ≡ Some (kind.Number g) → function_number s ≡ ok g (at s (after_first s.rest))
+function_read s0 g fits next =
+    let s : State = hushed s0 in
     let few : g ≤ 31 = leb-true g 31 fits in
     function_given s g next (let less : g < 32 = omega arith in lt-ltb g 32 less)
 
 -- a register that is set
-register_read : (n : Names) (s : State) (ts : List Token) (r j k m room : ℕ) (reaches : Option ℕ) (depth : ℕ) → Runs n s j k m room reaches depth 1 → j ≡ k → nat_lt r j ≡ true → kind_of ts ≡ Some (kind.Name (text_at n.registers r)) → used_register (at (begun s) ts) ≡ ok r (at (begun s) (after_first ts))
-register_read n s ts r j k m room reaches depth c same fits next =
+register_read : (n : Names) (s0 : State) → let s : State = hushed s0 in (ts : List Token) (r j k m room : ℕ) (reaches : Option ℕ) (depth : ℕ) → Runs n s j k m room reaches depth 1 → j ≡ k → nat_lt r j ≡ true → kind_of ts ≡ Some (kind.Name (text_at n.registers r)) → used_register (at (begun s) ts) ≡ ok r (at (begun s) (after_first ts))
+register_read n s0 ts r j k m room reaches depth c same fits next =
+    let s : State = hushed s0 in
     let below : r < j = ltb-true r j fits in
     let within : k ≤ length n.registers = c.within in
     register_given n (at (begun s) ts) r (ap (place_of (text_at n.registers r)) c.registers ∙ c.sets.set r j below (omega arith)) next
@@ -51,9 +54,10 @@ limit_no_sign : NoSign (Some (kind.Keyword keyword.Limit))
 limit_no_sign = record { product = refl; sum = refl }
 
 -- the last bound after its word, and the tally
-bound_given : (n : Names) (w : Keyword) (e : Expression) (x room : ℕ) (s : State) (rest : List Token) → FindsAll n s → expression_fits (scope_of s) e ≡ true → expression_depth e ≤ room → nat_lt x (length s.variables) ≡ true → Prefix s.rest (word w ∷ (phrase.expression n e ++ phrase.tally n x)) rest → last_bound w room s ≡ ok (e, x) (at s rest)
+bound_given : (n : Names) (w : Keyword) (e : Expression) (x room : ℕ) (s0 : State) → let s : State = hushed s0 in (rest : List Token) → FindsAll n s → expression_fits (scope_of s) e ≡ true → expression_depth e ≤ room → nat_lt x (length s.variables) ≡ true → Prefix s.rest (word w ∷ (phrase.expression n e ++ phrase.tally n x)) rest → last_bound w room s ≡ ok (e, x) (at s rest)
 unfolding last_bound
-bound_given n w e x room s rest finds fits deep known f =
+bound_given n w e x room s0 rest finds fits deep known f =
+    let s : State = hushed s0 in
     let h = prefix_first s.rest (word w) (phrase.expression n e ++ phrase.tally n x) rest f in
     let u : State = at s (after_first s.rest) in
     let parts = prefix_split (after_first s.rest) (phrase.expression n e) (phrase.tally n x) rest h.1 in
@@ -67,11 +71,13 @@ bound_given n w e x room s rest finds fits deep known f =
     (after (used_variable (at s ts)) _ x (at s (after_first ts)) (variable_given n (at s ts) x finds known named.0) (left (e, x) s (after_first ts) rest named.1))))
 
 -- the table of a write, before `max`
-write_given : (n : Names) (g : Option ℕ) (s : State) (rest : List Token) → FindsAll n s → table_fits (scope_of s) g ≡ true → Prefix s.rest (phrase.table n g) rest → kind_of rest ≡ Some (kind.Keyword keyword.Max) → table_at s ≡ ok g (at s rest)
+write_given : (n : Names) (g : Option ℕ) (s0 : State) → let s : State = hushed s0 in (rest : List Token) → FindsAll n s → table_fits (scope_of s) g ≡ true → Prefix s.rest (phrase.table n g) rest → kind_of rest ≡ Some (kind.Keyword keyword.Max) → table_at s ≡ ok g (at s rest)
 unfolding table_at
-write_given n None s rest finds fits f next =
+write_given n None s0 rest finds fits f next =
+    let s : State = hushed s0 in
     ap (λ (k : Option TokenKind). table_by k s) (ap kind_of f ∙ next) ∙ left (let none : Option ℕ = None in none) s s.rest rest f
-write_given n (Some g) s rest finds fits f next =
+write_given n (Some g) s0 rest finds fits f next =
+    let s : State = hushed s0 in
     let h = prefix_first s.rest (word keyword.Table) (name_at n.tables g ∷ []) rest f in
     let ts : List Token = after_first s.rest in
     let named = prefix_first ts (name_at n.tables g) [] rest h.1 in
@@ -82,7 +88,8 @@ write_given n (Some g) s rest finds fits f next =
 
 pub scan_given : (n : Names) (line g r1 r2 : ℕ) (e : Expression) (x : ℕ) → IsGiven n (address_scan line g r1 r2 e x)
 unfolding scan_statement
-scan_given n line g r1 r2 e x room s rest j k m c f ends =
+scan_given n line g r1 r2 e x room s0 rest j k m c f ends =
+    let s : State = hushed s0 in
     let y : Statement = address_scan line g r1 r2 e x in
     let p4 : List Piece = phrase.most n e ++ phrase.tally n x in
     let p3 : List Piece = name_at n.registers r2 ∷ p4 in
@@ -111,7 +118,8 @@ scan_given n line g r1 r2 e x room s rest j k m c f ends =
 
 pub stop_given : (n : Names) (line g r : ℕ) (t : Option ℕ) (e : Expression) (x : ℕ) → IsGiven n (q_stop line g r t e x)
 unfolding q_stop_statement
-stop_given n line g r t e x room s rest j k m c f ends =
+stop_given n line g r t e x room s0 rest j k m c f ends =
+    let s : State = hushed s0 in
     let y : Statement = q_stop line g r t e x in
     let p4 : List Piece = phrase.expression n e ++ phrase.tally n x in
     let p3 : List Piece = phrase.table n t ++ word keyword.Max ∷ p4 in
@@ -141,7 +149,8 @@ stop_given n line g r t e x room s rest j k m c f ends =
 
 pub q_repeat_given : (n : Names) (line g r : ℕ) (t : Option ℕ) (e l : Expression) (x : ℕ) → IsGiven n (q_repeat line g r t e l x)
 unfolding q_repeat_statement
-q_repeat_given n line g r t e l x room s rest j k m c f ends =
+q_repeat_given n line g r t e l x room s0 rest j k m c f ends =
+    let s : State = hushed s0 in
     let y : Statement = q_repeat line g r t e l x in
     let p5 : List Piece = word keyword.Limit ∷ (phrase.expression n l ++ phrase.tally n x) in
     let p4 : List Piece = phrase.expression n e ++ p5 in

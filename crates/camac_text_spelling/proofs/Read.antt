@@ -9,14 +9,16 @@ use Rattle.camac_lang.specs.Tests.{has, total, most, unless_broken}
 use Rattle.camac_lang.specs.Tree.{Text, Table, Lam, Procedure, Service, Item, next_table, next_lam, next_variables, next_procedure, next_service, Script}
 use Rattle.camac_lang.proofs.Options.{unless_parts, then_parts}
 use Rattle.camac_tokens.specs.declared.token.Token.{Token}
-use Rattle.camac_tokens.specs.Fault.{Fault}
 use Rattle.camac_tokens.specs.Scanning.{last_line}
+use Rattle.camac_tokens.specs.Fault.{Fault}
 use Rattle.camac_text_cursor.specs.Reading.{State, kind_of, while_next}
 use Rattle.camac_text_cursor.specs.Readers.{is_name as next_is_name}
 use Rattle.camac_text_cursor.specs.Declaring.{tree_so_far}
 use Rattle.camac_text.specs.Declarations.{declaration_at, is_token, declarations_at}
 use Rattle.camac_text_cursor.specs.Readers.{is_number as next_is_number}
 use Rattle.camac_text.specs.Parser.{start, tree_in, tree_of_tokens, tree_after, script_of}
+use Rattle.camac_text_cursor.proofs.Places.{hushed}
+use Rattle.camac_text.proofs.Faults.{tree_untold}
 use Rattle.camac_text_cursor.proofs.Registers.{first_of_both, second_of_both}
 use Rattle.camac_text.proofs.Declares.{declarations_progress}
 use Rattle.camac_text_cursor.proofs.Steps.{while_off}
@@ -61,7 +63,7 @@ next_closes t (i ∷ is) b last ts e f =
 
 record Walked (t : Script) (is : List Item) (last : Before) (s : State) : Type 0 where
   end : State
-  read : while_next is_token (λ _. declaration_at) tt s ≡ ok tt end
+  read : while_next is_token (λ _. declaration_at) tt (hushed s) ≡ ok tt (hushed end)
   ordered : end.order ≡ s.order ++ is
   stands : Stands t last end
 
@@ -71,7 +73,7 @@ before_is a b e = cc
 walked : (t : Script) (is : List Item) (b last : Before) (s : State) → Limited t → Stands t b s → all_declared t b is ≡ Some last → Prefix s.rest (spell.declarations t (passed_of b) is) [] → Walked t is last s
 walked t [] b last s limits st e f = record {
   end = s;
-  read = while_off is_token (λ _. declaration_at) tt s (ap (λ (us : List Token). is_token (kind_of us)) f);
+  read = while_off is_token (λ _. declaration_at) tt (hushed s) (ap (λ (us : List Token). is_token (kind_of us)) f);
   ordered = sym (append-nil s.order);
   stands = subst (λ (k : Before). Stands t k s) (before_is b last e) st;
 }
@@ -83,7 +85,7 @@ walked t (i ∷ is) b last s limits st e f =
     let more = walked t is p.0 last one.next limits one.stands p.2 (subst (λ (us : List Token). Prefix us (spell.declarations t (passed_of p.0) is) []) (sym one.left) others) in
     record {
       end = more.end;
-      read = while_turn is_token (λ _. declaration_at) declarations_progress tt s tt one.next (declaration_opens t b p.0 i s.rest m.0 p.1 m.1).token one.read more.read;
+      read = while_turn is_token (λ _. declaration_at) declarations_progress tt (hushed s) tt (hushed one.next) (declaration_opens t b p.0 i s.rest m.0 p.1 m.1).token one.read more.read;
       ordered = more.ordered ∙ ap (λ (xs : List Item). xs ++ is) one.ordered ∙ append_assoc s.order (i ∷ []) is;
       stands = more.stands;
     }
@@ -172,7 +174,7 @@ spelled_tokens_are_read tokens end_line tree spelled =
     let limits = limited tree (first_of_both (within_limits tree) _ spelled.stands) in
     let last = has_before (all_declared tree nothing_before tree.order) (is_all tree) (second_of_both (within_limits tree) _ spelled.stands) in
     let w = walked tree tree.order nothing_before last.0 (start tokens end_line) limits (begins tree tokens end_line) last.1 spelled.all in
-    ap tree_in w.read ∙ ap (λ (x : Script). let r : Result Script Fault = Ok x in r) (whole_tree tree last.0 w.end w.stands w.ordered last.2)
+    sym (tree_untold (start tokens end_line)) ∙ ap tree_in w.read ∙ ap (λ (x : Script). let r : Result Script Fault = Ok x in r) (whole_tree tree last.0 w.end w.stands w.ordered last.2)
 
 pub spelled_is_read : SpelledIsRead
 unfolding script_of

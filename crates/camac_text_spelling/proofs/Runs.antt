@@ -16,6 +16,7 @@ use Rattle.camac_text_phrases.specs.Expressions.{is_product_sign, is_sum_sign}
 use Rattle.camac_text_cursor.specs.Readers.{begin}
 use Rattle.camac_text_statements.specs.Statements.{statement_by, statement_with}
 use Rattle.camac_text_statements.proofs.Acts.{begun}
+use Rattle.camac_text_cursor.proofs.Places.{hushed}
 use Rattle.camac_text_cursor.proofs.Registers.{first_of_both, second_of_both}
 use Rattle.camac_text_spelling.specs.Pieces.{Piece, first_piece, text_at, Names, Prefix}
 use Rattle.camac_text_spelling.proofs.Prefixes.{prefix_line}
@@ -49,19 +50,21 @@ left_at n s rest k m = record s { rest = rest; registers = take k n.registers; s
 
 -- ---- how a statement begins
 
-pub begin_given : (s : State) → s.statements < 4096 → begin s ≡ ok tt (begun s)
+pub begin_given : (s0 : State) → let s : State = hushed s0 in s.statements < 4096 → begin s ≡ ok tt (begun s)
 unfolding begin
-begin_given s below = checked (nat_lt s.statements 4096) _ (change (λ u. record u { statements = suc u.statements }) >> advance) s (lt-ltb s.statements 4096 below) refl
+begin_given s0 below = let s : State = hushed s0 in checked (nat_lt s.statements 4096) _ (change (λ u. record u { statements = suc u.statements }) >> advance) s (lt-ltb s.statements 4096 below) refl
 
-pub first_given : (line room : ℕ) (block : Reader (List Statement)) (k : TokenKind) (s : State) (ps : List Piece) (rest : List Token) → Prefix s.rest (first_piece line k ∷ ps) rest → statement_with room block s ≡ statement_by room block line (Some k) s
+pub first_given : (line room : ℕ) (block : Reader (List Statement)) (k : TokenKind) (s0 : State) → let s : State = hushed s0 in (ps : List Piece) (rest : List Token) → Prefix s.rest (first_piece line k ∷ ps) rest → statement_with room block s ≡ statement_by room block line (Some k) s
 unfolding statement_with
-first_given line room block k s ps rest f =
+first_given line room block k s0 ps rest f =
+    let s : State = hushed s0 in
     let h = prefix_line s.rest s.end_line line k ps rest f in
     ap (λ (l : ℕ). statement_by room block l (kind_of s.rest) s) h.1 ∙ ap (λ (o : Option TokenKind). statement_by room block line o s) h.0
 
 -- one that sets no register and holds no block
-pub simple_given : (n : Names) (x : Statement) (s : State) (rest : List Token) (j k m room : ℕ) (reaches : Option ℕ) (depth : ℕ) (g : Reader Statement) → Runs n s j k m room reaches depth 1 → j ≡ k → g (begun s) ≡ ok x (at (begun s) rest) → (begin >> g) s ≡ ok x (left_at n s rest k m)
-simple_given n x s rest j k m room reaches depth g c same h =
+pub simple_given : (n : Names) (x : Statement) (s0 : State) → let s : State = hushed s0 in (rest : List Token) (j k m room : ℕ) (reaches : Option ℕ) (depth : ℕ) (g : Reader Statement) → Runs n s j k m room reaches depth 1 → j ≡ k → g (begun s) ≡ ok x (at (begun s) rest) → (begin >> g) s ≡ ok x (left_at n s rest k m)
+simple_given n x s0 rest j k m room reaches depth g c same h =
+    let s : State = hushed s0 in
     let few : m ≤ 4096 = c.few in
     let counted : m ≡ s.statements + 1 = c.counted in
     let one : suc s.statements ≡ m = omega arith in
@@ -91,27 +94,31 @@ ends_by k e =
 
 -- ---- registers
 
-register_set : (s : State) (x : Text) (place : Option ℕ) (r : ℕ) → place ≡ Some r → register_at x place s ≡ ok r (at s (after_first s.rest))
-register_set s x place r e = ap (λ (o : Option ℕ). register_at x o s) e
+register_set : (s0 : State) → let s : State = hushed s0 in (x : Text) (place : Option ℕ) (r : ℕ) → place ≡ Some r → register_at x place s ≡ ok r (at s (after_first s.rest))
+register_set s0 x place r e = let s : State = hushed s0 in ap (λ (o : Option ℕ). register_at x o s) e
 
-register_new : (s : State) (x : Text) (place : Option ℕ) → place ≡ None → other_registers s + length s.registers < 64 → register_at x place s ≡ ok (length s.registers) (record s { rest = after_first s.rest; registers = s.registers ++ x ∷ [] })
-register_new s x place e room =
+register_new : (s0 : State) → let s : State = hushed s0 in (x : Text) (place : Option ℕ) → place ≡ None → other_registers s + length s.registers < 64 → register_at x place s ≡ ok (length s.registers) (record s { rest = after_first s.rest; registers = s.registers ++ x ∷ [] })
+register_new s0 x place e room =
+    let s : State = hushed s0 in
     ap (λ (o : Option ℕ). register_at x o s) e
     ∙ checked (nat_lt (other_registers s + length s.registers) 64) _ (advance >> (change (with_register x) >> give (length s.registers))) s (lt-ltb (other_registers s + length s.registers) 64 room) refl
 
-pub set_name_given : (n : Names) (s : State) (r j k : ℕ) → Sets n s.declared (other_registers s) → s.registers ≡ take j n.registers → r ≤ j → max j (suc r) ≡ k → k ≤ length n.registers → kind_of s.rest ≡ Some (kind.Name (text_at n.registers r)) → set_name s ≡ ok r (record s { rest = after_first s.rest; registers = take k n.registers })
+pub set_name_given : (n : Names) (s0 : State) → let s : State = hushed s0 in (r j k : ℕ) → Sets n s.declared (other_registers s) → s.registers ≡ take j n.registers → r ≤ j → max j (suc r) ≡ k → k ≤ length n.registers → kind_of s.rest ≡ Some (kind.Name (text_at n.registers r)) → set_name s ≡ ok r (record s { rest = after_first s.rest; registers = take k n.registers })
 unfolding set_name
-set_name_given n s r j k sets registers below reaches within ahead =
+set_name_given n s0 r j k sets registers below reaches within ahead =
+    let s : State = hushed s0 in
     let x : Text = text_at n.registers r in
     after (new_name s) _ x s (new_name_seen s x ahead (sets.fresh r (omega arith))) (by (nat_lt r j) refl)
   where
-    by : (b : Bool) → nat_lt r j ≡ b → register_at (text_at n.registers r) (place_of (text_at n.registers r) s.registers) s ≡ ok r (record s { rest = after_first s.rest; registers = take k n.registers })
+    by : (b : Bool) → let s : State = hushed s0 in nat_lt r j ≡ b → register_at (text_at n.registers r) (place_of (text_at n.registers r) s.registers) s ≡ ok r (record s { rest = after_first s.rest; registers = take k n.registers })
     by true e =
+        let s : State = hushed s0 in
         let less : r < j = ltb-true r j e in
         let same : j ≡ k = omega arith in
         register_set s (text_at n.registers r) (place_of (text_at n.registers r) s.registers) r (ap (place_of (text_at n.registers r)) registers ∙ sets.set r j less (omega arith))
         ∙ ap (λ (rs : List Text). ok r (record s { rest = after_first s.rest; registers = rs })) (registers ∙ ap (λ (i : ℕ). take i n.registers) same)
     by false e =
+        let s : State = hushed s0 in
         let same : r ≡ j = grind (arith, e, below) in
         let next_is : suc j ≡ k = omega arith in
         let many : length s.registers ≡ j = ap (λ (rs : List Text). length rs) registers ∙ length-take-le j n.registers (omega arith) in

@@ -13,7 +13,7 @@ use Rattle.camac_tokens.specs.declared.token.Sign.TheVariants as mark
 use Rattle.camac_tokens.specs.declared.token.TokenKind.{TokenKind}
 use Rattle.camac_tokens.specs.declared.token.TokenKind.TheVariants as kind
 use Rattle.camac_text_cursor.specs.Names.{place_of}
-use Rattle.camac_text_cursor.specs.Reading.{State, Reader, ◌>>=◌, ◌>>◌, give, change, advance, kind_of, line_of, after_first}
+use Rattle.camac_text_cursor.specs.Reading.{State, Reader, ◌>>=◌, ◌>>◌, give, change, advance, kind_of, line_of, past}
 use Rattle.camac_text_cursor.specs.Readers.{other_registers, expect_sign, branch_number, function_number, new_name, with_register, register_at, set_name, used_register, used_lam, variable_here}
 use Rattle.camac_text_phrases.specs.Expressions.{expression_at}
 use Rattle.camac_text_cursor.specs.Readers.{begin}
@@ -67,11 +67,11 @@ known_before n s x k = record {
 
 took_register_at : {n : Names} (s : State) (x : Text) (place : Option ℕ) (y : ℕ × State) → kind_of s.rest ≡ Some (kind.Name x) → place_of x s.registers ≡ place → register_at x place s ≡ Ok y → Took n s (name_at n.registers y.0 ∷ []) y.1
 took_register_at {n} s x (Some place) y next found e =
-    let u : State = record s { rest = after_first s.rest } in
+    let u : State = past s in
     returns {x = place} (λ r. name_at n.registers r ∷ []) e (named {s' = u} (text_at n.registers place) (λ t. t.registers x place found) (took_one {s' = u} next refl))
 took_register_at {n} s x None y next found e =
     let c = check_ok (nat_lt (other_registers s + length s.registers) 64) _ (advance >> (change (with_register x) >> give (length s.registers))) s y e in
-    let u : State = record s { rest = after_first s.rest } in
+    let u : State = past s in
     let v : State = record u { registers = s.registers ++ x ∷ [] } in
     let one : Took n s (piece (kind.Name x) ∷ []) u = took_one {s' = u} next refl in
     let grown : Took n s (piece (kind.Name x) ∷ []) v = record {

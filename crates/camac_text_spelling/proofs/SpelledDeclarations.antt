@@ -8,14 +8,15 @@ use Rattle.camac_tokens.specs.declared.token.Sign.TheVariants as mark
 use Rattle.camac_tokens.specs.declared.token.Token.{Token}
 use Rattle.camac_tokens.specs.declared.token.TokenKind.{TokenKind}
 use Rattle.camac_tokens.specs.declared.token.TokenKind.TheVariants as kind
-use Rattle.camac_text_cursor.specs.Reading.{State, give, change, kind_of, line_of, after_first, while_next, advance, Reader, ◌>>◌}
+use Rattle.camac_text_cursor.specs.declared.choice.Choice.TheVariants as choice
+use Rattle.camac_text_cursor.specs.Reading.{State, give, change, kind_of, line_of, after_first, advance, Reader, ◌>>◌, past, until}
 use Rattle.camac_text_cursor.specs.Readers.{is_number, new_name, new_variable, is_name, expect, any_number, branch_number, sub_address_number, used_lam, expect_sign, number_here}
 use Rattle.camac_text_cursor.specs.Declaring.{with_lam as lam_added, with_variables_of, with_service as service_added, with_table as table_added, tree_so_far}
 use Rattle.camac_text_statements.specs.Statements.{block_at}
 use Rattle.camac_text.specs.Declarations.{lam_declaration, one_more_variable, variable_declaration, service_declaration, declaration_by, declaration_at, is_token, declarations_at}
 use Rattle.camac_text.specs.Tables.{word_after, one_more_word, table_words, table_declaration}
 use Rattle.camac_text.specs.Parser.{start}
-use Rattle.camac_text_cursor.proofs.Steps.{then_ok, ok_is, err_no_ok, while_keeps}
+use Rattle.camac_text_cursor.proofs.Steps.{then_ok, ok_is, err_no_ok, while_keeps, until_keeps}
 use Rattle.camac_text_cursor.proofs.Moves.{check_ok, any_number_ok, sub_address_ok, new_name_ok, number_ok}
 use Rattle.camac_text.proofs.Variables.{DeclaresOne, new_variable_ok}
 use Rattle.camac_text_spelling.specs.Pieces.{Piece, first_word, numeral, name, text_at, Prefix, Names}
@@ -23,7 +24,7 @@ use Rattle.camac_text_spelling.specs.Declarations as spell
 use Rattle.camac_text_spelling.specs.Declarations.{service_names}
 use Rattle.camac_text_spelling.proofs.Prefixes.{prefix_join, prefix_token, prefix_begin}
 use Rattle.camac_text_spelling.proofs.Found.{found_named, found_lam, found_table, found_procedure}
-use Rattle.camac_text_spelling.proofs.Takes.{Tells, Took, join, returns, took_one, took_first, took_token, took_word, took_sign, took_branch, took_lam}
+use Rattle.camac_text_spelling.proofs.Takes.{Tells, Took, join, returns, took_one, took_first, took_token, took_word, took_sign, took_branch, took_lam, then_missed}
 use Rattle.camac_text_spelling.proofs.SpelledProcedures.{procedure_spelled}
 use Rattle.camac_text_spelling.proofs.SpelledStatements.{took_block}
 use Rattle.camac_text_spelling.proofs.Declared.{Extends, itself, Declares, with_table, declares_table, with_lam, declares_lam, declares_variables, with_service, declares_service, Sofar, one_more}
@@ -58,11 +59,11 @@ plainly s ps u took = took.prefix (tells_names u (tree_so_far u) (own u) (itself
 lam_spelled : (s : State) (y : Unit {0} × State) → kind_of s.rest ≡ Some (kind.Keyword keyword.Cdlam) → lam_declaration (line_of s.rest s.end_line) s ≡ Ok y → Declares (tree_so_far s) s.rest (tree_so_far y.1) y.1.rest
 unfolding lam_declaration
 lam_spelled s y next e =
-    let t : State = record s { rest = after_first s.rest } in
+    let t : State = past s in
     let c0 = check_ok (nat_lt (length s.lams) 64) _ _ s y e in
     let a = then_ok (new_name t) _ y c0.1 in
     let h = new_name_ok t a.0 a.1 in
-    let u : State = record a.0.1 { rest = after_first a.0.1.rest } in
+    let u : State = past a.0.1 in
     let b = then_ok (branch_number u) _ y a.2 in
     let c = then_ok (any_number b.0.1) _ y b.2 in
     let d = then_ok (any_number c.0.1) _ y c.2 in
@@ -70,7 +71,7 @@ lam_spelled s y next e =
     let l : Lam = record { line = line_of s.rest s.end_line; name = a.0.0; crate_no = c.0.0; station = d.0.0; sub_address = f.0.0 } in
     let v : State = f.0.1 in
     let took : Took (service_names (tree_so_far v) (own v)) s (spell.lam_declaration l) v =
-    join (took_first s (kind.Keyword keyword.Cdlam) next) (join (took_one {s' = u} h.next (ap (λ (w : State). record w { rest = after_first w.rest }) h.left)) (join (took_branch u b.0 b.1)
+    join (took_first s (kind.Keyword keyword.Cdlam) next) (join (took_one {s' = u} h.next (ap past h.left)) (join (took_branch u b.0 b.1)
     (join (took_token (any_number_ok b.0.1 c.0 c.1)) (join (took_token (any_number_ok c.0.1 d.0 d.1)) (took_token (sub_address_ok d.0.1 f.0 f.1).one))))) in
     subst (λ (p : Unit {0} × State). Declares (tree_so_far s) s.rest (tree_so_far p.1) p.1.rest) (ok_is (tt, lam_added l v) y f.2)
     (subst (λ (w : Script). Declares w s.rest (with_lam (tree_so_far v) l) v.rest) took.same (declares_lam (tree_so_far v) l s.rest v.rest (plainly s (spell.lam_declaration l) v took)))
@@ -89,31 +90,31 @@ took_word_of {n} count s y e =
     let rest : Reader ℕ = advance >> give m.0.0 in
     let a = check_ok (nat_lt m.0.0 16777216) _ _ m.0.1 y m.2 in
     let b = check_ok (nat_lt count 1024) _ rest m.0.1 y a.1 in
-    let one : Took n s (numeral m.0.0 ∷ []) (record m.0.1 { rest = after_first m.0.1.rest }) = took_one h.0 (ap (λ (w : State). record w { rest = after_first w.rest }) h.1) in
+    let one : Took n s (numeral m.0.0 ∷ []) (past m.0.1) = took_one h.0 (ap past h.1) in
     returns {x = m.0.0} (λ w. numeral w ∷ []) b.1 one
 
 took_words : {n : Names} (s : State) (y : List ℕ × State) → table_words s ≡ Ok y → Took n s (map numeral y.0) y.1
 unfolding table_words
 took_words {n} s y e =
-    let m = then_ok (word_after 0 s) (λ first. while_next is_number one_more_word (first ∷ [])) y e in
-    while_keeps (λ (ws : List ℕ) (u : State). Took n s (map numeral ws) u) is_number one_more_word (λ ws u vs v so on took.
+    let m = then_ok (word_after 0 s) (λ first. until choice.Number is_number one_more_word (first ∷ [])) y e in
+    until_keeps (λ (ws : List ℕ) (u : State). Took n s (map numeral ws) u) choice.Number (λ ws u took. then_missed choice.Number took) is_number one_more_word (λ ws u vs v so on took.
     let a = then_ok (word_after (length ws) u) (λ w. give (ws ++ w ∷ [])) (vs, v) took in
     returns {x = ws ++ a.0.0 ∷ []} (map numeral) a.2 (subst (λ (ps : List Piece). Took n s ps a.0.1) (sym (words_push ws a.0.0)) (join so (took_word_of (length ws) u a.0 a.1)))) (m.0.0 ∷ []) m.0.1 y (took_word_of 0 s m.0 m.1) m.2
 
 table_spelled : (s : State) (y : Unit {0} × State) → kind_of s.rest ≡ Some (kind.Keyword keyword.Table) → table_declaration (line_of s.rest s.end_line) s ≡ Ok y → Declares (tree_so_far s) s.rest (tree_so_far y.1) y.1.rest
 unfolding table_declaration
 table_spelled s y next e =
-    let t : State = record s { rest = after_first s.rest } in
+    let t : State = past s in
     let c0 = check_ok (nat_lt (length s.tables) 16) _ _ s y e in
     let a = then_ok (new_name t) _ y c0.1 in
     let h = new_name_ok t a.0 a.1 in
-    let u : State = record a.0.1 { rest = after_first a.0.1.rest } in
+    let u : State = past a.0.1 in
     let b = then_ok (expect_sign mark.Equals u) _ y a.2 in
     let c = then_ok (table_words b.0.1) _ y b.2 in
     let l : Table = record { line = line_of s.rest s.end_line; name = a.0.0; words = c.0.0 } in
     let v : State = c.0.1 in
     let took : Took (service_names (tree_so_far v) (own v)) s (spell.table_declaration l) v =
-    join (took_first s (kind.Keyword keyword.Table) next) (join (took_one {s' = u} h.next (ap (λ (w : State). record w { rest = after_first w.rest }) h.left)) (join (took_sign mark.Equals u b.0 b.1) (took_words b.0.1 c.0 c.1))) in
+    join (took_first s (kind.Keyword keyword.Table) next) (join (took_one {s' = u} h.next (ap past h.left)) (join (took_sign mark.Equals u b.0 b.1) (took_words b.0.1 c.0 c.1))) in
     subst (λ (p : Unit {0} × State). Declares (tree_so_far s) s.rest (tree_so_far p.1) p.1.rest) (ok_is (tt, table_added l v) y c.2)
     (subst (λ (w : Script). Declares w s.rest (with_table (tree_so_far v) l) v.rest) took.same (declares_table (tree_so_far v) l s.rest v.rest (plainly s (spell.table_declaration l) v took)))
 
@@ -152,12 +153,12 @@ variables_spelled : (s : State) (y : Unit {0} × State) → kind_of s.rest ≡ S
 unfolding variable_declaration
 variables_spelled s y next e =
     let line : ℕ = line_of s.rest s.end_line in
-    let t : State = record s { rest = after_first s.rest } in
+    let t : State = past s in
     let a = then_ok (new_variable t) _ y e in
     let first = new_variable_ok t a.0 a.1 in
     let one : Names' t 1 a.0.1 = name_more t 0 t first.0 a.0.1 (no_names t) first.1 in
-    let b = then_ok (while_next is_name one_more_variable 1 a.0.1) (λ count. change (with_variables_of line count)) y a.2 in
-    let d = while_keeps (λ (n : ℕ) (u : State). Names' t n u) is_name one_more_variable (λ n u m v d on took. name_turn t n u m v d took) 1 a.0.1 b.0 one b.1 in
+    let b = then_ok (until choice.Name is_name one_more_variable 1 a.0.1) (λ count. change (with_variables_of line count)) y a.2 in
+    let d = until_keeps (λ (n : ℕ) (u : State). Names' t n u) choice.Name (λ n u d. record { names = d.names; counted = d.counted; prefix = d.prefix; tree = d.tree }) is_name one_more_variable (λ n u m v d on took. name_turn t n u m v d took) 1 a.0.1 b.0 one b.1 in
     let v : State = b.0.1 in
     let prefix : Prefix s.rest (spell.variable_declaration line d.names) v.rest = prefix_join s.rest (first_word line keyword.Var ∷ []) t.rest (map name d.names) v.rest (prefix_begin s.rest s.end_line (kind.Keyword keyword.Var) next) d.prefix in
     subst (λ (p : Unit {0} × State). Declares (tree_so_far s) s.rest (tree_so_far p.1) p.1.rest) (ok_is (tt, with_variables_of line b.0.0 v) y b.2)
@@ -170,7 +171,7 @@ service_spelled : (s : State) (y : Unit {0} × State) → kind_of s.rest ≡ Som
 unfolding service_declaration
 service_spelled s y next e =
     let line : ℕ = line_of s.rest s.end_line in
-    let t : State = record s { rest = after_first s.rest } in
+    let t : State = past s in
     let c0 = check_ok (nat_lt (length s.services) 24) _ _ s y e in
     let l = then_ok (used_lam t) _ y c0.1 in
     let a = then_ok (expect keyword.Within l.0.1) _ y l.2 in

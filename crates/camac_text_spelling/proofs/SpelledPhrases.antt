@@ -9,7 +9,8 @@ use Rattle.camac_tokens.specs.declared.token.Keyword.TheVariants as keyword
 use Rattle.camac_tokens.specs.declared.token.Sign.TheVariants as mark
 use Rattle.camac_tokens.specs.declared.token.TokenKind.{TokenKind}
 use Rattle.camac_tokens.specs.declared.token.TokenKind.TheVariants as kind
-use Rattle.camac_text_cursor.specs.Reading.{State, Reader, ◌>>=◌, ◌>>◌, give, peek, advance, fail, check, kind_of, after_first}
+use Rattle.camac_text_cursor.specs.declared.choice.Choice.TheVariants as choice
+use Rattle.camac_text_cursor.specs.Reading.{State, Reader, ◌>>=◌, ◌>>◌, give, peek, advance, fail, check, kind_of, missed, missing, past}
 use Rattle.camac_text_cursor.specs.Readers.{is_keyword, is_sign, expect, expect_sign, any_number, used_variable, variable_here}
 use Rattle.camac_text_phrases.specs.Expressions.{expression_at}
 use Rattle.camac_text_phrases.specs.Conditions.{comparison_by, comparison_sign, compared, test_by, test_at, part_by, part_at, no_part_by, part_limit, and_part, condition_at}
@@ -20,7 +21,7 @@ use Rattle.camac_text_cursor.proofs.Steps.{then_ok, ok_is, err_no_ok}
 use Rattle.camac_text_cursor.proofs.Moves.{any_number_ok, check_ok}
 use Rattle.camac_text_spelling.specs.Pieces.{Piece, word, sign, Names}
 use Rattle.camac_text_spelling.specs.Phrases as phrase
-use Rattle.camac_text_spelling.proofs.Takes.{Took, join, returns, nothing, took_one, took_token, took_word, took_sign, keyword_is, sign_is, took_variable, sees_variable, seen}
+use Rattle.camac_text_spelling.proofs.Takes.{Took, join, returns, nothing, then_missed, missed_then, took_one, took_token, took_word, took_sign, keyword_is, sign_is, took_variable, sees_variable, seen}
 use Rattle.camac_text_spelling.proofs.Lists.{took_list}
 use Rattle.camac_text_spelling.proofs.SpelledExpressions.{took_expression}
 
@@ -53,7 +54,7 @@ took_compared {n} room s y e =
 took_test_by : {n : Names} (room : ℕ) (k : Option TokenKind) (s : State) (y : Test × State) → kind_of s.rest ≡ k → test_by room k s ≡ Ok y → Took n s (phrase.test n y.0) y.1
 took_test_by {n} room (Some (kind.Keyword keyword.Q)) s y next e = returns {x = flag_q} (phrase.test n) e (took_one next refl)
 took_test_by {n} room (Some (kind.Keyword keyword.X)) s y next e = returns {x = flag_x} (phrase.test n) e (took_one next refl)
-took_test_by room _ s y next e = took_compared room s y e
+took_test_by room _ s y next e = missed_then choice.Flag (took_compared room (missed choice.Flag s) y e)
 
 took_test : {n : Names} (room : ℕ) (s : State) (y : Test × State) → test_at room s ≡ Ok y → Took n s (phrase.test n y.0) y.1
 unfolding test_at
@@ -66,10 +67,10 @@ took_plain {n} room s y e =
 
 took_part_by : {n : Names} (room : ℕ) (k : Option TokenKind) (s : State) (y : Part × State) → kind_of s.rest ≡ k → part_by room k s ≡ Ok y → Took n s (phrase.part n y.0) y.1
 took_part_by {n} room (Some (kind.Keyword keyword.Not)) s y next e =
-    let u : State = record s { rest = after_first s.rest } in
+    let u : State = past s in
     let m = then_ok (test_at room u) (λ t. give (negated t)) y e in
     returns {x = negated m.0.0} (phrase.part n) m.2 (join (took_one {s' = u} next refl) (took_test room u m.0 m.1))
-took_part_by room _ s y next e = took_plain room s y e
+took_part_by room _ s y next e = missed_then (choice.Word keyword.Not) (took_plain room (missed (choice.Word keyword.Not) s) y e)
 
 took_part : {n : Names} (room : ℕ) (s : State) (y : Part × State) → part_at room s ≡ Ok y → Took n s (phrase.part n y.0) y.1
 unfolding part_at
@@ -95,7 +96,7 @@ limit_stays count s y e = limit_is (nat_lt count 16) s y e
 took_and_part : {n : Names} (room count : ℕ) (s : State) (y : Part × State) → is_keyword keyword.And (kind_of s.rest) ≡ true → and_part room count s ≡ Ok y → Took n s (word keyword.And ∷ phrase.part n y.0) y.1
 unfolding and_part
 took_and_part room count s y on e =
-    let u : State = record s { rest = after_first s.rest } in
+    let u : State = past s in
     let m = then_ok (part_limit count u) (λ _. part_at room) y e in
     let at : part_at room u ≡ Ok y = subst (λ (w : State). part_at room w ≡ Ok y) (limit_stays count u m.0 m.1) m.2 in
     join (took_one {s' = u} (keyword_is keyword.And (kind_of s.rest) on) refl) (took_part room u y at)
@@ -104,21 +105,21 @@ pub took_condition : {n : Names} (room : ℕ) (s : State) (y : Condition × Stat
 unfolding condition_at
 took_condition {n} room s y e =
     let m = then_ok (part_at room s) _ y e in
-    let l = took_list n (word keyword.And) (phrase.part n) (is_keyword keyword.And) (λ parts. and_part room (length parts)) (λ xs u z on took. took_and_part room (length xs) u z on took) m.0.0 s m.0.1 (took_part room s m.0 m.1) y m.2 in
+    let l = took_list (choice.Word keyword.And) n (word keyword.And) (phrase.part n) (is_keyword keyword.And) (λ parts. and_part room (length parts)) (λ xs u z on took. took_and_part room (length xs) u z on took) m.0.0 s m.0.1 (took_part room s m.0 m.1) y m.2 in
     subst (λ (c : Condition). Took n s (phrase.condition n c) y.1) (sym l.same) l.took
 
 -- ---- moves
 
 took_move_by : {n : Names} (room : ℕ) (k : Option TokenKind) (s : State) (y : Move × State) → kind_of s.rest ≡ k → move_by room k s ≡ Ok y → Took n s (phrase.move n y.0) y.1
 took_move_by {n} room (Some (kind.Sign mark.Into)) s y next e =
-    let u : State = record s { rest = after_first s.rest } in
+    let u : State = past s in
     let m = then_ok (used_variable u) (λ place. give (into place)) y e in
     returns {x = into m.0.0} (phrase.move n) m.2 (join (took_one {s' = u} next refl) (took_variable u m.0 m.1))
 took_move_by {n} room (Some (kind.Sign mark.From)) s y next e =
-    let u : State = record s { rest = after_first s.rest } in
+    let u : State = past s in
     let m = then_ok (expression_at room u) (λ v. give (from v)) y e in
     returns {x = from m.0.0} (phrase.move n) m.2 (join (took_one {s' = u} next refl) (took_expression room u m.0 m.1))
-took_move_by {n} room _ s y next e = returns {x = no_data} (phrase.move n) e (nothing n s)
+took_move_by {n} room _ s y next e = returns {x = no_data} (phrase.move n) e (then_missed choice.Arrow (nothing n s))
 
 pub took_move : {n : Names} (room : ℕ) (s : State) (y : Move × State) → move_at room s ≡ Ok y → Took n s (phrase.move n y.0) y.1
 unfolding move_at
@@ -137,7 +138,7 @@ took_keep {n} own keeps s y e =
     let range : ℕ → Reader Keep = λ place. advance >> (expect keyword.In >> (any_number >>= λ low. expect_sign mark.UpTo >> (any_number >>= λ high. give (kept place low high)))) in
     let at : (check (is_free v.0.0 own keeps) (kept_case own v.0.0) >> range v.0.0) s ≡ Ok y = subst (λ (w : State). (check (is_free v.0.0 own keeps) (kept_case own v.0.0) >> range v.0.0) w ≡ Ok y) here.left v.2 in
     let c = check_ok (is_free v.0.0 own keeps) _ (range v.0.0) s y at in
-    let u : State = record s { rest = after_first s.rest } in
+    let u : State = past s in
     let a = then_ok (expect keyword.In u) _ y c.1 in
     let b = then_ok (any_number a.0.1) _ y a.2 in
     let d = then_ok (expect_sign mark.UpTo b.0.1) _ y b.2 in
@@ -148,20 +149,20 @@ took_keep {n} own keeps s y e =
 took_next_keep : {n : Names} (own : Own) (keeps : List Keep) (s : State) (y : Keep × State) → is_sign mark.Comma (kind_of s.rest) ≡ true → next_keep own keeps s ≡ Ok y → Took n s (sign mark.Comma ∷ phrase.keep n y.0) y.1
 unfolding next_keep
 took_next_keep own keeps s y on e =
-    let u : State = record s { rest = after_first s.rest } in
+    let u : State = past s in
     join (took_one {s' = u} (sign_is mark.Comma (kind_of s.rest) on) refl) (took_keep own keeps u y e)
 
 took_keep_list : {n : Names} (own : Own) (s : State) (y : List Keep × State) → kind_of s.rest ≡ Some (kind.Keyword keyword.Keep) → keep_list own s ≡ Ok y → Took n s (phrase.keeps n y.0) y.1
 unfolding keep_list
 took_keep_list {n} own s y next e =
-    let u : State = record s { rest = after_first s.rest } in
+    let u : State = past s in
     let m = then_ok (keep_at own [] u) _ y e in
-    let l = took_list n (sign mark.Comma) (phrase.keep n) (is_sign mark.Comma) (next_keep own) (λ xs w z on took. took_next_keep own xs w z on took) m.0.0 u m.0.1 (took_keep own [] u m.0 m.1) y m.2 in
+    let l = took_list (choice.Mark mark.Comma) n (sign mark.Comma) (phrase.keep n) (is_sign mark.Comma) (next_keep own) (λ xs w z on took. took_next_keep own xs w z on took) m.0.0 u m.0.1 (took_keep own [] u m.0 m.1) y m.2 in
     subst (λ (ks : List Keep). Took n s (phrase.keeps n ks) y.1) (sym l.same) (join (took_one {s' = u} next refl) l.took)
 
-took_keeps_by : {n : Names} (b : Bool) (own : Own) (s : State) (y : List Keep × State) → is_keyword keyword.Keep (kind_of s.rest) ≡ b → cond b (keep_list own) (give []) s ≡ Ok y → Took n s (phrase.keeps n y.0) y.1
+took_keeps_by : {n : Names} (b : Bool) (own : Own) (s : State) (y : List Keep × State) → is_keyword keyword.Keep (kind_of s.rest) ≡ b → cond b (keep_list own) (missing (choice.Word keyword.Keep) []) s ≡ Ok y → Took n s (phrase.keeps n y.0) y.1
 took_keeps_by true own s y on e = took_keep_list own s y (keyword_is keyword.Keep (kind_of s.rest) on) e
-took_keeps_by {n} false own s y on e = returns {x = []} (phrase.keeps n) e (nothing n s)
+took_keeps_by {n} false own s y on e = returns {x = []} (phrase.keeps n) e (then_missed (choice.Word keyword.Keep) (nothing n s))
 
 pub took_keeps : {n : Names} (own : Own) (s : State) (y : List Keep × State) → keeps_at own s ≡ Ok y → Took n s (phrase.keeps n y.0) y.1
 unfolding keeps_at

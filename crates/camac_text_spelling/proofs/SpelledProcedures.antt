@@ -8,10 +8,11 @@ use Rattle.camac_tokens.specs.declared.token.Sign.{Sign}
 use Rattle.camac_tokens.specs.declared.token.Sign.TheVariants as mark
 use Rattle.camac_tokens.specs.declared.token.TokenKind.{TokenKind}
 use Rattle.camac_tokens.specs.declared.token.TokenKind.TheVariants as kind
-use Rattle.camac_text_cursor.specs.Reading.{State, Reader, ◌>>=◌, ◌>>◌, give, ask, change, advance, kind_of, line_of, after_first, while_next, one_more}
+use Rattle.camac_text_cursor.specs.declared.choice.Choice.TheVariants as choice
+use Rattle.camac_text_cursor.specs.Reading.{State, Reader, ◌>>=◌, ◌>>◌, give, ask, change, advance, kind_of, line_of, one_more, miss, missed, past, until}
 use Rattle.camac_text_cursor.specs.Readers.{is_sign, expect, expect_sign, any_number, new_name, added, new_parameter}
 use Rattle.camac_text_cursor.specs.Declaring.{tree_so_far, in_heading, opened, with_procedure as procedure_added}
-use Rattle.camac_text_cursor.proofs.Steps.{then_ok, ok_is, while_keeps}
+use Rattle.camac_text_cursor.proofs.Steps.{then_ok, ok_is, until_keeps}
 use Rattle.camac_text_cursor.proofs.Moves.{TakesOne, check_ok, any_number_ok, new_name_ok}
 use Rattle.camac_text_statements.specs.Statements.{block_at}
 use Rattle.camac_text.specs.Procedures.{parameter_at, next_parameter, parameter_list, parameters_at, Heading, heading_at, procedure_made, procedure_declaration}
@@ -42,7 +43,7 @@ heads {s} {ps} {xs} {u} {qs} {ys} {v} a b = record {
       ∙ ap (λ (zs : List Text). record (tree_so_far s) { variables = zs }) (append_assoc s.variables xs ys);
 }
 
-heads_one : {s : State} {k : TokenKind} {s' : State} → kind_of s.rest ≡ Some k → s' ≡ record s { rest = after_first s.rest } → Heads s (piece k ∷ []) [] s'
+heads_one : {s : State} {k : TokenKind} {s' : State} → kind_of s.rest ≡ Some k → s' ≡ past s → Heads s (piece k ∷ []) [] s'
 heads_one {s} {k} {s'} ahead left = subst (λ (u : State). Heads s (piece k ∷ []) [] u) (sym left) (record { prefix = prefix_token s.rest k ahead; tree = ap (λ (zs : List Text). record (tree_so_far s) { variables = zs }) (sym (append-nil s.variables)) })
 
 heads_token : {s : State} {k : TokenKind} {s' : State} → TakesOne s k s' → Heads s (piece k ∷ []) [] s'
@@ -50,11 +51,11 @@ heads_token t = heads_one t.next t.left
 
 heads_word : (w : Keyword) (s : State) (y : Unit {0} × State) → expect w s ≡ Ok y → Heads s (word w ∷ []) [] y.1
 unfolding expect
-heads_word w s y e = let h = expected _ s y e in heads_one (keyword_is w (kind_of s.rest) h.0) h.1
+heads_word w s y e = let h = expected (choice.Word w) _ s y e in heads_one (keyword_is w (kind_of s.rest) h.0) h.1
 
 heads_sign : (w : Sign) (s : State) (y : Unit {0} × State) → expect_sign w s ≡ Ok y → Heads s (sign w ∷ []) [] y.1
 unfolding expect_sign
-heads_sign w s y e = let h = expected _ s y e in heads_one (sign_is w (kind_of s.rest) h.0) h.1
+heads_sign w s y e = let h = expected (choice.Mark w) _ s y e in heads_one (sign_is w (kind_of s.rest) h.0) h.1
 
 -- ---- the heading
 
@@ -107,22 +108,22 @@ parameter_more s first ps u p v so one = record {
 another : (s : State) (y : Parameter × State) → is_sign mark.Comma (kind_of s.rest) ≡ true → next_parameter s ≡ Ok y → Heads s (sign mark.Comma ∷ spell.parameter y.0) (y.0.name ∷ []) y.1
 unfolding next_parameter
 another s y on e =
-    let u : State = record s { rest = after_first s.rest } in
+    let u : State = past s in
     heads (heads_one {s' = u} (sign_is mark.Comma (kind_of s.rest) on) refl) (one_parameter u y e)
 
 parameters_list : (s : State) (y : List Parameter × State) → parameter_list s ≡ Ok y → Heads s (listed y.0) (map parameter_of y.0) y.1
 unfolding parameter_list
 parameters_list s y e =
-    let m = then_ok (parameter_at s) (λ first. while_next (is_sign mark.Comma) (one_more next_parameter) (first ∷ [])) y e in
+    let m = then_ok (parameter_at s) (λ first. until (choice.Mark mark.Comma) (is_sign mark.Comma) (one_more next_parameter) (first ∷ [])) y e in
     let begins : Parameters s m.0.0 (m.0.0 ∷ []) m.0.1 = record { tail = []; same = refl; read = subst (λ (qs : List Piece). Heads s qs (m.0.0.name ∷ []) m.0.1) (sym (append-nil (spell.parameter m.0.0))) (one_parameter s m.0 m.1) } in
-    let all = while_keeps (λ (ps : List Parameter) (u : State). Parameters s m.0.0 ps u) (is_sign mark.Comma) (one_more next_parameter) (λ ps u qs v so on took.
+    let all = until_keeps (λ (ps : List Parameter) (u : State). Parameters s m.0.0 ps u) (choice.Mark mark.Comma) (λ ps u so. record { tail = so.tail; same = so.same; read = record { prefix = so.read.prefix; tree = so.read.tree } }) (is_sign mark.Comma) (one_more next_parameter) (λ ps u qs v so on took.
     let a = then_ok (next_parameter u) (λ p. give (ps ++ p ∷ [])) (qs, v) took in
     subst (λ (z : List Parameter × State). Parameters s m.0.0 z.0 z.1) (ok_is (ps ++ a.0.0 ∷ [], a.0.1) (qs, v) a.2) (parameter_more s m.0.0 ps u a.0.0 a.0.1 so (another u a.0 on a.1))) (m.0.0 ∷ []) m.0.1 y begins m.2 in
     subst (λ (ps : List Parameter). Heads s (listed ps) (map parameter_of ps) y.1) (sym all.same) all.read
 
-parameters_by : (b : Bool) (s : State) (y : List Parameter × State) → cond b (give []) parameter_list s ≡ Ok y → Heads s (listed y.0) (map parameter_of y.0) y.1
+parameters_by : (b : Bool) (s : State) (y : List Parameter × State) → cond b (give []) (miss (choice.Mark mark.RightBracket) >> parameter_list) s ≡ Ok y → Heads s (listed y.0) (map parameter_of y.0) y.1
 parameters_by true s y e = subst (λ (z : List Parameter × State). Heads s (listed z.0) (map parameter_of z.0) z.1) (ok_is ([], s) y e) (record { prefix = refl; tree = ap (λ (zs : List Text). record (tree_so_far s) { variables = zs }) (sym (append-nil s.variables)) })
-parameters_by false s y e = parameters_list s y e
+parameters_by false s y e = let read = parameters_list (missed (choice.Mark mark.RightBracket) s) y e in record { prefix = read.prefix; tree = read.tree }
 
 all_parameters : (s : State) (y : List Parameter × State) → parameters_at s ≡ Ok y → Heads s (listed y.0) (map parameter_of y.0) y.1
 unfolding parameters_at
@@ -291,12 +292,12 @@ pub procedure_spelled : (s : State) (y : Unit {0} × State) → kind_of s.rest �
 unfolding procedure_declaration
 procedure_spelled s y ahead e =
     let line : ℕ = line_of s.rest s.end_line in
-    let t : State = record s { rest = after_first s.rest } in
+    let t : State = past s in
     let c0 = check_ok (nat_lt (length s.procedures) 16) _ _ s y e in
     let a = then_ok (new_name t) (λ x. advance >> (opened x >>= λ names. after_its_name line x names)) y c0.1 in
     let n = new_name_ok t a.0 a.1 in
     let after_name : Reader (Unit {0}) = advance >> (opened a.0.0 >>= λ names. after_its_name line a.0.0 names) in
     let at : after_name t ≡ Ok y = subst (λ (w : State). after_name w ≡ Ok y) n.left a.2 in
-    let u : State = record t { rest = after_first t.rest } in
+    let u : State = past t in
     let opens : Prefix s.rest (first_word line keyword.Proc ∷ name a.0.0 ∷ []) u.rest = prefix_join s.rest (first_word line keyword.Proc ∷ []) t.rest (name a.0.0 ∷ []) u.rest (prefix_begin s.rest s.end_line (kind.Keyword keyword.Proc) ahead) (prefix_token t.rest (kind.Name a.0.0) n.next) in
     after_its_name_spelled s a.0.0 (length (in_heading a.0.0 u).declared) (in_heading a.0.0 u) y opens refl refl at

@@ -10,7 +10,8 @@ use Rattle.camac_tokens.specs.declared.token.Keyword.TheVariants as keyword
 use Rattle.camac_tokens.specs.declared.token.Sign.TheVariants as mark
 use Rattle.camac_tokens.specs.declared.token.TokenKind.{TokenKind}
 use Rattle.camac_tokens.specs.declared.token.TokenKind.TheVariants as kind
-use Rattle.camac_text_cursor.specs.Reading.{State, Reader, give, fail, kind_of, line_of, after_first, one_more, many}
+use Rattle.camac_text_cursor.specs.declared.choice.Choice.TheVariants as choice
+use Rattle.camac_text_cursor.specs.Reading.{State, Reader, give, fail, kind_of, line_of, one_more, many, missed, past, unexpected}
 use Rattle.camac_text_cursor.specs.Readers.{is_sign, expect, expect_sign, any_number, used_variable}
 use Rattle.camac_text_phrases.specs.Expressions.{expression_at}
 use Rattle.camac_text_phrases.specs.Conditions.{condition_at}
@@ -23,7 +24,7 @@ use Rattle.camac_text_cursor.proofs.Moves.{any_number_ok, check_ok}
 use Rattle.camac_text_spelling.specs.Pieces.{Piece, first_word, word, Names}
 use Rattle.camac_text_spelling.specs.Phrases as phrase
 use Rattle.camac_text_spelling.specs.Statements as spell
-use Rattle.camac_text_spelling.proofs.Takes.{Took, join, returns, nothing, took_one, took_token, took_word, took_sign, took_variable}
+use Rattle.camac_text_spelling.proofs.Takes.{Took, join, returns, nothing, took_one, took_token, took_word, took_sign, took_variable, then_missed, missed_then}
 use Rattle.camac_text_spelling.proofs.SpelledExpressions.{took_expression}
 use Rattle.camac_text_spelling.proofs.SpelledPhrases.{took_condition, took_keeps}
 use Rattle.camac_text_spelling.proofs.SpelledActions.{took_begin, took_assignment, took_setting, took_single, took_put}
@@ -38,12 +39,12 @@ in_braces n xs = spell.braced (body n xs)
 module _ (n : Names) (room : ℕ) (block : Reader (List Statement)) (block_took : (s : State) (y : List Statement × State) → block s ≡ Ok y → Took n s (in_braces n y.0) y.1) where
   took_else : (s : State) (line : ℕ) (c : Condition) (xs : List Statement) (u : State) (k : Option TokenKind) (y : Statement × State) → Took n s (first_word line keyword.If ∷ (phrase.condition n c ++ in_braces n xs)) u → kind_of u.rest ≡ k → else_by block line c xs k u ≡ Ok y → Took n s (spell.statement n y.0) y.1
   took_else s line c xs u (Some (kind.Keyword keyword.Else)) y before next e =
-      let v : State = record u { rest = after_first u.rest } in
+      let v : State = past u in
       let m = then_ok (block v) (λ other. give (choose_else line c (block_of xs) (block_of other))) y e in
       let all : Took n s ((first_word line keyword.If ∷ (phrase.condition n c ++ in_braces n xs)) ++ (word keyword.Else ∷ in_braces n m.0.0)) m.0.1 = join before (join (took_one {s' = v} next refl) (block_took v m.0 m.1)) in
       returns {x = choose_else line c (block_of xs) (block_of m.0.0)} (spell.statement n) m.2
       (subst (λ (ps : List Piece). Took n s (first_word line keyword.If ∷ ps) m.0.1) (append_assoc (phrase.condition n c) (in_braces n xs) (word keyword.Else ∷ in_braces n m.0.0)) all)
-  took_else s line c xs u _ y before next e = returns {x = choose line c (block_of xs)} (spell.statement n) e before
+  took_else s line c xs u _ y before next e = returns {x = choose line c (block_of xs)} (spell.statement n) e (then_missed (choice.Word keyword.Else) before)
 
   took_choice : (s : State) (y : Statement × State) → kind_of s.rest ≡ Some (kind.Keyword keyword.If) → if_statement room block (line_of s.rest s.end_line) s ≡ Ok y → Took n s (spell.statement n y.0) y.1
   unfolding if_statement
@@ -108,7 +109,7 @@ module _ (n : Names) (room : ℕ) (block : Reader (List Statement)) (block_took 
   took_nested s k y next e = took_transfer_by room s k y next e
 
   took_statement_by : (s : State) (k : Option TokenKind) (y : Statement × State) → kind_of s.rest ≡ k → statement_by room block (line_of s.rest s.end_line) k s ≡ Ok y → Took n s (spell.statement n y.0) y.1
-  took_statement_by s (Some (kind.Name x)) y next e = took_assignment room s y e
+  took_statement_by s (Some (kind.Name x)) y next e = missed_then choice.Statement (took_assignment room (missed choice.Statement s) y e)
   took_statement_by s (Some (kind.Keyword keyword.Cdreg)) y next e = took_setting room s y next e
   took_statement_by s (Some (kind.Keyword keyword.Cfsa)) y next e = took_single Full room s y next e
   took_statement_by s (Some (kind.Keyword keyword.Cssa)) y next e = took_single Short room s y next e
@@ -117,7 +118,7 @@ module _ (n : Names) (room : ℕ) (block : Reader (List Statement)) (block_took 
 
   pub took_statement : (s : State) (y : Statement × State) → statement_with room block s ≡ Ok y → Took n s (spell.statement n y.0) y.1
   unfolding statement_with
-  took_statement s y e = took_statement_by s (kind_of s.rest) y refl e
+  took_statement s y e = missed_then (choice.Mark mark.RightBrace) (took_statement_by (missed (choice.Mark mark.RightBrace) s) (kind_of s.rest) y refl e)
 
 -- ---- blocks
 
@@ -130,7 +131,7 @@ took_turn n room block block_took s xs u y before e =
     let m = then_ok (statement_with room block u) (λ x. give (xs ++ x ∷ [])) y e in
     returns {x = xs ++ m.0.0 ∷ []} (body n) m.2 (subst (λ (ps : List Piece). Took n s ps m.0.1) (sym (block_push n xs m.0.0)) (join before (took_statement n room block block_took u m.0 m.1)))
 
-no_room : (b : Bool) (s : State) (y : List Statement × State) → cond b (fail (told.Limit limit.Depth)) (fail told.Unexpected) s ≡ Ok y → ⊥
+no_room : (b : Bool) (s : State) (y : List Statement × State) → cond b (fail (told.Limit limit.Depth)) (unexpected (choice.Mark mark.LeftBrace)) s ≡ Ok y → ⊥
 no_room true s y e = err_no_ok _ _ e
 no_room false s y e = err_no_ok _ _ e
 

@@ -9,7 +9,8 @@ use Rattle.camac_tokens.specs.declared.token.Keyword.TheVariants as keyword
 use Rattle.camac_tokens.specs.declared.token.Sign.TheVariants as mark
 use Rattle.camac_tokens.specs.declared.token.TokenKind.{TokenKind}
 use Rattle.camac_tokens.specs.declared.token.TokenKind.TheVariants as kind
-use Rattle.camac_text_cursor.specs.Reading.{State, Reader, ◌>>=◌, give, fail, kind_of, line_of, after_first, advance}
+use Rattle.camac_text_cursor.specs.declared.choice.Choice.TheVariants as choice
+use Rattle.camac_text_cursor.specs.Reading.{State, Reader, ◌>>=◌, give, fail, kind_of, line_of, advance, past, unexpected}
 use Rattle.camac_text_cursor.specs.Readers.{begin, is_sign, expect, expect_sign, function_number, used_register, used_variable, used_table, procedure_here, called}
 use Rattle.camac_text_phrases.specs.Arguments.{argument_after, more_arguments, arguments_at, counted_sign, shows_more}
 use Rattle.camac_text_phrases.specs.Expressions.{expression_at}
@@ -20,7 +21,7 @@ use Rattle.camac_text_cursor.proofs.Moves.{function_ok}
 use Rattle.camac_text_spelling.specs.Pieces.{Piece, word, sign, separated, Names}
 use Rattle.camac_text_spelling.specs.Phrases as phrase
 use Rattle.camac_text_spelling.specs.Statements as spell
-use Rattle.camac_text_spelling.proofs.Takes.{Took, join, returns, nothing, took_one, took_token, took_word, took_sign, took_register, took_variable, took_table, sees_procedure, took_called, sign_is}
+use Rattle.camac_text_spelling.proofs.Takes.{Took, join, returns, nothing, then_missed, took_one, took_token, took_word, took_sign, took_register, took_variable, took_table, sees_procedure, took_called, sign_is}
 use Rattle.camac_text_spelling.proofs.Lists.{separated_push}
 use Rattle.camac_text_spelling.proofs.SpelledExpressions.{took_expression}
 use Rattle.camac_text_spelling.proofs.SpelledActions.{took_begin, took_crate_call}
@@ -42,10 +43,10 @@ took_bound {n} w room s y e =
 
 took_table_by : {n : Names} (k : Option TokenKind) (s : State) (y : Option ℕ × State) → kind_of s.rest ≡ k → table_by k s ≡ Ok y → Took n s (phrase.table n y.0) y.1
 took_table_by {n} (Some (kind.Keyword keyword.Table)) s y next e =
-    let u : State = record s { rest = after_first s.rest } in
+    let u : State = past s in
     let m = then_ok (used_table u) (λ place. give (Some place)) y e in
     returns {x = Some m.0.0} (phrase.table n) m.2 (join (took_one {s' = u} next refl) (took_table u m.0 m.1))
-took_table_by {n} _ s y next e = returns {x = None} (phrase.table n) e (nothing n s)
+took_table_by {n} _ s y next e = returns {x = None} (phrase.table n) e (then_missed (choice.Word keyword.Table) (nothing n s))
 
 took_write : {n : Names} (s : State) (y : Option ℕ × State) → table_at s ≡ Ok y → Took n s (phrase.table n y.0) y.1
 unfolding table_at
@@ -95,7 +96,7 @@ took_q_repeat {n} room s y next e =
 abbrev listed : Names → List Expression → List Piece
 listed n es = separated (sign mark.Comma) (phrase.expression n) es
 
-counted_took : {n : Names} (on shown : Bool) (w : Sign) (wanted : ℕ) (s : State) (y : Unit {0} × State) → is_sign w (kind_of s.rest) ≡ on → cond on advance (cond shown (fail (told.ArgumentCount wanted)) (fail told.Unexpected)) s ≡ Ok y → Took n s (sign w ∷ []) y.1
+counted_took : {n : Names} (on shown : Bool) (w : Sign) (wanted : ℕ) (s : State) (y : Unit {0} × State) → is_sign w (kind_of s.rest) ≡ on → cond on advance (cond shown (fail (told.ArgumentCount wanted)) (unexpected (choice.Mark w))) s ≡ Ok y → Took n s (sign w ∷ []) y.1
 counted_took true shown w wanted s y is e = took_one (sign_is w (kind_of s.rest) is) (sym (ap (λ (p : Unit {0} × State). p.1) (ok_is _ y e)))
 counted_took false true w wanted s y is e = absurd (err_no_ok _ _ e)
 counted_took false false w wanted s y is e = absurd (err_no_ok _ _ e)
@@ -122,7 +123,7 @@ took_more {n} wanted room (suc m) es s u y before e =
     let a = then_ok (argument_after wanted room es u) _ y e in
     took_more wanted room m (es ++ a.0.0 ∷ []) s a.0.1 y (took_argument wanted room es s u a.0 before a.1) a.2
 
-no_room : (b : Bool) (s : State) (y : List Expression × State) → cond b (fail (told.Limit limit.Depth)) (fail told.Unexpected) s ≡ Ok y → ⊥
+no_room : (b : Bool) (s : State) (y : List Expression × State) → cond b (fail (told.Limit limit.Depth)) (unexpected (choice.Mark mark.LeftBracket)) s ≡ Ok y → ⊥
 no_room true s y e = err_no_ok _ _ e
 no_room false s y e = err_no_ok _ _ e
 

@@ -11,11 +11,11 @@ use Rattle.camac_tokens.specs.declared.token.Keyword.{Keyword}
 use Rattle.camac_tokens.specs.declared.token.Sign.{Sign}
 use Rattle.camac_tokens.specs.declared.token.TokenKind.{TokenKind}
 use Rattle.camac_tokens.specs.declared.token.TokenKind.TheVariants as kind
-use Rattle.camac_tokens.specs.declared.fault.TextCase.TheVariants as told
 use Rattle.camac_tokens.specs.declared.fault.NameKind.{NameKind}
-use Rattle.camac_tokens.specs.Fault.{Fault}
 use Rattle.camac_text_cursor.specs.Names.{place_of, lam_place, table_place, procedure_place}
-use Rattle.camac_text_cursor.specs.Reading.{◌>>◌, State, advance, fail, kind_of, line_of, after_first, give}
+use Rattle.camac_text_cursor.specs.declared.choice.Choice.{Choice}
+use Rattle.camac_text_cursor.specs.declared.choice.Choice.TheVariants as choice
+use Rattle.camac_text_cursor.specs.Reading.{◌>>◌, State, advance, kind_of, line_of, give, Fault, missed, past, unexpected}
 use Rattle.camac_text_cursor.specs.Readers.{is_keyword, is_sign, expect, expect_sign, number_here, branch_number, used, used_register, used_variable, used_lam, used_table, variable_here, procedure_here, callable_by, called}
 use Rattle.camac_text_cursor.specs.Declaring.{tree_so_far}
 use Rattle.camac_text_cursor.proofs.Steps.{then_ok, ok_is, err_no_ok}
@@ -55,14 +55,21 @@ returns {A} {n} {s} {x} {u} {y} spell e took = subst (λ (p : A × State). Took 
 pub nothing : (n : Names) (s : State) → Took n s [] s
 nothing n s = record { prefix = λ t. refl; tells = λ t. t; same = refl }
 
-pub took_one : {n : Names} {s : State} {k : TokenKind} {s' : State} → kind_of s.rest ≡ Some k → s' ≡ record s { rest = after_first s.rest } → Took n s (piece k ∷ []) s'
+-- what was looked for does not matter
+pub then_missed : {n : Names} {s : State} {ps : List Piece} {u : State} (c : Choice) → Took n s ps u → Took n s ps (missed c u)
+then_missed c t = record { prefix = t.prefix; tells = t.tells; same = t.same }
+
+pub missed_then : {n : Names} {s : State} {ps : List Piece} {u : State} (c : Choice) → Took n (missed c s) ps u → Took n s ps u
+missed_then c t = record { prefix = t.prefix; tells = t.tells; same = t.same }
+
+pub took_one : {n : Names} {s : State} {k : TokenKind} {s' : State} → kind_of s.rest ≡ Some k → s' ≡ past s → Took n s (piece k ∷ []) s'
 took_one {n} {s} {k} {s'} next left = subst (λ (u : State). Took n s (piece k ∷ []) u) (sym left) (record { prefix = λ t. prefix_token s.rest k next; tells = λ t. t; same = refl })
 
 pub took_token : {n : Names} {s : State} {k : TokenKind} {s' : State} → TakesOne s k s' → Took n s (piece k ∷ []) s'
 took_token t = took_one t.next t.left
 
 -- the first token of a declaration
-pub took_first : {n : Names} (s : State) (k : TokenKind) → kind_of s.rest ≡ Some k → Took n s (first_piece (line_of s.rest s.end_line) k ∷ []) (record s { rest = after_first s.rest })
+pub took_first : {n : Names} (s : State) (k : TokenKind) → kind_of s.rest ≡ Some k → Took n s (first_piece (line_of s.rest s.end_line) k ∷ []) (past s)
 took_first s k next = record { prefix = λ t. prefix_begin s.rest s.end_line k next; tells = λ t. t; same = refl }
 
 -- ---- words and signs
@@ -75,17 +82,17 @@ pub sign_is : (w : Sign) (k : Option TokenKind) → is_sign w k ≡ true → k �
 sign_is w (Some (kind.Sign v)) e = ap (λ (u : Sign). Some (kind.Sign u)) (same_true sign_type.the_type (search rules) v w e)
 sign_is w _ e = absurd cc
 
-pub expected : (b : Bool) (s : State) (y : Unit {0} × State) → cond b advance (fail told.Unexpected) s ≡ Ok y → (b ≡ true) × (y.1 ≡ record s { rest = after_first s.rest })
-expected true s y e = (refl, sym (ap (λ (p : Unit {0} × State). p.1) (ok_is _ y e)))
-expected false s y e = absurd (err_no_ok _ _ e)
+pub expected : (c : Choice) (b : Bool) (s : State) (y : Unit {0} × State) → cond b advance (unexpected c) s ≡ Ok y → (b ≡ true) × (y.1 ≡ past s)
+expected c true s y e = (refl, sym (ap (λ (p : Unit {0} × State). p.1) (ok_is _ y e)))
+expected c false s y e = absurd (err_no_ok _ _ e)
 
 pub took_word : {n : Names} (w : Keyword) (s : State) (y : Unit {0} × State) → expect w s ≡ Ok y → Took n s (piece (kind.Keyword w) ∷ []) y.1
 unfolding expect
-took_word w s y e = let h = expected (is_keyword w (kind_of s.rest)) s y e in took_one (keyword_is w (kind_of s.rest) h.0) h.1
+took_word w s y e = let h = expected (choice.Word w) (is_keyword w (kind_of s.rest)) s y e in took_one (keyword_is w (kind_of s.rest) h.0) h.1
 
 pub took_sign : {n : Names} (w : Sign) (s : State) (y : Unit {0} × State) → expect_sign w s ≡ Ok y → Took n s (piece (kind.Sign w) ∷ []) y.1
 unfolding expect_sign
-took_sign w s y e = let h = expected (is_sign w (kind_of s.rest)) s y e in took_one (sign_is w (kind_of s.rest) h.0) h.1
+took_sign w s y e = let h = expected (choice.Mark w) (is_sign w (kind_of s.rest)) s y e in took_one (sign_is w (kind_of s.rest) h.0) h.1
 
 -- ---- numbers
 
@@ -97,7 +104,7 @@ took_branch {n} s y e =
     let c = check_ok (eqb m.0.0 1) _ advance m.0.1 y m.2 in
     let one : m.0.0 ≡ 1 = eqb-true m.0.0 1 c.0 in
     let next : kind_of s.rest ≡ Some (kind.Number 1) = h.0 ∙ ap (λ (k : ℕ). Some (kind.Number k)) one in
-    took_one next (ap (λ (p : Unit {0} × State). p.1) (sym (ok_is _ y c.1)) ∙ ap (λ (w : State). record w { rest = after_first w.rest }) h.1)
+    took_one next (ap (λ (p : Unit {0} × State). p.1) (sym (ok_is _ y c.1)) ∙ ap past h.1)
 
 -- ---- names
 
@@ -155,11 +162,11 @@ pub record SeesProcedure (n : Names) (s : State) (place : ℕ) (s' : State) : Ty
 pub sees_procedure : {n : Names} (s : State) (y : ℕ × State) → procedure_here s ≡ Ok y → SeesProcedure n s y.0 y.1
 sees_procedure s y e = let k = known_ok _ _ s y e in record { name = k.name; next = k.next; same = λ t. t.procedures k.name y.0 k.found; left = k.left }
 
-callable_moves : (room : ℕ) (found : Option Callable) (s : State) (y : ℕ × State) → callable_by room found s ≡ Ok y → y.1 ≡ record s { rest = after_first s.rest }
+callable_moves : (room : ℕ) (found : Option Callable) (s : State) (y : ℕ × State) → callable_by room found s ≡ Ok y → y.1 ≡ past s
 callable_moves room None s y e = absurd (err_no_ok _ _ e)
 callable_moves room (Some q) s y e =
     let c = check_ok (nat_le q.depth room) _ (advance >> give q.parameters) s y e in
-    sym (ap (λ (p : ℕ × State). p.1) (ok_is (q.parameters, record s { rest = after_first s.rest }) y c.1))
+    sym (ap (λ (p : ℕ × State). p.1) (ok_is (q.parameters, past s) y c.1))
 
 -- the procedure that is called
 pub took_called : {n : Names} (room place : ℕ) (s t : State) (y : ℕ × State) → SeesProcedure n s place t → called room place s ≡ Ok y → Took n s (name_at n.procedures place ∷ []) y.1

@@ -16,6 +16,7 @@ use Rattle.camac_text_cursor.specs.Readers.{is_name as next_is_name}
 use Rattle.camac_text_cursor.specs.Declaring.{with_lam as lam_added, with_variables_of, with_table as table_added}
 use Rattle.camac_text.specs.Declarations.{declaration_at}
 use Rattle.camac_text_cursor.specs.Readers.{is_number as next_is_number}
+use Rattle.camac_text_cursor.proofs.Places.{hushed}
 use Rattle.camac_text_cursor.proofs.Registers.{first_of_both, second_of_both, both}
 use Rattle.camac_text.proofs.Listed.{each_append, new_same, prefix_or_after}
 use Rattle.camac_text_spelling.specs.Pieces.{Prefix}
@@ -30,7 +31,7 @@ use Rattle.camac_text_spelling.proofs.Walk.{lam_name, table_name, procedure_name
 -- One more declaration is read, and the state after it is that after the first declarations.
 pub record Goes (t : Script) (b : Before) (i : Item) (s : State) (rest : List Token) : Type 0 where
   pub next : State
-  pub read : declaration_at s ≡ ok tt next
+  pub read : declaration_at (hushed s) ≡ ok tt (hushed next)
   pub ordered : next.order ≡ s.order ++ i ∷ []
   pub left : next.rest ≡ rest
   pub stands : Stands t b next

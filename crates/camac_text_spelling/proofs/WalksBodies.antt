@@ -17,6 +17,7 @@ use Rattle.camac_text_cursor.specs.Readers.{other_registers}
 use Rattle.camac_text.proofs.ParametersRead.{names_of, names_counted}
 use Rattle.camac_text_cursor.proofs.Registers.{first_of_both, second_of_both, both}
 use Rattle.camac_text.proofs.Listed.{new_same, prefix_or_after, total_push}
+use Rattle.camac_text_cursor.proofs.Places.{hushed}
 use Rattle.camac_text_cursor.proofs.Uses.{scope_of}
 use Rattle.camac_text_spelling.specs.Pieces.{Prefix}
 use Rattle.camac_text_spelling.specs.Declarations as spell
@@ -122,7 +123,7 @@ service_goes t b b' s rest limits st e f =
     let of_procedures : total procedure_statements s.procedures ≤ total procedure_statements t.procedures = so_far.of_procedures in
     let one_more : total service_statements s.services + statements v.body ≤ total service_statements t.services = service_more t b s v st p.1 in
     let all_statements : total procedure_statements t.procedures + total service_statements t.services ≤ 4096 = limits.statements in
-    let runs : RunsBraced (service_names t v) s 0 (length v.registers) m 16 v.body = record {
+    let runs : RunsBraced (service_names t v) (hushed s) 0 (length v.registers) m 16 v.body = record {
       finds = finds_names t b s v st;
       sets = sets_names (service_names t v) s.declared (other_registers s) new (omega arith);
       registers = st.registers;
@@ -205,7 +206,7 @@ right t b s q st e =
       body = body_reaches (procedure_scope b q) (scope_of (inside s s.rest q)) q.registers q.body (same_procedure_scope t b s q st) (second_of_both (are_declarable (q.name ∷ names) b.names) _ e5);
     }
 
-procedure_runs : (t : Script) (b : Before) (s : State) (q : Procedure) → Limited t → Stands t b s → slice_get t.procedures b.procedures ≡ Some q → Right t s q → RunsBraced (procedure_names t q) (inside s s.rest q) 0 (length q.registers) (s.statements + statements q.body) 16 q.body
+procedure_runs : (t : Script) (b : Before) (s : State) (q : Procedure) → Limited t → Stands t b s → slice_get t.procedures b.procedures ≡ Some q → Right t s q → RunsBraced (procedure_names t q) (inside (hushed s) s.rest q) 0 (length q.registers) (s.statements + statements q.body) 16 q.body
 procedure_runs t b s q limits st here fits =
     let so_far : Counted t s = counted_so_far t b s st in
     let known : List Text = (s.declared ++ q.name ∷ []) ++ names_of q.parameters in

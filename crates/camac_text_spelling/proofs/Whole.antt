@@ -5,7 +5,7 @@ use Rattle.camac_tokens.specs.declared.token.Token.{Token}
 use Rattle.camac_tokens.specs.declared.token.TokenKind.{TokenKind}
 use Rattle.camac_tokens.specs.Fault.{Fault}
 use Rattle.camac_tokens.specs.Scanning.{tokens_of, last_line}
-use Rattle.camac_text_cursor.specs.Reading.{State, Reader, ◌>>=◌, give, kind_of, turns, while_next}
+use Rattle.camac_text_cursor.specs.Reading.{State, Reader, ◌>>=◌, give, kind_of, turns, while_next, Fault as Failure}
 use Rattle.camac_text_cursor.specs.Declaring.{tree_so_far}
 use Rattle.camac_text.specs.Declarations.{declaration_at, is_token, declarations_at}
 use Rattle.camac_text.specs.Parser.{start, tree_in, tree_of_tokens, tree_after, script_of}
@@ -36,7 +36,7 @@ all_read : (s : State) (y : Unit {0} × State) → declarations_at s ≡ Ok y �
 unfolding declarations_at while_next
 all_read s y e = no_token y.1.rest (turns_end is_token (λ _. declaration_at) declarations_progress (suc (length s.rest)) tt s y (omega arith) e)
 
-tree_is : (r : Result (Unit {0} × State) Fault) (tree : Script) → tree_in r ≡ Ok tree → (y : Unit {0} × State) × (r ≡ Ok y) × (tree_so_far y.1 ≡ tree)
+tree_is : (r : Result (Unit {0} × State) Failure) (tree : Script) → tree_in r ≡ Ok tree → (y : Unit {0} × State) × (r ≡ Ok y) × (tree_so_far y.1 ≡ tree)
 tree_is (Ok y) tree e = (y, refl, same (tree_so_far y.1) tree e) where
   same : (a b : Script) → (let r : Result Script Fault = Ok a in r) ≡ Ok b → a ≡ b
   same a b h = cc

@@ -10,12 +10,13 @@ use Rattle.camac_lang.specs.declared.word.WordSize.{WordSize}
 use Rattle.camac_tokens.specs.declared.token.Sign.TheVariants as sign
 use Rattle.camac_tokens.specs.declared.token.TokenKind.{TokenKind}
 use Rattle.camac_tokens.specs.declared.token.TokenKind.TheVariants as kind
-use Rattle.camac_text_cursor.specs.Reading.{State, Reader, then_read, ◌>>=◌, ◌>>◌, give, kind_of, after_first}
+use Rattle.camac_text_cursor.specs.declared.choice.Choice.TheVariants as choice
+use Rattle.camac_text_cursor.specs.Reading.{State, Reader, then_read, ◌>>=◌, ◌>>◌, give, kind_of, after_first, missed, past}
 use Rattle.camac_text_cursor.specs.Readers.{begin, expect_sign, branch_number, function_number, set_name, used_register, used_variable, variable_here}
 use Rattle.camac_text_phrases.specs.Expressions.{expression_at}
 use Rattle.camac_text_statements.specs.Statements.{assignment, register_setting, move_by, move_at, single_action, put_action}
 use Rattle.camac_text_cursor.proofs.Steps.{then_ok, ok_is}
-use Rattle.camac_text_cursor.proofs.Moves.{AllFit, Moves, after_less, stays, moved, then_moves, one_moves, branch_ok, function_ok, expect_sign_ok}
+use Rattle.camac_text_cursor.proofs.Moves.{AllFit, Moves, after_less, unmoved, moved, then_moves, one_moves, branch_ok, function_ok, expect_sign_ok}
 use Rattle.camac_text_cursor.proofs.Uses.{scope_of, same_scope, used_register_ok, used_variable_ok, variable_here_ok}
 use Rattle.camac_text_phrases.proofs.BracketsRead.{expression_ok}
 use Rattle.camac_text_cursor.proofs.Registers.{limits_of, both, below_le, RegistersFit, set_name_ok}
@@ -30,7 +31,7 @@ record ReadsMove (room : ℕ) (s : State) (x : Move) (s' : State) : Type 0 where
 
 move_is : (room : ℕ) (k : Option TokenKind) (s : State) (y : Move × State) → move_by room k s ≡ Ok y → ReadsMove room s y.0 y.1
 move_is room (Some (kind.Sign sign.Into)) s y e =
-    let t : State = record s { rest = after_first s.rest } in
+    let t : State = past s in
     let m = then_ok (used_variable t) _ y e in
     let used = used_variable_ok t m.0 m.1 in
     subst (λ (p : Move × State). ReadsMove room s p.0 p.1) (ok_is (into m.0.0, m.0.1) y m.2) (record {
@@ -39,7 +40,7 @@ move_is room (Some (kind.Sign sign.Into)) s y e =
       deep = omega arith;
     })
 move_is room (Some (kind.Sign sign.From)) s y e =
-    let t : State = record s { rest = after_first s.rest } in
+    let t : State = past s in
     let m = then_ok (expression_at room t) _ y e in
     let read = expression_ok room t m.0 m.1 in
     subst (λ (p : Move × State). ReadsMove room s p.0 p.1) (ok_is (from m.0.0, m.0.1) y m.2) (record {
@@ -47,7 +48,7 @@ move_is room (Some (kind.Sign sign.From)) s y e =
       fits = λ h. read.fits ((moved s).fit h);
       deep = read.deep;
     })
-move_is room _ s y e = subst (λ (p : Move × State). ReadsMove room s p.0 p.1) (ok_is (no_data, s) y e) (record { moves = stays s; fits = λ h. refl; deep = omega arith })
+move_is room _ s y e = subst (λ (p : Move × State). ReadsMove room s p.0 p.1) (ok_is (no_data, missed choice.Arrow s) y e) (record { moves = unmoved choice.Arrow s; fits = λ h. refl; deep = omega arith })
 
 move_ok : (room : ℕ) (s : State) (y : Move × State) → move_at room s ≡ Ok y → ReadsMove room s y.0 y.1
 unfolding move_at
@@ -128,7 +129,7 @@ setting_is room s k line y next e =
     let shorter_t : length t.rest ≤ length b.0.1.rest = to_4.shorter in
     let stands : (u : State) (e : Expression) → Moves b.0.1 u → expression_fits (scope_of u) e ≡ true → expression_fits (scope_of s) e ≡ true = λ u e m h. subst (λ (scope : Scope). expression_fits scope e ≡ true) (same_scope b.0.1 u m ∙ scope_b) h in
     subst (λ (p : Statement × State). Acts room s p.0 p.1) (ok_is (x, t) y u4.2) (record {
-      same = to_4.same ∙ ap (λ (w : State). record w { rest = t.rest }) r.same ∙ ap (λ (rs : List Text). record s { rest = t.rest; registers = rs; statements = suc s.statements }) (sym registers) ∙ ap (λ (n : ℕ). record s { rest = t.rest; registers = t.registers; statements = n }) count;
+      same = to_4.same ∙ ap (λ (w : State). record w { rest = t.rest; tried = t.tried }) r.same ∙ ap (λ (rs : List Text). record s { rest = t.rest; registers = rs; statements = suc s.statements; tried = t.tried }) (sym registers) ∙ ap (λ (n : ℕ). record s { rest = t.rest; registers = t.registers; statements = n; tried = t.tried }) count;
       fit = λ h. to_4.fit (r.fit ((moved s).fit h));
       less = omega arith;
       few = λ h. omega arith;

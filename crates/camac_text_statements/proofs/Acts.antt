@@ -7,7 +7,8 @@ use Rattle.camac_lang.specs.Tree.{Text, Statement}
 use Rattle.camac_tokens.specs.declared.fault.Limit.TheVariants as limit
 use Rattle.camac_tokens.specs.declared.fault.TextCase.TheVariants as told
 use Rattle.camac_tokens.specs.declared.token.TokenKind.{TokenKind}
-use Rattle.camac_text_cursor.specs.Reading.{State, ◌>>◌, change, advance, kind_of, after_first}
+use Rattle.camac_text_cursor.specs.declared.choice.Choice.{Choice}
+use Rattle.camac_text_cursor.specs.Reading.{State, ◌>>◌, change, advance, kind_of, after_first, missed, past}
 use Rattle.camac_text_cursor.specs.Readers.{begin}
 use Rattle.camac_text_cursor.proofs.Steps.{ok_is}
 use Rattle.camac_text_cursor.proofs.Moves.{AllFit, Moves, after_less, moved, check_ok}
@@ -16,7 +17,7 @@ use Rattle.camac_text_cursor.proofs.Uses.{scope_of}
 
 -- the state after the first token of a statement
 abbrev pub begun : State → State
-begun s = record s { rest = after_first s.rest; statements = suc s.statements }
+begun s = record (past s) { statements = suc s.statements }
 
 pub begin_ok : (s : State) (y : Unit {0} × State) → begin s ≡ Ok y → (s.statements < 4096) × (y.1 ≡ begun s)
 unfolding begin
@@ -26,7 +27,7 @@ begin_ok s y e =
 
 -- a statement is read, where so many brackets and braces may be open
 pub record Acts (room : ℕ) (s : State) (x : Statement) (s' : State) : Type 0 where
-  pub same : s' ≡ record s { rest = s'.rest; registers = s'.registers; statements = s.statements + statements_in x }
+  pub same : s' ≡ record s { rest = s'.rest; registers = s'.registers; statements = s.statements + statements_in x; tried = s'.tried }
   pub fit : AllFit s.rest → AllFit s'.rest
   pub less : length s'.rest < length s.rest
   pub few : s.statements ≤ 4096 → s'.statements ≤ 4096
@@ -43,7 +44,7 @@ acts room s x k t next below m rule deep one =
     let less : length (after_first s.rest) < length s.rest = after_less s.rest k next in
     let shorter : length t.rest ≤ length (after_first s.rest) = m.shorter in
     record {
-      same = m.same ∙ ap (λ (rs : List Text). record s { rest = t.rest; registers = rs; statements = suc s.statements }) (sym registers) ∙ ap (λ (n : ℕ). record s { rest = t.rest; registers = t.registers; statements = n }) count;
+      same = m.same ∙ ap (λ (rs : List Text). record s { rest = t.rest; registers = rs; statements = suc s.statements; tried = t.tried }) (sym registers) ∙ ap (λ (n : ℕ). record s { rest = t.rest; registers = t.registers; statements = n; tried = t.tried }) count;
       fit = λ h. m.fit ((moved s).fit h);
       less = omega arith;
       few = λ h. omega arith;
@@ -51,3 +52,7 @@ acts room s x k t next below m rule deep one =
       registers = λ h fits. subst (λ (rs : List Text). RegistersFit (limits_of s) rs) (sym registers) fits;
       deep = deep;
     }
+
+-- one before which something else was looked for
+pub acts_missed : (room : ℕ) (s : State) (c : Choice) (x : Statement) (t : State) → Acts room (missed c s) x t → Acts room s x t
+acts_missed room s c x t a = record { same = a.same; fit = a.fit; less = a.less; few = a.few; after = a.after; registers = a.registers; deep = a.deep }

@@ -16,7 +16,7 @@ use Rattle.camac_text_statements.proofs.Acts.{begun, Acts}
 
 -- statements are read, where so many braces may be open, their own too
 pub record Body (room : ℕ) (s : State) (xs : List Statement) (s' : State) : Type 0 where
-  pub same : s' ≡ record s { rest = s'.rest; registers = s'.registers; statements = s.statements + statements (block_of xs) }
+  pub same : s' ≡ record s { rest = s'.rest; registers = s'.registers; statements = s.statements + statements (block_of xs); tried = s'.tried }
   pub fit : AllFit s.rest → AllFit s'.rest
   pub shorter : length s'.rest ≤ length s.rest
   pub few : s.statements ≤ 4096 → s'.statements ≤ 4096
@@ -34,7 +34,7 @@ after_moves room s t xs u m b =
     let shorter_t : length t.rest ≤ length s.rest = m.shorter in
     let shorter_u : length u.rest ≤ length t.rest = b.shorter in
     record {
-      same = b.same ∙ ap (λ (w : State). record w { rest = u.rest; registers = u.registers; statements = w.statements + statements (block_of xs) }) m.same;
+      same = b.same ∙ ap (λ (w : State). record w { rest = u.rest; registers = u.registers; statements = w.statements + statements (block_of xs); tried = u.tried }) m.same;
       fit = λ h. b.fit (m.fit h);
       shorter = omega arith;
       few = λ h. b.few (omega arith);
@@ -50,7 +50,7 @@ before_moves room s xs t u b m =
     let shorter_t : length t.rest ≤ length s.rest = b.shorter in
     let shorter_u : length u.rest ≤ length t.rest = m.shorter in
     record {
-      same = m.same ∙ ap (λ (w : State). record w { rest = u.rest }) b.same ∙ ap (λ (rs : List Text). record s { rest = u.rest; registers = rs; statements = s.statements + statements (block_of xs) }) (sym registers);
+      same = m.same ∙ ap (λ (w : State). record w { rest = u.rest; tried = u.tried }) b.same ∙ ap (λ (rs : List Text). record s { rest = u.rest; registers = rs; statements = s.statements + statements (block_of xs); tried = u.tried }) (sym registers);
       fit = λ h. m.fit (b.fit h);
       shorter = omega arith;
       few = λ h. let few : t.statements ≤ 4096 = b.few h in omega arith;
@@ -68,7 +68,7 @@ holds_block room s k x xs u next below rule one deep b =
     let less : length (after_first s.rest) < length s.rest = after_less s.rest k next in
     let shorter : length u.rest ≤ length (after_first s.rest) = b.shorter in
     record {
-      same = b.same ∙ ap (λ (n : ℕ). record s { rest = u.rest; registers = u.registers; statements = n }) count;
+      same = b.same ∙ ap (λ (n : ℕ). record s { rest = u.rest; registers = u.registers; statements = n; tried = u.tried }) count;
       fit = λ h. b.fit ((moved s).fit h);
       less = omega arith;
       few = λ h. b.few (omega arith);
@@ -98,7 +98,7 @@ holds_two room s k line c xs u ys t next below rule deep a b =
     let scope : scope_of u ≡ scope_of s = ap scope_of a.same in
     let limits : limits_of u ≡ limits_of s = ap limits_of a.same in
     record {
-      same = b.same ∙ ap (λ (w : State). record w { rest = t.rest; registers = t.registers; statements = w.statements + statements (block_of ys) }) a.same ∙ ap (λ (n : ℕ). record s { rest = t.rest; registers = t.registers; statements = n }) count;
+      same = b.same ∙ ap (λ (w : State). record w { rest = t.rest; registers = t.registers; statements = w.statements + statements (block_of ys); tried = t.tried }) a.same ∙ ap (λ (n : ℕ). record s { rest = t.rest; registers = t.registers; statements = n; tried = t.tried }) count;
       fit = λ h. b.fit (a.fit ((moved s).fit h));
       less = omega arith;
       few = λ h. b.few (a.few (omega arith));

@@ -9,7 +9,8 @@ use Rattle.camac_lang.specs.View.{block_of}
 use Rattle.camac_tokens.specs.declared.fault.Limit.TheVariants as limit
 use Rattle.camac_tokens.specs.declared.fault.TextCase.TheVariants as told
 use Rattle.camac_tokens.specs.declared.token.Sign.TheVariants as sign
-use Rattle.camac_text_cursor.specs.Reading.{State, Reader, give, fail, kind_of, one_more, many}
+use Rattle.camac_text_cursor.specs.declared.choice.Choice.TheVariants as choice
+use Rattle.camac_text_cursor.specs.Reading.{State, Reader, give, fail, kind_of, one_more, many, unexpected}
 use Rattle.camac_text_cursor.specs.Readers.{is_sign, expect_sign}
 use Rattle.camac_text_statements.specs.Statements.{is_no_end, statement_with, block_at}
 use Rattle.camac_text_cursor.proofs.Steps.{then_ok, ok_is, err_no_ok, Progresses, while_keeps}
@@ -65,7 +66,7 @@ longer_body room s xs u x t b a =
     let less : length t.rest < length u.rest = a.less in
     let shorter : length u.rest ≤ length s.rest = b.shorter in
     record {
-      same = a.same ∙ ap (λ (w : State). record w { rest = t.rest; registers = t.registers; statements = w.statements + statements_in x }) b.same ∙ ap (λ (n : ℕ). record s { rest = t.rest; registers = t.registers; statements = n }) count;
+      same = a.same ∙ ap (λ (w : State). record w { rest = t.rest; registers = t.registers; statements = w.statements + statements_in x; tried = t.tried }) b.same ∙ ap (λ (n : ℕ). record s { rest = t.rest; registers = t.registers; statements = n; tried = t.tried }) count;
       fit = λ h. a.fit (b.fit h);
       shorter = omega arith;
       few = λ h. a.few (b.few h);
@@ -91,7 +92,7 @@ module _ (room : ℕ) (block : Reader (List Statement)) (block_is : (s : State) 
 
 -- ---- a body in its braces
 
-no_room : (b : Bool) (s : State) (y : List Statement × State) → cond b (fail (told.Limit limit.Depth)) (fail told.Unexpected) s ≡ Ok y → ⊥
+no_room : (b : Bool) (s : State) (y : List Statement × State) → cond b (fail (told.Limit limit.Depth)) (unexpected (choice.Mark sign.LeftBrace)) s ≡ Ok y → ⊥
 no_room true s y e = err_no_ok _ _ e
 no_room false s y e = err_no_ok _ _ e
 

@@ -10,7 +10,7 @@ use Rattle.camac_lang.specs.declared.word.LamCall.TheVariants as lam_word
 use Rattle.camac_tokens.specs.declared.token.Keyword.TheVariants as word
 use Rattle.camac_tokens.specs.declared.token.TokenKind.{TokenKind}
 use Rattle.camac_tokens.specs.declared.token.TokenKind.TheVariants as kind
-use Rattle.camac_text_cursor.specs.Reading.{State, Reader, ◌>>=◌, give, kind_of, after_first}
+use Rattle.camac_text_cursor.specs.Reading.{State, Reader, ◌>>=◌, give, kind_of, past}
 use Rattle.camac_text_cursor.specs.Readers.{begin, used_lam}
 use Rattle.camac_text_phrases.specs.Expressions.{expression_at}
 use Rattle.camac_text_statements.specs.Statements.{switch_by, switch, crate_action, crate_switch, lam_action, lam_switch, lam_call_by, crate_call_by}
@@ -21,8 +21,8 @@ use Rattle.camac_text_phrases.proofs.BracketsRead.{expression_ok}
 use Rattle.camac_text_statements.proofs.Acts.{begun, begin_ok, Acts, acts}
 
 switch_is : (k : Option TokenKind) (s : State) (y : Bool × State) → switch_by k s ≡ Ok y → Moves s y.1
-switch_is (Some (kind.Keyword word.On)) s y e = subst (λ (p : Bool × State). Moves s p.1) (ok_is (true, record s { rest = after_first s.rest }) y e) (moved s)
-switch_is (Some (kind.Keyword word.Off)) s y e = subst (λ (p : Bool × State). Moves s p.1) (ok_is (false, record s { rest = after_first s.rest }) y e) (moved s)
+switch_is (Some (kind.Keyword word.On)) s y e = subst (λ (p : Bool × State). Moves s p.1) (ok_is (true, past s) y e) (moved s)
+switch_is (Some (kind.Keyword word.Off)) s y e = subst (λ (p : Bool × State). Moves s p.1) (ok_is (false, past s) y e) (moved s)
 switch_is _ s y e = absurd (err_no_ok _ _ e)
 
 switch_ok : (s : State) (y : Bool × State) → switch s ≡ Ok y → Moves s y.1

@@ -5,27 +5,28 @@ use Rattle.camac_lang.specs.View.{block_of}
 use Rattle.camac_tokens.specs.declared.token.Keyword.TheVariants as word
 use Rattle.camac_tokens.specs.declared.token.TokenKind.{TokenKind}
 use Rattle.camac_tokens.specs.declared.token.TokenKind.TheVariants as kind
-use Rattle.camac_text_cursor.specs.Reading.{State, Reader, ◌>>=◌, give, peek, kind_of, after_first}
+use Rattle.camac_text_cursor.specs.declared.choice.Choice.TheVariants as choice
+use Rattle.camac_text_cursor.specs.Reading.{State, Reader, ◌>>=◌, give, peek, kind_of, missed, past}
 use Rattle.camac_text_phrases.specs.Conditions.{condition_at}
 use Rattle.camac_text_cursor.specs.Readers.{begin}
 use Rattle.camac_text_statements.specs.Statements.{else_by, if_statement}
 use Rattle.camac_text_cursor.proofs.Steps.{then_ok, ok_is}
-use Rattle.camac_text_cursor.proofs.Moves.{moved}
+use Rattle.camac_text_cursor.proofs.Moves.{moved, unmoved}
 use Rattle.camac_text_phrases.proofs.ConditionsRead.{ReadsCondition, condition_ok}
 use Rattle.camac_text_statements.proofs.Acts.{begun, begin_ok, Acts}
-use Rattle.camac_text_statements.proofs.Blocks.{Body, after_moves, holds_one, holds_two}
+use Rattle.camac_text_statements.proofs.Blocks.{Body, after_moves, before_moves, holds_one, holds_two}
 
 module _ (room : ℕ) (block : Reader (List Statement)) (block_is : (s : State) (y : List Statement × State) → block s ≡ Ok y → Body room s y.0 y.1) where
   else_is : (s : State) (j : TokenKind) (line : ℕ) (c : Condition) (b : State) (xs : List Statement) (u : State) (k : Option TokenKind) (y : Statement × State) → kind_of s.rest ≡ Some j → s.statements < 4096 → ReadsCondition room (begun s) c b → Body room (begun s) xs u → else_by block line c xs k u ≡ Ok y → Acts room s y.0 y.1
   else_is s j line c b xs u (Some (kind.Keyword word.Else)) y next below test body e =
-      let t : State = record u { rest = after_first u.rest } in
+      let t : State = past u in
       let m = then_ok (block t) (λ other. give (choose_else line c (block_of xs) (block_of other))) y e in
       let other : Body room u m.0.0 m.0.1 = after_moves room u t m.0.0 m.0.1 (moved u) (block_is t m.0 m.1) in
       subst (λ (p : Statement × State). Acts room s p.0 p.1) (ok_is (choose_else line c (block_of xs) (block_of m.0.0), m.0.1) y m.2)
       (holds_two room s j line c xs u m.0.0 m.0.1 next below (λ h. test.fits ((moved s).fit h)) test.deep body other)
   else_is s j line c b xs u _ y next below test body e =
-      subst (λ (p : Statement × State). Acts room s p.0 p.1) (ok_is (choose line c (block_of xs), u) y e)
-      (holds_one room s j line c xs u next below (λ h. test.fits ((moved s).fit h)) test.deep body)
+      subst (λ (p : Statement × State). Acts room s p.0 p.1) (ok_is (choose line c (block_of xs), missed (choice.Word word.Else) u) y e)
+      (holds_one room s j line c xs (missed (choice.Word word.Else) u) next below (λ h. test.fits ((moved s).fit h)) test.deep (before_moves room (begun s) xs u (missed (choice.Word word.Else) u) body (unmoved (choice.Word word.Else) u)))
 
   pub choice_is : (s : State) (j : TokenKind) (line : ℕ) (y : Statement × State) → kind_of s.rest ≡ Some j → if_statement room block line s ≡ Ok y → Acts room s y.0 y.1
   unfolding if_statement

@@ -5,22 +5,22 @@ use Rattle.camac_lang.specs.declared.word.CrateCall.{CrateCall}
 use Rattle.camac_lang.specs.declared.word.CrateCall.TheVariants as crate_word
 use Rattle.camac_lang.specs.declared.word.LamCall.{LamCall}
 use Rattle.camac_lang.specs.declared.word.LamCall.TheVariants as lam_word
-use Rattle.camac_tokens.specs.declared.fault.TextCase.TheVariants as told
 use Rattle.camac_tokens.specs.declared.token.Keyword.TheVariants as word
 use Rattle.camac_tokens.specs.declared.token.TokenKind.{TokenKind}
 use Rattle.camac_tokens.specs.declared.token.TokenKind.TheVariants as kind
-use Rattle.camac_text_cursor.specs.Reading.{State, ◌>>=◌, give, kind_of}
+use Rattle.camac_text_cursor.specs.declared.choice.Choice.TheVariants as choice
+use Rattle.camac_text_cursor.specs.Reading.{State, ◌>>=◌, give, kind_of, miss, unexpected}
 use Rattle.camac_text_cursor.specs.Readers.{begin, used_lam}
 use Rattle.camac_text_phrases.specs.Expressions.{expression_at}
 use Rattle.camac_text_statements.specs.Statements.{switch_by, switch, crate_action, crate_switch, lam_action, lam_switch, lam_call_by, crate_call_by}
-use Rattle.camac_text_cursor.proofs.Places.{IsLocal, local_then, local_peek, local_give, local_fail}
+use Rattle.camac_text_cursor.proofs.Places.{IsLocal, local_then, local_peek, local_give, local_unexpected, local_miss}
 use Rattle.camac_text_cursor.proofs.Local.{local_begin, local_take, local_used_lam}
 use Rattle.camac_text_phrases.proofs.LocalExpressions.{local_expression}
 
 local_switch_by : (k : Option TokenKind) (s : State) → IsLocal (switch_by k) s
 local_switch_by (Some (kind.Keyword word.On)) s = local_take true s
 local_switch_by (Some (kind.Keyword word.Off)) s = local_take false s
-local_switch_by _ s = local_fail told.Unexpected s tt
+local_switch_by _ s = local_unexpected choice.Switch s
 
 local_switch : (s : State) → IsLocal switch s
 unfolding switch
@@ -56,7 +56,7 @@ local_lam_call_by : (line : ℕ) (k : Option TokenKind) (s : State) → IsLocal 
 local_lam_call_by line (Some (kind.Keyword word.Cclm)) s = local_lam_switch line s
 local_lam_call_by line (Some (kind.Keyword word.Cclc)) s = local_lam_action lam_word.Clear line s
 local_lam_call_by line (Some (kind.Keyword word.Ctlm)) s = local_lam_action lam_word.Test line s
-local_lam_call_by line _ s = local_fail told.Unexpected s tt
+local_lam_call_by line _ s = local_then (miss choice.Statement) (λ _. unexpected choice.Name) s (local_miss choice.Statement s) (λ _ u _. local_unexpected choice.Name u)
 
 pub local_crate_call_by : (room line : ℕ) (k : Option TokenKind) (s : State) → IsLocal (crate_call_by room line k) s
 local_crate_call_by room line (Some (kind.Keyword word.Cccz)) s = local_crate crate_word.Initialise room line s

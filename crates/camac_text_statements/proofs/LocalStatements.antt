@@ -10,7 +10,8 @@ use Rattle.camac_tokens.specs.declared.token.Keyword.TheVariants as word
 use Rattle.camac_tokens.specs.declared.token.Sign.TheVariants as sign
 use Rattle.camac_tokens.specs.declared.token.TokenKind.{TokenKind}
 use Rattle.camac_tokens.specs.declared.token.TokenKind.TheVariants as kind
-use Rattle.camac_text_cursor.specs.Reading.{State, Reader, fail, ◌>>=◌, ◌>>◌, give, peek, advance, check, kind_of, line_of, one_more, many}
+use Rattle.camac_text_cursor.specs.declared.choice.Choice.TheVariants as choice
+use Rattle.camac_text_cursor.specs.Reading.{line_here, State, Reader, fail, ◌>>=◌, ◌>>◌, give, peek, advance, check, kind_of, line_of, one_more, many, miss, unexpected}
 use Rattle.camac_text_cursor.specs.Readers.{begin, is_sign, expect, expect_sign, any_number, branch_number, function_number, set_name, used_register, used_variable, variable_here}
 use Rattle.camac_text_phrases.specs.Expressions.{expression_at}
 use Rattle.camac_text_statements.specs.Statements.{assignment, register_setting, move_by, move_at, single_action, put_action, else_by, if_statement, for_statement, while_statement, lock_statement, nested_by, statement_by, statement_with, is_no_end, block_at}
@@ -22,7 +23,7 @@ use Rattle.camac_text_statements.proofs.LocalTransfers.{local_transfer_by}
 use Rattle.camac_text_statements.proofs.Bodies.{with_progress, block_ok}
 use Rattle.camac_text_phrases.proofs.LocalConditions.{local_condition}
 use Rattle.camac_text_phrases.proofs.LocalKeeps.{local_keeps}
-use Rattle.camac_text_cursor.proofs.Places.{IsLocal, local_then, local_peek, local_line, local_ask, local_give, local_fail, local_advance, local_if, local_check, local_while}
+use Rattle.camac_text_cursor.proofs.Places.{IsLocal, local_then, local_peek, local_line, local_ask, local_give, local_miss, local_missing, local_unexpected, local_fail, local_advance, local_if, local_check, local_while}
 use Rattle.camac_text_cursor.proofs.Local.{local_begin, local_expect, local_any_number, local_expect_sign, local_branch, local_function, local_set_name, local_used_register, local_used_variable, local_variable_here}
 use Rattle.camac_text_phrases.proofs.LocalExpressions.{local_expression}
 
@@ -51,7 +52,7 @@ local_move_by room (Some (kind.Sign sign.Into)) s =
 local_move_by room (Some (kind.Sign sign.From)) s =
     local_then advance (λ _. expression_at room >>= λ value. give (from value)) s (local_advance s) (λ _ u _.
     local_then (expression_at room) (λ value. give (from value)) u (local_expression room u) (λ value v _. local_give (from value) v))
-local_move_by room _ s = local_give no_data s
+local_move_by room _ s = local_missing choice.Arrow no_data s
 
 pub local_move : (room : ℕ) (s : State) → IsLocal (move_at room) s
 unfolding move_at
@@ -78,7 +79,7 @@ module _ (room : ℕ) (block : Reader (List Statement)) (block_is : (s : State) 
   local_else_by line c xs (Some (kind.Keyword word.Else)) s =
       local_then advance (λ _. block >>= λ ys. give (choose_else line c (block_of xs) (block_of ys))) s (local_advance s) (λ _ u _.
       local_then block (λ ys. give (choose_else line c (block_of xs) (block_of ys))) u (block_local u) (λ ys v _. local_give (choose_else line c (block_of xs) (block_of ys)) v))
-  local_else_by line c xs _ s = local_give (choose line c (block_of xs)) s
+  local_else_by line c xs _ s = local_missing (choice.Word word.Else) (choose line c (block_of xs)) s
 
   local_choice : (line : ℕ) (s : State) → IsLocal (if_statement room block line) s
   unfolding if_statement
@@ -129,7 +130,7 @@ module _ (room : ℕ) (block : Reader (List Statement)) (block_is : (s : State) 
   local_nested_by line k s = local_transfer_by room line k s
 
   local_statement_by : (line : ℕ) (k : Option TokenKind) (s : State) → IsLocal (statement_by room block line k) s
-  local_statement_by line (Some (kind.Name x)) s = local_assignment room line s
+  local_statement_by line (Some (kind.Name x)) s = local_then (miss choice.Statement) (λ _. assignment room line) s (local_miss choice.Statement s) (λ _ u _. local_assignment room line u)
   local_statement_by line (Some (kind.Keyword word.Cdreg)) s = local_setting room line s
   local_statement_by line (Some (kind.Keyword word.Cfsa)) s = local_single Full room line s
   local_statement_by line (Some (kind.Keyword word.Cssa)) s = local_single Short room line s
@@ -138,7 +139,9 @@ module _ (room : ℕ) (block : Reader (List Statement)) (block_is : (s : State) 
 
   local_statement : (s : State) → IsLocal (statement_with room block) s
   unfolding statement_with
-  local_statement s = local_line (λ line. peek >>= λ k. statement_by room block line k) s (local_peek (λ k. statement_by room block (line_of s.rest s.end_line) k) s (local_statement_by (line_of s.rest s.end_line) (kind_of s.rest) s))
+  local_statement s =
+      local_then (miss (choice.Mark sign.RightBrace)) (λ _. line_here >>= λ line. peek >>= λ k. statement_by room block line k) s (local_miss (choice.Mark sign.RightBrace) s) (λ _ u _.
+      local_line (λ line. peek >>= λ k. statement_by room block line k) u (local_peek (λ k. statement_by room block (line_of u.rest u.end_line) k) u (local_statement_by (line_of u.rest u.end_line) (kind_of u.rest) u)))
 
   local_statements : (s : State) → IsLocal (many is_no_end (statement_with room block)) s
   unfolding many
@@ -149,8 +152,8 @@ module _ (room : ℕ) (block : Reader (List Statement)) (block_is : (s : State) 
 pub local_block : (room : ℕ) (s : State) → IsLocal (block_at room) s
 unfolding block_at
 local_block zero s =
-    local_peek (λ k. cond (is_sign sign.LeftBrace k) (fail (told.Limit limit.Depth)) (fail told.Unexpected)) s
-    (local_if (is_sign sign.LeftBrace (kind_of s.rest)) (fail (told.Limit limit.Depth)) (fail told.Unexpected) s (λ _. local_fail (told.Limit limit.Depth) s tt) (λ _. local_fail told.Unexpected s tt))
+    local_peek (λ k. cond (is_sign sign.LeftBrace k) (fail (told.Limit limit.Depth)) (unexpected (choice.Mark sign.LeftBrace))) s
+    (local_if (is_sign sign.LeftBrace (kind_of s.rest)) (fail (told.Limit limit.Depth)) (unexpected (choice.Mark sign.LeftBrace)) s (λ _. local_fail (told.Limit limit.Depth) s tt) (λ _. local_unexpected (choice.Mark sign.LeftBrace) s))
 local_block (suc room) s =
     local_then (expect_sign sign.LeftBrace) (λ _. many is_no_end (statement_with room (block_at room)) >>= λ body. expect_sign sign.RightBrace >> give body) s (local_expect_sign sign.LeftBrace s) (λ _ u _.
     local_then (many is_no_end (statement_with room (block_at room))) (λ body. expect_sign sign.RightBrace >> give body) u (local_statements room (block_at room) (block_ok room) (local_block room) u) (λ body v _.

@@ -5,6 +5,7 @@ use Rattle.camac_tokens.specs.declared.token.Keyword.{Keyword}
 use Rattle.camac_tokens.specs.declared.token.Keyword.TheVariants as word
 use Rattle.camac_tokens.specs.declared.token.TokenKind.{TokenKind}
 use Rattle.camac_tokens.specs.declared.token.TokenKind.TheVariants as kind
+use Rattle.camac_text_cursor.specs.declared.choice.Choice.TheVariants as choice
 use Rattle.camac_text_cursor.specs.Reading.{State, ◌>>=◌, ◌>>◌, give, advance, kind_of}
 use Rattle.camac_text_cursor.specs.Readers.{begin, expect, function_number, used_register, used_variable, used_table, procedure_here, called}
 use Rattle.camac_text_phrases.specs.Expressions.{expression_at}
@@ -12,7 +13,7 @@ use Rattle.camac_text_phrases.specs.Arguments.{arguments_at}
 use Rattle.camac_text_statements.specs.Transfers.{last_bound, table_by, table_at, scan_statement, q_stop_statement, q_repeat_statement, call_statement}
 use Rattle.camac_text_statements.specs.Statements.{transfer_by}
 use Rattle.camac_text_cursor.proofs.Uses.{procedure_here_ok}
-use Rattle.camac_text_cursor.proofs.Places.{IsLocal, local_then, local_peek, local_give, local_advance}
+use Rattle.camac_text_cursor.proofs.Places.{IsLocal, local_then, local_peek, local_give, local_missing, local_advance}
 use Rattle.camac_text_cursor.proofs.Local.{local_begin, local_expect, local_function, local_used_register, local_used_variable, local_used_table, local_procedure_here, local_called}
 use Rattle.camac_text_phrases.proofs.LocalExpressions.{local_expression}
 use Rattle.camac_text_phrases.proofs.LocalArguments.{local_arguments}
@@ -30,7 +31,7 @@ local_table_by : (k : Option TokenKind) (s : State) → IsLocal (table_by k) s
 local_table_by (Some (kind.Keyword word.Table)) s =
     local_then advance (λ _. used_table >>= λ place. give (Some place)) s (local_advance s) (λ _ u _.
     local_then used_table (λ place. give (Some place)) u (local_used_table u) (λ place v _. local_give (Some place) v))
-local_table_by _ s = local_give None s
+local_table_by _ s = local_missing (choice.Word word.Table) None s
 
 local_table : (s : State) → IsLocal table_at s
 unfolding table_at

@@ -3,11 +3,13 @@ use Rattle.std.proofs.Common.{◌≡◌, ℕ, List, Option, Some, Ok, refl}
 use Rattle.camac_lang.specs.Tree.{Statement}
 use Rattle.camac_lang.specs.declared.word.WordSize.TheVariants.{Full, Short}
 use Rattle.camac_tokens.specs.declared.token.Keyword.TheVariants as word
+use Rattle.camac_tokens.specs.declared.token.Sign.TheVariants as sign
 use Rattle.camac_tokens.specs.declared.token.TokenKind.{TokenKind}
 use Rattle.camac_tokens.specs.declared.token.TokenKind.TheVariants as kind
-use Rattle.camac_text_cursor.specs.Reading.{State, Reader, kind_of, line_of}
+use Rattle.camac_text_cursor.specs.declared.choice.Choice.TheVariants as choice
+use Rattle.camac_text_cursor.specs.Reading.{State, Reader, kind_of, line_of, missed}
 use Rattle.camac_text_statements.specs.Statements.{nested_by, statement_by, statement_with}
-use Rattle.camac_text_statements.proofs.Acts.{Acts}
+use Rattle.camac_text_statements.proofs.Acts.{Acts, acts_missed}
 use Rattle.camac_text_statements.proofs.Blocks.{Body}
 use Rattle.camac_text_statements.proofs.ActionsRead.{assignment_is, put_is, single_is, setting_is}
 use Rattle.camac_text_statements.proofs.TransfersRead.{transfer_is}
@@ -23,7 +25,7 @@ module _ (room : ℕ) (block : Reader (List Statement)) (block_is : (s : State) 
   nested_is s line k y next e = transfer_is room s line k y next e
 
   statement_is : (s : State) (line : ℕ) (k : Option TokenKind) (y : Statement × State) → kind_of s.rest ≡ k → statement_by room block line k s ≡ Ok y → Acts room s y.0 y.1
-  statement_is s line (Some (kind.Name x)) y next e = assignment_is room s line y e
+  statement_is s line (Some (kind.Name x)) y next e = acts_missed room s choice.Statement y.0 y.1 (assignment_is room (missed choice.Statement s) line y e)
   statement_is s line (Some (kind.Keyword word.Cdreg)) y next e = setting_is room s (kind.Keyword word.Cdreg) line y next e
   statement_is s line (Some (kind.Keyword word.Cfsa)) y next e = single_is room s (kind.Keyword word.Cfsa) Full line y next e
   statement_is s line (Some (kind.Keyword word.Cssa)) y next e = single_is room s (kind.Keyword word.Cssa) Short line y next e
@@ -32,4 +34,6 @@ module _ (room : ℕ) (block : Reader (List Statement)) (block_is : (s : State) 
 
   pub statement_ok : (s : State) (y : Statement × State) → statement_with room block s ≡ Ok y → Acts room s y.0 y.1
   unfolding statement_with
-  statement_ok s y e = statement_is s (line_of s.rest s.end_line) (kind_of s.rest) y refl e
+  statement_ok s y e =
+      let t : State = missed (choice.Mark sign.RightBrace) s in
+      acts_missed room s (choice.Mark sign.RightBrace) y.0 y.1 (statement_is t (line_of s.rest s.end_line) (kind_of s.rest) y refl e)

@@ -11,14 +11,15 @@ use Rattle.camac_tokens.specs.declared.token.Keyword.{Keyword}
 use Rattle.camac_tokens.specs.declared.token.Keyword.TheVariants as word
 use Rattle.camac_tokens.specs.declared.token.TokenKind.{TokenKind}
 use Rattle.camac_tokens.specs.declared.token.TokenKind.TheVariants as kind
-use Rattle.camac_text_cursor.specs.Reading.{State, Reader, ◌>>=◌, ◌>>◌, give, kind_of, after_first}
+use Rattle.camac_text_cursor.specs.declared.choice.Choice.TheVariants as choice
+use Rattle.camac_text_cursor.specs.Reading.{State, Reader, ◌>>=◌, ◌>>◌, give, kind_of, missed, past}
 use Rattle.camac_text_cursor.specs.Readers.{begin, expect, function_number, used_register, used_variable, used_table, procedure_here, called}
 use Rattle.camac_text_phrases.specs.Expressions.{expression_at}
 use Rattle.camac_text_phrases.specs.Arguments.{arguments_at}
 use Rattle.camac_text_statements.specs.Transfers.{last_bound, table_by, table_at, scan_statement, q_stop_statement, q_repeat_statement, call_statement}
 use Rattle.camac_text_statements.specs.Statements.{transfer_by}
 use Rattle.camac_text_cursor.proofs.Steps.{then_ok, ok_is}
-use Rattle.camac_text_cursor.proofs.Moves.{AllFit, Moves, stays, moved, then_moves, one_moves, function_ok, expect_ok}
+use Rattle.camac_text_cursor.proofs.Moves.{AllFit, Moves, unmoved, moved, then_moves, one_moves, function_ok, expect_ok}
 use Rattle.camac_text_cursor.proofs.Registers.{both, below_le}
 use Rattle.camac_text_cursor.proofs.Uses.{scope_of, same_scope, used_register_ok, used_variable_ok, used_table_ok, procedure_here_ok, called_ok}
 use Rattle.camac_text_phrases.proofs.BracketsRead.{expression_ok}
@@ -75,14 +76,14 @@ record ReadsTable (s : State) (table : Option ℕ) (s' : State) : Type 0 where
 
 table_is : (k : Option TokenKind) (s : State) (y : Option ℕ × State) → table_by k s ≡ Ok y → ReadsTable s y.0 y.1
 table_is (Some (kind.Keyword word.Table)) s y e =
-    let t : State = record s { rest = after_first s.rest } in
+    let t : State = past s in
     let m = then_ok (used_table t) (λ place. give (Some place)) y e in
     let used = used_table_ok t m.0 m.1 in
     subst (λ (p : Option ℕ × State). ReadsTable s p.0 p.1) (ok_is (Some m.0.0, m.0.1) y m.2) (record {
       moves = then_moves s t m.0.1 (moved s) used.1;
       fits = lt-ltb m.0.0 (length s.tables) used.0;
     })
-table_is _ s y e = subst (λ (p : Option ℕ × State). ReadsTable s p.0 p.1) (ok_is (None, s) y e) (record { moves = stays s; fits = refl })
+table_is _ s y e = subst (λ (p : Option ℕ × State). ReadsTable s p.0 p.1) (ok_is (None, missed (choice.Word word.Table) s) y e) (record { moves = unmoved (choice.Word word.Table) s; fits = refl })
 
 table_ok : (s : State) (y : Option ℕ × State) → table_at s ≡ Ok y → ReadsTable s y.0 y.1
 unfolding table_at

@@ -14,7 +14,8 @@ use Rattle.camac_tokens.specs.declared.token.TokenKind.{TokenKind}
 use Rattle.camac_tokens.specs.declared.token.TokenKind.TheVariants as kind
 use Rattle.camac_tokens.specs.declared.fault.Limit.TheVariants as limit
 use Rattle.camac_tokens.specs.declared.fault.TextCase.TheVariants as told
-use Rattle.camac_text_cursor.specs.Reading.{Reader, ◌>>=◌, ◌>>◌, give, peek, advance, line_here, fail, many, ask, check}
+use Rattle.camac_text_cursor.specs.declared.choice.Choice.TheVariants as choice
+use Rattle.camac_text_cursor.specs.Reading.{Reader, ◌>>=◌, ◌>>◌, give, peek, advance, line_here, miss, missing, fail, unexpected, many, ask, check}
 use Rattle.camac_text_cursor.specs.Readers.{begin, is_sign, expect, expect_sign, any_number, branch_number, function_number, set_name, used_register, used_variable, variable_here, used_lam}
 use Rattle.camac_text_phrases.specs.Expressions.{expression_at}
 use Rattle.camac_text_statements.specs.Transfers.{scan_statement, q_stop_statement, q_repeat_statement, call_statement}
@@ -50,7 +51,7 @@ move_by room (Some (kind.Sign sign.From)) = do
   advance
   value ← expression_at room
   give (from value)
-move_by room _ = give no_data
+move_by room _ = missing choice.Arrow no_data
 
 unfoldable pub move_at : ℕ → Reader Move
 move_at room = peek >>= move_by room
@@ -75,7 +76,7 @@ put_action room line = do
 abbrev pub switch_by : Option TokenKind → Reader Bool
 switch_by (Some (kind.Keyword word.On)) = advance >> give true
 switch_by (Some (kind.Keyword word.Off)) = advance >> give false
-switch_by _ = fail told.Unexpected
+switch_by _ = unexpected choice.Switch
 
 unfoldable pub switch : Reader Bool
 switch = peek >>= switch_by
@@ -111,7 +112,7 @@ abbrev pub lam_call_by : ℕ → Option TokenKind → Reader Statement
 lam_call_by line (Some (kind.Keyword word.Cclm)) = lam_switch line
 lam_call_by line (Some (kind.Keyword word.Cclc)) = lam_action lam_word.Clear line
 lam_call_by line (Some (kind.Keyword word.Ctlm)) = lam_action lam_word.Test line
-lam_call_by line _ = fail told.Unexpected
+lam_call_by line _ = miss choice.Statement >> unexpected choice.Name
 
 abbrev pub crate_call_by : ℕ → ℕ → Option TokenKind → Reader Statement
 crate_call_by room line (Some (kind.Keyword word.Cccz)) = crate_action crate_word.Initialise room line
@@ -141,7 +142,7 @@ else_by block line test body (Some (kind.Keyword word.Else)) = do
   advance
   other ← block
   give (choose_else line test (block_of body) (block_of other))
-else_by block line test body _ = give (choose line test (block_of body))
+else_by block line test body _ = missing (choice.Word word.Else) (choose line test (block_of body))
 
 -- `if`
 unfoldable pub if_statement : ℕ → Reader (List Statement) → ℕ → Reader Statement
@@ -198,15 +199,17 @@ nested_by room block line k = transfer_by room line k
 
 -- a statement, where so many brackets and braces may be open at once and this is read as a block
 abbrev pub statement_by : ℕ → Reader (List Statement) → ℕ → Option TokenKind → Reader Statement
-statement_by room block line (Some (kind.Name x)) = assignment room line
+statement_by room block line (Some (kind.Name x)) = miss choice.Statement >> assignment room line
 statement_by room block line (Some (kind.Keyword word.Cdreg)) = register_setting room line
 statement_by room block line (Some (kind.Keyword word.Cfsa)) = single_action Full room line
 statement_by room block line (Some (kind.Keyword word.Cssa)) = single_action Short room line
 statement_by room block line (Some (kind.Keyword word.Put)) = put_action room line
 statement_by room block line k = nested_by room block line k
 
+-- where a block may end, too
 unfoldable pub statement_with : ℕ → Reader (List Statement) → Reader Statement
 statement_with room block = do
+  miss (choice.Mark sign.RightBrace)
   line ← line_here
   next ← peek
   statement_by room block line next
@@ -218,7 +221,7 @@ is_no_end k = not (is_sign sign.RightBrace k)
 
 -- a block, where so many braces may be open at once
 unfoldable pub block_at : ℕ → Reader (List Statement)
-block_at zero = peek >>= λ k. if is_sign sign.LeftBrace k then fail (told.Limit limit.Depth) else fail told.Unexpected
+block_at zero = peek >>= λ k. if is_sign sign.LeftBrace k then fail (told.Limit limit.Depth) else unexpected (choice.Mark sign.LeftBrace)
 block_at (suc room) = do
   expect_sign sign.LeftBrace
   body ← many is_no_end (statement_with room (block_at room))

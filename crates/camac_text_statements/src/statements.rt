@@ -1,10 +1,10 @@
 // Blocks and statements.
 
-ghost use Rattle.std.specs.Prelude.{◌≡◌, Some, false, map, suc};
+ghost use Rattle.std.specs.Prelude.{◌≡◌, Some, true, false, map, suc};
 ghost use Rattle.camac_lang.specs.View.{statement_of};
 ghost use Rattle.camac_text_cursor.specs.Choice.{takes};
 ghost use Rattle.camac_text_cursor.specs.declared.choice.Choice.TheVariants as choice;
-ghost use Rattle.camac_text_cursor.specs.Reading.{kind_of, left_of, line_of, many};
+ghost use Rattle.camac_text_cursor.specs.Reading.{kind_of, left_of, line_of, many, missed};
 ghost use Rattle.camac_tokens.specs.declared.fault.TextCase.TheVariants.{Unexpected};
 ghost use Rattle.camac_tokens.specs.declared.token.TokenKind.TheVariants as kind;
 ghost use Rattle.camac_text_statements.specs.Statements.{statement_by, statement_with, is_no_end, block_at};
@@ -64,11 +64,14 @@ fn is_in_block(parser: &Parser<'_>) -> bool
     !parser.next_is_sign(Sign::RightBrace)
 }
 
+/// A statement, where the block may end, too.
 #[cycle(statement)]
 #[tactic(auto, unfolding(crate::specs::Statements::statement_with))]
 fn statement(parser: &mut Parser<'_>, room: u32) -> Result<Stmt, TextFault>
+    requires { is_no_end (kind_of (state parser.old).rest) ≡ true }
     ensures { Gives statement_of result parser.new (statement_with room (block_at room) (state parser.old)) }
 {
+    parser.miss(Choice::Mark(Sign::RightBrace));
     let line = parser.line_here();
     match parser.peek() {
         Some(TokenKind::Name(_)) => {
@@ -84,10 +87,11 @@ fn statement(parser: &mut Parser<'_>, room: u32) -> Result<Stmt, TextFault>
 }
 
 /// The fault of a token that begins no statement.
-fn no_statement(parser: &Parser<'_>) -> TextFault
-    requires statement { takes choice.Statement (kind_of (state parser.now).rest) ≡ false }
-    requires name { takes choice.Name (kind_of (state parser.now).rest) ≡ false }
-    ensures { result ≡ TextFault.Broken Unexpected (line_of (state parser.now).rest (state parser.now).end_line) (left_of (state parser.now).rest) }
+fn no_statement(parser: &mut Parser<'_>) -> TextFault
+    requires statement { takes choice.Statement (kind_of (state parser.old).rest) ≡ false }
+    requires name { takes choice.Name (kind_of (state parser.old).rest) ≡ false }
+    ensures fault { result ≡ TextFault.Broken Unexpected (line_of (state parser.old).rest (state parser.old).end_line) (left_of (state parser.old).rest) }
+    ensures missed { state parser.new ≡ missed choice.Name (missed choice.Statement (state parser.old)) }
 {
     parser.miss(Choice::Statement);
     parser.unexpected(Choice::Name)

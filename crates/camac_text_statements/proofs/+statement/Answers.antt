@@ -13,7 +13,7 @@ use Rattle.camac_text_statements.proofs.+statement.Goals as goal
 pub statements::statements-returns-in_err-statement : goal.statements::statements-returns-in_err-statement
 statements::statements-returns-in_err-statement t c =
     let p = err_from_is_err_and c.from_residual.result c.from_residual.ensures.1 in
-    rw (p.1, p.2) (more_fails is_no_end (statement_with c.args.room (block_at c.args.room)) (statements_progress c.args.room) (map statement_of c.loop-parser.body.items) (state c.loop-parser.parser) (many is_no_end (statement_with c.args.room (block_at c.args.room)) (state c.args.parser.now)) c.in_err-statement.field-0.0 (sym c.is_in_block.ensures ∙ c.loop-parser-test.true) c.in_err-statement.ensures c.loop-parser.invariant)
+    rw (p.1, p.2) (more_fails is_no_end (statement_with c.args.room (block_at c.args.room)) (statements_progress c.args.room) (map statement_of c.loop-parser.body.items) (state c.loop-parser.parser) (many is_no_end (statement_with c.args.room (block_at c.args.room)) (state c.args.parser.now)) c.in_err-statement.field-0.0 (state c.statement.new.parser).tried (sym c.is_in_block.ensures ∙ c.loop-parser-test.true) c.in_err-statement.ensures c.loop-parser.invariant)
 
 pub statements::statements-loop-parser-smaller : goal.statements::statements-loop-parser-smaller
 statements::statements-loop-parser-smaller t c = (statement_ok c.args.room (block_at c.args.room) (block_ok c.args.room) (state c.loop-parser.parser) (statement_of c.in_ok-statement.statement, state c.statement.new.parser) c.in_ok-statement.ensures).less

@@ -3,8 +3,7 @@ use Rattle.std.proofs.lemmas.Result.{err_from_is_err_and}
 use Rattle.std.proofs.lemmas.List.{map_push}
 use Rattle.camac_lang.specs.Tree.{Expression}
 use Rattle.camac_lang.specs.View.{expression_of}
-use Rattle.camac_tokens.specs.Fault.{Fails}
-use Rattle.camac_text_cursor.specs.Parser.{state}
+use Rattle.camac_text_cursor.specs.Parser.{state, FailsWith}
 use Rattle.camac_text_phrases.specs.Arguments.{argument_after, more_arguments}
 use Rattle.camac_text_phrases.proofs.ArgumentsRead.{arguments_go, arguments_fail, arguments_end}
 use Rattle.camac_text_phrases.proofs.calling.argument_list.Goals as goal
@@ -15,8 +14,8 @@ returns-in_err-argument c =
     let items = map expression_of c.loop-parser.arguments.items in
     let same : map expression_of c.deref.result.now ≡ items = ap (map expression_of) c.deref.ensures.value in
     let left : c.args.count - length c.loop-parser.arguments.items ≡ suc (c.args.count - suc (length c.loop-parser.arguments.items)) = omega (arith, c.loop-parser-test.true, c.len.ensures, c.loop-parser.arguments.ok.0) in
-    rw (p.1, p.2) (arguments_fail c.args.count c.args.room (c.args.count - suc (length c.loop-parser.arguments.items)) items (state c.loop-parser.parser) c.in_err-argument.field-0.0 (more_arguments c.args.count c.args.room c.args.count [] (state c.args.parser.now))
-    (subst (λ (es : List Expression). Fails c.in_err-argument.field-0.0 (argument_after c.args.count c.args.room es (state c.loop-parser.parser))) same c.in_err-argument.ensures)
+    rw (p.1, p.2) (arguments_fail c.args.count c.args.room (c.args.count - suc (length c.loop-parser.arguments.items)) items (state c.loop-parser.parser) c.in_err-argument.field-0.0 (state c.argument.new.parser).tried (more_arguments c.args.count c.args.room c.args.count [] (state c.args.parser.now))
+    (subst (λ (es : List Expression). FailsWith c.in_err-argument.field-0.0 (state c.argument.new.parser).tried (argument_after c.args.count c.args.room es (state c.loop-parser.parser))) same c.in_err-argument.ensures)
     (ap (λ (n : ℕ). more_arguments c.args.count c.args.room n items (state c.loop-parser.parser)) (sym left) ∙ c.loop-parser.invariant.0))
 
 pub loop-parser-preserved : goal.loop-parser-preserved

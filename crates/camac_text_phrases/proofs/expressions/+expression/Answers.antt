@@ -2,10 +2,11 @@ use Rattle.std.proofs.Common.{rules, ◌≡◌, Option, Ok, [], ◌∷◌, ◌++
 use Rattle.camac_lang.specs.Tree.{number, group, add, subtract, multiply, divide, remainder}
 use Rattle.std.proofs.lemmas.Result.{err_from_is_err_and}
 use Rattle.camac_text_cursor.specs.Parser.{state}
-use Rattle.camac_text_cursor.proofs.Loops.{goes, fails, ends}
+use Rattle.camac_text_cursor.proofs.Loops.{until_goes, until_fails, until_ends}
 use Rattle.camac_text_phrases.proofs.BracketsRead.{product_progress, sum_progress, bracketed_ok}
-use Rattle.camac_text_cursor.specs.Reading.{while_next}
-use Rattle.camac_text_phrases.specs.Expressions.{counted, is_product_sign, is_sum_sign, brackets_with, bracketed, sum_turn, product_turn}
+use Rattle.camac_text_cursor.specs.declared.choice.Choice.TheVariants as choice
+use Rattle.camac_text_cursor.specs.Reading.{until}
+use Rattle.camac_text_phrases.specs.Expressions.{counted, is_product_sign, is_sum_sign, bracketed, sum_turn, product_turn}
 use Rattle.camac_text_phrases.specs.Views.{Leaf, Puts}
 use Rattle.camac_text_phrases.proofs.NodesPut.{one_more, both, right_size}
 use Rattle.camac_text_phrases.proofs.expressions.+expression.Goals as goal
@@ -22,8 +23,7 @@ factor_from-returns-in_ok-push-in-Some t c before leaf =
 pub factor_from-returns-in-None : goal.factor_from-returns-in-None
 factor_from-returns-in-None t c before leaf =
     let p = subst (λ (o : Option Node). Leaf c.args.room c.args.so_far before (Ok o) c.args.parser.now) c.in-None.is leaf in
-    subst (λ r. Puts c.args.nodes.now.items c.bracket.new.nodes.items c.bracket.result c.bracket.new.parser r) (sym p.1)
-    (subst (λ s. Puts c.args.nodes.now.items c.bracket.new.nodes.items c.bracket.result c.bracket.new.parser (brackets_with (bracketed c.args.room) c.args.so_far s)) p.0 c.bracket.ensures)
+    subst (λ r. Puts c.args.nodes.now.items c.bracket.new.nodes.items c.bracket.result c.bracket.new.parser r) (sym p) c.bracket.ensures
 
 pub in_brackets-returns : goal.in_brackets-returns
 unfolding bracketed
@@ -67,7 +67,7 @@ pub products-returns-in_err-operators : goal.products-returns-in_err-operators
 products-returns-in_err-operators t c left =
     let inv = c.loop-parser.invariant left in
     let p = err_from_is_err_and c.from_residual.result c.from_residual.ensures.1 in
-    rw (p.1, p.2) (fails is_product_sign (product_turn (bracketed c.args.room)) (product_progress c.args.room (bracketed c.args.room) (bracketed_ok c.args.room)) (counted inv.0 c.loop-parser.operators) (state c.loop-parser.parser) (while_next is_product_sign (product_turn (bracketed c.args.room)) (counted left c.args.so_far) (state c.args.parser.now)) c.in_err-operators.field-0.0 (sym c.is_product_sign.ensures ∙ c.loop-parser-test.true) (c.in_err-operators.ensures inv.0) inv.2)
+    rw (p.1, p.2) (until_fails choice.Product is_product_sign (product_turn (bracketed c.args.room)) (product_progress c.args.room (bracketed c.args.room) (bracketed_ok c.args.room)) (counted inv.0 c.loop-parser.operators) (state c.loop-parser.parser) (until choice.Product is_product_sign (product_turn (bracketed c.args.room)) (counted left c.args.so_far) (state c.args.parser.now)) c.in_err-operators.field-0.0 (state c.product_turn.new.parser).tried (sym c.is_product_sign.ensures ∙ c.loop-parser-test.true) (c.in_err-operators.ensures inv.0) inv.2)
 
 pub products-loop-parser-smaller : goal.products-loop-parser-smaller
 products-loop-parser-smaller t c =
@@ -78,12 +78,12 @@ pub products-loop-parser-preserved : goal.products-loop-parser-preserved
 products-loop-parser-preserved t c left =
     let inv = c.loop-parser.invariant left in
     let p = c.in_ok-operators.ensures inv.0 in
-    (p.0, λ before is. p.1 before (inv.1 before is), goes is_product_sign (product_turn (bracketed c.args.room)) (product_progress c.args.room (bracketed c.args.room) (bracketed_ok c.args.room)) (counted inv.0 c.loop-parser.operators) (state c.loop-parser.parser) (while_next is_product_sign (product_turn (bracketed c.args.room)) (counted left c.args.so_far) (state c.args.parser.now)) (counted p.0 c.in_ok-operators.operators) (state c.product_turn.new.parser) (sym c.is_product_sign.ensures ∙ c.loop-parser-test.true) p.2 inv.2)
+    (p.0, λ before is. p.1 before (inv.1 before is), until_goes choice.Product is_product_sign (product_turn (bracketed c.args.room)) (product_progress c.args.room (bracketed c.args.room) (bracketed_ok c.args.room)) (counted inv.0 c.loop-parser.operators) (state c.loop-parser.parser) (until choice.Product is_product_sign (product_turn (bracketed c.args.room)) (counted left c.args.so_far) (state c.args.parser.now)) (counted p.0 c.in_ok-operators.operators) (state c.product_turn.new.parser) (sym c.is_product_sign.ensures ∙ c.loop-parser-test.true) p.2 inv.2)
 
 pub products-returns : goal.products-returns
 products-returns t c left =
     let inv = c.loop-parser.invariant left in
-    (inv.0, inv.1, ends is_product_sign (product_turn (bracketed c.args.room)) (product_progress c.args.room (bracketed c.args.room) (bracketed_ok c.args.room)) (counted inv.0 c.loop-parser.operators) (state c.loop-parser.parser) (while_next is_product_sign (product_turn (bracketed c.args.room)) (counted left c.args.so_far) (state c.args.parser.now)) (sym c.is_product_sign.ensures ∙ c.loop-parser-test.false) inv.2)
+    (inv.0, inv.1, rw c.miss.ensures (until_ends choice.Product is_product_sign (product_turn (bracketed c.args.room)) (product_progress c.args.room (bracketed c.args.room) (bracketed_ok c.args.room)) (counted inv.0 c.loop-parser.operators) (state c.loop-parser.parser) (until choice.Product is_product_sign (product_turn (bracketed c.args.room)) (counted left c.args.so_far) (state c.args.parser.now)) (sym c.is_product_sign.ensures ∙ c.loop-parser-test.false) inv.2))
 
 pub sums-loop-parser-init : goal.sums-loop-parser-init
 sums-loop-parser-init t c left = (left, λ before is. is, refl)
@@ -92,7 +92,7 @@ pub sums-returns-in_err-operators : goal.sums-returns-in_err-operators
 sums-returns-in_err-operators t c left =
     let inv = c.loop-parser.invariant left in
     let p = err_from_is_err_and c.from_residual.result c.from_residual.ensures.1 in
-    rw (p.1, p.2) (fails is_sum_sign (sum_turn (bracketed c.args.room)) (sum_progress c.args.room (bracketed c.args.room) (bracketed_ok c.args.room)) (counted inv.0 c.loop-parser.operators) (state c.loop-parser.parser) (while_next is_sum_sign (sum_turn (bracketed c.args.room)) (counted left c.args.so_far) (state c.args.parser.now)) c.in_err-operators.field-0.0 (sym c.is_sum_sign.ensures ∙ c.loop-parser-test.true) (c.in_err-operators.ensures inv.0) inv.2)
+    rw (p.1, p.2) (until_fails choice.Sum is_sum_sign (sum_turn (bracketed c.args.room)) (sum_progress c.args.room (bracketed c.args.room) (bracketed_ok c.args.room)) (counted inv.0 c.loop-parser.operators) (state c.loop-parser.parser) (until choice.Sum is_sum_sign (sum_turn (bracketed c.args.room)) (counted left c.args.so_far) (state c.args.parser.now)) c.in_err-operators.field-0.0 (state c.sum_turn.new.parser).tried (sym c.is_sum_sign.ensures ∙ c.loop-parser-test.true) (c.in_err-operators.ensures inv.0) inv.2)
 
 pub sums-loop-parser-smaller : goal.sums-loop-parser-smaller
 sums-loop-parser-smaller t c =
@@ -103,9 +103,9 @@ pub sums-loop-parser-preserved : goal.sums-loop-parser-preserved
 sums-loop-parser-preserved t c left =
     let inv = c.loop-parser.invariant left in
     let p = c.in_ok-operators.ensures inv.0 in
-    (p.0, λ before is. p.1 before (inv.1 before is), goes is_sum_sign (sum_turn (bracketed c.args.room)) (sum_progress c.args.room (bracketed c.args.room) (bracketed_ok c.args.room)) (counted inv.0 c.loop-parser.operators) (state c.loop-parser.parser) (while_next is_sum_sign (sum_turn (bracketed c.args.room)) (counted left c.args.so_far) (state c.args.parser.now)) (counted p.0 c.in_ok-operators.operators) (state c.sum_turn.new.parser) (sym c.is_sum_sign.ensures ∙ c.loop-parser-test.true) p.2 inv.2)
+    (p.0, λ before is. p.1 before (inv.1 before is), until_goes choice.Sum is_sum_sign (sum_turn (bracketed c.args.room)) (sum_progress c.args.room (bracketed c.args.room) (bracketed_ok c.args.room)) (counted inv.0 c.loop-parser.operators) (state c.loop-parser.parser) (until choice.Sum is_sum_sign (sum_turn (bracketed c.args.room)) (counted left c.args.so_far) (state c.args.parser.now)) (counted p.0 c.in_ok-operators.operators) (state c.sum_turn.new.parser) (sym c.is_sum_sign.ensures ∙ c.loop-parser-test.true) p.2 inv.2)
 
 pub sums-returns : goal.sums-returns
 sums-returns t c left =
     let inv = c.loop-parser.invariant left in
-    (inv.0, inv.1, ends is_sum_sign (sum_turn (bracketed c.args.room)) (sum_progress c.args.room (bracketed c.args.room) (bracketed_ok c.args.room)) (counted inv.0 c.loop-parser.operators) (state c.loop-parser.parser) (while_next is_sum_sign (sum_turn (bracketed c.args.room)) (counted left c.args.so_far) (state c.args.parser.now)) (sym c.is_sum_sign.ensures ∙ c.loop-parser-test.false) inv.2)
+    (inv.0, inv.1, rw c.miss.ensures (until_ends choice.Sum is_sum_sign (sum_turn (bracketed c.args.room)) (sum_progress c.args.room (bracketed c.args.room) (bracketed_ok c.args.room)) (counted inv.0 c.loop-parser.operators) (state c.loop-parser.parser) (until choice.Sum is_sum_sign (sum_turn (bracketed c.args.room)) (counted left c.args.so_far) (state c.args.parser.now)) (sym c.is_sum_sign.ensures ∙ c.loop-parser-test.false) inv.2))

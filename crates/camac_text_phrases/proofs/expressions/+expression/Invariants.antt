@@ -2,7 +2,8 @@ use Rattle.std.proofs.Common.{◌≡◌, ◌+◌, ◌*◌, List, ◌++◌, lengt
 use Rattle.camac_lang.specs.Tree.{Expression}
 use Rattle.camac_lang.specs.declared.expression.Node.{Node}
 use Rattle.camac_lang.specs.Nodes.{nodes_of}
-use Rattle.camac_text_cursor.specs.Reading.{while_next}
+use Rattle.camac_text_cursor.specs.declared.choice.Choice.TheVariants as choice
+use Rattle.camac_text_cursor.specs.Reading.{until}
 use Rattle.camac_text_phrases.specs.Expressions.{counted, is_product_sign, is_sum_sign, product_turn, sum_turn, bracketed}
 use Rattle.camac_text_cursor.specs.Parser.{state}
 use Rattle.camac_text_phrases.proofs.expressions.+expression.Given as goal
@@ -45,7 +46,7 @@ invariant-products-loop-parser l =
     (left : Expression)
     → (now : Expression)
     × ((before : List Node) → l.fn.nodes.items ≡ before ++ nodes_of left → l.nodes.items ≡ before ++ nodes_of now)
-    × (while_next is_product_sign (product_turn (bracketed l.room)) (counted now l.operators) (state l.parser) ≡ while_next is_product_sign (product_turn (bracketed l.fn.room)) (counted left l.fn.so_far) (state l.fn.parser))
+    × (until choice.Product is_product_sign (product_turn (bracketed l.room)) (counted now l.operators) (state l.parser) ≡ until choice.Product is_product_sign (product_turn (bracketed l.fn.room)) (counted left l.fn.so_far) (state l.fn.parser))
 
 abbrev pub decreases-products-loop-parser : goal.decreases-products-loop-parser
 decreases-products-loop-parser l = length (state l.parser).rest
@@ -55,7 +56,7 @@ invariant-sums-loop-parser l =
     (left : Expression)
     → (now : Expression)
     × ((before : List Node) → l.fn.nodes.items ≡ before ++ nodes_of left → l.nodes.items ≡ before ++ nodes_of now)
-    × (while_next is_sum_sign (sum_turn (bracketed l.room)) (counted now l.operators) (state l.parser) ≡ while_next is_sum_sign (sum_turn (bracketed l.fn.room)) (counted left l.fn.so_far) (state l.fn.parser))
+    × (until choice.Sum is_sum_sign (sum_turn (bracketed l.room)) (counted now l.operators) (state l.parser) ≡ until choice.Sum is_sum_sign (sum_turn (bracketed l.fn.room)) (counted left l.fn.so_far) (state l.fn.parser))
 
 abbrev pub decreases-sums-loop-parser : goal.decreases-sums-loop-parser
 decreases-sums-loop-parser l = length (state l.parser).rest
