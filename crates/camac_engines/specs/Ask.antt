@@ -45,7 +45,7 @@ of_plan _ = plan_ask.Lines
 -- of a plan and a script
 abbrev pub TellsFound : Ask → Found → Outcome → List ℕ → Type 0
 TellsFound a (Ok found) = TellsScript a found.0 found.1
-TellsFound a (Err broken) = TellsPlan (of_plan a) (Err broken)
+TellsFound a (Err why) = TellsPlan (of_plan a) (Err why)
 
 abbrev pub AnswersPlan : PlanAsk → {R : Type 0} → (left : R → Option (List ℕ)) → (plan plan' : PlanSource R) → (o p : Option (List ℕ)) → Result Outcome ToolFault → Type 0
 AnswersPlan a left plan plan' = Answers (Says left plan plan') (TellsPlan a) (IsPlanTooLong left plan plan')

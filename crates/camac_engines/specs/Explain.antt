@@ -42,8 +42,7 @@ ExplainedBy Explains (judged.Accepted c) more = ⊥
 
 -- those that explain a plan's refusal, by the case in which its text breaks the rule
 abbrev pub PlanExplained : PlanFound → List ℕ → Type 0
-PlanExplained (Err broken) more =
-    (case : PlanCase) × TellsCase broken.0 (Broken broken.1 case) × IsPlanExplanation broken.0 broken.1 case more
+PlanExplained (Err (text, rule)) more = (case : PlanCase) × TellsCase text (Broken rule case) × IsPlanExplanation text rule case more
 PlanExplained (Ok plan) more = ⊥
 
 -- after the text of a refusal comes what explains it

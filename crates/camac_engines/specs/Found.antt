@@ -31,14 +31,14 @@ HaveCase (texts.Refused text refusal) = HasCase text.items refusal
 -- this was found of a plan and a script
 abbrev pub IsJudged : Found → Judged → Type 0
 IsJudged (Ok found) j = Accepts (Ok j) found.0 (accepted found.0 found.1)
-IsJudged (Err broken) j = j ≡ judged.Refused (finding.Plan broken.1)
+IsJudged (Err (text, rule)) j = j ≡ judged.Refused (finding.Plan rule)
 
 -- the source of the plan and the reader of the script, before and after
 module _ {R : Type 0} (of : R → Option (List ℕ)) (plan plan' : PlanSource R) (s t : Option (List ℕ)) where
   -- they were read; where the plan is refused, nothing of the script
   abbrev pub HasRead : Found → Type 0
   HasRead (Ok found) = Says of plan plan' (Ok found.0) × WasRead TEXT_LIMIT s t found.1
-  HasRead (Err broken) = Says of plan plan' (Err broken) × (t ≡ s)
+  HasRead (Err why) = Says of plan plan' (Err why) × (t ≡ s)
 
   -- one of the two texts is too long
   abbrev pub IsTooLong : Type 0

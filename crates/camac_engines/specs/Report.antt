@@ -65,12 +65,12 @@ report plan text = report_read plan (script_of text)
 -- of what the plan says
 abbrev pub report_plan : PlanFound → Report
 report_plan (Ok plan) = Some (Good, plan_text plan)
-report_plan (Err broken) = refused (refusal.Plan broken.1)
+report_plan (Err (text, rule)) = refused (refusal.Plan rule)
 
 -- the same with the commands of the types
 abbrev pub report_commands : PlanFound → Report
 report_commands (Ok plan) = Some (Good, plan_with_commands plan)
-report_commands (Err broken) = refused (refusal.Plan broken.1)
+report_commands (Err (text, rule)) = refused (refusal.Plan rule)
 
 -- of what an event file says
 abbrev pub report_events : Result (Version × List Entry) Flaw → Report

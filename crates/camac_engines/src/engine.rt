@@ -155,7 +155,6 @@ fn list_plan<W: Write>(
     Ok(Outcome::Good)
 }
 
-#[tactic(auto, using(crate::proofs::Told::written))]
 fn tell_refusal<W: Write>(
     alloc: Global,
     ask: PlanAsk,
