@@ -1,14 +1,11 @@
 -- What the engines say of readers and writers, as what the calls on texts say.
 use Rattle.std.proofs.Common.{◌≡◌, ◌<◌, ℕ, List, [], length, refl, sym, ap, subst, inl, inr}
 use Rattle.std.specs.Prelude.{Option, Some, None, Result, Ok, Err}
-use Rattle.camac_branch.specs.Plan.{Layout}
 use Rattle.camac_event.specs.Reading.{file_at}
-use Rattle.camac_plan.specs.Reading.{reading}
-use Rattle.camac_plan.specs.declared.fault.PlanRule.{PlanRule}
 use Rattle.camac_engines.specs.Ask.{AnswersEvents, AnswersPlan, AnswersTexts, TellsFound, TellsPlan}
 use Rattle.camac_engines.specs.Engine.{Answers as EngineAnswers}
 use Rattle.camac_engines.specs.Found.{Found, HasRead, IsTooLong}
-use Rattle.camac_engines.specs.Plan.{Says, IsPlanTooLong}
+use Rattle.camac_engines.specs.Plan.{IsPlanTooLong, PlanFound, Says, plan_found}
 use Rattle.camac_engines.specs.Reading.{ConsumesSome, WasRead}
 use Rattle.camac_engines.specs.Report.{Reports, report_events}
 use Rattle.camac_engines.specs.declared.ask.Ask.{Ask}
@@ -44,13 +41,13 @@ module _ (old new : List ℕ) (size : ℕ) {o o' : Option (List ℕ)} {code : �
   module _ {R : Type 0} (left : R → Option (List ℕ)) (src src' : PlanSource R) (p : List ℕ) (is : IsText left src p) where
     pub plan_told : (a : PlanAsk) → AnswersPlan a left src src' o o' r → TellsOfPlan a p code old new size
     plan_told a =
-        told (Says left src src') (TellsPlan a) (IsPlanTooLong left src src') (TellsPlan a (reading p)) (IsLongText p)
-        (λ says read outcome text h. subst (λ (q : Result Layout PlanRule). TellsPlan a q outcome text) (says_reading left src src' p says is read) h) (plan_long left src src' p is)
+        told (Says left src src') (TellsPlan a) (IsPlanTooLong left src src') (TellsPlan a (plan_found p)) (IsLongText p)
+        (λ says read outcome text h. subst (λ (q : PlanFound). TellsPlan a q outcome text) (says_reading left src src' p says is read) h) (plan_long left src src' p is)
 
     module _ (s : List ℕ) {b : Option (List ℕ)} (t : Option (List ℕ)) (script : b ≡ Some s) where
       pub texts_told : (a : Ask) → AnswersTexts a left src src' b t o o' r → TellsOfTexts a p s code old new size
       texts_told a h =
-          told (HasRead left src src' (Some s) t) (TellsFound a) (IsTooLong left src src' (Some s) t) (TellsFound a (found_in (reading p) s)) (AreLongTexts p s)
+          told (HasRead left src src' (Some s) t) (TellsFound a) (IsTooLong left src src' (Some s) t) (TellsFound a (found_in (plan_found p) s)) (AreLongTexts p s)
           (λ found read outcome text k. subst (λ (q : Found). TellsFound a q outcome text) (has_read left src src' p s is t found read) k) (too_long left src src' p s is t)
           (subst (λ (x : Option (List ℕ)). AnswersTexts a left src src' x t o o' r) script h)
 

@@ -1,7 +1,6 @@
 -- What the engine of a run says of readers and writers, as what the call on texts says.
 use Rattle.std.proofs.Common.{◌≡◌, ℕ, false, List, [], refl, subst, inl, inr}
 use Rattle.std.specs.Prelude.{Option, Some, Result, Ok, Err}
-use Rattle.camac_plan.specs.Reading.{reading}
 use Rattle.camac_tool.specs.Headline.{JudgedKeeps}
 use Rattle.camac_tool.specs.Run.{Runs, RunsFound, RunsJudged}
 use Rattle.camac_tool.specs.Headline.{FoundKeeps}
@@ -17,6 +16,7 @@ use Rattle.camac_c.specs.Run.{AnswersRun, RunSays, holding}
 use Rattle.camac_c.specs.Texts.{GoesOut, IsFound, engine_code}
 use Rattle.camac_c.proofs.Found.{found, too_long}
 use Rattle.camac_c.proofs.Read.{IsText}
+use Rattle.camac_engines.specs.Plan.{plan_found}
 
 abbrev both : (a b : Option (List ℕ)) → Outputs
 both a b = record { listing = a; events = b }
@@ -26,7 +26,7 @@ held x y = λ i. both (x i) (y i)
 
 module _ {R : Type 0} (w w' : World R) (p s u : List ℕ) (is : IsText w.left w.plan p) (script : w.script ≡ Some s) (answers : w.answers ≡ Some u) (direct : w.gathers ≡ false) (listing events : List ℕ)
     (before : w.outputs ≡ holding [] []) (after : w'.outputs ≡ holding listing events) where
-  judged : (j : Judged) → HasJudged w.left w.plan w'.plan w.script w'.script j → IsFound (reading p) s j
+  judged : (j : Judged) → HasJudged w.left w.plan w'.plan w.script w'.script j → IsFound (plan_found p) s j
   judged j h = found w.left w.plan w'.plan p s is w'.script j (subst (λ (o : Option (List ℕ)). HasJudged w.left w.plan w'.plan o w'.script j) script h)
 
   says : (outcome : Outcome) → RunsFound w w' Listing (Ok outcome) → FoundKeeps w w' Listing (Ok outcome) → RunSays p s u outcome listing events

@@ -2,10 +2,7 @@
 use Rattle.std.proofs.Common.{◌≡◌, ℕ, ◌+◌, ◌<◌, List, ◌++◌, length, sym, ap, ◌∙◌, subst, append-nil, arith}
 use Rattle.std.specs.Prelude.{Option, Some, None, Result}
 use Rattle.std.proofs.lemmas.List.{length-append}
-use Rattle.camac_branch.specs.Plan.{Layout}
-use Rattle.camac_plan.specs.Reading.{reading}
-use Rattle.camac_plan.specs.declared.fault.PlanRule.{PlanRule}
-use Rattle.camac_engines.specs.Plan.{Says, IsPlanTooLong}
+use Rattle.camac_engines.specs.Plan.{IsPlanTooLong, PlanFound, Says, plan_found}
 use Rattle.camac_engines.specs.Reading.{ConsumesSome, WasRead}
 use Rattle.camac_engines.specs.declared.plan.PlanSource.{PlanSource}
 use Rattle.camac_engines.specs.declared.plan.PlanSource.TheVariants.{Sample, Text}
@@ -28,11 +25,11 @@ abbrev pub IsText : {R : Type 0} → (R → Option (List ℕ)) → PlanSource R 
 IsText left Sample p = ⊥
 IsText left (Text w) p = left (inner_of w) ≡ Some p
 
-pub says_reading : {R : Type 0} (left : R → Option (List ℕ)) (src src' : PlanSource R) (p : List ℕ) (says : Result Layout PlanRule) → IsText left src p → Says left src src' says → says ≡ reading p
+pub says_reading : {R : Type 0} (left : R → Option (List ℕ)) (src src' : PlanSource R) (p : List ℕ) (says : PlanFound) → IsText left src p → Says left src src' says → says ≡ plan_found p
 says_reading left Sample src' p says is h = absurd is
 says_reading left (Text w) Sample p says is h = absurd h
 says_reading left (Text w) (Text w') p says is h =
-    h.2 ∙ ap reading (read_all TEXT_LIMIT p h.0 (left (inner_of w')) (subst (λ (o : Option (List ℕ)). WasRead TEXT_LIMIT o (left (inner_of w')) h.0) is h.1))
+    h.2 ∙ ap plan_found (read_all TEXT_LIMIT p h.0 (left (inner_of w')) (subst (λ (o : Option (List ℕ)). WasRead TEXT_LIMIT o (left (inner_of w')) h.0) is h.1))
 
 pub plan_long : {R : Type 0} (left : R → Option (List ℕ)) (src src' : PlanSource R) (p : List ℕ) → IsText left src p → IsPlanTooLong left src src' → IsLongText p
 plan_long left Sample src' p is h = absurd is

@@ -5,7 +5,6 @@ use Rattle.std.specs.Global.{Vec}
 use Rattle.std.specs.Iterator.{Drains}
 use Rattle.std.specs.Str.Iter.{split_whitespace_rest, split_whitespace_steps}
 use Rattle.std.specs.declared.str.SplitWhitespace.{SplitWhitespace}
-use Rattle.camac_plan.specs.Reading.{reading}
 use Rattle.camac_response_times.specs.Setting.{ReadsSettings}
 use Rattle.camac_response_times.specs.declared.setting.Misuse.{Misuse}
 use Rattle.camac_response_times.specs.declared.setting.Settings.{Settings}
@@ -16,6 +15,7 @@ use Rattle.camac_engines.specs.declared.judging.Judged.{Judged}
 use Rattle.camac_engines.specs.declared.outcome.Outcome.{Outcome}
 use Rattle.camac_c.specs.Filled.{GivesNothing}
 use Rattle.camac_c.specs.Texts.{Answers, AreLongTexts, IsFound}
+use Rattle.camac_engines.specs.Plan.{plan_found}
 
 -- the words of a text, between white space
 pub record AreWordsOf (text : List ℕ) (words : List (List ℕ)) : Type 0 where
@@ -40,7 +40,7 @@ module _ (plan script : List ℕ) where
     pub settings : Settings
     pub read : ReadsSettings every within (Ok settings)
     pub verdict : Judged
-    pub found : IsFound (reading plan) script verdict
+    pub found : IsFound (plan_found plan) script verdict
     pub says : TellsResponse settings verdict outcome text
 
   -- the words name a service that the accepted script does not have
@@ -48,7 +48,7 @@ module _ (plan script : List ℕ) where
     pub settings : Settings
     pub read : ReadsSettings every within (Ok settings)
     pub verdict : Judged
-    pub found : IsFound (reading plan) script verdict
+    pub found : IsFound (plan_found plan) script verdict
     pub unknown : NamesNone settings verdict misuse
 
   abbrev pub AreMisused : (every within : List (List ℕ)) → Type 0

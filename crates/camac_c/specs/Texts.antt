@@ -1,9 +1,6 @@
 -- What the calls on texts answer.
 use Rattle.std.specs.Prelude.{◌≡◌, ◌<◌, ◌⊎◌, ℕ, List, length, Result, Ok, Err}
-use Rattle.camac_branch.specs.Plan.{Layout}
 use Rattle.camac_event.specs.Reading.{file_at}
-use Rattle.camac_plan.specs.Reading.{reading}
-use Rattle.camac_plan.specs.declared.fault.PlanRule.{PlanRule}
 use Rattle.camac_engines.specs.Ask.{TellsFound, TellsPlan}
 use Rattle.camac_engines.specs.Found.{Found, IsJudged}
 use Rattle.camac_engines.specs.Report.{Reports, report_events}
@@ -16,6 +13,7 @@ use Rattle.camac_engines.specs.declared.outcome.Outcome.{Outcome}
 use Rattle.camac_engines.specs.declared.outcome.Outcome.TheVariants.{Good, Refused}
 use Rattle.camac_engines.specs.declared.reading.TheConstants.{TEXT_LIMIT, EVENTS_LIMIT}
 use Rattle.camac_c.specs.Filled.{Gives, GivesNothing}
+use Rattle.camac_engines.specs.Plan.{PlanFound, plan_found}
 
 abbrev pub code_of : Outcome → ℕ
 code_of Good = 0
@@ -36,23 +34,23 @@ AreLongTexts plan script = IsLongText plan ⊎ IsLongText script
 
 -- of a plan
 abbrev pub AnswersPlan : PlanAsk → (plan : List ℕ) → ℕ → (old new : List ℕ) (size : ℕ) → Type 0
-AnswersPlan a plan = Answers (TellsPlan a (reading plan)) (IsLongText plan)
+AnswersPlan a plan = Answers (TellsPlan a (plan_found plan)) (IsLongText plan)
 
 -- what is found of two texts
-abbrev pub found_in : Result Layout PlanRule → (script : List ℕ) → Found
+abbrev pub found_in : PlanFound → (script : List ℕ) → Found
 found_in (Ok plan) script = Ok (plan, script)
 found_in (Err rule) script = Err rule
 
 -- of a plan and a script
 abbrev pub AnswersTexts : Ask → (plan script : List ℕ) → ℕ → (old new : List ℕ) (size : ℕ) → Type 0
-AnswersTexts a plan script = Answers (TellsFound a (found_in (reading plan) script)) (AreLongTexts plan script)
+AnswersTexts a plan script = Answers (TellsFound a (found_in (plan_found plan) script)) (AreLongTexts plan script)
 
 -- of an event file
 abbrev pub AnswersEvents : (file : List ℕ) → ℕ → (old new : List ℕ) (size : ℕ) → Type 0
 AnswersEvents file = Answers (Reports (report_events (file_at file))) (EVENTS_LIMIT < length file)
 
 -- this was found of the two
-abbrev pub IsFound : Result Layout PlanRule → (script : List ℕ) → Judged → Type 0
+abbrev pub IsFound : PlanFound → (script : List ℕ) → Judged → Type 0
 IsFound says script = IsJudged (found_in says script)
 
 -- the code of an answer of an engine; a slice is read without a fault, and a write into memory fails for want of it

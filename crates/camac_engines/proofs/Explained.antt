@@ -4,7 +4,9 @@ use Rattle.std.specs.Prelude.{IfOk, Result, Ok, Err}
 use Rattle.std.specs.Global.{Vec}
 use Rattle.camac_branch.specs.Plan.{Layout}
 use Rattle.camac_plan.specs.declared.fault.PlanCase.{PlanCase}
+use Rattle.camac_plan.specs.declared.fault.PlanFault.TheVariants.{Broken}
 use Rattle.camac_plan.specs.declared.fault.PlanRule.{PlanRule}
+use Rattle.camac_plan.specs.Reading.{TellsCase}
 use Rattle.camac_lines.specs.declared.refusal.Refusal.TheVariants as refusal
 use Rattle.camac_explain.specs.Explanation.{IsPlanExplanation, explanation_of}
 use Rattle.camac_explain.specs.Finding.{refusal_of}
@@ -53,10 +55,10 @@ refusal_explained Explains more f o p (Err fault.Memory) is h = absurd h
 refusal_explained Explains more f o p (Err fault.Read) is h = absurd h
 refusal_explained Explains more f o p (Err fault.TooLong) is h = absurd h
 
-pub plan_explained : (text : List ℕ) (case : PlanCase) (more : List ℕ) (rule : PlanRule) (o p : Option (List ℕ)) (r : Result Outcome ToolFault) → IsPlanExplanation text rule case more
-    → Shows (refused_and (refusal.Plan rule) more) o p r → IsWritten (ReportsMore (PlanExplained (Err rule)) (report_plan (Err rule))) o p r
-plan_explained text case more rule o p (Ok outcome) is h = (_, (h.0, (more, (text, case, is), refl)), h.1)
-plan_explained text case more rule o p (Err fault.Write) is h = (_, _, (refl, (more, (text, case, is), refl)), h)
-plan_explained text case more rule o p (Err fault.Memory) is h = absurd h
-plan_explained text case more rule o p (Err fault.Read) is h = absurd h
-plan_explained text case more rule o p (Err fault.TooLong) is h = absurd h
+pub plan_explained : (text : List ℕ) (case : PlanCase) (more : List ℕ) (rule : PlanRule) (o p : Option (List ℕ)) (r : Result Outcome ToolFault) → TellsCase text (Broken rule case) → IsPlanExplanation text rule case more
+    → Shows (refused_and (refusal.Plan rule) more) o p r → IsWritten (ReportsMore (PlanExplained (Err (text, rule))) (report_plan (Err (text, rule)))) o p r
+plan_explained text case more rule o p (Ok outcome) of is h = (_, (h.0, (more, (case, of, is), refl)), h.1)
+plan_explained text case more rule o p (Err fault.Write) of is h = (_, _, (refl, (more, (case, of, is), refl)), h)
+plan_explained text case more rule o p (Err fault.Memory) of is h = absurd h
+plan_explained text case more rule o p (Err fault.Read) of is h = absurd h
+plan_explained text case more rule o p (Err fault.TooLong) of is h = absurd h

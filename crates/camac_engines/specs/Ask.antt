@@ -2,7 +2,6 @@
 use Rattle.std.specs.Prelude.{ℕ, ◌+◌, List, Option, Result, Ok, Err}
 use Rattle.camac_branch.specs.Plan.{Layout}
 use Rattle.camac_event.specs.Reading.{file_at}
-use Rattle.camac_plan.specs.declared.fault.PlanRule.{PlanRule}
 use Rattle.camac_engines.specs.Accepted.{accepted}
 use Rattle.camac_engines.specs.Costs.{costs_report}
 use Rattle.camac_engines.specs.Engine.{Answers}
@@ -10,7 +9,7 @@ use Rattle.camac_engines.specs.Explain.{AllExplained, Explained, ExplainedIf, Pl
 use Rattle.camac_engines.specs.Found.{Found, HasRead, IsTooLong}
 use Rattle.camac_engines.specs.Headings.{headed, headings_report}
 use Rattle.camac_engines.specs.Known.{known_report}
-use Rattle.camac_engines.specs.Plan.{Says, IsPlanTooLong}
+use Rattle.camac_engines.specs.Plan.{IsPlanTooLong, PlanFound, Says}
 use Rattle.camac_engines.specs.Reading.{ConsumesSome, WasRead}
 use Rattle.camac_engines.specs.Report.{Reports, report, report_commands, report_events, report_plan}
 use Rattle.camac_engines.specs.declared.ask.Ask.{Ask}
@@ -23,7 +22,7 @@ use Rattle.camac_engines.specs.declared.plan.PlanSource.{PlanSource}
 use Rattle.camac_engines.specs.declared.reading.TheConstants.{EVENTS_LIMIT}
 
 -- of a plan, by what it reads as
-abbrev pub TellsPlan : PlanAsk → Result Layout PlanRule → Outcome → List ℕ → Type 0
+abbrev pub TellsPlan : PlanAsk → PlanFound → Outcome → List ℕ → Type 0
 TellsPlan plan_ask.Lines read = Reports (report_plan read)
 TellsPlan plan_ask.Commands read = Reports (report_commands read)
 TellsPlan plan_ask.Explain read = ReportsMore (PlanExplained read) (report_plan read)
@@ -46,7 +45,7 @@ of_plan _ = plan_ask.Lines
 -- of a plan and a script
 abbrev pub TellsFound : Ask → Found → Outcome → List ℕ → Type 0
 TellsFound a (Ok found) = TellsScript a found.0 found.1
-TellsFound a (Err rule) = TellsPlan (of_plan a) (Err rule)
+TellsFound a (Err why) = TellsPlan (of_plan a) (Err why)
 
 abbrev pub AnswersPlan : PlanAsk → {R : Type 0} → (left : R → Option (List ℕ)) → (plan plan' : PlanSource R) → (o p : Option (List ℕ)) → Result Outcome ToolFault → Type 0
 AnswersPlan a left plan plan' = Answers (Says left plan plan') (TellsPlan a) (IsPlanTooLong left plan plan')

@@ -2,13 +2,15 @@
 use Rattle.std.specs.Prelude.{◌≡◌, ℕ, List, ◌++◌, Option, Some, None, Result, Ok, Err}
 use Rattle.camac_branch.specs.Plan.{Layout}
 use Rattle.camac_plan.specs.declared.fault.PlanCase.{PlanCase}
-use Rattle.camac_plan.specs.declared.fault.PlanRule.{PlanRule}
+use Rattle.camac_plan.specs.declared.fault.PlanFault.TheVariants.{Broken}
+use Rattle.camac_plan.specs.Reading.{TellsCase}
 use Rattle.camac_explain.specs.Explanation.{IsPlanExplanation, explanation_of}
 use Rattle.camac_explain.specs.declared.finding.Finding.{Finding}
 use Rattle.camac_explain.specs.declared.finding.Finding.TheVariants as finding
 use Rattle.camac_explain_text.specs.Text.{IsTextSentence}
 use Rattle.camac_engines.specs.Accepted.{Accepted}
 use Rattle.camac_engines.specs.Mark.{mark_of}
+use Rattle.camac_engines.specs.Plan.{PlanFound}
 use Rattle.camac_engines.specs.Refusals.{all_refusals, also_text}
 use Rattle.camac_engines.specs.Report.{Report}
 use Rattle.camac_engines.specs.declared.judging.Judged.{Judged}
@@ -38,9 +40,9 @@ abbrev pub ExplainedBy : (Explains : Finding → List ℕ → Type 0) → Judged
 ExplainedBy Explains (judged.Refused f) more = Explains f more
 ExplainedBy Explains (judged.Accepted c) more = ⊥
 
--- those that explain a plan's refusal, by a case of its rule in some text
-abbrev pub PlanExplained : Result Layout PlanRule → List ℕ → Type 0
-PlanExplained (Err rule) more = (text : List ℕ) × (case : PlanCase) × IsPlanExplanation text rule case more
+-- those that explain a plan's refusal, by the case in which its text breaks the rule
+abbrev pub PlanExplained : PlanFound → List ℕ → Type 0
+PlanExplained (Err (text, rule)) more = (case : PlanCase) × TellsCase text (Broken rule case) × IsPlanExplanation text rule case more
 PlanExplained (Ok plan) more = ⊥
 
 -- after the text of a refusal comes what explains it

@@ -4,7 +4,6 @@ use Rattle.camac_lang.specs.Tree.{Script}
 use Rattle.camac_branch.specs.Plan.{Layout}
 use Rattle.camac_tokens.specs.Fault.{Fault as TextFault}
 use Rattle.camac_tokens.specs.Rules.{rule_of}
-use Rattle.camac_plan.specs.declared.fault.PlanRule.{PlanRule}
 use Rattle.camac_text.specs.Parser.{script_of}
 use Rattle.camac_names.specs.Link.{link_fault}
 use Rattle.camac_names.specs.declared.fault.LinkFault.{LinkFault}
@@ -22,6 +21,7 @@ use Rattle.camac_lines.specs.Refusal.{refusal_text}
 use Rattle.camac_lines.specs.Verdict.{verdict_text}
 use Rattle.camac_lines.specs.declared.refusal.Refusal.{Refusal}
 use Rattle.camac_lines.specs.declared.refusal.Refusal.TheVariants as refusal
+use Rattle.camac_engines.specs.Plan.{PlanFound}
 use Rattle.camac_engines.specs.declared.judging.Judged.{Judged}
 use Rattle.camac_engines.specs.declared.judging.Judged.TheVariants as judged
 use Rattle.camac_engines.specs.declared.outcome.Outcome.{Outcome}
@@ -63,14 +63,14 @@ abbrev pub report : Layout → List ℕ → Report
 report plan text = report_read plan (script_of text)
 
 -- of what the plan says
-abbrev pub report_plan : Result Layout PlanRule → Report
+abbrev pub report_plan : PlanFound → Report
 report_plan (Ok plan) = Some (Good, plan_text plan)
-report_plan (Err rule) = refused (refusal.Plan rule)
+report_plan (Err (text, rule)) = refused (refusal.Plan rule)
 
 -- the same with the commands of the types
-abbrev pub report_commands : Result Layout PlanRule → Report
+abbrev pub report_commands : PlanFound → Report
 report_commands (Ok plan) = Some (Good, plan_with_commands plan)
-report_commands (Err rule) = refused (refusal.Plan rule)
+report_commands (Err (text, rule)) = refused (refusal.Plan rule)
 
 -- of what an event file says
 abbrev pub report_events : Result (Version × List Entry) Flaw → Report

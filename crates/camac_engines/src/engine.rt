@@ -4,8 +4,8 @@ ghost use Rattle.std.specs.Prelude.{◌≡◌, ◌||◌, Err, false};
 ghost use Rattle.camac_event.specs.Reading.{file_at};
 ghost use Rattle.camac_engines.specs.Ask.{AnswersEvents, AnswersPlan, AnswersTexts, TellsFound, TellsPlan, TellsScript};
 ghost use Rattle.camac_engines.specs.Engine.{IsWritten, Shows, is_write_fault};
-ghost use Rattle.camac_engines.specs.Found.{found_of};
-ghost use Rattle.camac_engines.specs.Plan.{by_rule, plan_failed};
+ghost use Rattle.camac_engines.specs.Found.{HaveCase, found_of};
+ghost use Rattle.camac_engines.specs.Plan.{HasCase, HasCaseIf, found_by, plan_failed};
 ghost use Rattle.camac_engines.specs.Reading.{is_read_fault};
 ghost use Rattle.camac_engines.specs.Report.{refused, report_events, report_of};
 ghost use Rattle.camac_engines.specs.declared.ask.Ask.TheVariants as ask;
@@ -155,7 +155,6 @@ fn list_plan<W: Write>(
     Ok(Outcome::Good)
 }
 
-#[tactic(auto, using(crate::proofs::Told::written))]
 fn tell_refusal<W: Write>(
     alloc: Global,
     ask: PlanAsk,
@@ -163,7 +162,8 @@ fn tell_refusal<W: Write>(
     refusal: &PlanRefusal,
     out: &mut Watched<W>,
 ) -> Result<Outcome, ToolFault>
-    ensures tells { IsWritten (TellsPlan ask (Err refusal.now.rule)) (W.contents (inner_of out.old)) (W.contents (inner_of out.new)) result }
+    requires { HasCase text.now refusal.now }
+    ensures tells { IsWritten (TellsPlan ask (Err (text.now, refusal.now.rule))) (W.contents (inner_of out.old)) (W.contents (inner_of out.new)) result }
     ensures failed { has_failed out.new ≡ (has_failed out.old || is_write_fault result) }
 {
     match ask {
@@ -179,6 +179,7 @@ fn tell<W: Write>(
     texts: &Texts,
     out: &mut Watched<W>,
 ) -> Result<Outcome, ToolFault>
+    requires { HaveCase texts.now }
     ensures tells { IsWritten (TellsFound ask (found_of texts.now)) (W.contents (inner_of out.old)) (W.contents (inner_of out.new)) result }
     ensures failed { has_failed out.new ≡ (has_failed out.old || is_write_fault result) }
 {

@@ -5,6 +5,7 @@ ghost use Rattle.camac_lines.specs.Refusal.{refusal_text};
 ghost use Rattle.camac_engines.specs.Engine.{IsWritten, Shows, is_write_fault};
 ghost use Rattle.camac_engines.specs.Explain.{AllExplained, Explained, ExplainedBy, IsOfText, PlanExplained, ReportsMore};
 ghost use Rattle.camac_engines.specs.Headings.{headings_report_of};
+ghost use Rattle.camac_engines.specs.Plan.{HasCase};
 ghost use Rattle.camac_engines.specs.Report.{refused_and, report_of, report_plan};
 ghost use Rattle.camac_word.specs.Watched.{inner_of, has_failed};
 ghost use Rattle.camac_word.specs.Writing.{Writes};
@@ -31,7 +32,8 @@ pub fn explain_refusal<W: Write>(
     refusal: &PlanRefusal,
     out: &mut Watched<W>,
 ) -> Result<Outcome, ToolFault>
-    ensures tells { IsWritten (ReportsMore (PlanExplained (Err refusal.now.rule)) (report_plan (Err refusal.now.rule))) (W.contents (inner_of out.old)) (W.contents (inner_of out.new)) result }
+    requires { HasCase text.now refusal.now }
+    ensures tells { IsWritten (ReportsMore (PlanExplained (Err (text.now, refusal.now.rule))) (report_plan (Err (text.now, refusal.now.rule)))) (W.contents (inner_of out.old)) (W.contents (inner_of out.new)) result }
     ensures failed { has_failed out.new ≡ (has_failed out.old || is_write_fault result) }
 {
     let more = explain_plan(alloc, text, refusal.rule, refusal.case)?;

@@ -1,7 +1,6 @@
 // Where a plan comes from, and what it says.
 
 ghost use Rattle.std.specs.Prelude.{◌≡◌, ◌||◌};
-ghost use Rattle.camac_plan.specs.Reading.{reading};
 ghost use Rattle.camac_engines.specs.Plan.{JudgesPlan, ReadsPlan, plan_failed};
 ghost use Rattle.camac_engines.specs.Reading.{is_read_fault};
 
@@ -56,7 +55,7 @@ pub fn read_plan<R: Read>(alloc: Global, source: &mut PlanSource<R>) -> Result<P
 }
 
 fn judge_plan(alloc: Global, text: &[u8]) -> Result<Result<Plan, PlanRefusal>, ToolFault>
-    ensures { JudgesPlan result (reading text.now) }
+    ensures { JudgesPlan result text.now }
 {
     match read(alloc, text) {
         Ok(plan) => Ok(Ok(plan)),

@@ -2,9 +2,7 @@
 use Rattle.std.specs.Prelude.{◌≡◌, ◌⊎◌, ℕ, Bool, true, false, List, map, Option, Some, None, Result, Ok, Err}
 use Rattle.std.specs.Io.KnownBytes.{Keeps}
 use Rattle.clap.specs.Words.{Text}
-use Rattle.camac_branch.specs.Plan.{Layout}
 use Rattle.camac_event.specs.Reading.{file_at}
-use Rattle.camac_plan.specs.declared.fault.PlanRule.{PlanRule}
 use Rattle.camac_explain.specs.Rule.{IsRuleOf}
 use Rattle.camac_explain.specs.declared.rule.Rule.{Rule}
 use Rattle.camac_play.specs.declared.telling.Telling.{Telling}
@@ -15,6 +13,7 @@ use Rattle.camac_response_times.specs.declared.setting.Settings.{Settings}
 use Rattle.camac_engines.specs.Ask.{TellsFound, TellsPlan}
 use Rattle.camac_engines.specs.Engine.{IsWritten}
 use Rattle.camac_engines.specs.Found.{Found, IsJudged}
+use Rattle.camac_engines.specs.Plan.{PlanFound}
 use Rattle.camac_engines.specs.Report.{Reports, report_events}
 use Rattle.camac_engines.specs.Response.{NamesNone, TellsResponse}
 use Rattle.camac_engines.specs.Rule.{TellsRule}
@@ -37,7 +36,7 @@ use Rattle.camac_tool.specs.declared.program.Question.TheVariants as question
 
 -- of a plan; of a plan and a script; of an event file
 abbrev pub PlanTells : PlanAsk → Outcome → List ℕ → Type 0
-PlanTells a outcome text = (says : Result Layout PlanRule) × TellsPlan a says outcome text
+PlanTells a outcome text = (says : PlanFound) × TellsPlan a says outcome text
 
 abbrev pub ScriptTells : Ask → Outcome → List ℕ → Type 0
 ScriptTells a outcome text = (found : Found) × TellsFound a found outcome text
