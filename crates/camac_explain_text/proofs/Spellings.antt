@@ -1,5 +1,5 @@
 -- Each word and sign is spelled in one way.
-use Rattle.std.proofs.Common.{◌≡◌, ℕ, List, Option, Some, None, refl, inl, inr}
+use Rattle.std.proofs.Common.{◌≡◌, ℕ, List, Option, Some, None, inl, inr, rules}
 use Rattle.std.specs.Prelude.{◌⊎◌}
 use Rattle.camac_tokens.specs.Words.{action_words, call_words, control_words, declaration_words, keyword, or_else, pair_signs, single_signs, spelled_in}
 use Rattle.camac_tokens.specs.declared.token.Keyword.{Keyword}

@@ -55,22 +55,33 @@ is_either w v first = is_word first w || is_word first v
 abbrev pub ends_expression : Option TokenKind → Bool
 ends_expression k = is_name k || (is_number k || is_sign sign.RightBracket k)
 
--- a token that may not stand in a declaration or a statement that begins with this word
-unfoldable pub mistake_at : Place → (first : Keyword) → TokenKind → Option (List ℕ)
-mistake_at p first k =
+-- a sign that may not stand in what begins with this word
+unfoldable pub mistaken_sign : Place → (first : Keyword) → TokenKind → Option (List ℕ)
+mistaken_sign p first k =
     first_case (
       case (is_word first word.Var && is_sign sign.Comma (Some k)) (codes "Write names without commas, as in `var v k`.")
       ∷ case (is_word first word.Var && is_sign sign.Equals (Some k)) (codes "A variable begins as 0: a service sets it, as in `v = 3`.")
       ∷ case (is_word first word.Table && is_sign sign.Comma (Some k)) (codes "Write words without commas, as in `table t = 1 2`.")
       ∷ case (is_word first word.Put && is_sign sign.Comma (Some k)) (codes "A `put` has one value: write `put` before each.")
       ∷ case (is_either word.Cfsa word.Cssa first && (is_sign sign.Comma (Some k) && begins_statement_at p))
-        (codes "A read sets one variable, and the flags `q` and `x` by themselves.")
-      ∷ case (is_word first word.For && (length p.before.phrase == 2)) (codes "A `for` is written `for i = A to B { .. }`.")
+        (codes "A read sets one variable, and the flags `q` and `x` by themselves.") ∷ [])
+
+-- a token that compares once more what was compared
+abbrev pub joins_comparisons : Place → TokenKind → Bool
+joins_comparisons p k = is_sign_that is_comparison (Some k) && (expects p (choice.Word word.And) && ends_expression (last p))
+
+-- a token that may not stand in a loop or a condition
+unfoldable pub mistaken_condition : Place → (first : Keyword) → TokenKind → Option (List ℕ)
+mistaken_condition p first k =
+    first_case (
+      case (is_word first word.For && (length p.before.phrase == 2)) (codes "A `for` is written `for i = A to B { .. }`.")
       ∷ case (is_either word.If word.While first && is_keyword word.In (Some k)) (codes "A range is tested by two comparisons: `v >= A and v <= B`.")
       ∷ case (is_either word.If word.While first && (is_sign sign.LeftBrace (Some k) && expects p choice.Comparison))
         (codes "A condition compares, as in `v != 0`.")
-      ∷ case (is_sign_that is_comparison (Some k) && (expects p (choice.Word word.And) && ends_expression (last p)))
-        (codes "Comparisons are joined by `and`: `a < v and v < b`.") ∷ [])
+      ∷ case (joins_comparisons p k) (codes "Comparisons are joined by `and`: `a < v and v < b`.") ∷ [])
+
+abbrev pub mistake_at : Place → (first : Keyword) → TokenKind → Option (List ℕ)
+mistake_at p first k = or_else (mistaken_sign p first k) (mistaken_condition p first k)
 
 abbrev pub is_flag : Option TokenKind → Bool
 is_flag k = is_keyword word.Q k || is_keyword word.X k
@@ -82,22 +93,35 @@ abbrev pub is_any_word : TokenKind → Bool
 is_any_word (kind.Keyword w) = true
 is_any_word _ = false
 
--- a token that may not stand after this one
-unfoldable pub mistake_after : Place → (before k : TokenKind) → Option (List ℕ)
-mistake_after p before k =
+-- a token that may not stand after a name or a flag
+unfoldable pub mistake_after_value : Place → (before k : TokenKind) → Option (List ℕ)
+mistake_after_value p before k =
     first_case (
       case (is_name (Some before) && (is_sign sign.Minus (Some k) && adjoins_word p)) (codes "A name has letters, digits and `_`, and no dash.")
       ∷ case (is_name (Some before) && (is_sign_that is_operator (Some k) && expects p (choice.Mark sign.Equals)))
         (codes "Repeat the variable after the `=`, as in `v = v + 1`.")
-      ∷ case (is_flag (Some before) && compares_or_sets (Some k)) (codes "Write a flag alone: `q`, or `not q`.")
-      ∷ case (is_keyword word.Not (Some before) && is_keyword word.Not (Some k)) (codes "After `not`, write a comparison, `q` or `x`.")
+      ∷ case (is_flag (Some before) && compares_or_sets (Some k)) (codes "Write a flag alone: `q`, or `not q`.") ∷ [])
+
+-- a token that may not stand after a word
+unfoldable pub mistake_after_word : (before k : TokenKind) → Option (List ℕ)
+mistake_after_word before k =
+    first_case (
+      case (is_keyword word.Not (Some before) && is_keyword word.Not (Some k)) (codes "After `not`, write a comparison, `q` or `x`.")
       ∷ case (is_keyword word.Else (Some before) && is_keyword word.If (Some k)) (codes "Write the block of `else` in braces; an `if` may be in it.")
-      ∷ case (is_any_word before && is_sign sign.LeftBracket (Some k)) (codes "What follows is written without brackets and commas.")
-      ∷ case (is_sign sign.Into (Some before)) (codes "A read sets a variable after `->`; a write has `<-` and a value.")
+      ∷ case (is_any_word before && is_sign sign.LeftBracket (Some k)) (codes "What follows is written without brackets and commas.") ∷ [])
+
+-- a token that may not stand after a sign, or where a number may
+unfoldable pub mistake_for_value : Place → (before k : TokenKind) → Option (List ℕ)
+mistake_for_value p before k =
+    first_case (
+      case (is_sign sign.Into (Some before)) (codes "A read sets a variable after `->`; a write has `<-` and a value.")
       ∷ case (is_sign sign.Over (Some before) || is_sign sign.Modulo (Some before)) (codes "A divisor is a number of at least 1.")
       ∷ case (is_sign sign.Minus (Some k) && expects p choice.Number) (codes "There are no numbers below 0.")
       ∷ case (is_flag (Some k) && (expects p choice.Number && not (is_in_brackets p.before)))
         (codes "A flag is no number: write `v = 0  if q { v = 1 }`.") ∷ [])
+
+abbrev pub mistake_after : Place → (before k : TokenKind) → Option (List ℕ)
+mistake_after p before k = or_else (mistake_after_value p before k) (or_else (mistake_after_word before k) (mistake_for_value p before k))
 
 -- a sign or a word of conditions alone
 abbrev pub is_of_condition : TokenKind → Bool
