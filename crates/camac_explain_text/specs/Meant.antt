@@ -147,9 +147,9 @@ unfoldable pub kind_hint : Place → (wanted is : NameKind) → Option (List ℕ
 kind_hint p wanted is =
     or_else
     (first_case (
-      case (is_kind wanted named.Variable && (is_kind is named.Procedure && begins_statement_at p)) (called_text p.bytes)
-      ∷ case (is_kind wanted named.Variable && is_kind is named.Procedure) (no_result_text p.bytes)
-      ∷ case (is_kind wanted named.Variable && is_kind is named.Register) (address_text p.bytes) ∷ []))
+    case (is_kind wanted named.Variable && (is_kind is named.Procedure && begins_statement_at p)) (called_text p.bytes)
+    ∷ case (is_kind wanted named.Variable && is_kind is named.Procedure) (no_result_text p.bytes)
+    ∷ case (is_kind wanted named.Variable && is_kind is named.Register) (address_text p.bytes) ∷ []))
     (told_of_kind wanted is)
 
 abbrev pub is_long_sign : Told → Bool
@@ -176,9 +176,9 @@ is_set p w = is_assigned p && not (begins_statement w)
 unfoldable pub kept_word : Place → Keyword → Option (List ℕ)
 kept_word p w =
     first_case (
-      case (is_name_wanted p) (of_language_text (word_text w))
-      ∷ case (is_set p w && is_either word.Q word.X w) (codes "Each cycle sets the flags, and nothing else does.")
-      ∷ case (is_set p w) (of_language_text (word_text w)) ∷ [])
+    case (is_name_wanted p) (of_language_text (word_text w))
+    ∷ case (is_set p w && is_either word.Q word.X w) (codes "Each cycle sets the flags, and nothing else does.")
+    ∷ case (is_set p w) (of_language_text (word_text w)) ∷ [])
 
 abbrev pub own_of_word : Place → Keyword → Option (List ℕ)
 own_of_word p w = or_else (inside p w) (kept_word p w)

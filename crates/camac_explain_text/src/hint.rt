@@ -305,9 +305,7 @@ fn decimal_digits(found: &Found<'_>) -> Option<&'static str>
 {
     match (&found.kind, found.last()) {
         (Some(TokenKind::Name(_) | TokenKind::Keyword(_)), Some(TokenKind::Number(_)))
-            if found.adjoins_word() => {
-            Some("Write numbers in decimal digits.")
-        }
+            if found.adjoins_word() => { Some("Write numbers in decimal digits.") }
         _ => None,
     }
 }
@@ -405,9 +403,9 @@ pub fn kind_hint<'a>(found: &'a Found<'_>, wanted: NameKind, kind: NameKind) -> 
     ensures { option_map hint_text result ≡ kind_hint (place_of found.now) wanted kind }
 {
     match (wanted, kind) {
-        (NameKind::Variable, NameKind::Procedure) if found.begins_statement() => Some(
-            Hint::Called(found.word),
-        ),
+        (NameKind::Variable, NameKind::Procedure) if found.begins_statement() => Some(Hint::Called(
+            found.word,
+        )),
         (NameKind::Variable, NameKind::Procedure) => Some(Hint::NoResult(found.word)),
         (NameKind::Variable, NameKind::Register) => Some(Hint::Address(found.word)),
         _ => match told_of_kind(wanted, kind) {

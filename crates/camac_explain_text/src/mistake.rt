@@ -121,11 +121,7 @@ fn mistaken_sign(found: &Found<'_>, first: Keyword, kind: &TokenKind) -> Option<
 }
 
 #[tactic(auto, unfolding(crate::specs::Mistake::mistaken_condition))]
-fn mistaken_condition(
-    found: &Found<'_>,
-    first: Keyword,
-    kind: &TokenKind,
-) -> Option<&'static str>
+fn mistaken_condition(found: &Found<'_>, first: Keyword, kind: &TokenKind) -> Option<&'static str>
     ensures { option_map (λ s. s.now) result ≡ mistaken_condition (place_of found.now) first kind.now }
 {
     use TokenKind::{Keyword as Word, Sign as Mark};
@@ -206,10 +202,8 @@ fn mistake_after_value(
         (Name(_), Mark(Sign::Minus)) if found.adjoins_word() => Some(
             "A name has letters, digits and `_`, and no dash.",
         ),
-        (Name(_), Mark(sign))
-            if is_operator(*sign) && found.expects(Choice::Mark(Sign::Equals)) => {
-            Some("Repeat the variable after the `=`, as in `v = v + 1`.")
-        }
+        (Name(_), Mark(sign)) if is_operator(*sign) && found.expects(Choice::Mark(Sign::Equals)) =>
+            { Some("Repeat the variable after the `=`, as in `v = v + 1`.") }
         (Word(Keyword::Q | Keyword::X), _) if compares_or_sets(kind) => Some(
             "Write a flag alone: `q`, or `not q`.",
         ),
