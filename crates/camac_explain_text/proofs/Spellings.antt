@@ -1,5 +1,5 @@
 -- Each word and sign is spelled in one way.
-use Rattle.std.proofs.Common.{◌≡◌, ℕ, List, Option, Some, None, refl, inl, inr}
+use Rattle.std.proofs.Common.{◌≡◌, ℕ, List, Option, Some, None, inl, inr, rules}
 use Rattle.std.specs.Prelude.{◌⊎◌}
 use Rattle.camac_tokens.specs.Words.{action_words, call_words, control_words, declaration_words, keyword, or_else, pair_signs, single_signs, spelled_in}
 use Rattle.camac_tokens.specs.declared.token.Keyword.{Keyword}
@@ -45,11 +45,11 @@ pub of_word : (text : List ℕ) (w : Keyword) → keyword text ≡ Some w → te
 unfolding keyword
 of_word text w e =
     elim (either (spelled_in declaration_words text) _ w e) [
-      inl d ↦ entry_of IsText declaration_words text w declarations d
+      | inl d ↦ entry_of IsText declaration_words text w declarations d
       | inr e' ↦ elim (either (spelled_in action_words text) _ w e') [
-        inl a ↦ entry_of IsText action_words text w actions a
+        | inl a ↦ entry_of IsText action_words text w actions a
         | inr e'' ↦ elim (either (spelled_in call_words text) _ w e'') [
-          inl c ↦ entry_of IsText call_words text w calls c
+          | inl c ↦ entry_of IsText call_words text w calls c
           | inr k ↦ entry_of IsText control_words text w controls k
         ]
       ]
@@ -58,6 +58,6 @@ of_word text w e =
 pub of_sign : (text : List ℕ) (s : Sign) → or_else (spelled_in pair_signs text) (spelled_in single_signs text) ≡ Some s → text ≡ sign_text s
 of_sign text s e =
     elim (either (spelled_in pair_signs text) _ s e) [
-      inl p ↦ entry_of IsSignText pair_signs text s pairs p
+      | inl p ↦ entry_of IsSignText pair_signs text s pairs p
       | inr n ↦ entry_of IsSignText single_signs text s singles n
     ]

@@ -1,8 +1,7 @@
 -- The sentence of a text whose reading is known by an equation.
-use Rattle.std.proofs.Common.{◌≡◌, ℕ, List, [], Option, Some, None, Global, string_bytes, IfOk, ap, ◌∙◌, sym}
+use Rattle.std.proofs.Common.{◌≡◌, ℕ, List, [], Some, None, Global, string_bytes, IfOk, ap, ◌∙◌, sym}
 use Rattle.std.specs.Prelude.{Result, Ok, Err, String}
 use Rattle.camac_lang.specs.Tree.{Script}
-use Rattle.camac_tokens.specs.Fault.{Fault}
 use Rattle.camac_tokens.specs.declared.fault.TextCase.{TextCase}
 use Rattle.camac_text.specs.Parser.{script_of}
 use Rattle.camac_explain_text.specs.Expected.{Noted}

@@ -1,5 +1,5 @@
 -- What stands before a place of a script that is right up to there.
-use Rattle.std.specs.Prelude.{ℕ, ◌+◌, ◌-◌, ◌==◌, Bool, true, false, ◌&&◌, ◌||◌, not, List, [], ◌∷◌, ◌++◌, count_by, drop, find, is_none, is_some, length, nat_lt, slice_get, take, Option, Some, None, if◌then◌else◌}
+use Rattle.std.specs.Prelude.{ℕ, ◌+◌, ◌-◌, ◌==◌, Bool, false, ◌&&◌, ◌||◌, not, List, [], ◌∷◌, ◌++◌, count_by, drop, find, is_none, is_some, length, nat_lt, slice_get, take, Option, Some, None, if◌then◌else◌}
 use Rattle.std.specs.List.{list_any}
 use Rattle.std.specs.Str.{bytes_eq}
 use denote.Enum.Bare.{sameb}
@@ -147,8 +147,9 @@ declared_as (Some k) name s =
 abbrev pub opened : (line : ℕ) → Standing → Standing
 opened line s =
     record s {
-      phrase = []; open_lines = s.open_lines ++ (line ∷ []);
-      in_procedure = if in_body s then s.in_procedure else is_keyword word.Proc (first_of s)
+      phrase = [];
+      open_lines = s.open_lines ++ (line ∷ []);
+      in_procedure = if in_body s then s.in_procedure else is_keyword word.Proc (first_of s);
     }
 
 -- What a body declared is declared no more. Its procedure, the last of the names outside, stays with the number of its parameters.
@@ -161,7 +162,7 @@ abbrev pub ended : Standing → Standing
 ended s =
     record s {
       names = if s.in_procedure then with_parameters (parameters s) (take (s.outside + 1) s.names) else take s.outside s.names;
-      in_procedure = false
+      in_procedure = false;
     }
 
 abbrev pub without_block : Standing → Standing

@@ -24,13 +24,16 @@ use Rattle.camac_explain_text.specs.Spelled.{is_word, sign_text, word_text}
 abbrev pub begins_here : Standing → Keyword → Bool
 begins_here s w = if in_body s then begins_statement w else begins_declaration w
 
--- the first of these words that begins a declaration or a statement here, and is near a name
-unfoldable pub near_beginning : Standing → (name : List ℕ) → List Keyword → Option (List ℕ)
-near_beginning s name ws = option_map word_text (find (λ w. begins_here s w && is_near name (word_text w)) ws)
+unfoldable pub near_among : Standing → (name : List ℕ) → List Keyword → Option (List ℕ)
+near_among s name ws = option_map word_text (find (λ w. begins_here s w && is_near name (word_text w)) ws)
+
+-- the first word that begins a declaration or a statement here, and is near a name
+unfoldable pub near_beginning : Standing → (name : List ℕ) → Option (List ℕ)
+near_beginning s name = near_among s name KEYWORDS
 
 abbrev pub meant_by_name : Standing → Option TokenKind → Option (List ℕ)
 meant_by_name s (Some (kind.Name name)) =
-    if is_declared_before name s then None else option_map (before_text name) (near_beginning s name KEYWORDS)
+    if is_declared_before name s then None else option_map (before_text name) (near_beginning s name)
 meant_by_name s _ = None
 
 -- the token that stands so many before the end of a phrase, or its first one
@@ -84,11 +87,16 @@ meant_at_sign p _ = None
 unfoldable pub meant_by_sign : Place → Option (List ℕ)
 meant_by_sign p = meant_at_sign p p.token
 
+abbrev pub arrow_before_value : Place → (first : Keyword) → (value : List ℕ) → Option (List ℕ)
+arrow_before_value p first value =
+    if is_either word.Cfsa word.Cssa first && expects p (choice.Mark sign.Equals) then Some (no_arrow_text value) else None
+
+abbrev pub arrow_before_number : Place → (first : Keyword) → Option (List ℕ)
+arrow_before_number p first = if is_either word.Cfsa word.Cssa first && is_number p.token then Some (no_arrow_text p.bytes) else None
+
 abbrev pub arrow_in : Place → List TokenKind → Option (List ℕ)
-arrow_in p (kind.Keyword w ∷ kind.Number f ∷ kind.Name register ∷ kind.Name value ∷ []) =
-    if is_either word.Cfsa word.Cssa w && expects p (choice.Mark sign.Equals) then Some (no_arrow_text value) else None
-arrow_in p (kind.Keyword w ∷ kind.Number f ∷ kind.Name register ∷ []) =
-    if is_either word.Cfsa word.Cssa w && is_number p.token then Some (no_arrow_text p.bytes) else None
+arrow_in p (kind.Keyword w ∷ kind.Number f ∷ kind.Name register ∷ kind.Name value ∷ []) = arrow_before_value p w value
+arrow_in p (kind.Keyword w ∷ kind.Number f ∷ kind.Name register ∷ []) = arrow_before_number p w
 arrow_in p _ = None
 
 -- what stands where the arrow of a cycle is missing: a name that then begins an assignment, or a number
@@ -139,9 +147,9 @@ unfoldable pub kind_hint : Place → (wanted is : NameKind) → Option (List ℕ
 kind_hint p wanted is =
     or_else
     (first_case (
-      case (is_kind wanted named.Variable && (is_kind is named.Procedure && begins_statement_at p)) (called_text p.bytes)
-      ∷ case (is_kind wanted named.Variable && is_kind is named.Procedure) (no_result_text p.bytes)
-      ∷ case (is_kind wanted named.Variable && is_kind is named.Register) (address_text p.bytes) ∷ []))
+    case (is_kind wanted named.Variable && (is_kind is named.Procedure && begins_statement_at p)) (called_text p.bytes)
+    ∷ case (is_kind wanted named.Variable && is_kind is named.Procedure) (no_result_text p.bytes)
+    ∷ case (is_kind wanted named.Variable && is_kind is named.Register) (address_text p.bytes) ∷ []))
     (told_of_kind wanted is)
 
 abbrev pub is_long_sign : Told → Bool
@@ -168,9 +176,9 @@ is_set p w = is_assigned p && not (begins_statement w)
 unfoldable pub kept_word : Place → Keyword → Option (List ℕ)
 kept_word p w =
     first_case (
-      case (is_name_wanted p) (of_language_text (word_text w))
-      ∷ case (is_set p w && is_either word.Q word.X w) (codes "Each cycle sets the flags, and nothing else does.")
-      ∷ case (is_set p w) (of_language_text (word_text w)) ∷ [])
+    case (is_name_wanted p) (of_language_text (word_text w))
+    ∷ case (is_set p w && is_either word.Q word.X w) (codes "Each cycle sets the flags, and nothing else does.")
+    ∷ case (is_set p w) (of_language_text (word_text w)) ∷ [])
 
 abbrev pub own_of_word : Place → Keyword → Option (List ℕ)
 own_of_word p w = or_else (inside p w) (kept_word p w)

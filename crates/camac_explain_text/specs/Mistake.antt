@@ -1,15 +1,14 @@
 -- Mistakes that are made often, each with its sentence.
-use Rattle.std.specs.Prelude.{ℕ, ◌==◌, Bool, true, false, ◌&&◌, ◌||◌, not, List, [], ◌∷◌, codes, length, option_and_then, Option, Some, None, if◌then◌else◌}
+use Rattle.std.specs.Prelude.{ℕ, ◌==◌, Bool, true, false, ◌&&◌, ◌||◌, not, List, [], ◌∷◌, codes, length, Option, Some, None, if◌then◌else◌}
 use Rattle.camac_tokens.specs.Words.{or_else}
 use Rattle.camac_tokens.specs.declared.fault.NameKind.{NameKind}
 use Rattle.camac_tokens.specs.declared.fault.NameKind.TheVariants as named
 use Rattle.camac_tokens.specs.declared.token.Keyword.{Keyword}
 use Rattle.camac_tokens.specs.declared.token.Keyword.TheVariants as word
-use Rattle.camac_tokens.specs.declared.token.Sign.{Sign}
 use Rattle.camac_tokens.specs.declared.token.Sign.TheVariants as sign
 use Rattle.camac_tokens.specs.declared.token.TokenKind.{TokenKind}
 use Rattle.camac_tokens.specs.declared.token.TokenKind.TheVariants as kind
-use Rattle.camac_text_cursor.specs.Choice.{is_sign_that, is_word_that}
+use Rattle.camac_text_cursor.specs.Choice.{is_sign_that}
 use Rattle.camac_text_cursor.specs.Readers.{is_keyword, is_name, is_number, is_sign}
 use Rattle.camac_text_cursor.specs.declared.choice.Choice.TheVariants as choice
 use Rattle.camac_explain_text.specs.Before.{first_of, in_body, is_in_brackets, is_kind, word_of}
@@ -34,9 +33,9 @@ first_case (c ∷ cs) = if c.holds then Some c.says else first_case cs
 abbrev pub told_of_kind : (wanted is : NameKind) → Option (List ℕ)
 told_of_kind wanted is =
     first_case (
-      case (is_kind wanted named.Variable && is_kind is named.Table) (codes "A table cannot be read: it is for block writes.")
-      ∷ case (is_kind wanted named.Register) (codes "Set a register to an address first, by `cdreg`.")
-      ∷ case (is_kind wanted named.Lam) (codes "Write the name of a LAM here, which `cdlam` declares.") ∷ [])
+    case (is_kind wanted named.Variable && is_kind is named.Table) (codes "A table cannot be read: it is for block writes.")
+    ∷ case (is_kind wanted named.Register) (codes "Set a register to an address first, by `cdreg`.")
+    ∷ case (is_kind wanted named.Lam) (codes "Write the name of a LAM here, which `cdlam` declares.") ∷ [])
 
 abbrev pub begins_action : Place → Option TokenKind → Bool
 begins_action p (Some (kind.Keyword w)) = begins_statement w
@@ -55,22 +54,33 @@ is_either w v first = is_word first w || is_word first v
 abbrev pub ends_expression : Option TokenKind → Bool
 ends_expression k = is_name k || (is_number k || is_sign sign.RightBracket k)
 
--- a token that may not stand in a declaration or a statement that begins with this word
-unfoldable pub mistake_at : Place → (first : Keyword) → TokenKind → Option (List ℕ)
-mistake_at p first k =
+-- a sign that may not stand in what begins with this word
+unfoldable pub mistaken_sign : Place → (first : Keyword) → TokenKind → Option (List ℕ)
+mistaken_sign p first k =
     first_case (
-      case (is_word first word.Var && is_sign sign.Comma (Some k)) (codes "Write names without commas, as in `var v k`.")
-      ∷ case (is_word first word.Var && is_sign sign.Equals (Some k)) (codes "A variable begins as 0: a service sets it, as in `v = 3`.")
-      ∷ case (is_word first word.Table && is_sign sign.Comma (Some k)) (codes "Write words without commas, as in `table t = 1 2`.")
-      ∷ case (is_word first word.Put && is_sign sign.Comma (Some k)) (codes "A `put` has one value: write `put` before each.")
-      ∷ case (is_either word.Cfsa word.Cssa first && (is_sign sign.Comma (Some k) && begins_statement_at p))
-        (codes "A read sets one variable, and the flags `q` and `x` by themselves.")
-      ∷ case (is_word first word.For && (length p.before.phrase == 2)) (codes "A `for` is written `for i = A to B { .. }`.")
-      ∷ case (is_either word.If word.While first && is_keyword word.In (Some k)) (codes "A range is tested by two comparisons: `v >= A and v <= B`.")
-      ∷ case (is_either word.If word.While first && (is_sign sign.LeftBrace (Some k) && expects p choice.Comparison))
-        (codes "A condition compares, as in `v != 0`.")
-      ∷ case (is_sign_that is_comparison (Some k) && (expects p (choice.Word word.And) && ends_expression (last p)))
-        (codes "Comparisons are joined by `and`: `a < v and v < b`.") ∷ [])
+    case (is_word first word.Var && is_sign sign.Comma (Some k)) (codes "Write names without commas, as in `var v k`.")
+    ∷ case (is_word first word.Var && is_sign sign.Equals (Some k)) (codes "A variable begins as 0: a service sets it, as in `v = 3`.")
+    ∷ case (is_word first word.Table && is_sign sign.Comma (Some k)) (codes "Write words without commas, as in `table t = 1 2`.")
+    ∷ case (is_word first word.Put && is_sign sign.Comma (Some k)) (codes "A `put` has one value: write `put` before each.")
+    ∷ case (is_either word.Cfsa word.Cssa first && (is_sign sign.Comma (Some k) && begins_statement_at p))
+    (codes "A read sets one variable, and the flags `q` and `x` by themselves.") ∷ [])
+
+-- a token that compares once more what was compared
+abbrev pub joins_comparisons : Place → TokenKind → Bool
+joins_comparisons p k = is_sign_that is_comparison (Some k) && (expects p (choice.Word word.And) && ends_expression (last p))
+
+-- a token that may not stand in a loop or a condition
+unfoldable pub mistaken_condition : Place → (first : Keyword) → TokenKind → Option (List ℕ)
+mistaken_condition p first k =
+    first_case (
+    case (is_word first word.For && (length p.before.phrase == 2)) (codes "A `for` is written `for i = A to B { .. }`.")
+    ∷ case (is_either word.If word.While first && is_keyword word.In (Some k)) (codes "A range is tested by two comparisons: `v >= A and v <= B`.")
+    ∷ case (is_either word.If word.While first && (is_sign sign.LeftBrace (Some k) && expects p choice.Comparison))
+    (codes "A condition compares, as in `v != 0`.")
+    ∷ case (joins_comparisons p k) (codes "Comparisons are joined by `and`: `a < v and v < b`.") ∷ [])
+
+abbrev pub mistake_at : Place → (first : Keyword) → TokenKind → Option (List ℕ)
+mistake_at p first k = or_else (mistaken_sign p first k) (mistaken_condition p first k)
 
 abbrev pub is_flag : Option TokenKind → Bool
 is_flag k = is_keyword word.Q k || is_keyword word.X k
@@ -82,22 +92,35 @@ abbrev pub is_any_word : TokenKind → Bool
 is_any_word (kind.Keyword w) = true
 is_any_word _ = false
 
--- a token that may not stand after this one
-unfoldable pub mistake_after : Place → (before k : TokenKind) → Option (List ℕ)
-mistake_after p before k =
+-- a token that may not stand after a name or a flag
+unfoldable pub mistake_after_value : Place → (before k : TokenKind) → Option (List ℕ)
+mistake_after_value p before k =
     first_case (
-      case (is_name (Some before) && (is_sign sign.Minus (Some k) && adjoins_word p)) (codes "A name has letters, digits and `_`, and no dash.")
-      ∷ case (is_name (Some before) && (is_sign_that is_operator (Some k) && expects p (choice.Mark sign.Equals)))
-        (codes "Repeat the variable after the `=`, as in `v = v + 1`.")
-      ∷ case (is_flag (Some before) && compares_or_sets (Some k)) (codes "Write a flag alone: `q`, or `not q`.")
-      ∷ case (is_keyword word.Not (Some before) && is_keyword word.Not (Some k)) (codes "After `not`, write a comparison, `q` or `x`.")
-      ∷ case (is_keyword word.Else (Some before) && is_keyword word.If (Some k)) (codes "Write the block of `else` in braces; an `if` may be in it.")
-      ∷ case (is_any_word before && is_sign sign.LeftBracket (Some k)) (codes "What follows is written without brackets and commas.")
-      ∷ case (is_sign sign.Into (Some before)) (codes "A read sets a variable after `->`; a write has `<-` and a value.")
-      ∷ case (is_sign sign.Over (Some before) || is_sign sign.Modulo (Some before)) (codes "A divisor is a number of at least 1.")
-      ∷ case (is_sign sign.Minus (Some k) && expects p choice.Number) (codes "There are no numbers below 0.")
-      ∷ case (is_flag (Some k) && (expects p choice.Number && not (is_in_brackets p.before)))
-        (codes "A flag is no number: write `v = 0  if q { v = 1 }`.") ∷ [])
+    case (is_name (Some before) && (is_sign sign.Minus (Some k) && adjoins_word p)) (codes "A name has letters, digits and `_`, and no dash.")
+    ∷ case (is_name (Some before) && (is_sign_that is_operator (Some k) && expects p (choice.Mark sign.Equals)))
+    (codes "Repeat the variable after the `=`, as in `v = v + 1`.")
+    ∷ case (is_flag (Some before) && compares_or_sets (Some k)) (codes "Write a flag alone: `q`, or `not q`.") ∷ [])
+
+-- a token that may not stand after a word
+unfoldable pub mistake_after_word : (before k : TokenKind) → Option (List ℕ)
+mistake_after_word before k =
+    first_case (
+    case (is_keyword word.Not (Some before) && is_keyword word.Not (Some k)) (codes "After `not`, write a comparison, `q` or `x`.")
+    ∷ case (is_keyword word.Else (Some before) && is_keyword word.If (Some k)) (codes "Write the block of `else` in braces; an `if` may be in it.")
+    ∷ case (is_any_word before && is_sign sign.LeftBracket (Some k)) (codes "What follows is written without brackets and commas.") ∷ [])
+
+-- a token that may not stand after a sign, or where a number may
+unfoldable pub mistake_for_value : Place → (before k : TokenKind) → Option (List ℕ)
+mistake_for_value p before k =
+    first_case (
+    case (is_sign sign.Into (Some before)) (codes "A read sets a variable after `->`; a write has `<-` and a value.")
+    ∷ case (is_sign sign.Over (Some before) || is_sign sign.Modulo (Some before)) (codes "A divisor is a number of at least 1.")
+    ∷ case (is_sign sign.Minus (Some k) && expects p choice.Number) (codes "There are no numbers below 0.")
+    ∷ case (is_flag (Some k) && (expects p choice.Number && not (is_in_brackets p.before)))
+    (codes "A flag is no number: write `v = 0  if q { v = 1 }`.") ∷ [])
+
+abbrev pub mistake_after : Place → (before k : TokenKind) → Option (List ℕ)
+mistake_after p before k = or_else (mistake_after_value p before k) (or_else (mistake_after_word before k) (mistake_for_value p before k))
 
 -- a sign or a word of conditions alone
 abbrev pub is_of_condition : TokenKind → Bool
@@ -111,12 +134,12 @@ tests_lams first = is_word first word.Ctlm || (is_word first word.Ctci || (is_wo
 unfoldable pub mistake_in : Place → (first : Keyword) → TokenKind → Option (List ℕ)
 mistake_in p first k =
     first_case (
-      case (is_either word.If word.While first && (is_of_condition k && is_in_brackets p.before)) (codes "Brackets are for expressions, not for conditions.")
-      ∷ case (tests_lams first && is_sign sign.Into (Some k)) (codes "The answer is the flag `q`.")
-      ∷ case (is_either word.Cdlam word.Cdreg first && expects p choice.Number)
-        (codes "An address is the branch, which is 1, then crate, station and sub-address.")
-      ∷ case (is_name_wanted p.noted && is_kind (needed p) named.Register) (codes "Set a register to an address first, by `cdreg`.")
-      ∷ case (is_name_wanted p.noted && is_kind (needed p) named.Lam) (codes "Write the name of a LAM here, which `cdlam` declares.") ∷ [])
+    case (is_either word.If word.While first && (is_of_condition k && is_in_brackets p.before)) (codes "Brackets are for expressions, not for conditions.")
+    ∷ case (tests_lams first && is_sign sign.Into (Some k)) (codes "The answer is the flag `q`.")
+    ∷ case (is_either word.Cdlam word.Cdreg first && expects p choice.Number)
+    (codes "An address is the branch, which is 1, then crate, station and sub-address.")
+    ∷ case (is_name_wanted p.noted && is_kind (needed p) named.Register) (codes "Set a register to an address first, by `cdreg`.")
+    ∷ case (is_name_wanted p.noted && is_kind (needed p) named.Lam) (codes "Write the name of a LAM here, which `cdlam` declares.") ∷ [])
 
 abbrev pub of_both : {A B : Type 0} → (A → B → Option (List ℕ)) → Option A → Option B → Option (List ℕ)
 of_both f (Some a) (Some b) = f a b

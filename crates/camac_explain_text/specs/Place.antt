@@ -1,11 +1,10 @@
 -- A place of a text at which a fault shows: the token there, what stands around it, and what may stand in its place.
-use Rattle.std.specs.Prelude.{ℕ, ◌-◌, ◌==◌, Bool, true, false, ◌&&◌, ◌||◌, nat_eq, not, List, [], ◌∷◌, codes, drop, is_none, is_some, length, slice_get, Option, Some, None, if◌then◌else◌}
+use Rattle.std.specs.Prelude.{ℕ, ◌-◌, ◌==◌, Bool, false, ◌&&◌, ◌||◌, nat_eq, not, List, [], ◌∷◌, codes, drop, is_none, length, slice_get, Option, Some, None, if◌then◌else◌}
 use Rattle.std.specs.Char.{is_ascii_whitespace}
 use Rattle.std.specs.List.{prefix_len, starts_with}
 use Rattle.camac_tokens.specs.Scanning.{is_name_byte}
 use Rattle.camac_tokens.specs.declared.fault.NameKind.{NameKind}
 use Rattle.camac_tokens.specs.declared.fault.NameKind.TheVariants as named
-use Rattle.camac_tokens.specs.declared.token.Keyword.{Keyword}
 use Rattle.camac_tokens.specs.declared.token.Keyword.TheVariants as word
 use Rattle.camac_tokens.specs.declared.token.Token.{Token}
 use Rattle.camac_tokens.specs.declared.token.TokenKind.{TokenKind}
@@ -32,8 +31,13 @@ pub record Place : Type 0 where
 abbrev pub place_of : Found → Place
 place_of f =
     record {
-      bytes = f.word.now; token = f.kind; text = f.text.now; rest = f.rest.now; tokens = f.tokens.items; before = standing_of f.before;
-      noted = f.expected.now
+      bytes = f.word.now;
+      token = f.kind;
+      text = f.text.now;
+      rest = f.rest.now;
+      tokens = f.tokens.items;
+      before = standing_of f.before;
+      noted = f.expected.now;
     }
 
 -- A fault of a token is the first of its text, and needs nothing of what stands before.
@@ -45,8 +49,13 @@ read_before None (b ∷ bs) ts = []
 abbrev pub place_between : Noted → (text rest : List ℕ) → Place
 place_between noted text rest =
     record {
-      bytes = word_at rest; token = kind_at rest; text = text; rest = rest; tokens = tokens_in text;
-      before = standing (read_before (kind_at rest) (word_at rest) (tokens_in text)); noted = noted
+      bytes = word_at rest;
+      token = kind_at rest;
+      text = text;
+      rest = rest;
+      tokens = tokens_in text;
+      before = standing (read_before (kind_at rest) (word_at rest) (tokens_in text));
+      noted = noted;
     }
 
 -- the place of a text from which so many bytes are left

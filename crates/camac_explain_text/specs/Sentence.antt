@@ -101,7 +101,7 @@ start_text (b ∷ bs) = codes "Found " ++ quoted (b ∷ bs)
 
 -- of a token that may not stand where it is, with all that might
 unfoldable pub expected_sentence : (token : List ℕ) → Noted → List ℕ
-expected_sentence token noted = ((start_text token ++ codes "; expected ") ++ list_text (expected_of noted)) ++ codes "."
+expected_sentence token noted = concat (start_text token ∷ codes "; expected " ∷ list_text (expected_of noted) ∷ codes "." ∷ [])
 
 abbrev pub or_sentence : Option (List ℕ) → List ℕ → List ℕ
 or_sentence (Some own) sentence = own

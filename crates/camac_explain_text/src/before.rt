@@ -1,7 +1,7 @@
 // What stands before a place of a script.
 
 ghost use Rattle.std.specs.Prelude.{◌≡◌, ◌+◌, IfOk, OnOk, option_copied, option_map, slice_get, take};
-ghost use Rattle.camac_explain_text.specs.Before.{assigned, begun, behind_token, called_in, closed, count_of, declared, declared_as, ended, in_body, is_before_variable, is_declared_before, is_in_brackets, is_of_for, is_sign, kind_behind, kind_declared_next, last_alone, longer, near, open_line, opened, parameters, serves_as, standing, standing_of, wants_new_name, with_parameters, word_of};
+ghost use Rattle.camac_explain_text.specs.Before.{assigned, begun, behind_token, called_in, closed, count_of, declared, declared_as, ended, in_body, is_before_variable, is_declared_before, is_in_brackets, is_of_for, is_sign, kind_behind, kind_declared_next, last_alone, near, open_line, opened, parameters, serves_as, standing, standing_of, wants_new_name, with_parameters, word_of};
 
 use crate::expected::{begins_declaration, begins_statement};
 use camac_lang::Name;

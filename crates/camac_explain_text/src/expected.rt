@@ -188,11 +188,7 @@ fn push_groups(
     Ok(())
 }
 
-fn push_signs(
-    found: &mut Vec<Expected>,
-    signs: &[Sign],
-    noted: &[Choice],
-) -> Result<(), AllocError>
+fn push_signs(found: &mut Vec<Expected>, signs: &[Sign], noted: &[Choice]) -> Result<(), AllocError>
     ensures { OnOk result (found.new.items ≡ found.old.items ++ map expected.Sign (filter (is_sign_alone noted.now) signs.now)) }
 {
     'signs: for sign in signs {

@@ -205,7 +205,6 @@ fn behind(text: &[u8], size: usize) -> &[u8]
     }
 }
 
-#[tactic(auto, using(std::proofs::lemmas::Str::Ascii::trim_ascii_start_is))]
 fn without_blanks(text: &[u8]) -> &[u8]
     ensures { result.now ≡ without_blanks text.now }
 {

@@ -5,8 +5,8 @@ ghost use Rattle.camac_lines.specs.Words.{is_near, shown_text};
 ghost use Rattle.camac_tokens.specs.declared.token.Keyword.TheVariants as keyword;
 ghost use Rattle.camac_text_cursor.specs.declared.choice.Choice.TheVariants as choice;
 ghost use Rattle.camac_explain_text.specs.Before.{standing_of};
-ghost use Rattle.camac_explain_text.specs.Hint.{arguments_of, call_text, hint_text};
-ghost use Rattle.camac_explain_text.specs.Meant.{arguments, arguments_of_call, begins_here, decimal_digits, fits, from_end, if_expected, kind_hint, meant_by_name, meant_by_sign, missing_arrow, name_hint, near_beginning, near_fitting, near_word, open_block, taken_for, unexpected_hint, word_before, word_before_beginning};
+ghost use Rattle.camac_explain_text.specs.Hint.{arguments_of, before_text, call_text, hint_text};
+ghost use Rattle.camac_explain_text.specs.Meant.{arguments, arguments_of_call, arrow_before_number, arrow_before_value, begins_here, decimal_digits, fits, from_end, if_expected, kind_hint, meant_by_name, meant_by_sign, missing_arrow, name_hint, near_among, near_beginning, near_fitting, near_word, open_block, taken_for, unexpected_hint, word_before, word_before_beginning};
 ghost use Rattle.camac_explain_text.specs.Mistake.{is_either};
 ghost use Rattle.camac_explain_text.specs.Place.{expects, place_of};
 ghost use Rattle.camac_explain_text.specs.Spelled.{word_text};
@@ -220,16 +220,29 @@ fn meant_by_name<'a>(before: &Before, kind: Option<&'a TokenKind>) -> Option<Hin
     if before.is_declared_before(word) {
         return None;
     }
-    match near_beginning(before, word, &KEYWORDS) {
+    meant_before(word, near_beginning(before, word))
+}
+
+fn meant_before<'a>(word: &'a [u8], meant: Option<&'static str>) -> Option<Hint<'a>>
+    ensures { option_map hint_text result ≡ option_map (before_text word.now) (option_map (λ s. s.now) meant.entry) }
+{
+    match meant {
         Some(meant) => Some(Hint::MeantBefore { word, meant }),
         None => None,
     }
 }
 
-// The first of these words that begins a declaration or a statement here, and is near a name.
+// The first word that begins a declaration or a statement here, and is near a name.
 #[tactic(auto, unfolding(crate::specs::Meant::near_beginning))]
-fn near_beginning(before: &Before, name: &[u8], words: &[Keyword]) -> Option<&'static str>
-    ensures { option_map (λ s. s.now) result ≡ near_beginning (standing_of before.now) name.now words.now }
+fn near_beginning(before: &Before, name: &[u8]) -> Option<&'static str>
+    ensures { option_map (λ s. s.now) result ≡ near_beginning (standing_of before.now) name.now }
+{
+    near_among(before, name, &KEYWORDS)
+}
+
+#[tactic(auto, unfolding(crate::specs::Meant::near_among))]
+fn near_among(before: &Before, name: &[u8], words: &[Keyword]) -> Option<&'static str>
+    ensures { option_map (λ s. s.now) result ≡ near_among (standing_of before.now) name.now words.now }
 {
     'words: for word in words {
         if begins_here(before, *word) && is_near_word(name, *word) {
@@ -292,9 +305,7 @@ fn decimal_digits(found: &Found<'_>) -> Option<&'static str>
 {
     match (&found.kind, found.last()) {
         (Some(TokenKind::Name(_) | TokenKind::Keyword(_)), Some(TokenKind::Number(_)))
-            if found.adjoins_word() => {
-            Some("Write numbers in decimal digits.")
-        }
+            if found.adjoins_word() => { Some("Write numbers in decimal digits.") }
         _ => None,
     }
 }
@@ -352,15 +363,31 @@ fn missing_arrow<'a>(found: &'a Found<'_>) -> Option<Hint<'a>>
 {
     use TokenKind::{Keyword as Word, Name, Number};
     match found.before.phrase.as_slice() {
-        [Word(word), Number(_), Name(_), Name(value)]
-            if is_transfer(*word) && found.expects(Choice::Mark(Sign::Equals)) => {
-            Some(Hint::NoArrow(value.as_bytes()))
+        [Word(word), Number(_), Name(_), Name(value)] => {
+            arrow_before_value(found, *word, value.as_bytes())
         }
-        [Word(word), Number(_), Name(_)]
-            if is_transfer(*word) && matches!(found.kind, Some(Number(_))) => {
-            Some(Hint::NoArrow(found.word))
-        }
+        [Word(word), Number(_), Name(_)] => arrow_before_number(found, *word),
         _ => None,
+    }
+}
+
+fn arrow_before_value<'a>(found: &Found<'_>, first: Keyword, value: &'a [u8]) -> Option<Hint<'a>>
+    ensures { option_map hint_text result ≡ arrow_before_value (place_of found.now) first value.now }
+{
+    if is_transfer(first) && found.expects(Choice::Mark(Sign::Equals)) {
+        Some(Hint::NoArrow(value))
+    } else {
+        None
+    }
+}
+
+fn arrow_before_number<'a>(found: &'a Found<'_>, first: Keyword) -> Option<Hint<'a>>
+    ensures { option_map hint_text result ≡ arrow_before_number (place_of found.now) first }
+{
+    if is_transfer(first) && matches!(found.kind, Some(TokenKind::Number(_))) {
+        Some(Hint::NoArrow(found.word))
+    } else {
+        None
     }
 }
 
@@ -376,9 +403,9 @@ pub fn kind_hint<'a>(found: &'a Found<'_>, wanted: NameKind, kind: NameKind) -> 
     ensures { option_map hint_text result ≡ kind_hint (place_of found.now) wanted kind }
 {
     match (wanted, kind) {
-        (NameKind::Variable, NameKind::Procedure) if found.begins_statement() => Some(
-            Hint::Called(found.word),
-        ),
+        (NameKind::Variable, NameKind::Procedure) if found.begins_statement() => Some(Hint::Called(
+            found.word,
+        )),
         (NameKind::Variable, NameKind::Procedure) => Some(Hint::NoResult(found.word)),
         (NameKind::Variable, NameKind::Register) => Some(Hint::Address(found.word)),
         _ => match told_of_kind(wanted, kind) {

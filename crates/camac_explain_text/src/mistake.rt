@@ -2,7 +2,7 @@
 
 ghost use Rattle.std.specs.Prelude.{◌≡◌, option_copied, option_map};
 ghost use Rattle.camac_explain_text.specs.Before.{first_of, word_of};
-ghost use Rattle.camac_explain_text.specs.Mistake.{begins_action, compares_or_sets, ends_expression, is_of_condition, mistake_after, mistake_at, mistake_in, of_both, outside_of_bodies, told_of_kind, usual_mistake};
+ghost use Rattle.camac_explain_text.specs.Mistake.{begins_action, compares_or_sets, ends_expression, is_of_condition, joins_comparisons, mistake_after, mistake_after_value, mistake_after_word, mistake_at, mistake_for_value, mistake_in, mistaken_condition, mistaken_sign, of_both, outside_of_bodies, told_of_kind, usual_mistake};
 ghost use Rattle.camac_explain_text.specs.Place.{last, place_of};
 
 use crate::expected::{begins_statement, is_comparison, is_name, is_operator};
@@ -90,25 +90,42 @@ fn told_in(found: &Found<'_>) -> Option<&'static str>
 }
 
 // What is wrong with a token in a declaration or a statement of this kind.
-#[tactic(auto, unfolding(crate::specs::Mistake::mistake_at))]
 fn mistake_at(found: &Found<'_>, first: Keyword, kind: &TokenKind) -> Option<&'static str>
     ensures { option_map (λ s. s.now) result ≡ mistake_at (place_of found.now) first kind.now }
 {
-    use TokenKind::{Keyword as Word, Sign as Mark};
-    match (first, kind) {
-        (Keyword::Var, Mark(Sign::Comma)) => Some("Write names without commas, as in `var v k`."),
-        (Keyword::Var, Mark(Sign::Equals)) => Some(
+    if let Some(told) = mistaken_sign(found, first, kind) {
+        return Some(told);
+    }
+    mistaken_condition(found, first, kind)
+}
+
+#[tactic(auto, unfolding(crate::specs::Mistake::mistaken_sign))]
+fn mistaken_sign(found: &Found<'_>, first: Keyword, kind: &TokenKind) -> Option<&'static str>
+    ensures { option_map (λ s. s.now) result ≡ mistaken_sign (place_of found.now) first kind.now }
+{
+    let TokenKind::Sign(sign) = kind else {
+        return None;
+    };
+    match (first, *sign) {
+        (Keyword::Var, Sign::Comma) => Some("Write names without commas, as in `var v k`."),
+        (Keyword::Var, Sign::Equals) => Some(
             "A variable begins as 0: a service sets it, as in `v = 3`.",
         ),
-        (Keyword::Table, Mark(Sign::Comma)) => Some(
-            "Write words without commas, as in `table t = 1 2`.",
-        ),
-        (Keyword::Put, Mark(Sign::Comma)) => Some(
-            "A `put` has one value: write `put` before each.",
-        ),
-        (Keyword::Cfsa | Keyword::Cssa, Mark(Sign::Comma)) if found.begins_statement() => Some(
+        (Keyword::Table, Sign::Comma) => Some("Write words without commas, as in `table t = 1 2`."),
+        (Keyword::Put, Sign::Comma) => Some("A `put` has one value: write `put` before each."),
+        (Keyword::Cfsa | Keyword::Cssa, Sign::Comma) if found.begins_statement() => Some(
             "A read sets one variable, and the flags `q` and `x` by themselves.",
         ),
+        _ => None,
+    }
+}
+
+#[tactic(auto, unfolding(crate::specs::Mistake::mistaken_condition))]
+fn mistaken_condition(found: &Found<'_>, first: Keyword, kind: &TokenKind) -> Option<&'static str>
+    ensures { option_map (λ s. s.now) result ≡ mistaken_condition (place_of found.now) first kind.now }
+{
+    use TokenKind::{Keyword as Word, Sign as Mark};
+    match (first, kind) {
         (Keyword::For, _) if found.before.phrase.len() == 2 => Some(
             "A `for` is written `for i = A to B { .. }`.",
         ),
@@ -119,13 +136,24 @@ fn mistake_at(found: &Found<'_>, first: Keyword, kind: &TokenKind) -> Option<&'s
             if found.expects(Choice::Comparison) => {
             Some("A condition compares, as in `v != 0`.")
         }
-        (_, Mark(sign))
-            if is_comparison(*sign)
-                && found.expects(Choice::Word(Keyword::And))
-                && ends_expression(found.last()) => {
-            Some("Comparisons are joined by `and`: `a < v and v < b`.")
-        }
+        _ if joins_comparisons(found, kind) => Some(
+            "Comparisons are joined by `and`: `a < v and v < b`.",
+        ),
         _ => None,
+    }
+}
+
+// Whether a token compares once more what was compared.
+fn joins_comparisons(found: &Found<'_>, kind: &TokenKind) -> bool
+    ensures { result ≡ joins_comparisons (place_of found.now) kind.now }
+{
+    match kind {
+        TokenKind::Sign(sign) => {
+            is_comparison(*sign)
+                && found.expects(Choice::Word(Keyword::And))
+                && ends_expression(found.last())
+        }
+        _ => false,
     }
 }
 
@@ -149,22 +177,46 @@ fn compares_or_sets(kind: &TokenKind) -> bool
 }
 
 // What is wrong with a token after the one before.
-#[tactic(auto, unfolding(crate::specs::Mistake::mistake_after))]
 fn mistake_after(found: &Found<'_>, before: &TokenKind, kind: &TokenKind) -> Option<&'static str>
     ensures { option_map (λ s. s.now) result ≡ mistake_after (place_of found.now) before.now kind.now }
+{
+    if let Some(told) = mistake_after_value(found, before, kind) {
+        return Some(told);
+    }
+    if let Some(told) = mistake_after_word(before, kind) {
+        return Some(told);
+    }
+    mistake_for_value(found, before, kind)
+}
+
+#[tactic(auto, unfolding(crate::specs::Mistake::mistake_after_value))]
+fn mistake_after_value(
+    found: &Found<'_>,
+    before: &TokenKind,
+    kind: &TokenKind,
+) -> Option<&'static str>
+    ensures { option_map (λ s. s.now) result ≡ mistake_after_value (place_of found.now) before.now kind.now }
 {
     use TokenKind::{Keyword as Word, Name, Sign as Mark};
     match (before, kind) {
         (Name(_), Mark(Sign::Minus)) if found.adjoins_word() => Some(
             "A name has letters, digits and `_`, and no dash.",
         ),
-        (Name(_), Mark(sign))
-            if is_operator(*sign) && found.expects(Choice::Mark(Sign::Equals)) => {
-            Some("Repeat the variable after the `=`, as in `v = v + 1`.")
-        }
+        (Name(_), Mark(sign)) if is_operator(*sign) && found.expects(Choice::Mark(Sign::Equals)) =>
+            { Some("Repeat the variable after the `=`, as in `v = v + 1`.") }
         (Word(Keyword::Q | Keyword::X), _) if compares_or_sets(kind) => Some(
             "Write a flag alone: `q`, or `not q`.",
         ),
+        _ => None,
+    }
+}
+
+#[tactic(auto, unfolding(crate::specs::Mistake::mistake_after_word))]
+fn mistake_after_word(before: &TokenKind, kind: &TokenKind) -> Option<&'static str>
+    ensures { option_map (λ s. s.now) result ≡ mistake_after_word before.now kind.now }
+{
+    use TokenKind::{Keyword as Word, Sign as Mark};
+    match (before, kind) {
         (Word(Keyword::Not), Word(Keyword::Not)) => Some(
             "After `not`, write a comparison, `q` or `x`.",
         ),
@@ -174,6 +226,20 @@ fn mistake_after(found: &Found<'_>, before: &TokenKind, kind: &TokenKind) -> Opt
         (Word(_), Mark(Sign::LeftBracket)) => Some(
             "What follows is written without brackets and commas.",
         ),
+        _ => None,
+    }
+}
+
+#[tactic(auto, unfolding(crate::specs::Mistake::mistake_for_value))]
+fn mistake_for_value(
+    found: &Found<'_>,
+    before: &TokenKind,
+    kind: &TokenKind,
+) -> Option<&'static str>
+    ensures { option_map (λ s. s.now) result ≡ mistake_for_value (place_of found.now) before.now kind.now }
+{
+    use TokenKind::{Keyword as Word, Sign as Mark};
+    match (before, kind) {
         (Mark(Sign::Into), _) => Some(
             "A read sets a variable after `->`; a write has `<-` and a value.",
         ),

@@ -34,9 +34,9 @@ fn sign_of_another<'a>(found: &'a Found<'_>) -> Option<Hint<'a>>
     ensures { option_map hint_text result ≡ sign_of_another (place_of found.now) found.now.kind }
 {
     match (&found.kind, found.absent_sign()) {
-        (Some(TokenKind::Sign(_)), Some(absent)) if absent.spelled.len() > 1 => Some(
-            Hint::Absent(absent),
-        ),
+        (Some(TokenKind::Sign(_)), Some(absent)) if absent.spelled.len() > 1 => Some(Hint::Absent(
+            absent,
+        )),
         _ => None,
     }
 }

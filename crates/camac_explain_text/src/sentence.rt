@@ -43,7 +43,6 @@ pub fn text_sentence(alloc: Global, text: &[u8]) -> Result<Option<String>, Alloc
 }
 
 // Of a text in which so many bytes are left from the fault on.
-#[tactic(auto, using(crate::proofs::Told::at_place))]
 fn fault_told(
     alloc: Global,
     text: &[u8],
@@ -238,7 +237,8 @@ fn unexpected(alloc: Global, found: &Found<'_>) -> Result<String, AllocError>
 fn expected_told(alloc: Global, token: &[u8], noted: &[Choice]) -> Result<String, AllocError>
     ensures { IfOk result (λ s. string_bytes s ≡ expected_sentence token.now noted.now) }
 {
-    let (start, list) = (start_told(alloc, token)?, expected_list(alloc, noted)?);
+    let start = start_told(alloc, token)?;
+    let list = expected_list(alloc, noted)?;
     format!(in alloc; "{start}; expected {list}.")
 }
 
