@@ -1,6 +1,7 @@
 -- Arguments that are written to the places of a procedure, one by one.
-use Rattle.std.proofs.Common.{◌≡◌, ℕ, zero, suc, ◌+◌, ◌-◌, ◌<◌, ◌≤◌, List, [], ◌∷◌, length, set, take, drop, get_or, replicate, Some, refl, sym, ap, ◌∙◌, arith}
-use Rattle.std.proofs.lemmas.List.{drop_more, get_or-take, get_or-set_same, take-take, take-set-le}
+use Rattle.std.proofs.Common.{◌≡◌, ℕ, zero, suc, ◌+◌, ◌-◌, ◌<◌, ◌≤◌, List, [], ◌∷◌, ◌++◌, length, set, take, drop, get_or, replicate, Some, refl, sym, ap, ◌∙◌, append_assoc, arith, length-take-le, take_at, drop_at}
+use Rattle.std.proofs.lemmas.List.{drop_more, get_or-take, get_or-set_same, replicate_more, take-take, take-set-le, take_more_set}
+use Rattle.std.proofs.lemmas.Slice.{between_is}
 use Rattle.std.proofs.Math.Path.{fun_ext}
 use Rattle.std.specs.Prelude.{slice_range}
 use Rattle.camac_lang.specs.Tree.{Expression}
@@ -50,21 +51,24 @@ module _ (e : Expression) (es : List Expression) (p : Places) (place v : ℕ) (o
       ∙ ap (λ w. Some (w ∷ slice_range new (place + 1) (place + 1 + n))) (sym (set_stays 0 old new place v lt before))
       ∙ ap (λ l. Some l) (sym (range_more 0 new place n (omega (arith, lt, len))))
 
--- one place more that holds this value
-pub wipe_more : {A : Type 0} (d : A) (p : Places) (old new : List A) → p.start < p.end → p.end ≤ length old → length new ≡ length old
-    → held_at (record { start = p.start + 1; end = p.end }) new ≡ replicate (p.end - (p.start + 1)) d → take (p.start + 1) new ≡ take (p.start + 1) (set old p.start d)
-    → held_at p new ≡ replicate (size p) d
-wipe_more d p old new some room len rest before =
-    let n : ℕ = p.end - (p.start + 1) in
-    let last : p.end ≡ p.start + suc n = omega (arith, some) in
-    let next' : p.start + 1 + n ≡ p.end = omega (arith, some) in
-    let all : suc n ≡ size p = omega (arith, some) in
-    ap (slice_range new p.start) last
-    ∙ range_more d new p.start n (omega (arith, some, room, len))
-    ∙ ap (λ r. r ∷ slice_range new (p.start + 1) (p.start + 1 + n)) (set_stays d old new p.start d (omega (arith, some, room)) before)
-    ∙ ap (λ k. d ∷ slice_range new (p.start + 1) k) next'
-    ∙ ap (λ l. d ∷ l) rest
-    ∙ ap (λ k. replicate k d) all
+-- one place more holds this value
+pub wiped_more : {A : Type 0} (v : A) (old all : List A) (start place : ℕ) → start ≤ place → place < length all → take place all ≡ take start old ++ replicate (place - start) v
+    → take (place + 1) (set all place v) ≡ take start old ++ replicate (place + 1 - start) v
+wiped_more v old all start place le lt so_far =
+    let next' : place - start + 1 ≡ place + 1 - start = omega (arith, le) in
+    take_more_set all place v lt
+    ∙ ap (λ l. l ++ v ∷ []) so_far
+    ∙ append_assoc (take start old) (replicate (place - start) v) (v ∷ [])
+    ∙ ap (λ l. take start old ++ l) (replicate_more (place - start) v)
+    ∙ ap (λ n. take start old ++ replicate n v) next'
+
+module _ {A : Type 0} (v : A) (p : Places) (old new : List A) (room : p.start ≤ length old) (all : take p.end new ≡ take p.start old ++ replicate (size p) v) where
+  pub wiped : held_at p new ≡ replicate (size p) v
+  wiped = between_is new p.start p.end ∙ ap (drop p.start) all ∙ drop_at (take p.start old) (replicate (size p) v) p.start (length-take-le p.start old room)
+
+  pub before_wiped : p.start ≤ p.end → take p.start new ≡ take p.start old
+  before_wiped order =
+      sym (take-take p.start p.end new order) ∙ ap (take p.start) all ∙ take_at (take p.start old) (replicate (size p) v) p.start (length-take-le p.start old room)
 
 -- the values of arguments as the variables of a body
 argument_at : (vs : List ℕ) (i : ℕ) → variables_in vs i ≡ arguments vs i

@@ -31,6 +31,7 @@ pub fn pass(arguments: &[Expr], caller: Places, place: usize, variables: &mut [u
 }
 
 /// Sets these places to one value.
+#[inline(always)]
 pub fn wipe<T: Copy>(places: Places, all: &mut [T], value: T)
     requires order { places.start ≤ places.end }
     requires room { places.end ≤ length all.old }
@@ -38,12 +39,7 @@ pub fn wipe<T: Copy>(places: Places, all: &mut [T], value: T)
     ensures before { take places.start all.new ≡ take places.start all.old }
     ensures count { length all.new ≡ length all.old }
 {
-    if places.start < places.end {
-        let rest = Places {
-            start: places.start + 1,
-            end: places.end,
-        };
-        all[places.start] = value;
-        wipe(rest, all, value);
+    'places: for place in places.start..places.end {
+        all[place] = value;
     }
 }
