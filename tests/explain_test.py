@@ -419,7 +419,7 @@ class Explain(Room):
 
     def test_absent(self):
         """The page shows the table of what the language does not have."""
-        source = (TOP / "crates/camac_explain_text/src/absent.rt").read_text()
+        source = (TOP / "crates/camac_explain_text_place/src/absent.rt").read_text()
         text = r'"((?:[^"\\]|\\.)*)"'
         rows = [it.partition("write: ") for it in source.split("    Row {\n")[1:]]
         table = [([it.replace('\\"', '"') for it in re.findall(text, words)], re.match(text, write)[1]) for words, _, write in rows]

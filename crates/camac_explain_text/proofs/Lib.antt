@@ -1,5 +1,2 @@
 pub mod Bytes
-pub mod Lasts
-pub mod Spellings
 pub mod Told
-pub mod Tokens

@@ -4,7 +4,7 @@ use Rattle.std.specs.Prelude.{Result, Ok, Err, String}
 use Rattle.camac_lang.specs.Tree.{Script}
 use Rattle.camac_tokens.specs.declared.fault.TextCase.{TextCase}
 use Rattle.camac_text.specs.Parser.{script_of}
-use Rattle.camac_explain_text.specs.Expected.{Noted}
+use Rattle.camac_explain_text_place.specs.Choices.{Noted}
 use Rattle.camac_explain_text.specs.Text.{IsTextSentence, begins_like_a_plan, fault_text, sentence_of}
 
 pub of_script : (text : List ℕ) (s : Script) → script_of text ≡ Ok s → IsTextSentence text None

@@ -2,7 +2,7 @@
 use Rattle.std.specs.Prelude.{ℕ, List, [], ◌∷◌, codes, decimal, nat_eq, if◌then◌else◌}
 use Rattle.std.specs.List.{concat}
 use Rattle.camac_lines.specs.Words.{quoted, shown_text}
-use Rattle.camac_explain_text.specs.Absent.{absent_of, absent_text}
+use Rattle.camac_explain_text_place.specs.Absent.{absent_of, absent_text}
 use Rattle.camac_explain_text.specs.declared.hint.Hint.{Hint}
 use Rattle.camac_explain_text.specs.declared.hint.Hint.TheVariants as hint
 

@@ -1,13 +1,7 @@
-pub mod Absent
-pub mod Before
-pub mod Declaring
 pub mod Expected
-pub mod Found
 pub mod Hint
 pub mod Limits
 pub mod Meant
 pub mod Mistake
-pub mod Place
 pub mod Sentence
-pub mod Spelled
 pub mod Text

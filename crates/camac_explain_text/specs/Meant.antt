@@ -13,13 +13,13 @@ use Rattle.camac_tokens.specs.declared.token.TokenKind.TheVariants as kind
 use Rattle.camac_tokens.specs.declared.words.TheConstants.{KEYWORDS}
 use Rattle.camac_text_cursor.specs.Readers.{is_name, is_number}
 use Rattle.camac_text_cursor.specs.declared.choice.Choice.TheVariants as choice
-use Rattle.camac_explain_text.specs.Absent.{Told, absent_sign, absent_text}
-use Rattle.camac_explain_text.specs.Before.{Standing, called_in, declared, in_body, is_declared_before, is_in_brackets, is_kind, near, open_line, wants_new_name, word_of}
-use Rattle.camac_explain_text.specs.Expected.{begins_declaration, begins_statement}
+use Rattle.camac_explain_text_place.specs.Absent.{Told, absent_sign, absent_text}
+use Rattle.camac_explain_text_place.specs.Before.{Standing, called_in, declared, in_body, is_declared_before, is_in_brackets, is_kind, near, open_line, wants_new_name, word_of}
+use Rattle.camac_explain_text_place.specs.Choices.{begins_declaration, begins_statement}
 use Rattle.camac_explain_text.specs.Hint.{address_text, before_text, brackets_text, called_text, inside_text, meant_text, name_text, no_arrow_text, no_result_text, of_language_text, open_text, takes_text}
 use Rattle.camac_explain_text.specs.Mistake.{case, first_case, is_either, told_of_kind, usual_mistake}
-use Rattle.camac_explain_text.specs.Place.{Place, absent_word_at, adjoins_word, begins_line, begins_statement_at, expects, is_assigned, is_before, last}
-use Rattle.camac_explain_text.specs.Spelled.{is_word, sign_text, word_text}
+use Rattle.camac_explain_text_place.specs.Place.{Place, absent_word_at, adjoins_word, begins_line, begins_statement_at, expects, is_assigned, is_before, last}
+use Rattle.camac_explain_text_place.specs.Spelled.{is_word, sign_text, word_text}
 
 abbrev pub begins_here : Standing → Keyword → Bool
 begins_here s w = if in_body s then begins_statement w else begins_declaration w

@@ -11,10 +11,11 @@ use Rattle.camac_tokens.specs.declared.token.TokenKind.TheVariants as kind
 use Rattle.camac_text_cursor.specs.Choice.{is_sign_that}
 use Rattle.camac_text_cursor.specs.Readers.{is_keyword, is_name, is_number, is_sign}
 use Rattle.camac_text_cursor.specs.declared.choice.Choice.TheVariants as choice
-use Rattle.camac_explain_text.specs.Before.{first_of, in_body, is_in_brackets, is_kind, word_of}
-use Rattle.camac_explain_text.specs.Expected.{begins_statement, is_comparison, is_name as is_name_wanted, is_operator}
-use Rattle.camac_explain_text.specs.Place.{Place, adjoins_word, begins_statement_at, expects, is_assigned, last, needed}
-use Rattle.camac_explain_text.specs.Spelled.{is_word}
+use Rattle.camac_explain_text_place.specs.Before.{first_of, in_body, is_in_brackets, is_kind, word_of}
+use Rattle.camac_explain_text.specs.Expected.{is_name as is_name_wanted}
+use Rattle.camac_explain_text_place.specs.Choices.{begins_statement, is_comparison, is_operator}
+use Rattle.camac_explain_text_place.specs.Place.{Place, adjoins_word, begins_statement_at, expects, is_assigned, last, needed}
+use Rattle.camac_explain_text_place.specs.Spelled.{is_word}
 
 -- a case, and what is told in it
 pub record Case : Type 0 where

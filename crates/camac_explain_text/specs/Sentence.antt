@@ -11,15 +11,16 @@ use Rattle.camac_tokens.specs.declared.fault.NameKind.{NameKind}
 use Rattle.camac_tokens.specs.declared.fault.NameKind.TheVariants as named
 use Rattle.camac_tokens.specs.declared.fault.TextCase.{TextCase}
 use Rattle.camac_tokens.specs.declared.fault.TextCase.TheVariants as told
-use Rattle.camac_explain_text.specs.Absent.{Told, absent_sign, absent_text}
-use Rattle.camac_explain_text.specs.Before.{is_kind}
-use Rattle.camac_explain_text.specs.Declaring.{called_before, declared_line}
-use Rattle.camac_explain_text.specs.Expected.{Noted, expected_of, list_text}
+use Rattle.camac_explain_text_place.specs.Absent.{Told, absent_sign, absent_text}
+use Rattle.camac_explain_text_place.specs.Before.{is_kind}
+use Rattle.camac_explain_text_place.specs.Declaring.{called_before, declared_line}
+use Rattle.camac_explain_text.specs.Expected.{expected_of, list_text}
+use Rattle.camac_explain_text_place.specs.Choices.{Noted}
 use Rattle.camac_explain_text.specs.Hint.{takes_text}
 use Rattle.camac_explain_text.specs.Limits.{limit_text}
 use Rattle.camac_explain_text.specs.Meant.{kind_hint, name_hint, own_sentence, unexpected_hint, word_before}
 use Rattle.camac_explain_text.specs.Mistake.{outside_of_bodies}
-use Rattle.camac_explain_text.specs.Place.{Place, absent_word_at, begins_statement_at, is_assigned, is_before}
+use Rattle.camac_explain_text_place.specs.Place.{Place, absent_word_at, begins_statement_at, is_assigned, is_before}
 
 abbrev pub noun : NameKind → List ℕ
 noun named.Lam = codes "LAM"

@@ -7,9 +7,9 @@ use Rattle.camac_tokens.specs.declared.fault.TextCase.{TextCase}
 use Rattle.camac_tokens.specs.declared.token.TokenKind.{TokenKind}
 use Rattle.camac_tokens.specs.declared.token.TokenKind.TheVariants as kind
 use Rattle.camac_text.specs.Parser.{script_of}
-use Rattle.camac_explain_text.specs.Expected.{Noted}
-use Rattle.camac_explain_text.specs.Found.{kind_at, rest_of}
-use Rattle.camac_explain_text.specs.Place.{place_at}
+use Rattle.camac_explain_text_place.specs.Choices.{Noted}
+use Rattle.camac_explain_text_place.specs.Found.{kind_at, rest_of}
+use Rattle.camac_explain_text_place.specs.Place.{place_at}
 use Rattle.camac_explain_text.specs.Sentence.{case_text}
 
 abbrev pub is_buffer : TokenKind → Bool

@@ -4,19 +4,17 @@ ghost use Rattle.std.specs.Prelude.{◌≡◌, Some, None, option_copied, option
 ghost use Rattle.camac_lines.specs.Words.{is_near, shown_text};
 ghost use Rattle.camac_tokens.specs.declared.token.Keyword.TheVariants as keyword;
 ghost use Rattle.camac_text_cursor.specs.declared.choice.Choice.TheVariants as choice;
-ghost use Rattle.camac_explain_text.specs.Before.{standing_of};
+ghost use Rattle.camac_explain_text_place.specs.Before.{standing_of};
 ghost use Rattle.camac_explain_text.specs.Hint.{arguments_of, before_text, call_text, hint_text};
 ghost use Rattle.camac_explain_text.specs.Meant.{arguments, arguments_of_call, arrow_before_number, arrow_before_value, begins_here, decimal_digits, fits, from_end, if_expected, kind_hint, meant_by_name, meant_by_sign, missing_arrow, name_hint, near_among, near_beginning, near_fitting, near_word, open_block, taken_for, unexpected_hint, word_before, word_before_beginning};
 ghost use Rattle.camac_explain_text.specs.Mistake.{is_either};
-ghost use Rattle.camac_explain_text.specs.Place.{expects, place_of};
-ghost use Rattle.camac_explain_text.specs.Spelled.{word_text};
+ghost use Rattle.camac_explain_text_place.specs.Place.{expects, place_of};
+ghost use Rattle.camac_explain_text_place.specs.Spelled.{word_text};
 
-use crate::absent::Absent;
-use crate::before::Before;
-use crate::expected::{begins_declaration, begins_statement};
-use crate::found::Found;
 use crate::mistake::{told_of_kind, usual_mistake};
-use crate::spelled::{sign_text, word_text};
+use camac_explain_text_place::{
+    Absent, Before, Found, begins_declaration, begins_statement, sign_text, word_text,
+};
 use camac_lines::{Quote, is_near};
 use camac_text::{Choice, NameKind, TokenKind};
 use camac_tokens::{KEYWORDS, Keyword, Sign};

@@ -3,12 +3,10 @@
 ghost use Rattle.std.specs.Prelude.{◌≡◌, option_map};
 ghost use Rattle.camac_explain_text.specs.Hint.{hint_text};
 ghost use Rattle.camac_explain_text.specs.Meant.{inside, is_name_wanted, is_set, kept_word, own_of_word, own_sentence, sign_of_another};
-ghost use Rattle.camac_explain_text.specs.Place.{place_of};
+ghost use Rattle.camac_explain_text_place.specs.Place.{place_of};
 
-use crate::expected::{begins_declaration, begins_statement};
-use crate::found::Found;
 use crate::hint::{Hint, word_before};
-use crate::spelled::word_text;
+use camac_explain_text_place::{Found, begins_declaration, begins_statement, word_text};
 use camac_text::TokenKind;
 use camac_tokens::Keyword;
 

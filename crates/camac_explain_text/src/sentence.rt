@@ -2,23 +2,24 @@
 
 ghost use Rattle.std.specs.Prelude.{◌≡◌, IfOk, option_map, string_bytes};
 ghost use Rattle.std.specs.Str.{is_utf8};
-ghost use Rattle.camac_explain_text.specs.Absent.{absent_of, absent_text};
+ghost use Rattle.camac_explain_text_place.specs.Absent.{absent_of, absent_text};
 ghost use Rattle.camac_tokens.specs.Words.{or_else};
 ghost use Rattle.camac_explain_text.specs.Hint.{hint_text};
 ghost use Rattle.camac_explain_text.specs.Meant.{word_before};
 ghost use Rattle.camac_explain_text.specs.Mistake.{outside_of_bodies};
-ghost use Rattle.camac_explain_text.specs.Place.{place_of};
+ghost use Rattle.camac_explain_text_place.specs.Place.{place_of};
 ghost use Rattle.camac_explain_text.specs.Text.{IsTextSentence, begins_like_a_plan, fault_text, is_buffer};
 ghost use Rattle.camac_explain_text.specs.Sentence.{absent_variable, arguments_text, byte_text, case_text, character, character_size, expected_sentence, first_byte, is_of_another_language, is_truth, missing_text, not_there, noun, number_text, or_empty, other_byte_text, other_kind, other_text, start_text, taken, taken_text, undeclared, unexpected, with_hint};
 
-use crate::absent::{Absent, absent_sign, is_same_word};
-use crate::declaring::{called_before, declared_line};
-use crate::expected::{expected_list, noted};
-use crate::found::{Found, kind_at, prefix, rest_of};
+use crate::expected::expected_list;
 use crate::hint::{Hint, kind_hint, name_hint, unexpected_hint, word_before};
 use crate::limit::limit_told;
 use crate::mistake::outside_of_bodies;
 use crate::own::own_sentence;
+use camac_explain_text_place::{
+    Absent, Found, absent_sign, called_before, declared_line, is_same_word, kind_at, noted, prefix,
+    rest_of,
+};
 use camac_lines::Quote;
 use camac_text::{Choice, Choices, NameKind, TextCase, TextFault, TokenKind, parse_expecting};
 use std::alloc::{AllocError, Global};

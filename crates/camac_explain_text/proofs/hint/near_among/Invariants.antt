@@ -1,5 +1,5 @@
 use Rattle.std.proofs.Common.{◌≡◌, drop}
-use Rattle.camac_explain_text.specs.Before.{standing_of}
+use Rattle.camac_explain_text_place.specs.Before.{standing_of}
 use Rattle.camac_explain_text.specs.Meant.{near_among}
 use Rattle.camac_explain_text.proofs.hint.near_among.Given as goal
 

@@ -1,6 +1,6 @@
 use Rattle.std.proofs.Common.{◌≡◌, drop}
 use Rattle.camac_explain_text.specs.Meant.{near_fitting}
-use Rattle.camac_explain_text.specs.Place.{place_of}
+use Rattle.camac_explain_text_place.specs.Place.{place_of}
 use Rattle.camac_explain_text.proofs.hint.near_fitting.Given as goal
 
 abbrev pub invariant-words : goal.invariant-words

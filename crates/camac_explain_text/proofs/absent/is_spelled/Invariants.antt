@@ -1,6 +1,0 @@
-use Rattle.std.proofs.Common.{◌≡◌, map, drop}
-use Rattle.camac_explain_text.specs.Absent.{is_spelled}
-use Rattle.camac_explain_text.proofs.absent.is_spelled.Given as goal
-
-abbrev pub invariant-spellings : goal.invariant-spellings
-invariant-spellings l = is_spelled (map (λ s. s.now) (drop l.known-index l.spellings)) l.word ≡ is_spelled (map (λ s. s.now) l.spellings) l.word

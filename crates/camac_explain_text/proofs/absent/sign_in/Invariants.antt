@@ -1,6 +1,0 @@
-use Rattle.std.proofs.Common.{◌≡◌, map, drop}
-use Rattle.camac_explain_text.specs.Absent.{row_of, sign_in}
-use Rattle.camac_explain_text.proofs.absent.sign_in.Given as goal
-
-abbrev pub invariant-rows : goal.invariant-rows
-invariant-rows l = sign_in (map row_of (drop l.row-index l.rows)) l.size l.before l.rest ≡ sign_in (map row_of l.rows) l.size l.before l.rest

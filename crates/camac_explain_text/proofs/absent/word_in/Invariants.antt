@@ -1,6 +1,0 @@
-use Rattle.std.proofs.Common.{◌≡◌, map, drop}
-use Rattle.camac_explain_text.specs.Absent.{row_of, word_in}
-use Rattle.camac_explain_text.proofs.absent.word_in.Given as goal
-
-abbrev pub invariant-rows : goal.invariant-rows
-invariant-rows l = word_in (map row_of (drop l.row-index l.rows)) l.word ≡ word_in (map row_of l.rows) l.word

@@ -1,0 +1,126 @@
+-- A place of a text at which a fault shows: the token there, what stands around it, and what may stand in its place.
+use Rattle.std.specs.Prelude.{ℕ, ◌-◌, ◌==◌, Bool, false, ◌&&◌, ◌||◌, nat_eq, not, List, [], ◌∷◌, codes, drop, is_none, length, slice_get, Option, Some, None, if◌then◌else◌}
+use Rattle.std.specs.Char.{is_ascii_whitespace}
+use Rattle.std.specs.List.{prefix_len, starts_with}
+use Rattle.camac_tokens.specs.Scanning.{is_name_byte}
+use Rattle.camac_tokens.specs.declared.fault.NameKind.{NameKind}
+use Rattle.camac_tokens.specs.declared.fault.NameKind.TheVariants as named
+use Rattle.camac_tokens.specs.declared.token.Keyword.TheVariants as word
+use Rattle.camac_tokens.specs.declared.token.Token.{Token}
+use Rattle.camac_tokens.specs.declared.token.TokenKind.{TokenKind}
+use Rattle.camac_text_cursor.specs.Readers.{is_keyword, is_name}
+use Rattle.camac_text_cursor.specs.declared.choice.Choice.{Choice}
+use Rattle.camac_text_cursor.specs.declared.choice.Choice.TheVariants as choice
+use Rattle.camac_explain_text_place.specs.Absent.{Told, absent_word}
+use Rattle.camac_explain_text_place.specs.Before.{Standing, declared, first_of, last_of, standing, standing_of}
+use Rattle.camac_explain_text_place.specs.Declaring.{tokens_in}
+use Rattle.camac_explain_text_place.specs.Choices.{Noted, has}
+use Rattle.camac_explain_text_place.specs.Found.{kind_at, rest_of, text_before, word_at}
+use Rattle.camac_explain_text_place.specs.declared.found.Found.{Found}
+
+-- the token's bytes and what it is, the texts before it and from it on, the tokens before it, what they come to, and what may stand there
+pub record Place : Type 0 where
+  pub bytes : List ℕ
+  pub token : Option TokenKind
+  pub text : List ℕ
+  pub rest : List ℕ
+  pub tokens : List Token
+  pub before : Standing
+  pub noted : Noted
+
+abbrev pub place_of : Found → Place
+place_of f =
+    record {
+      bytes = f.word.now;
+      token = f.kind;
+      text = f.text.now;
+      rest = f.rest.now;
+      tokens = f.tokens.items;
+      before = standing_of f.before;
+      noted = f.expected.now;
+    }
+
+-- A fault of a token is the first of its text, and needs nothing of what stands before.
+abbrev pub read_before : Option TokenKind → (bytes : List ℕ) → List Token → List Token
+read_before (Some k) bytes ts = ts
+read_before None [] ts = ts
+read_before None (b ∷ bs) ts = []
+
+abbrev pub place_between : Noted → (text rest : List ℕ) → Place
+place_between noted text rest =
+    record {
+      bytes = word_at rest;
+      token = kind_at rest;
+      text = text;
+      rest = rest;
+      tokens = tokens_in text;
+      before = standing (read_before (kind_at rest) (word_at rest) (tokens_in text));
+      noted = noted;
+    }
+
+-- the place of a text from which so many bytes are left
+abbrev pub place_at : Noted → (left : ℕ) → (text : List ℕ) → Place
+place_at noted left text = place_between noted (text_before left text) (rest_of left text)
+
+-- the token before, if it belongs to the same declaration or statement
+abbrev pub last : Place → Option TokenKind
+last p = last_of p.before
+
+abbrev pub expects : Place → Choice → Bool
+expects p c = has p.noted c
+
+abbrev pub begins_statement_at : Place → Bool
+begins_statement_at p = expects p choice.Statement
+
+abbrev pub is_of_name : Option ℕ → Bool
+is_of_name (Some b) = is_name_byte b
+is_of_name None = false
+
+-- right after a name, a word or a number
+abbrev pub adjoins_word : Place → Bool
+adjoins_word p = is_of_name (slice_get p.text (length p.text - 1))
+
+-- only blanks stand behind the last line feed
+abbrev pub ends_in_blanks : (is_blank_line : Bool) → (text : List ℕ) → Bool
+ends_in_blanks is_blank_line [] = is_blank_line
+ends_in_blanks is_blank_line (b ∷ bs) = ends_in_blanks ((b == 10) || (is_blank_line && is_ascii_whitespace b)) bs
+
+abbrev pub begins_line : Place → Bool
+begins_line p = ends_in_blanks false p.text
+
+abbrev pub without_blanks : (text : List ℕ) → List ℕ
+without_blanks text = drop (prefix_len is_ascii_whitespace text) text
+
+-- these bytes stand behind the token, after blanks
+abbrev pub is_before : Place → List ℕ → Bool
+is_before p bytes = starts_with nat_eq (without_blanks (drop (length p.bytes) p.rest)) bytes
+
+-- an `=` that sets follows
+unfoldable pub is_assigned : Place → Bool
+is_assigned p = is_before p (codes "=") && not (is_before p (codes "=="))
+
+abbrev pub is_free_name : Place → Bool
+is_free_name p = is_name p.token && is_none (declared p.bytes p.before)
+
+-- the word of another language that it is, unless the script declares it
+unfoldable pub absent_word_at : Place → Option Told
+absent_word_at p = if is_free_name p then absent_word p.bytes else None
+
+abbrev pub wants_lam : Option TokenKind → Bool
+wants_lam k = is_keyword word.Service k || (is_keyword word.Cclm k || (is_keyword word.Cclc k || is_keyword word.Ctlm k))
+
+abbrev pub moves_data : Option TokenKind → Bool
+moves_data k =
+    is_keyword word.Cfsa k || (is_keyword word.Cssa k || (is_keyword word.Cfubc k || (is_keyword word.Cfubr k || is_keyword word.Cfmad k)))
+
+-- a register stands third in a transfer, and fourth in a scan
+abbrev pub wants_register : Standing → Bool
+wants_register s = (moves_data (first_of s) && (length s.phrase == 2)) || (is_keyword word.Cfmad (first_of s) && (length s.phrase == 3))
+
+-- the kind of name that the place needs
+unfoldable pub needed : Place → NameKind
+needed p =
+    if wants_lam (last p) then named.Lam
+    else (if is_keyword word.Call (last p) then named.Procedure
+    else (if is_keyword word.Table (last p) then named.Table
+    else (if wants_register p.before then named.Register else named.Variable)))

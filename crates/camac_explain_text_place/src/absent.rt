@@ -1,0 +1,316 @@
+// What the language does not have. The page docs/LANGUAGE.md shows the table: tests/explain_test.py compares them.
+
+ghost use Rattle.std.specs.Prelude.{◌≡◌, map, option_map};
+ghost use Rattle.std.specs.Str.{str_eq_ignore_ascii_case};
+ghost use Rattle.camac_explain_text_place.specs.Absent.{absent_of, absent_sign, absent_table, absent_word, begins_before, is_around, is_no_word, is_sign_around, is_spelled, row_of, sign_at, sign_in, word_in};
+
+/// Words and signs of other languages, and what a script has in their place.
+#[derive(Clone, Copy)]
+struct Row {
+    spellings: &'static [&'static str],
+    write: &'static str,
+}
+
+static ABSENT: [Row; 41] = [
+    Row {
+        spellings: &["print", "printf", "println", "echo"],
+        write: "`put v`, which makes `v` a word of the event",
+    },
+    Row {
+        spellings: &["read", "write"],
+        write: "`cfsa`, which reads from a module with `->` and writes to it with `<-`",
+    },
+    Row {
+        spellings: &["return", "stop"],
+        write: "an `if` around the rest of the body",
+    },
+    Row {
+        spellings: &["break", "exit"],
+        write: "a further part of the condition of a `while`, as `and not q`",
+    },
+    Row {
+        spellings: &["continue"],
+        write: "an `if` around the rest of the block",
+    },
+    Row {
+        spellings: &["goto", "gosub"],
+        write: "a loop, an `if` or a `call`",
+    },
+    Row {
+        spellings: &["delay", "wait", "sleep", "usleep", "pause"],
+        write: "a `while` that polls a module: no statement waits for a time",
+    },
+    Row {
+        spellings: &["unlock"],
+        write: "`lock c { .. }`, which unlocks at its `}`",
+    },
+    Row {
+        spellings: &["step"],
+        write: "`k * 2` in the body, since a `for` counts `k` by 1",
+    },
+    Row {
+        spellings: &["downto"],
+        write: "a `for` that counts up, and a difference in its body",
+    },
+    Row {
+        spellings: &["or", "||"],
+        write: "one `if` into the `else` of the other, or a variable that both set",
+    },
+    Row {
+        spellings: &["elif", "elseif", "elsif"],
+        write: "`else { if c { .. } }`",
+    },
+    Row {
+        spellings: &[
+            "then", "begin", "end", "endif", "enddo", "next", "wend", "done",
+        ],
+        write: "`{` and `}` around a block",
+    },
+    Row {
+        spellings: &["do", "foreach", "repeat", "until", "loop", "forever"],
+        write: "`for i = A to B { .. }`, or `while c turns N by k { .. }`",
+    },
+    Row {
+        spellings: &["switch", "case", "select"],
+        write: "an `if` for each value",
+    },
+    Row {
+        spellings: &["pass"],
+        write: "an empty block",
+    },
+    Row {
+        spellings: &[
+            "let", "const", "int", "uint", "unsigned", "long", "short", "char", "float", "double",
+            "real", "integer", "dim",
+        ],
+        write: "a `var` above the services: each variable is a number from 0 to 4294967295",
+    },
+    Row {
+        spellings: &["def", "function", "func", "fn", "void", "sub", "subroutine"],
+        write: "`proc p(a in A..B) within C cycles event W words steps S { .. }`",
+    },
+    Row {
+        spellings: &["import", "include"],
+        write: "all in one text: `cat` joins two",
+    },
+    Row {
+        spellings: &["true", "false"],
+        write: "1 and 0, and a comparison as in `v == 1`",
+    },
+    Row {
+        spellings: &["mod"],
+        write: "`%` between the two numbers",
+    },
+    Row {
+        spellings: &["&", "|", "^", "~", "<<", ">>", "xor", "shl", "shr"],
+        write: "`/` and `%` with powers of two: `v % 256` is the low byte of `v`, and `v * 4` shifts it left by two",
+    },
+    Row {
+        spellings: &["&H", "&h", "&B", "&b"],
+        write: "decimal digits: `255` for `0xff`",
+    },
+    Row {
+        spellings: &["&&"],
+        write: "`and`",
+    },
+    Row {
+        spellings: &["!"],
+        write: "`not` before a comparison or a flag",
+    },
+    Row {
+        spellings: &["<>", "≠"],
+        write: "`!=`",
+    },
+    Row {
+        spellings: &["/="],
+        write: "`!=` to compare, and the whole to divide, as in `v = v / 2`",
+    },
+    Row {
+        spellings: &[":="],
+        write: "`=`",
+    },
+    Row {
+        spellings: &["=>"],
+        write: "`>=`",
+    },
+    Row {
+        spellings: &["=<"],
+        write: "`<=`",
+    },
+    Row {
+        spellings: &["++", "--", "+=", "-=", "*=", "%="],
+        write: "the whole, as in `v = v + 1`",
+    },
+    Row {
+        spellings: &["**"],
+        write: "a product, as in `v * v`",
+    },
+    Row {
+        spellings: &["?"],
+        write: "`if c { .. } else { .. }`",
+    },
+    Row {
+        spellings: &[":"],
+        write: "`{` and `}` around a block",
+    },
+    Row {
+        spellings: &[";"],
+        write: "statements without a sign at their end",
+    },
+    Row {
+        spellings: &["//"],
+        write: "`#` before a comment, and `/` to divide: it rounds down",
+    },
+    Row {
+        spellings: &["/*", "*/", "rem"],
+        write: "`#` before each line of a comment",
+    },
+    Row {
+        spellings: &["\"", "'", "“", "”", "‘", "’"],
+        write: "text only in a comment, after `#`",
+    },
+    Row {
+        spellings: &["[", "]"],
+        write: "several variables, or a `table` for a block write",
+    },
+    Row {
+        spellings: &["."],
+        write: "whole numbers in a smaller unit, and `A..B` for a range",
+    },
+    Row {
+        spellings: &["→"],
+        write: "`->`",
+    },
+];
+
+#[tactic(auto, unfolding(crate::specs::Absent::absent_table))]
+fn absent_table() -> &'static [Row]
+    ensures { map row_of result.now ≡ absent_table }
+{
+    &ABSENT
+}
+
+/// A word or a sign of the table, and what to write in its place.
+#[derive(Clone, Copy)]
+pub struct Absent<'a> {
+    pub spelled: &'a [u8],
+    pub write: &'static str,
+}
+
+/// The word of the table that this is, in any case of its letters.
+pub fn absent_word(word: &[u8]) -> Option<Absent<'_>>
+    ensures { option_map absent_of result ≡ absent_word word.now }
+{
+    word_in(absent_table(), word)
+}
+
+fn word_in<'a>(rows: &[Row], word: &'a [u8]) -> Option<Absent<'a>>
+    ensures { option_map absent_of result ≡ word_in (map row_of rows.now) word.now }
+{
+    'rows: for row in rows {
+        if is_spelled(row.spellings, word) {
+            return Some(Absent {
+                spelled: word,
+                write: row.write,
+            });
+        }
+    }
+    None
+}
+
+fn is_spelled(spellings: &[&str], word: &[u8]) -> bool
+    ensures { result ≡ is_spelled (map (λ s. s.now) spellings.now) word.now }
+{
+    'spellings: for known in spellings {
+        if is_same_word(known, word) {
+            return true;
+        }
+    }
+    false
+}
+
+/// Whether a word is this one, in any case of its letters.
+pub fn is_same_word(known: &str, word: &[u8]) -> bool
+    ensures { result ≡ str_eq_ignore_ascii_case known.now word.now }
+{
+    known.as_bytes().eq_ignore_ascii_case(word)
+}
+
+/// The longest sign of the table in which the bytes before a place end, or with which those from it on begin; of several the first.
+pub fn absent_sign(before: &[u8], rest: &[u8]) -> Option<Absent<'static>>
+    ensures { option_map absent_of result ≡ absent_sign before.now rest.now }
+{
+    let table = absent_table();
+    if let Some(absent) = sign_in(table, 3, before, rest) {
+        return Some(absent);
+    }
+    if let Some(absent) = sign_in(table, 2, before, rest) {
+        return Some(absent);
+    }
+    sign_in(table, 1, before, rest)
+}
+
+// The first sign of so many bytes that stands at a place.
+fn sign_in(rows: &'static [Row], size: usize, before: &[u8], rest: &[u8]) -> Option<Absent<'static>>
+    ensures { option_map absent_of result ≡ sign_in (map row_of rows.now) size before.now rest.now }
+{
+    'rows: for row in rows {
+        if let Some(sign) = sign_at(row.spellings, size, before, rest) {
+            return Some(Absent {
+                spelled: sign.as_bytes(),
+                write: row.write,
+            });
+        }
+    }
+    None
+}
+
+fn sign_at(
+    spellings: &'static [&'static str],
+    size: usize,
+    before: &[u8],
+    rest: &[u8],
+) -> Option<&'static str>
+    ensures { option_map (λ s. s.now) result ≡ sign_at (map (λ s. s.now) spellings.now) size before.now rest.now }
+{
+    'spellings: for sign in spellings {
+        if is_sign_around(sign.as_bytes(), size, before, rest) {
+            return Some(*sign);
+        }
+    }
+    None
+}
+
+// Whether a sign has so many bytes, and stands at a place, or begins one byte before it.
+fn is_sign_around(sign: &[u8], size: usize, before: &[u8], rest: &[u8]) -> bool
+    ensures { result ≡ is_sign_around sign.now size before.now rest.now }
+{
+    sign.len() == size && is_no_word(sign) && is_around(sign, before, rest)
+}
+
+fn is_no_word(spelled: &[u8]) -> bool
+    ensures { result ≡ is_no_word spelled.now }
+{
+    match spelled {
+        [first, ..] => !first.is_ascii_alphabetic(),
+        [] => false,
+    }
+}
+
+fn is_around(sign: &[u8], before: &[u8], rest: &[u8]) -> bool
+    ensures { result ≡ is_around sign.now before.now rest.now }
+{
+    rest.starts_with(sign) || begins_before(sign, before, rest)
+}
+
+// Whether a sign of two bytes or more begins with the last byte before a place, and goes on from there.
+fn begins_before(sign: &[u8], before: &[u8], rest: &[u8]) -> bool
+    ensures { result ≡ begins_before sign.now before.now rest.now }
+{
+    match sign {
+        [first, behind @ ..] => {
+            !behind.is_empty() && before.ends_with(&[*first]) && rest.starts_with(behind)
+        }
+        [] => false,
+    }
+}

@@ -1,0 +1,16 @@
+//! The place of a script's text at which its fault shows: the token there, what stands before it, and what may stand in its place.
+#![tactic(auto)]
+
+mod absent;
+mod before;
+mod choices;
+mod declaring;
+mod found;
+mod spelled;
+
+pub use absent::{Absent, absent_sign, is_same_word};
+pub use before::{Before, Declared};
+pub use choices::{begins_declaration, begins_statement, has, is_comparison, is_operator, noted};
+pub use declaring::{called_before, declared_line};
+pub use found::{Found, kind_at, prefix, rest_of};
+pub use spelled::{sign_text, word_text};
