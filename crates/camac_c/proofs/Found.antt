@@ -1,6 +1,6 @@
 -- What was found of two readers, as what is found of their texts.
 use Rattle.std.proofs.Common.{◌≡◌, ℕ, List, ap, ◌∙◌, subst, inl, inr}
-use Rattle.std.specs.Prelude.{Option, Some, Result, Ok, Err}
+use Rattle.std.specs.Prelude.{Option, Some, Ok, Err}
 use Rattle.camac_engines.specs.Found.{Found, HasJudged, HasRead, IsJudged, IsTooLong}
 use Rattle.camac_engines.specs.declared.judging.Judged.{Judged}
 use Rattle.camac_engines.specs.declared.plan.PlanSource.{PlanSource}

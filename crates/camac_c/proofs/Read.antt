@@ -1,6 +1,6 @@
 -- What an engine says of readers whose bytes are known, as what it says of these bytes.
 use Rattle.std.proofs.Common.{◌≡◌, ℕ, ◌+◌, ◌<◌, List, ◌++◌, length, sym, ap, ◌∙◌, subst, append-nil, arith}
-use Rattle.std.specs.Prelude.{Option, Some, None, Result}
+use Rattle.std.specs.Prelude.{Option, Some, None}
 use Rattle.std.proofs.lemmas.List.{length-append}
 use Rattle.camac_engines.specs.Plan.{IsPlanTooLong, PlanFound, Says, plan_found}
 use Rattle.camac_engines.specs.Reading.{ConsumesSome, WasRead}
