@@ -9,7 +9,8 @@ use Rattle.camac_tokens.specs.declared.token.Sign.{Sign}
 use Rattle.camac_tokens.specs.declared.token.Sign.TheVariants as sign
 use Rattle.camac_tokens.specs.declared.words.TheConstants.{KEYWORDS}
 use Rattle.camac_text_cursor.specs.declared.choice.Choice.TheVariants as choice
-use Rattle.camac_explain_text_place.specs.Choices.{Noted, begins_declaration, begins_statement, has, is_comparison, is_operator}
+use Rattle.camac_text_cursor.specs.declared.choice.Choices.{Choices}
+use Rattle.camac_explain_text_place.specs.Choices.{begins_declaration, begins_statement, has, is_comparison, is_operator}
 use Rattle.camac_explain_text_place.specs.Spelled.{is_mark, is_word, sign_text, word_text}
 use Rattle.camac_explain_text.specs.declared.expected.Expected.{Expected}
 use Rattle.camac_explain_text.specs.declared.expected.Expected.TheVariants as expected
@@ -18,17 +19,17 @@ use Rattle.camac_explain_text.specs.declared.expected.Group.TheVariants as group
 use Rattle.camac_explain_text.specs.declared.expected.TheConstants.{GROUPS}
 
 -- a second `not` may not stand after one
-abbrev pub is_condition : Noted → Bool
+abbrev pub is_condition : Choices → Bool
 is_condition noted = has noted choice.Flag && has noted (choice.Word word.Not)
 
-abbrev pub is_value : Noted → Bool
+abbrev pub is_value : Choices → Bool
 is_value noted = has noted choice.Number && has noted (choice.Mark sign.LeftBracket)
 
 -- a name might stand at a place, and neither a number nor the beginning of a statement
-abbrev pub is_name : Noted → Bool
+abbrev pub is_name : Choices → Bool
 is_name noted = has noted choice.Name && (not (has noted choice.Number) && not (has noted choice.Statement))
 
-abbrev pub is_group : Noted → Group → Bool
+abbrev pub is_group : Choices → Group → Bool
 is_group noted group.Declaration = has noted choice.Declaration
 is_group noted group.Statement = has noted choice.Statement
 is_group noted group.Condition = is_condition noted
@@ -39,20 +40,20 @@ is_group noted group.Operator = has noted choice.Sum
 is_group noted group.Comparison = has noted choice.Comparison
 
 -- a sign and a word that might stand there, and are in none of the groups
-abbrev pub is_sign_alone : Noted → Sign → Bool
+abbrev pub is_sign_alone : Choices → Sign → Bool
 is_sign_alone noted s =
     has noted (choice.Mark s) && not (is_operator s || (is_comparison s || (is_mark s sign.LeftBracket && is_value noted)))
 
 abbrev pub is_of_condition : Keyword → Bool
 is_of_condition w = is_word w word.Not || (is_word w word.Q || is_word w word.X)
 
-abbrev pub is_word_alone : Noted → Keyword → Bool
+abbrev pub is_word_alone : Choices → Keyword → Bool
 is_word_alone noted w =
     has noted (choice.Word w)
     && not ((begins_declaration w && has noted choice.Declaration) || (begins_statement w || (is_of_condition w && is_condition noted)))
 
 -- the groups, the signs and the words, each in the order of its list
-unfoldable pub expected_of : Noted → List Expected
+unfoldable pub expected_of : Choices → List Expected
 expected_of noted =
     (map expected.Group (filter (is_group noted) GROUPS) ++ map expected.Sign (filter (is_sign_alone noted) SIGNS))
     ++ map expected.Word (filter (is_word_alone noted) KEYWORDS)

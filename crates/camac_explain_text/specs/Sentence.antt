@@ -11,11 +11,11 @@ use Rattle.camac_tokens.specs.declared.fault.NameKind.{NameKind}
 use Rattle.camac_tokens.specs.declared.fault.NameKind.TheVariants as named
 use Rattle.camac_tokens.specs.declared.fault.TextCase.{TextCase}
 use Rattle.camac_tokens.specs.declared.fault.TextCase.TheVariants as told
+use Rattle.camac_text_cursor.specs.declared.choice.Choices.{Choices}
 use Rattle.camac_explain_text_place.specs.Absent.{Told, absent_sign, absent_text}
 use Rattle.camac_explain_text_place.specs.Before.{is_kind}
 use Rattle.camac_explain_text_place.specs.Declaring.{called_before, declared_line}
 use Rattle.camac_explain_text.specs.Expected.{expected_of, list_text}
-use Rattle.camac_explain_text_place.specs.Choices.{Noted}
 use Rattle.camac_explain_text.specs.Hint.{takes_text}
 use Rattle.camac_explain_text.specs.Limits.{limit_text}
 use Rattle.camac_explain_text.specs.Meant.{kind_hint, name_hint, own_sentence, unexpected_hint, word_before}
@@ -101,7 +101,7 @@ start_text [] = codes "Found the end of the script"
 start_text (b ∷ bs) = codes "Found " ++ quoted (b ∷ bs)
 
 -- of a token that may not stand where it is, with all that might
-unfoldable pub expected_sentence : (token : List ℕ) → Noted → List ℕ
+unfoldable pub expected_sentence : (token : List ℕ) → Choices → List ℕ
 expected_sentence token noted = concat (start_text token ∷ codes "; expected " ∷ list_text (expected_of noted) ∷ codes "." ∷ [])
 
 abbrev pub or_sentence : Option (List ℕ) → List ℕ → List ℕ

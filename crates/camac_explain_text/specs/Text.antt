@@ -4,10 +4,13 @@ use Rattle.std.specs.List.{starts_with}
 use Rattle.camac_lang.specs.Tree.{Script}
 use Rattle.camac_tokens.specs.Fault.{Fault}
 use Rattle.camac_tokens.specs.declared.fault.TextCase.{TextCase}
+use Rattle.camac_tokens.specs.declared.fault.TextFault.TheVariants as text_fault
+use Rattle.camac_tokens.specs.Scanning.{tokens_of, last_line}
 use Rattle.camac_tokens.specs.declared.token.TokenKind.{TokenKind}
 use Rattle.camac_tokens.specs.declared.token.TokenKind.TheVariants as kind
+use Rattle.camac_text_cursor.specs.declared.choice.Choices.{Choices}
+use Rattle.camac_text.specs.Expecting.{TellsAfter}
 use Rattle.camac_text.specs.Parser.{script_of}
-use Rattle.camac_explain_text_place.specs.Choices.{Noted}
 use Rattle.camac_explain_text_place.specs.Found.{kind_at, rest_of}
 use Rattle.camac_explain_text_place.specs.Place.{place_at}
 use Rattle.camac_explain_text.specs.Sentence.{case_text}
@@ -24,15 +27,19 @@ is_plan_start None rest = starts_with nat_eq rest (codes "[")
 abbrev pub begins_like_a_plan : (left : ℕ) → (text : List ℕ) → Bool
 begins_like_a_plan left text = is_plan_start (kind_at text) (rest_of left text)
 
-abbrev pub fault_text : (is_plan : Bool) → Noted → (text : List ℕ) → TextCase → (left : ℕ) → List ℕ
+abbrev pub fault_text : (is_plan : Bool) → Choices → (text : List ℕ) → TextCase → (left : ℕ) → List ℕ
 fault_text true noted text case left = codes "This begins like a plan: PLAN comes first, then SCRIPT."
 fault_text false noted text case left = case_text (place_at noted left text) case
 
 -- of a script nothing, else the sentence on its first fault, at whose place these choices were noted
-abbrev pub sentence_of : Noted → (text : List ℕ) → Result Script Fault → Option (List ℕ)
+abbrev pub sentence_of : Choices → (text : List ℕ) → Result Script Fault → Option (List ℕ)
 sentence_of noted text (Ok s) = None
 sentence_of noted text (Err f) = Some (fault_text (begins_like_a_plan f.left text) noted text f.case f.left)
 
--- of which choices the parser noted, no clause speaks
+-- Of a rule of the grammar, what the reader looked for at the fault was noted, if no token of the text has a fault.
+abbrev pub AreNoted : Choices → (text : List ℕ) → Result Script Fault → Type 0
+AreNoted noted text (Ok s) = Unit {0}
+AreNoted noted text (Err f) = TellsAfter (tokens_of text) (last_line text) (text_fault.Broken f.case f.line f.left) noted
+
 abbrev pub IsTextSentence : (text : List ℕ) → Option (List ℕ) → Type 0
-IsTextSentence text told = (noted : Noted) × (told ≡ sentence_of noted text (script_of text))
+IsTextSentence text told = (noted : Choices) × AreNoted noted text (script_of text) × (told ≡ sentence_of noted text (script_of text))

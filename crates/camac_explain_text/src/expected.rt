@@ -5,10 +5,10 @@ ghost use Rattle.camac_explain_text.specs.Expected.{expected_of, expected_text, 
 ghost use Rattle.camac_explain_text.specs.declared.expected.Expected.TheVariants as expected;
 
 use camac_explain_text_place::{
-    begins_declaration, begins_statement, has, is_comparison, is_operator, sign_text, word_text,
+    begins_declaration, begins_statement, is_comparison, is_operator, sign_text, word_text,
 };
 use camac_lines::before_item;
-use camac_text::Choice;
+use camac_text::{Choice, Choices};
 use camac_tokens::{KEYWORDS, Keyword, SIGNS, Sign};
 use std::alloc::{AllocError, Global};
 use std::fmt;
@@ -74,8 +74,8 @@ fn group_text(group: Group) -> &'static str
 
 /// What might stand where these choices are: the groups, and each sign and word that is in none of them.
 #[tactic(auto, unfolding(crate::specs::Expected::expected_of))]
-fn expected_of(alloc: Global, noted: &[Choice]) -> Result<Vec<Expected>, AllocError>
-    ensures { IfOk result (λ v. v.items ≡ expected_of noted.now) }
+fn expected_of(alloc: Global, noted: Choices) -> Result<Vec<Expected>, AllocError>
+    ensures { IfOk result (λ v. v.items ≡ expected_of noted) }
 {
     let mut found = Vec::new(alloc);
     push_groups(&mut found, &GROUPS, noted)?;
@@ -87,9 +87,9 @@ fn expected_of(alloc: Global, noted: &[Choice]) -> Result<Vec<Expected>, AllocEr
 fn push_groups(
     found: &mut Vec<Expected>,
     groups: &[Group],
-    noted: &[Choice],
+    noted: Choices,
 ) -> Result<(), AllocError>
-    ensures { OnOk result (found.new.items ≡ found.old.items ++ map expected.Group (filter (is_group noted.now) groups.now)) }
+    ensures { OnOk result (found.new.items ≡ found.old.items ++ map expected.Group (filter (is_group noted) groups.now)) }
 {
     'groups: for group in groups {
         if is_group(noted, *group) {
@@ -99,8 +99,8 @@ fn push_groups(
     Ok(())
 }
 
-fn push_signs(found: &mut Vec<Expected>, signs: &[Sign], noted: &[Choice]) -> Result<(), AllocError>
-    ensures { OnOk result (found.new.items ≡ found.old.items ++ map expected.Sign (filter (is_sign_alone noted.now) signs.now)) }
+fn push_signs(found: &mut Vec<Expected>, signs: &[Sign], noted: Choices) -> Result<(), AllocError>
+    ensures { OnOk result (found.new.items ≡ found.old.items ++ map expected.Sign (filter (is_sign_alone noted) signs.now)) }
 {
     'signs: for sign in signs {
         if is_sign_alone(noted, *sign) {
@@ -113,9 +113,9 @@ fn push_signs(found: &mut Vec<Expected>, signs: &[Sign], noted: &[Choice]) -> Re
 fn push_words(
     found: &mut Vec<Expected>,
     words: &[Keyword],
-    noted: &[Choice],
+    noted: Choices,
 ) -> Result<(), AllocError>
-    ensures { OnOk result (found.new.items ≡ found.old.items ++ map expected.Word (filter (is_word_alone noted.now) words.now)) }
+    ensures { OnOk result (found.new.items ≡ found.old.items ++ map expected.Word (filter (is_word_alone noted) words.now)) }
 {
     'words: for word in words {
         if is_word_alone(noted, *word) {
@@ -125,56 +125,56 @@ fn push_words(
     Ok(())
 }
 
-fn is_group(noted: &[Choice], group: Group) -> bool
-    ensures { result ≡ is_group noted.now group }
+fn is_group(noted: Choices, group: Group) -> bool
+    ensures { result ≡ is_group noted group }
 {
     match group {
-        Group::Declaration => has(noted, Choice::Declaration),
-        Group::Statement => has(noted, Choice::Statement),
+        Group::Declaration => noted.has(Choice::Declaration),
+        Group::Statement => noted.has(Choice::Statement),
         Group::Condition => is_condition(noted),
         Group::Expression => is_value(noted) && !is_condition(noted),
-        Group::Number => has(noted, Choice::Number) && !is_value(noted),
+        Group::Number => noted.has(Choice::Number) && !is_value(noted),
         Group::Name => is_name(noted),
-        Group::Operator => has(noted, Choice::Sum),
-        Group::Comparison => has(noted, Choice::Comparison),
+        Group::Operator => noted.has(Choice::Sum),
+        Group::Comparison => noted.has(Choice::Comparison),
     }
 }
 
 // A second `not` may not stand after one.
-fn is_condition(noted: &[Choice]) -> bool
-    ensures { result ≡ is_condition noted.now }
+fn is_condition(noted: Choices) -> bool
+    ensures { result ≡ is_condition noted }
 {
-    has(noted, Choice::Flag) && has(noted, Choice::Word(Keyword::Not))
+    noted.has(Choice::Flag) && noted.has(Choice::Word(Keyword::Not))
 }
 
-fn is_value(noted: &[Choice]) -> bool
-    ensures { result ≡ is_value noted.now }
+fn is_value(noted: Choices) -> bool
+    ensures { result ≡ is_value noted }
 {
-    has(noted, Choice::Number) && has(noted, Choice::Mark(Sign::LeftBracket))
+    noted.has(Choice::Number) && noted.has(Choice::Mark(Sign::LeftBracket))
 }
 
 /// Whether a name might stand at a place, and neither a number nor the beginning of a statement.
-pub fn is_name(noted: &[Choice]) -> bool
-    ensures { result ≡ is_name noted.now }
+pub fn is_name(noted: Choices) -> bool
+    ensures { result ≡ is_name noted }
 {
-    has(noted, Choice::Name) && !has(noted, Choice::Number) && !has(noted, Choice::Statement)
+    noted.has(Choice::Name) && !noted.has(Choice::Number) && !noted.has(Choice::Statement)
 }
 
 // Whether a sign might stand there, and is in none of the groups.
-fn is_sign_alone(noted: &[Choice], sign: Sign) -> bool
-    ensures { result ≡ is_sign_alone noted.now sign }
+fn is_sign_alone(noted: Choices, sign: Sign) -> bool
+    ensures { result ≡ is_sign_alone noted sign }
 {
-    has(noted, Choice::Mark(sign))
+    noted.has(Choice::Mark(sign))
         && !(is_operator(sign)
             || is_comparison(sign)
             || (sign == Sign::LeftBracket && is_value(noted)))
 }
 
-fn is_word_alone(noted: &[Choice], word: Keyword) -> bool
-    ensures { result ≡ is_word_alone noted.now word }
+fn is_word_alone(noted: Choices, word: Keyword) -> bool
+    ensures { result ≡ is_word_alone noted word }
 {
-    has(noted, Choice::Word(word))
-        && !((begins_declaration(word) && has(noted, Choice::Declaration))
+    noted.has(Choice::Word(word))
+        && !((begins_declaration(word) && noted.has(Choice::Declaration))
             || begins_statement(word)
             || (is_of_condition(word) && is_condition(noted)))
 }
@@ -186,8 +186,8 @@ fn is_of_condition(word: Keyword) -> bool
 }
 
 /// All that might stand where these choices are, as a list.
-pub fn expected_list(alloc: Global, noted: &[Choice]) -> Result<String, AllocError>
-    ensures { IfOk result (λ s. string_bytes s ≡ list_text (expected_of noted.now)) }
+pub fn expected_list(alloc: Global, noted: Choices) -> Result<String, AllocError>
+    ensures { IfOk result (λ s. string_bytes s ≡ list_text (expected_of noted)) }
 {
     let expected = expected_of(alloc, noted)?;
     list_text(alloc, &expected)

@@ -17,17 +17,17 @@ use crate::limit::limit_told;
 use crate::mistake::outside_of_bodies;
 use crate::own::own_sentence;
 use camac_explain_text_place::{
-    Absent, Found, absent_sign, called_before, declared_line, is_same_word, kind_at, noted, prefix,
+    Absent, Found, absent_sign, called_before, declared_line, is_same_word, kind_at, prefix,
     rest_of,
 };
 use camac_lines::Quote;
-use camac_text::{Choice, Choices, NameKind, TextCase, TextFault, TokenKind, parse_expecting};
+use camac_text::{Choices, NameKind, TextCase, TextFault, TokenKind, parse_expecting};
 use std::alloc::{AllocError, Global};
 
 const PLAN_FIRST: &str = "This begins like a plan: PLAN comes first, then SCRIPT.";
 
 /// What the first rule that a text breaks knew, and what may be meant. None where the text is a script.
-#[tactic(auto, using(crate::proofs::Told::of_script, crate::proofs::Told::of_fault))]
+#[tactic(auto, using(crate::proofs::Told::of_script))]
 pub fn text_sentence(alloc: Global, text: &[u8]) -> Result<Option<String>, AllocError>
     ensures { IfOk result (λ s. IsTextSentence text.now (option_map string_bytes s)) }
 {
@@ -36,8 +36,7 @@ pub fn text_sentence(alloc: Global, text: &[u8]) -> Result<Option<String>, Alloc
         Ok(_script) => Ok(None),
         Err(TextFault::OutOfMemory) => Err(AllocError),
         Err(TextFault::Broken { case, left, .. }) => {
-            let noted = noted(alloc, expected)?;
-            let sentence = fault_told(alloc, text, case, left, &noted)?;
+            let sentence = fault_told(alloc, text, case, left, expected)?;
             Ok(Some(sentence))
         }
     }
@@ -49,9 +48,9 @@ fn fault_told(
     text: &[u8],
     case: TextCase,
     left: usize,
-    noted: &[Choice],
+    noted: Choices,
 ) -> Result<String, AllocError>
-    ensures { IfOk result (λ s. string_bytes s ≡ fault_text (begins_like_a_plan left text.now) noted.now text.now case left) }
+    ensures { IfOk result (λ s. string_bytes s ≡ fault_text (begins_like_a_plan left text.now) noted text.now case left) }
 {
     if begins_like_a_plan(text, left) {
         return String::from_str(alloc, PLAN_FIRST);
@@ -235,8 +234,8 @@ fn unexpected(alloc: Global, found: &Found<'_>) -> Result<String, AllocError>
 }
 
 #[tactic(auto, unfolding(crate::specs::Sentence::expected_sentence))]
-fn expected_told(alloc: Global, token: &[u8], noted: &[Choice]) -> Result<String, AllocError>
-    ensures { IfOk result (λ s. string_bytes s ≡ expected_sentence token.now noted.now) }
+fn expected_told(alloc: Global, token: &[u8], noted: Choices) -> Result<String, AllocError>
+    ensures { IfOk result (λ s. string_bytes s ≡ expected_sentence token.now noted) }
 {
     let start = start_told(alloc, token)?;
     let list = expected_list(alloc, noted)?;

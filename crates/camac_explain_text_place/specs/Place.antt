@@ -11,10 +11,11 @@ use Rattle.camac_tokens.specs.declared.token.TokenKind.{TokenKind}
 use Rattle.camac_text_cursor.specs.Readers.{is_keyword, is_name}
 use Rattle.camac_text_cursor.specs.declared.choice.Choice.{Choice}
 use Rattle.camac_text_cursor.specs.declared.choice.Choice.TheVariants as choice
+use Rattle.camac_text_cursor.specs.declared.choice.Choices.{Choices}
 use Rattle.camac_explain_text_place.specs.Absent.{Told, absent_word}
 use Rattle.camac_explain_text_place.specs.Before.{Standing, declared, first_of, last_of, standing, standing_of}
 use Rattle.camac_explain_text_place.specs.Declaring.{tokens_in}
-use Rattle.camac_explain_text_place.specs.Choices.{Noted, has}
+use Rattle.camac_explain_text_place.specs.Choices.{has}
 use Rattle.camac_explain_text_place.specs.Found.{kind_at, rest_of, text_before, word_at}
 use Rattle.camac_explain_text_place.specs.declared.found.Found.{Found}
 
@@ -26,7 +27,7 @@ pub record Place : Type 0 where
   pub rest : List ℕ
   pub tokens : List Token
   pub before : Standing
-  pub noted : Noted
+  pub noted : Choices
 
 abbrev pub place_of : Found → Place
 place_of f =
@@ -37,7 +38,7 @@ place_of f =
       rest = f.rest.now;
       tokens = f.tokens.items;
       before = standing_of f.before;
-      noted = f.expected.now;
+      noted = f.expected;
     }
 
 -- A fault of a token is the first of its text, and needs nothing of what stands before.
@@ -46,7 +47,7 @@ read_before (Some k) bytes ts = ts
 read_before None [] ts = ts
 read_before None (b ∷ bs) ts = []
 
-abbrev pub place_between : Noted → (text rest : List ℕ) → Place
+abbrev pub place_between : Choices → (text rest : List ℕ) → Place
 place_between noted text rest =
     record {
       bytes = word_at rest;
@@ -59,7 +60,7 @@ place_between noted text rest =
     }
 
 -- the place of a text from which so many bytes are left
-abbrev pub place_at : Noted → (left : ℕ) → (text : List ℕ) → Place
+abbrev pub place_at : Choices → (left : ℕ) → (text : List ℕ) → Place
 place_at noted left text = place_between noted (text_before left text) (rest_of left text)
 
 -- the token before, if it belongs to the same declaration or statement

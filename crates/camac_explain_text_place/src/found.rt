@@ -11,9 +11,8 @@ ghost use Rattle.camac_explain_text_place.specs.Place.{absent_word_at, adjoins_w
 
 use crate::absent::{Absent, absent_sign, absent_word};
 use crate::before::{Before, word_of};
-use crate::choices::has;
 use crate::declaring::tokens_in;
-use camac_text::{Choice, NameKind, Token, TokenKind, TokensLeft};
+use camac_text::{Choice, Choices, NameKind, Token, TokenKind, TokensLeft};
 use camac_tokens::Keyword;
 use std::alloc::{AllocError, Global};
 
@@ -31,7 +30,7 @@ pub struct Found<'a> {
     pub tokens: Vec<Token>,
     pub before: Before,
     /// What may stand in its place.
-    pub expected: &'a [Choice],
+    pub expected: Choices,
 }
 
 impl<'a> Found<'a> {
@@ -40,9 +39,9 @@ impl<'a> Found<'a> {
         alloc: Global,
         text: &'a [u8],
         left: usize,
-        expected: &'a [Choice],
+        expected: Choices,
     ) -> Result<Self, AllocError>
-        ensures { IfOk result (λ f. place_of f ≡ place_at expected.now left text.now) }
+        ensures { IfOk result (λ f. place_of f ≡ place_at expected left text.now) }
     {
         let rest = rest_of(text, left);
         let text = text_before(text, left);
@@ -102,7 +101,7 @@ impl<'a> Found<'a> {
     pub fn expects(&self, choice: Choice) -> bool
         ensures { result ≡ expects (place_of self.now) choice }
     {
-        has(self.expected, choice)
+        self.expected.has(choice)
     }
 
     /// Whether a statement may begin in its place.
