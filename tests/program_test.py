@@ -535,9 +535,10 @@ class Pages(Case):
         kate = re.findall(r"<item>(\w+)</item>", (TOP / "editors/kate/camac.xml").read_text())
         for its in (kate, camac.names.WORDS, [it.decode() for it in oracle.reader.tokens.KEYWORDS]):
             self.assertEqual(sorted(its), sorted(words))
-        for its, kind in ((camac.layout.DECLARATIONS | {"table"}, "declaration"), (camac.layout.STATEMENTS, "statement")):
-            code = re.search(rf"fn begins_{kind}\(.*?\n}}\n", (TOP / "crates/camac_engines/src/spot.rt").read_text(), re.S)[0]
-            self.assertEqual({it.lower() for it in re.findall(r"Keyword::(\w+)", code)}, its)
+        code = (TOP / "crates/camac_text_cursor/src/choice.rt").read_text()
+        for its, kind in ((camac.layout.DECLARATIONS | {"table"}, "Declaration"), (camac.layout.STATEMENTS - {"lock"}, "Statement")):
+            found = re.search(rf"Choice::{kind} => matches!\((.*?)\),", code, re.S)[1]
+            self.assertEqual({it.lower() for it in re.findall(r"Keyword::(\w+)", found)}, its)
         self.assertEqual(page.split(), words)
 
 

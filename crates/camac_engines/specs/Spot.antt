@@ -6,6 +6,7 @@ use Rattle.camac_tokens.specs.declared.token.Sign.TheVariants.{LeftBrace, RightB
 use Rattle.camac_tokens.specs.declared.token.Token.{Token}
 use Rattle.camac_tokens.specs.declared.token.TokenKind.{TokenKind}
 use Rattle.camac_tokens.specs.declared.token.TokenKind.TheVariants.{Name, Number, Keyword as Word, Sign}
+use Rattle.camac_text_cursor.specs.Choice.{begins_declaration, begins_statement as begins_anywhere}
 use Rattle.camac_engines.specs.declared.spot.Spot.{Spot}
 use Rattle.camac_engines.specs.declared.spot.Counted.{Counted}
 
@@ -31,40 +32,13 @@ abbrev pub is_for : TokenKind → Bool
 is_for (Word word.For) = true
 is_for k = false
 
--- the words with which declarations begin
-abbrev pub begins_declaration : Keyword → Bool
-begins_declaration word.Table = true
-begins_declaration word.Cdlam = true
-begins_declaration word.Var = true
-begins_declaration word.Proc = true
-begins_declaration word.Service = true
-begins_declaration w = false
+abbrev pub is_lock : Keyword → Bool
+is_lock word.Lock = true
+is_lock w = false
 
 -- the words with which statements begin
 abbrev pub begins_statement : Keyword → Bool
-begins_statement word.Cdreg = true
-begins_statement word.Cfsa = true
-begins_statement word.Cssa = true
-begins_statement word.Cfmad = true
-begins_statement word.Cfubc = true
-begins_statement word.Cfubr = true
-begins_statement word.Put = true
-begins_statement word.Cccz = true
-begins_statement word.Cccc = true
-begins_statement word.Ctci = true
-begins_statement word.Ctcd = true
-begins_statement word.Ctgl = true
-begins_statement word.Ccci = true
-begins_statement word.Cccd = true
-begins_statement word.Cclm = true
-begins_statement word.Cclc = true
-begins_statement word.Ctlm = true
-begins_statement word.If = true
-begins_statement word.For = true
-begins_statement word.While = true
-begins_statement word.Lock = true
-begins_statement word.Call = true
-begins_statement w = false
+begins_statement w = begins_anywhere w || is_lock w
 
 -- a name before `=` begins an assignment, but not after `for`
 abbrev pub assigns : (is_counted : Bool) → (next : Option Token) → Bool

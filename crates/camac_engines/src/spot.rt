@@ -1,8 +1,10 @@
 // The statement at a place of a text.
 
 ghost use Rattle.std.specs.Prelude.{◌≡◌, option_map};
-ghost use Rattle.camac_engines.specs.Spot.{at_start, begins, begins_declaration, begins_statement, bytes_from, chosen, declares, from_line, is_else, is_equals, is_for, is_left_brace, is_right_brace, opened, spot_at, spot_of, starts, walked};
+ghost use Rattle.camac_text_cursor.specs.Choice.{begins_declaration};
+ghost use Rattle.camac_engines.specs.Spot.{at_start, begins, begins_statement, bytes_from, chosen, declares, from_line, is_else, is_equals, is_for, is_left_brace, is_lock, is_right_brace, opened, spot_at, spot_of, starts, walked};
 
+use camac_text::Choice;
 use camac_tokens::{Keyword, Sign, Token, TokenKind};
 
 /// A statement by the number of its body and its number there, both from 0 in the order of the text. Statements inside others count too.
@@ -215,38 +217,20 @@ fn begins(is_counted: bool, token: &Token, next: Option<&Token>) -> bool
 fn begins_declaration(keyword: Keyword) -> bool
     ensures { result ≡ begins_declaration keyword }
 {
-    matches!(
-        keyword,
-        Keyword::Table | Keyword::Cdlam | Keyword::Var | Keyword::Proc | Keyword::Service
-    )
+    Choice::Declaration.has_word(keyword)
 }
 
 pub fn begins_statement(keyword: Keyword) -> bool
     ensures { result ≡ begins_statement keyword }
 {
+    Choice::Statement.has_word(keyword) || is_lock(keyword)
+}
+
+fn is_lock(keyword: Keyword) -> bool
+    ensures { result ≡ is_lock keyword }
+{
     match keyword {
-        Keyword::Cdreg
-        | Keyword::Cfsa
-        | Keyword::Cssa
-        | Keyword::Cfmad
-        | Keyword::Cfubc
-        | Keyword::Cfubr
-        | Keyword::Put
-        | Keyword::Cccz
-        | Keyword::Cccc
-        | Keyword::Ctci
-        | Keyword::Ctcd
-        | Keyword::Ctgl
-        | Keyword::Ccci
-        | Keyword::Cccd
-        | Keyword::Cclm
-        | Keyword::Cclc
-        | Keyword::Ctlm
-        | Keyword::If
-        | Keyword::For
-        | Keyword::While
-        | Keyword::Lock
-        | Keyword::Call => true,
+        Keyword::Lock => true,
         _ => false,
     }
 }
