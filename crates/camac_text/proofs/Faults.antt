@@ -23,7 +23,7 @@ no_tree (Err d) f e = (d, refl, fault_is (fault_of d) f e) where
 pub tree_untold : (s : State) → tree_in (declarations_at (hushed s)) ≡ tree_in (declarations_at s)
 tree_untold s = by (declarations_at s) refl where
   by : (r : Result (Unit {0} × State) Failure) → declarations_at s ≡ r → tree_in (declarations_at (hushed s)) ≡ tree_in r
-  by (Ok read) is = ap tree_in ((local_declarations s).stops read.0 read.1 is).untold
+  by (Ok read) is = ap tree_in ((local_declarations s).untold read.0 read.1 is)
   by (Err d) is = ap tree_in ((local_declarations s).fails d is).untold
 
 placed : (tokens : List Token) (end_line : ℕ) (f : Fault) → tree_of_tokens tokens end_line ≡ Err f → IsPlaced tokens end_line f

@@ -5,4 +5,5 @@ pub mod Readers
 pub mod Choice
 pub mod Declaring
 pub mod Parser
+pub mod Expected
 pub mod Places

@@ -1,5 +1,5 @@
 -- Readers of statements are local.
-use Rattle.std.proofs.Common.{not, ◌≡◌, cond, ℕ, zero, suc, List, Ok, [], ◌∷◌, ◌++◌, Option, Some, refl}
+use Rattle.std.proofs.Common.{not, ◌≡◌, cond, ℕ, zero, suc, Bool, true, false, List, Ok, [], ◌∷◌, ◌++◌, Option, Some, None, refl, sym, ◌∙◌}
 use Rattle.camac_lang.specs.Tree.{no_data, into, from, assign, set_register, single, put, choose, choose_else, for_, while_, locked, Statement, Condition}
 use Rattle.camac_lang.specs.View.{block_of}
 use Rattle.camac_lang.specs.declared.word.WordSize.{WordSize}
@@ -19,142 +19,188 @@ use Rattle.camac_text_phrases.specs.Conditions.{condition_at}
 use Rattle.camac_text_phrases.specs.declared.keeping.Own.TheVariants as of_loop
 use Rattle.camac_text_phrases.specs.Keeps.{keeps_at}
 use Rattle.camac_text_statements.proofs.Blocks.{Body}
-use Rattle.camac_text_statements.proofs.LocalTransfers.{local_transfer_by}
+use Rattle.camac_text_statements.proofs.LocalTransfers.{begins_scan, begins_stop, begins_repeat, begins_call}
 use Rattle.camac_text_statements.proofs.Bodies.{with_progress, block_ok}
 use Rattle.camac_text_phrases.proofs.LocalConditions.{local_condition}
 use Rattle.camac_text_phrases.proofs.LocalKeeps.{local_keeps}
-use Rattle.camac_text_cursor.proofs.Places.{IsLocal, local_then, local_peek, local_line, local_ask, local_give, local_miss, local_missing, local_unexpected, local_fail, local_advance, local_if, local_check, local_while}
-use Rattle.camac_text_cursor.proofs.Local.{local_begin, local_expect, local_any_number, local_expect_sign, local_branch, local_function, local_set_name, local_used_register, local_used_variable, local_variable_here}
+use Rattle.camac_lang.specs.Tree.{Text}
+use Rattle.camac_lang.specs.declared.word.CrateCall.TheVariants as crate_word
+use Rattle.camac_lang.specs.declared.word.LamCall.TheVariants as lam_word
+use Rattle.camac_text_cursor.specs.declared.choice.Choice.{Choice}
+use Rattle.camac_text_cursor.specs.Expected.{suits}
+use Rattle.camac_text_cursor.proofs.Places.{missed_all, admits, admits_one, IsLocal, Begins, IsHere, local_then, begins_then, begins_ask, begins_peek, begins_line}
+use Rattle.camac_text_cursor.proofs.Primitives.{local_give, local_fail, begins_fail, begins_advance, begins_check, begins_missed, here_admitted, refusal, local_match, local_wanting, local_test}
+use Rattle.camac_text_cursor.proofs.Local.{begins_begin, local_expect, local_any_number, local_expect_sign, local_branch, local_function, local_set_name, local_used_register, local_used_variable, begins_variable_here, local_closed}
 use Rattle.camac_text_phrases.proofs.LocalExpressions.{local_expression}
+use Rattle.camac_text_statements.proofs.LocalCalls.{begins_crate, begins_crate_switch, begins_lam_action, begins_lam_switch}
 
-local_assignment : (room line : ℕ) (s : State) → IsLocal (assignment room line) s
+-- what begins a statement
+abbrev statements : List Choice
+statements = choice.Name ∷ choice.Statement ∷ []
+
+begins_assignment : (room line : ℕ) (s : State) (x : Text) → kind_of s.rest ≡ Some (kind.Name x) → Begins (assignment room line) s
 unfolding assignment
-local_assignment room line s =
-    local_then variable_here (λ v. begin >> (expect_sign sign.Equals >> (expression_at room >>= λ e. give (assign line v e)))) s (local_variable_here s) (λ v u _.
-    local_then begin (λ _. expect_sign sign.Equals >> (expression_at room >>= λ e. give (assign line v e))) u (local_begin u) (λ _ u _.
-    local_then (expect_sign sign.Equals) (λ _. expression_at room >>= λ e. give (assign line v e)) u (local_expect_sign sign.Equals u) (λ _ u _.
-    local_then (expression_at room) (λ e. give (assign line v e)) u (local_expression room u) (λ e u _. local_give (assign line v e) u))))
+begins_assignment room line s x at =
+    begins_variable_here (λ v. begin >> (expect_sign sign.Equals >> (expression_at room >>= λ e. give (assign line v e)))) s x at (λ v.
+    begins_then begin (λ _. expect_sign sign.Equals >> (expression_at room >>= λ e. give (assign line v e))) s (begins_begin s (kind.Name x, at)) (λ _ u.
+    local_then (expect_sign sign.Equals) (λ _. expression_at room >>= λ e. give (assign line v e)) u (local_expect_sign sign.Equals u) (λ _ u.
+    local_then (expression_at room) (λ e. give (assign line v e)) u (local_expression room u) (λ e u. local_give (assign line v e) u))))
 
-local_setting : (room line : ℕ) (s : State) → IsLocal (register_setting room line) s
+pub begins_setting : (room line : ℕ) (s : State) → IsHere s → Begins (register_setting room line) s
 unfolding register_setting
-local_setting room line s =
-    local_then begin (λ _. set_name >>= λ r. branch_number >> (expression_at room >>= λ c. expression_at room >>= λ n. expression_at room >>= λ a. give (set_register line r c n a))) s (local_begin s) (λ _ u _.
-    local_then set_name (λ r. branch_number >> (expression_at room >>= λ c. expression_at room >>= λ n. expression_at room >>= λ a. give (set_register line r c n a))) u (local_set_name u) (λ r u _.
-    local_then branch_number (λ _. expression_at room >>= λ c. expression_at room >>= λ n. expression_at room >>= λ a. give (set_register line r c n a)) u (local_branch u) (λ _ u _.
-    local_then (expression_at room) (λ c. expression_at room >>= λ n. expression_at room >>= λ a. give (set_register line r c n a)) u (local_expression room u) (λ c u _.
-    local_then (expression_at room) (λ n. expression_at room >>= λ a. give (set_register line r c n a)) u (local_expression room u) (λ n u _.
-    local_then (expression_at room) (λ a. give (set_register line r c n a)) u (local_expression room u) (λ a u _. local_give (set_register line r c n a) u))))))
+begins_setting room line s here =
+    begins_then begin (λ _. set_name >>= λ r. branch_number >> (expression_at room >>= λ c. expression_at room >>= λ n. expression_at room >>= λ a. give (set_register line r c n a))) s (begins_begin s here) (λ _ u.
+    local_then set_name (λ r. branch_number >> (expression_at room >>= λ c. expression_at room >>= λ n. expression_at room >>= λ a. give (set_register line r c n a))) u (local_set_name u) (λ r u.
+    local_then branch_number (λ _. expression_at room >>= λ c. expression_at room >>= λ n. expression_at room >>= λ a. give (set_register line r c n a)) u (local_branch u) (λ _ u.
+    local_then (expression_at room) (λ c. expression_at room >>= λ n. expression_at room >>= λ a. give (set_register line r c n a)) u (local_expression room u) (λ c u.
+    local_then (expression_at room) (λ n. expression_at room >>= λ a. give (set_register line r c n a)) u (local_expression room u) (λ n u.
+    local_then (expression_at room) (λ a. give (set_register line r c n a)) u (local_expression room u) (λ a u. local_give (set_register line r c n a) u))))))
 
-pub local_move_by : (room : ℕ) (k : Option TokenKind) (s : State) → IsLocal (move_by room k) s
-local_move_by room (Some (kind.Sign sign.Into)) s =
-    local_then advance (λ _. used_variable >>= λ place. give (into place)) s (local_advance s) (λ _ u _.
-    local_then used_variable (λ place. give (into place)) u (local_used_variable u) (λ place v _. local_give (into place) v))
-local_move_by room (Some (kind.Sign sign.From)) s =
-    local_then advance (λ _. expression_at room >>= λ value. give (from value)) s (local_advance s) (λ _ u _.
-    local_then (expression_at room) (λ value. give (from value)) u (local_expression room u) (λ value v _. local_give (from value) v))
-local_move_by room _ s = local_missing choice.Arrow no_data s
+begins_move_by : (room : ℕ) (k : Option TokenKind) (s : State) → IsHere s → suits choice.Arrow k ≡ true → Begins (move_by room k) s
+begins_move_by room (Some (kind.Sign sign.Into)) s here is =
+    begins_then advance (λ _. used_variable >>= λ place. give (into place)) s (begins_advance s here) (λ _ u.
+    local_then used_variable (λ place. give (into place)) u (local_used_variable u) (λ place v. local_give (into place) v))
+begins_move_by room (Some (kind.Sign sign.From)) s here is =
+    begins_then advance (λ _. expression_at room >>= λ value. give (from value)) s (begins_advance s here) (λ _ u.
+    local_then (expression_at room) (λ value. give (from value)) u (local_expression room u) (λ value v. local_give (from value) v))
+begins_move_by room _ s here is = absurd cc
 
-pub local_move : (room : ℕ) (s : State) → IsLocal (move_at room) s
+no_move_by : (room : ℕ) (k : Option TokenKind) (s : State) → suits choice.Arrow k ≡ false → move_by room k s ≡ give no_data (missed_all (choice.Arrow ∷ []) s)
+no_move_by room (Some (kind.Sign sign.Into)) s free = absurd cc
+no_move_by room (Some (kind.Sign sign.From)) s free = absurd cc
+no_move_by room _ s free = refl
+
+local_move : (room : ℕ) (s : State) → IsLocal (move_at room) s
 unfolding move_at
-local_move room s = local_peek (move_by room) s (local_move_by room (kind_of s.rest) s)
+local_move room s =
+    local_match (choice.Arrow ∷ []) (peek >>= move_by room) (give no_data) s
+    (λ u is. begins_peek (move_by room) u (begins_move_by room (kind_of u.rest) u (here_admitted (choice.Arrow ∷ []) u is) (sym (admits_one choice.Arrow (kind_of u.rest)) ∙ is)))
+    (λ u free. no_move_by room (kind_of u.rest) u (sym (admits_one choice.Arrow (kind_of u.rest)) ∙ free)) (local_give no_data)
 
-pub local_single : (size : WordSize) (room line : ℕ) (s : State) → IsLocal (single_action size room line) s
+pub begins_single : (size : WordSize) (room line : ℕ) (s : State) → IsHere s → Begins (single_action size room line) s
 unfolding single_action
-local_single size room line s =
-    local_then begin (λ _. function_number >>= λ f. used_register >>= λ r. move_at room >>= λ m. give (single line size f r m)) s (local_begin s) (λ _ u _.
-    local_then function_number (λ f. used_register >>= λ r. move_at room >>= λ m. give (single line size f r m)) u (local_function u) (λ f u _.
-    local_then used_register (λ r. move_at room >>= λ m. give (single line size f r m)) u (local_used_register u) (λ r u _.
-    local_then (move_at room) (λ m. give (single line size f r m)) u (local_move room u) (λ m u _. local_give (single line size f r m) u))))
+begins_single size room line s here =
+    begins_then begin (λ _. function_number >>= λ f. used_register >>= λ r. move_at room >>= λ m. give (single line size f r m)) s (begins_begin s here) (λ _ u.
+    local_then function_number (λ f. used_register >>= λ r. move_at room >>= λ m. give (single line size f r m)) u (local_function u) (λ f u.
+    local_then used_register (λ r. move_at room >>= λ m. give (single line size f r m)) u (local_used_register u) (λ r u.
+    local_then (move_at room) (λ m. give (single line size f r m)) u (local_move room u) (λ m u. local_give (single line size f r m) u))))
 
-pub local_put : (room line : ℕ) (s : State) → IsLocal (put_action room line) s
+pub begins_put : (room line : ℕ) (s : State) → IsHere s → Begins (put_action room line) s
 unfolding put_action
-local_put room line s =
-    local_then begin (λ _. expression_at room >>= λ value. give (put line value)) s (local_begin s) (λ _ u _.
-    local_then (expression_at room) (λ value. give (put line value)) u (local_expression room u) (λ value v _. local_give (put line value) v))
+begins_put room line s here =
+    begins_then begin (λ _. expression_at room >>= λ value. give (put line value)) s (begins_begin s here) (λ _ u.
+    local_then (expression_at room) (λ value. give (put line value)) u (local_expression room u) (λ value v. local_give (put line value) v))
 
 -- ---- all statements
 
 module _ (room : ℕ) (block : Reader (List Statement)) (block_is : (s : State) (y : List Statement × State) → block s ≡ Ok y → Body room s y.0 y.1) (block_local : (s : State) → IsLocal block s) where
-  local_else_by : (line : ℕ) (c : Condition) (xs : List Statement) (k : Option TokenKind) (s : State) → IsLocal (else_by block line c xs k) s
-  local_else_by line c xs (Some (kind.Keyword word.Else)) s =
-      local_then advance (λ _. block >>= λ ys. give (choose_else line c (block_of xs) (block_of ys))) s (local_advance s) (λ _ u _.
-      local_then block (λ ys. give (choose_else line c (block_of xs) (block_of ys))) u (block_local u) (λ ys v _. local_give (choose_else line c (block_of xs) (block_of ys)) v))
-  local_else_by line c xs _ s = local_missing (choice.Word word.Else) (choose line c (block_of xs)) s
+  begins_else_by : (line : ℕ) (c : Condition) (xs : List Statement) (k : Option TokenKind) (s : State) → IsHere s → suits (choice.Word word.Else) k ≡ true → Begins (else_by block line c xs k) s
+  begins_else_by line c xs (Some (kind.Keyword word.Else)) s here is =
+      begins_then advance (λ _. block >>= λ ys. give (choose_else line c (block_of xs) (block_of ys))) s (begins_advance s here) (λ _ u.
+      local_then block (λ ys. give (choose_else line c (block_of xs) (block_of ys))) u (block_local u) (λ ys v. local_give (choose_else line c (block_of xs) (block_of ys)) v))
+  begins_else_by line c xs _ s here is = absurd cc
 
-  local_choice : (line : ℕ) (s : State) → IsLocal (if_statement room block line) s
+  no_else_by : (line : ℕ) (c : Condition) (xs : List Statement) (k : Option TokenKind) (s : State) → suits (choice.Word word.Else) k ≡ false → else_by block line c xs k s ≡ give (choose line c (block_of xs)) (missed_all (choice.Word word.Else ∷ []) s)
+  no_else_by line c xs (Some (kind.Keyword word.Else)) s free = absurd cc
+  no_else_by line c xs _ s free = refl
+
+  local_else : (line : ℕ) (c : Condition) (xs : List Statement) (s : State) → IsLocal (peek >>= λ k. else_by block line c xs k) s
+  local_else line c xs s =
+      local_match (choice.Word word.Else ∷ []) (peek >>= λ k. else_by block line c xs k) (give (choose line c (block_of xs))) s
+      (λ u is. begins_peek (λ k. else_by block line c xs k) u (begins_else_by line c xs (kind_of u.rest) u (here_admitted (choice.Word word.Else ∷ []) u is) (sym (admits_one (choice.Word word.Else) (kind_of u.rest)) ∙ is)))
+      (λ u free. no_else_by line c xs (kind_of u.rest) u (sym (admits_one (choice.Word word.Else) (kind_of u.rest)) ∙ free)) (local_give (choose line c (block_of xs)))
+
+  pub begins_choice : (line : ℕ) (s : State) → IsHere s → Begins (if_statement room block line) s
   unfolding if_statement
-  local_choice line s =
-      local_then begin (λ _. condition_at room >>= λ c. block >>= λ xs. peek >>= λ k. else_by block line c xs k) s (local_begin s) (λ _ u _.
-      local_then (condition_at room) (λ c. block >>= λ xs. peek >>= λ k. else_by block line c xs k) u (local_condition room u) (λ c u _.
-      local_then block (λ xs. peek >>= λ k. else_by block line c xs k) u (block_local u) (λ xs v _.
-      local_peek (λ k. else_by block line c xs k) v (local_else_by line c xs (kind_of v.rest) v))))
+  begins_choice line s here =
+      begins_then begin (λ _. condition_at room >>= λ c. block >>= λ xs. peek >>= λ k. else_by block line c xs k) s (begins_begin s here) (λ _ u.
+      local_then (condition_at room) (λ c. block >>= λ xs. peek >>= λ k. else_by block line c xs k) u (local_condition room u) (λ c u.
+      local_then block (λ xs. peek >>= λ k. else_by block line c xs k) u (block_local u) (λ xs v.
+      local_else line c xs v)))
 
-  local_for_statement : (line : ℕ) (s : State) → IsLocal (for_statement room block line) s
+  pub begins_for_statement : (line : ℕ) (s : State) → IsHere s → Begins (for_statement room block line) s
   unfolding for_statement
-  local_for_statement line s =
-      local_then begin (λ _. used_variable >>= λ v. expect_sign sign.Equals >> (expression_at room >>= λ a. expect word.To >> (expression_at room >>= λ b. keeps_at (of_loop.Counter v) >>= λ ks. block >>= λ xs. give (for_ line v a b ks (block_of xs))))) s (local_begin s) (λ _ u _.
-      local_then used_variable (λ v. expect_sign sign.Equals >> (expression_at room >>= λ a. expect word.To >> (expression_at room >>= λ b. keeps_at (of_loop.Counter v) >>= λ ks. block >>= λ xs. give (for_ line v a b ks (block_of xs))))) u (local_used_variable u) (λ v u _.
-      local_then (expect_sign sign.Equals) (λ _. expression_at room >>= λ a. expect word.To >> (expression_at room >>= λ b. keeps_at (of_loop.Counter v) >>= λ ks. block >>= λ xs. give (for_ line v a b ks (block_of xs)))) u (local_expect_sign sign.Equals u) (λ _ u _.
-      local_then (expression_at room) (λ a. expect word.To >> (expression_at room >>= λ b. keeps_at (of_loop.Counter v) >>= λ ks. block >>= λ xs. give (for_ line v a b ks (block_of xs)))) u (local_expression room u) (λ a u _.
-      local_then (expect word.To) (λ _. expression_at room >>= λ b. keeps_at (of_loop.Counter v) >>= λ ks. block >>= λ xs. give (for_ line v a b ks (block_of xs))) u (local_expect word.To u) (λ _ u _.
-      local_then (expression_at room) (λ b. keeps_at (of_loop.Counter v) >>= λ ks. block >>= λ xs. give (for_ line v a b ks (block_of xs))) u (local_expression room u) (λ b u _.
-      local_then (keeps_at (of_loop.Counter v)) (λ ks. block >>= λ xs. give (for_ line v a b ks (block_of xs))) u (local_keeps (of_loop.Counter v) u) (λ ks u _.
-      local_then block (λ xs. give (for_ line v a b ks (block_of xs))) u (block_local u) (λ xs u _. local_give (for_ line v a b ks (block_of xs)) u))))))))
+  begins_for_statement line s here =
+      begins_then begin (λ _. used_variable >>= λ v. expect_sign sign.Equals >> (expression_at room >>= λ a. expect word.To >> (expression_at room >>= λ b. keeps_at (of_loop.Counter v) >>= λ ks. block >>= λ xs. give (for_ line v a b ks (block_of xs))))) s (begins_begin s here) (λ _ u.
+      local_then used_variable (λ v. expect_sign sign.Equals >> (expression_at room >>= λ a. expect word.To >> (expression_at room >>= λ b. keeps_at (of_loop.Counter v) >>= λ ks. block >>= λ xs. give (for_ line v a b ks (block_of xs))))) u (local_used_variable u) (λ v u.
+      local_then (expect_sign sign.Equals) (λ _. expression_at room >>= λ a. expect word.To >> (expression_at room >>= λ b. keeps_at (of_loop.Counter v) >>= λ ks. block >>= λ xs. give (for_ line v a b ks (block_of xs)))) u (local_expect_sign sign.Equals u) (λ _ u.
+      local_then (expression_at room) (λ a. expect word.To >> (expression_at room >>= λ b. keeps_at (of_loop.Counter v) >>= λ ks. block >>= λ xs. give (for_ line v a b ks (block_of xs)))) u (local_expression room u) (λ a u.
+      local_then (expect word.To) (λ _. expression_at room >>= λ b. keeps_at (of_loop.Counter v) >>= λ ks. block >>= λ xs. give (for_ line v a b ks (block_of xs))) u (local_expect word.To u) (λ _ u.
+      local_then (expression_at room) (λ b. keeps_at (of_loop.Counter v) >>= λ ks. block >>= λ xs. give (for_ line v a b ks (block_of xs))) u (local_expression room u) (λ b u.
+      local_then (keeps_at (of_loop.Counter v)) (λ ks. block >>= λ xs. give (for_ line v a b ks (block_of xs))) u (local_keeps (of_loop.Counter v) u) (λ ks u.
+      local_then block (λ xs. give (for_ line v a b ks (block_of xs))) u (block_local u) (λ xs u. local_give (for_ line v a b ks (block_of xs)) u))))))))
 
-  local_while_statement : (line : ℕ) (s : State) → IsLocal (while_statement room block line) s
+  pub begins_while_statement : (line : ℕ) (s : State) → IsHere s → Begins (while_statement room block line) s
   unfolding while_statement
-  local_while_statement line s =
-      local_then begin (λ _. condition_at room >>= λ c. expect word.Turns >> (any_number >>= λ n. expect word.By >> (used_variable >>= λ v. keeps_at (of_loop.Measure v) >>= λ ks. block >>= λ xs. give (while_ line c n v ks (block_of xs))))) s (local_begin s) (λ _ u _.
-      local_then (condition_at room) (λ c. expect word.Turns >> (any_number >>= λ n. expect word.By >> (used_variable >>= λ v. keeps_at (of_loop.Measure v) >>= λ ks. block >>= λ xs. give (while_ line c n v ks (block_of xs))))) u (local_condition room u) (λ c u _.
-      local_then (expect word.Turns) (λ _. any_number >>= λ n. expect word.By >> (used_variable >>= λ v. keeps_at (of_loop.Measure v) >>= λ ks. block >>= λ xs. give (while_ line c n v ks (block_of xs)))) u (local_expect word.Turns u) (λ _ u _.
-      local_then any_number (λ n. expect word.By >> (used_variable >>= λ v. keeps_at (of_loop.Measure v) >>= λ ks. block >>= λ xs. give (while_ line c n v ks (block_of xs)))) u (local_any_number u) (λ n u _.
-      local_then (expect word.By) (λ _. used_variable >>= λ v. keeps_at (of_loop.Measure v) >>= λ ks. block >>= λ xs. give (while_ line c n v ks (block_of xs))) u (local_expect word.By u) (λ _ u _.
-      local_then used_variable (λ v. keeps_at (of_loop.Measure v) >>= λ ks. block >>= λ xs. give (while_ line c n v ks (block_of xs))) u (local_used_variable u) (λ v u _.
-      local_then (keeps_at (of_loop.Measure v)) (λ ks. block >>= λ xs. give (while_ line c n v ks (block_of xs))) u (local_keeps (of_loop.Measure v) u) (λ ks u _.
-      local_then block (λ xs. give (while_ line c n v ks (block_of xs))) u (block_local u) (λ xs u _. local_give (while_ line c n v ks (block_of xs)) u))))))))
+  begins_while_statement line s here =
+      begins_then begin (λ _. condition_at room >>= λ c. expect word.Turns >> (any_number >>= λ n. expect word.By >> (used_variable >>= λ v. keeps_at (of_loop.Measure v) >>= λ ks. block >>= λ xs. give (while_ line c n v ks (block_of xs))))) s (begins_begin s here) (λ _ u.
+      local_then (condition_at room) (λ c. expect word.Turns >> (any_number >>= λ n. expect word.By >> (used_variable >>= λ v. keeps_at (of_loop.Measure v) >>= λ ks. block >>= λ xs. give (while_ line c n v ks (block_of xs))))) u (local_condition room u) (λ c u.
+      local_then (expect word.Turns) (λ _. any_number >>= λ n. expect word.By >> (used_variable >>= λ v. keeps_at (of_loop.Measure v) >>= λ ks. block >>= λ xs. give (while_ line c n v ks (block_of xs)))) u (local_expect word.Turns u) (λ _ u.
+      local_then any_number (λ n. expect word.By >> (used_variable >>= λ v. keeps_at (of_loop.Measure v) >>= λ ks. block >>= λ xs. give (while_ line c n v ks (block_of xs)))) u (local_any_number u) (λ n u.
+      local_then (expect word.By) (λ _. used_variable >>= λ v. keeps_at (of_loop.Measure v) >>= λ ks. block >>= λ xs. give (while_ line c n v ks (block_of xs))) u (local_expect word.By u) (λ _ u.
+      local_then used_variable (λ v. keeps_at (of_loop.Measure v) >>= λ ks. block >>= λ xs. give (while_ line c n v ks (block_of xs))) u (local_used_variable u) (λ v u.
+      local_then (keeps_at (of_loop.Measure v)) (λ ks. block >>= λ xs. give (while_ line c n v ks (block_of xs))) u (local_keeps (of_loop.Measure v) u) (λ ks u.
+      local_then block (λ xs. give (while_ line c n v ks (block_of xs))) u (block_local u) (λ xs u. local_give (while_ line c n v ks (block_of xs)) u))))))))
 
-  local_locking : (line : ℕ) (s : State) → IsLocal (lock_statement room block line) s
+  begins_locking : (line : ℕ) (s : State) → IsHere s → Begins (lock_statement room block line) s
   unfolding lock_statement
-  local_locking line s =
-      local_ask (λ w. w.in_procedure) (λ w ts n. refl) (λ b. check (not b) told.LockInProcedure >> (begin >> (expression_at room >>= λ e. block >>= λ xs. give (locked line e (block_of xs))))) s
-      (local_check (not s.in_procedure) told.LockInProcedure (begin >> (expression_at room >>= λ e. block >>= λ xs. give (locked line e (block_of xs)))) s tt (λ _.
-      local_then begin (λ _. expression_at room >>= λ e. block >>= λ xs. give (locked line e (block_of xs))) s (local_begin s) (λ _ u _.
-      local_then (expression_at room) (λ e. block >>= λ xs. give (locked line e (block_of xs))) u (local_expression room u) (λ e u _.
-      local_then block (λ xs. give (locked line e (block_of xs))) u (block_local u) (λ xs u _. local_give (locked line e (block_of xs)) u)))))
+  begins_locking line s here =
+      begins_ask (λ w. w.in_procedure) (λ w ts n. refl) (λ b. check (not b) told.LockInProcedure >> (begin >> (expression_at room >>= λ e. block >>= λ xs. give (locked line e (block_of xs))))) s
+      (begins_check (not s.in_procedure) told.LockInProcedure (begin >> (expression_at room >>= λ e. block >>= λ xs. give (locked line e (block_of xs)))) s refl tt (λ _.
+      begins_then begin (λ _. expression_at room >>= λ e. block >>= λ xs. give (locked line e (block_of xs))) s (begins_begin s here) (λ _ u.
+      local_then (expression_at room) (λ e. block >>= λ xs. give (locked line e (block_of xs))) u (local_expression room u) (λ e u.
+      local_then block (λ xs. give (locked line e (block_of xs))) u (block_local u) (λ xs u. local_give (locked line e (block_of xs)) u)))))
 
-  local_nested_by : (line : ℕ) (k : Option TokenKind) (s : State) → IsLocal (nested_by room block line k) s
-  local_nested_by line (Some (kind.Keyword word.If)) s = local_choice line s
-  local_nested_by line (Some (kind.Keyword word.For)) s = local_for_statement line s
-  local_nested_by line (Some (kind.Keyword word.While)) s = local_while_statement line s
-  local_nested_by line (Some (kind.Keyword word.Lock)) s = local_locking line s
-  local_nested_by line k s = local_transfer_by room line k s
+  begins_statement_by : (line : ℕ) (k : Option TokenKind) (s : State) → IsHere s → kind_of s.rest ≡ k → admits statements k ≡ true → Begins (statement_by room block line k) s
+  begins_statement_by line (Some (kind.Name x)) s here at is = begins_missed (choice.Statement ∷ []) (assignment room line) s (begins_assignment room line (missed_all (choice.Statement ∷ []) s) x at)
+  begins_statement_by line (Some (kind.Keyword word.Cdreg)) s here at is = begins_setting room line s here
+  begins_statement_by line (Some (kind.Keyword word.Cfsa)) s here at is = begins_single Full room line s here
+  begins_statement_by line (Some (kind.Keyword word.Cssa)) s here at is = begins_single Short room line s here
+  begins_statement_by line (Some (kind.Keyword word.Put)) s here at is = begins_put room line s here
+  begins_statement_by line (Some (kind.Keyword word.If)) s here at is = begins_choice line s here
+  begins_statement_by line (Some (kind.Keyword word.For)) s here at is = begins_for_statement line s here
+  begins_statement_by line (Some (kind.Keyword word.While)) s here at is = begins_while_statement line s here
+  begins_statement_by line (Some (kind.Keyword word.Lock)) s here at is = begins_locking line s here
+  begins_statement_by line (Some (kind.Keyword word.Cfmad)) s here at is = begins_scan room line s here
+  begins_statement_by line (Some (kind.Keyword word.Cfubc)) s here at is = begins_stop room line s here
+  begins_statement_by line (Some (kind.Keyword word.Cfubr)) s here at is = begins_repeat room line s here
+  begins_statement_by line (Some (kind.Keyword word.Call)) s here at is = begins_call room line s here
+  begins_statement_by line (Some (kind.Keyword word.Cccz)) s here at is = begins_crate crate_word.Initialise room line s here
+  begins_statement_by line (Some (kind.Keyword word.Cccc)) s here at is = begins_crate crate_word.Clear room line s here
+  begins_statement_by line (Some (kind.Keyword word.Ctci)) s here at is = begins_crate crate_word.TestInhibit room line s here
+  begins_statement_by line (Some (kind.Keyword word.Ctcd)) s here at is = begins_crate crate_word.TestDemandOutput room line s here
+  begins_statement_by line (Some (kind.Keyword word.Ctgl)) s here at is = begins_crate crate_word.TestDemand room line s here
+  begins_statement_by line (Some (kind.Keyword word.Ccci)) s here at is = begins_crate_switch crate_word.InhibitOn crate_word.InhibitOff room line s here
+  begins_statement_by line (Some (kind.Keyword word.Cccd)) s here at is = begins_crate_switch crate_word.DemandOn crate_word.DemandOff room line s here
+  begins_statement_by line (Some (kind.Keyword word.Cclm)) s here at is = begins_lam_switch line s here
+  begins_statement_by line (Some (kind.Keyword word.Cclc)) s here at is = begins_lam_action lam_word.Clear line s here
+  begins_statement_by line (Some (kind.Keyword word.Ctlm)) s here at is = begins_lam_action lam_word.Test line s here
+  begins_statement_by line _ s here at is = absurd cc
 
-  local_statement_by : (line : ℕ) (k : Option TokenKind) (s : State) → IsLocal (statement_by room block line k) s
-  local_statement_by line (Some (kind.Name x)) s = local_then (miss choice.Statement) (λ _. assignment room line) s (local_miss choice.Statement s) (λ _ u _. local_assignment room line u)
-  local_statement_by line (Some (kind.Keyword word.Cdreg)) s = local_setting room line s
-  local_statement_by line (Some (kind.Keyword word.Cfsa)) s = local_single Full room line s
-  local_statement_by line (Some (kind.Keyword word.Cssa)) s = local_single Short room line s
-  local_statement_by line (Some (kind.Keyword word.Put)) s = local_put room line s
-  local_statement_by line k s = local_nested_by line k s
+  no_statement_by : (line : ℕ) (k : Option TokenKind) (s : State) → admits statements k ≡ false → statement_by room block line k s ≡ (let f : Reader Statement = refusal statements None in f s)
+  no_statement_by line (Some (kind.Name x)) s free = absurd cc
+  no_statement_by line (Some (kind.Keyword w)) s free = cc
+  no_statement_by line (Some (kind.Number n)) s free = refl
+  no_statement_by line (Some (kind.Sign w)) s free = refl
+  no_statement_by line None s free = refl
 
-  local_statement : (s : State) → IsLocal (statement_with room block) s
-  unfolding statement_with
+  -- a statement, where it was looked for the end of the block
+  abbrev statement_here : Reader Statement
+  statement_here = line_here >>= λ line. peek >>= λ k. statement_by room block line k
+
+  local_statement : (s : State) → IsLocal statement_here s
   local_statement s =
-      local_then (miss (choice.Mark sign.RightBrace)) (λ _. line_here >>= λ line. peek >>= λ k. statement_by room block line k) s (local_miss (choice.Mark sign.RightBrace) s) (λ _ u _.
-      local_line (λ line. peek >>= λ k. statement_by room block line k) u (local_peek (λ k. statement_by room block (line_of u.rest u.end_line) k) u (local_statement_by (line_of u.rest u.end_line) (kind_of u.rest) u)))
+      local_wanting statements statement_here s
+      (λ u is. begins_line (λ line. peek >>= λ k. statement_by room block line k) u (begins_peek (λ k. statement_by room block (line_of u.rest u.end_line) k) u (begins_statement_by (line_of u.rest u.end_line) (kind_of u.rest) u (here_admitted statements u is) refl is)))
+      (λ u free. no_statement_by (line_of u.rest u.end_line) (kind_of u.rest) u free)
 
-  local_statements : (s : State) → IsLocal (many is_no_end (statement_with room block)) s
-  unfolding many
-  local_statements s =
-      local_while is_no_end (one_more (statement_with room block)) (with_progress room block block_is) (λ xs u _.
-      local_then (statement_with room block) (λ x. give (xs ++ x ∷ [])) u (local_statement u) (λ x v _. local_give (xs ++ x ∷ []) v)) [] s
+  local_statements : (s : State) → IsLocal (many is_no_end (statement_with room block) >>= λ body. expect_sign sign.RightBrace >> give body) s
+  unfolding many statement_with
+  local_statements s = local_closed sign.RightBrace statement_here (with_progress room block block_is) local_statement [] s
 
 pub local_block : (room : ℕ) (s : State) → IsLocal (block_at room) s
 unfolding block_at
 local_block zero s =
-    local_peek (λ k. cond (is_sign sign.LeftBrace k) (fail (told.Limit limit.Depth)) (unexpected (choice.Mark sign.LeftBrace))) s
-    (local_if (is_sign sign.LeftBrace (kind_of s.rest)) (fail (told.Limit limit.Depth)) (unexpected (choice.Mark sign.LeftBrace)) s (λ _. local_fail (told.Limit limit.Depth) s tt) (λ _. local_unexpected (choice.Mark sign.LeftBrace) s))
+    local_test (choice.Mark sign.LeftBrace) (is_sign sign.LeftBrace) (λ at. refl) (fail (told.Limit limit.Depth)) (fail told.Unexpected) s (λ u _. begins_fail (told.Limit limit.Depth) u refl tt) (λ u. local_fail told.Unexpected u tt)
 local_block (suc room) s =
-    local_then (expect_sign sign.LeftBrace) (λ _. many is_no_end (statement_with room (block_at room)) >>= λ body. expect_sign sign.RightBrace >> give body) s (local_expect_sign sign.LeftBrace s) (λ _ u _.
-    local_then (many is_no_end (statement_with room (block_at room))) (λ body. expect_sign sign.RightBrace >> give body) u (local_statements room (block_at room) (block_ok room) (local_block room) u) (λ body v _.
-    local_then (expect_sign sign.RightBrace) (λ _. give body) v (local_expect_sign sign.RightBrace v) (λ _ w _. local_give body w)))
+    local_then (expect_sign sign.LeftBrace) (λ _. many is_no_end (statement_with room (block_at room)) >>= λ body. expect_sign sign.RightBrace >> give body) s (local_expect_sign sign.LeftBrace s) (λ _ u. local_statements room (block_at room) (block_ok room) (local_block room) u)
