@@ -16,3 +16,4 @@ pub mod LocalDeclarations
 pub mod Faults
 pub mod Judged
 mod Told
+mod Expected

@@ -1,4 +1,4 @@
-mod Sets
+pub mod Sets
 pub mod Searches
 pub mod Sums
 pub mod Steps

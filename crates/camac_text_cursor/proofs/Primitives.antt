@@ -15,6 +15,9 @@ use Rattle.camac_text_cursor.proofs.Places.{hushed, with_rest, ahead, noted_all,
 
 -- ---- from one answer
 
+none_admitted : {A : Type 0} (at : Option TokenKind) → admits [] at ≡ true → A
+none_admitted at is = absurd cc
+
 local_ok : {A : Type 0} (f : Reader A) (s : State) (x : A) (s' : State) → f s ≡ Ok (x, s') → StopsAt f s x s' → IsLocal f s
 local_ok {A} f s x s' e at = record {
   stops = λ y u h. subst (λ (p : A × State). StopsAt f s p.0 p.1) (ok_is (x, s') (y, u) (sym e ∙ h)) at;
@@ -40,7 +43,7 @@ begins_of_err {A} f s e h free at = record {
 }
 
 pub local_give : {A : Type 0} (x : A) (s : State) → IsLocal (give x) s
-local_give x s = local_ok (give x) s x s refl (record { taken = []; mine = []; parts = refl; same_end = refl; tries = refl; untold = refl; again = λ t r n free. refl; passes = λ t r n is. absurd cc })
+local_give x s = local_ok (give x) s x s refl (record { taken = []; mine = []; parts = refl; same_end = refl; tries = refl; untold = refl; again = λ t r n free. refl; passes = λ t r n is. none_admitted (Some t.kind) is })
 
 abbrev fault_at : TextCase → State → Fault
 fault_at case s = record { case = case; line = line_of s.rest s.end_line; left = left_of s.rest; tried = s.tried }
@@ -50,7 +53,7 @@ fails_at case s fits = record {
   taken = []; left = s.rest; mine = []; parts = refl; line = refl; place = refl; fits = fits; tries = refl; untold = refl;
   again = λ t r r' n h. rw h refl;
   refuses = λ is t r n free. (ap is_of_order is, refl, refl);
-  passes = λ is t r n fit. absurd cc;
+  passes = λ is t r n fit. none_admitted (Some t.kind) fit;
 }
 
 pub local_fail : {A : Type 0} (case : TextCase) (s : State) → CaseFits case (kind_of s.rest) → IsLocal (let f : Reader A = fail case in f) s
@@ -94,7 +97,7 @@ begins_advance s here = begins_of_ok advance s tt (past s) refl (record {
   tries = first_clears s.rest here.0 s.tried here.1;
   untold = refl;
   again = λ t r n free. ap (λ (ts : List Token). let q : Result (Unit {0} × State) Fault = Ok (tt, record s { rest = ts; end_line = n; tried = Untold }) in q) (first_again s.rest (t ∷ r) here.0 here.1);
-  passes = λ t r n is. absurd cc;
+  passes = λ t r n is. none_admitted (Some t.kind) is;
 }) (first_some s.rest here.0 here.1)
 
 pub within_advance : GoesOn (λ (_ : Unit {0}). advance)
@@ -112,7 +115,7 @@ changes_at to same stay s = record {
   tries = ap (λ (p : List Token × ℕ × Tried). p.2) (stay s);
   untold = ap (λ (u : State). let q : Result (Unit {0} × State) Fault = Ok (tt, u) in q) (same s s.rest s.end_line ∙ ap (λ (p : List Token × ℕ × Tried). with_rest p.1 (to s) p.0) (sym (stay s)));
   again = λ t r n free. ap (λ (u : State). let q : Result (Unit {0} × State) Fault = Ok (tt, u) in q) (same s (t ∷ r) n);
-  passes = λ t r n is. absurd cc;
+  passes = λ t r n is. none_admitted (Some t.kind) is;
 }
 
 pub local_change : (to : State → State) → ((s : State) (ts : List Token) (n : ℕ) → to (with_rest n s ts) ≡ with_rest n (to s) ts) → ((s : State) → ahead (to s) ≡ ahead s) → (s : State) → IsLocal (change to) s
@@ -264,7 +267,7 @@ local_refusing {A} cs bars f s on other = by (admits cs (kind_of s.rest)) refl (
     untold = other (hushed s) off ∙ ap (λ (w : Option ℕ). let q : Result (A × State) Fault = refusal cs w (hushed s) in q) bar;
     again = λ t r r' n h. first t r r' n (Some wanted) h off bar ∙ rw h refl;
     refuses = λ is t r n free. absurd cc;
-    passes = λ is t r n fit. absurd cc;
+    passes = λ is t r n fit. none_admitted (Some t.kind) fit;
   })
 
 -- one that refuses all else by the grammar

@@ -1,8 +1,7 @@
 -- Readers of crate calls and LAM calls are local.
-use Rattle.std.proofs.Common.{◌≡◌, Bool, true, false, cond, ℕ, List, [], ◌∷◌, Option, Some, None, refl, sym, ◌∙◌}
+use Rattle.std.proofs.Common.{◌≡◌, Bool, true, false, cond, ℕ, [], ◌∷◌, Option, Some, None, refl, sym, ◌∙◌}
 use Rattle.camac_lang.specs.Tree.{crate_call, lam_call}
 use Rattle.camac_lang.specs.declared.word.CrateCall.{CrateCall}
-use Rattle.camac_lang.specs.declared.word.CrateCall.TheVariants as crate_word
 use Rattle.camac_lang.specs.declared.word.LamCall.{LamCall}
 use Rattle.camac_lang.specs.declared.word.LamCall.TheVariants as lam_word
 use Rattle.camac_tokens.specs.declared.token.Keyword.TheVariants as word

@@ -1,5 +1,5 @@
 -- Readers of statements are local.
-use Rattle.std.proofs.Common.{not, ◌≡◌, cond, ℕ, zero, suc, Bool, true, false, List, Ok, [], ◌∷◌, ◌++◌, Option, Some, None, refl, sym, ◌∙◌}
+use Rattle.std.proofs.Common.{not, ◌≡◌, ℕ, zero, suc, true, false, List, Ok, [], ◌∷◌, Option, Some, None, refl, sym, ◌∙◌}
 use Rattle.camac_lang.specs.Tree.{no_data, into, from, assign, set_register, single, put, choose, choose_else, for_, while_, locked, Statement, Condition}
 use Rattle.camac_lang.specs.View.{block_of}
 use Rattle.camac_lang.specs.declared.word.WordSize.{WordSize}
@@ -11,10 +11,10 @@ use Rattle.camac_tokens.specs.declared.token.Sign.TheVariants as sign
 use Rattle.camac_tokens.specs.declared.token.TokenKind.{TokenKind}
 use Rattle.camac_tokens.specs.declared.token.TokenKind.TheVariants as kind
 use Rattle.camac_text_cursor.specs.declared.choice.Choice.TheVariants as choice
-use Rattle.camac_text_cursor.specs.Reading.{line_here, State, Reader, fail, ◌>>=◌, ◌>>◌, give, peek, advance, check, kind_of, line_of, one_more, many, miss, unexpected}
-use Rattle.camac_text_cursor.specs.Readers.{begin, is_sign, expect, expect_sign, any_number, branch_number, function_number, set_name, used_register, used_variable, variable_here}
+use Rattle.camac_text_cursor.specs.Reading.{line_here, State, Reader, fail, ◌>>=◌, ◌>>◌, give, peek, advance, check, kind_of, line_of, many}
+use Rattle.camac_text_cursor.specs.Readers.{begin, is_sign, expect, expect_sign, any_number, branch_number, function_number, set_name, used_register, used_variable}
 use Rattle.camac_text_phrases.specs.Expressions.{expression_at}
-use Rattle.camac_text_statements.specs.Statements.{assignment, register_setting, move_by, move_at, single_action, put_action, else_by, if_statement, for_statement, while_statement, lock_statement, nested_by, statement_by, statement_with, is_no_end, block_at}
+use Rattle.camac_text_statements.specs.Statements.{assignment, register_setting, move_by, move_at, single_action, put_action, else_by, if_statement, for_statement, while_statement, lock_statement, statement_by, statement_with, is_no_end, block_at}
 use Rattle.camac_text_phrases.specs.Conditions.{condition_at}
 use Rattle.camac_text_phrases.specs.declared.keeping.Own.TheVariants as of_loop
 use Rattle.camac_text_phrases.specs.Keeps.{keeps_at}
@@ -179,10 +179,29 @@ module _ (room : ℕ) (block : Reader (List Statement)) (block_is : (s : State) 
 
   no_statement_by : (line : ℕ) (k : Option TokenKind) (s : State) → admits statements k ≡ false → statement_by room block line k s ≡ (let f : Reader Statement = refusal statements None in f s)
   no_statement_by line (Some (kind.Name x)) s free = absurd cc
-  no_statement_by line (Some (kind.Keyword w)) s free = cc
-  no_statement_by line (Some (kind.Number n)) s free = refl
-  no_statement_by line (Some (kind.Sign w)) s free = refl
-  no_statement_by line None s free = refl
+  no_statement_by line (Some (kind.Keyword word.Cdreg)) s free = absurd cc
+  no_statement_by line (Some (kind.Keyword word.Cfsa)) s free = absurd cc
+  no_statement_by line (Some (kind.Keyword word.Cssa)) s free = absurd cc
+  no_statement_by line (Some (kind.Keyword word.Put)) s free = absurd cc
+  no_statement_by line (Some (kind.Keyword word.If)) s free = absurd cc
+  no_statement_by line (Some (kind.Keyword word.For)) s free = absurd cc
+  no_statement_by line (Some (kind.Keyword word.While)) s free = absurd cc
+  no_statement_by line (Some (kind.Keyword word.Lock)) s free = absurd cc
+  no_statement_by line (Some (kind.Keyword word.Cfmad)) s free = absurd cc
+  no_statement_by line (Some (kind.Keyword word.Cfubc)) s free = absurd cc
+  no_statement_by line (Some (kind.Keyword word.Cfubr)) s free = absurd cc
+  no_statement_by line (Some (kind.Keyword word.Call)) s free = absurd cc
+  no_statement_by line (Some (kind.Keyword word.Cccz)) s free = absurd cc
+  no_statement_by line (Some (kind.Keyword word.Cccc)) s free = absurd cc
+  no_statement_by line (Some (kind.Keyword word.Ctci)) s free = absurd cc
+  no_statement_by line (Some (kind.Keyword word.Ctcd)) s free = absurd cc
+  no_statement_by line (Some (kind.Keyword word.Ctgl)) s free = absurd cc
+  no_statement_by line (Some (kind.Keyword word.Ccci)) s free = absurd cc
+  no_statement_by line (Some (kind.Keyword word.Cccd)) s free = absurd cc
+  no_statement_by line (Some (kind.Keyword word.Cclm)) s free = absurd cc
+  no_statement_by line (Some (kind.Keyword word.Cclc)) s free = absurd cc
+  no_statement_by line (Some (kind.Keyword word.Ctlm)) s free = absurd cc
+  no_statement_by line _ s free = refl
 
   -- a statement, where it was looked for the end of the block
   abbrev statement_here : Reader Statement
