@@ -24,7 +24,7 @@ is_not false e = refl
 -- the line of the end stays the same, so one that is there at the end was there at the start
 pub read_whole : (text : List ℕ) (s : State) → declarations_at (unread_in (ahead_of text)) ≡ Ok (tt, s) → (is_none (kind_of s.rest) && not (eqb s.end_line 0)) ≡ true → judged (tokens_of text) ≡ Ok tt
 read_whole text s read at_end =
-    let same : s.end_line ≡ line_in (end_by (tokens_of text) (last_line text)) = ((local_declarations (unread_in (ahead_of text))).stops tt s read).same_end in
+    let same : s.end_line ≡ line_in (end_by (tokens_of text) (last_line text)) = (local_declarations (unread_in (ahead_of text))).same_end tt s read in
     let line : eqb s.end_line 0 ≡ false = is_not (eqb s.end_line 0) (and_parts (is_none (kind_of s.rest)) (not (eqb s.end_line 0)) at_end).1 in
     has_line (tokens_of text) (last_line text) (subst (λ (n : ℕ). eqb n 0 ≡ false) same line)
 

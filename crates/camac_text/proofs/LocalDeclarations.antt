@@ -1,5 +1,5 @@
 -- Readers of declarations are local.
-use Rattle.std.proofs.Common.{◌≡◌, ℕ, ◌+◌, nat_lt, Bool, true, false, List, [], ◌∷◌, length, Option, Some, None, refl, sym, ◌∙◌}
+use Rattle.std.proofs.Common.{◌≡◌, ℕ, ◌+◌, nat_lt, true, false, [], ◌∷◌, length, Option, Some, None, refl, sym, ◌∙◌}
 use Rattle.camac_lang.specs.Tree.{Text, Lam}
 use Rattle.camac_tokens.specs.declared.fault.Limit.TheVariants as limit
 use Rattle.camac_tokens.specs.declared.fault.TextCase.TheVariants as told

@@ -6,7 +6,7 @@ use Rattle.camac_tokens.specs.declared.fault.TextCase.TheVariants as told
 use Rattle.camac_tokens.specs.declared.token.Sign.TheVariants as sign
 use Rattle.camac_text_cursor.specs.declared.choice.Choice.TheVariants as choice
 use Rattle.camac_text_cursor.specs.Reading.{State, kind_of, ◌>>=◌, ◌>>◌, give, change, advance, check, until}
-use Rattle.camac_text_cursor.specs.Readers.{is_number, expect_sign, number_here, new_name}
+use Rattle.camac_text_cursor.specs.Readers.{is_number, expect_sign, new_name}
 use Rattle.camac_text_cursor.specs.Declaring.{with_table}
 use Rattle.camac_text.specs.Tables.{word_after, one_more_word, table_words, table_declaration}
 use Rattle.camac_tokens.specs.declared.token.TokenKind.TheVariants as kind

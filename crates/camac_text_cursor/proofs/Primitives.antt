@@ -391,6 +391,7 @@ module _ {A : Type 0} (c : Choice) (goes_on : Option TokenKind → Bool) (turn :
 
 -- A loop over all tokens, up to the text's end: no token is left there that it could have looked for.
 pub record IsLocalToEnd {A : Type 0} (f : Reader A) (s : State) : Type 0 where
+  pub same_end : (x : A) (s' : State) → f s ≡ Ok (x, s') → s'.end_line ≡ s.end_line
   pub untold : (x : A) (s' : State) → f s ≡ Ok (x, s') → f (hushed s) ≡ Ok (x, hushed s')
   pub fails : (e : Fault) → f s ≡ Err e → FailsAt f s e
 
@@ -416,6 +417,9 @@ module _ {A : Type 0} (goes_on : Option TokenKind → Bool) (turn : A → Reader
 
   one_turn : (x : A) (s : State) → Next x s → (b : Bool) → goes_on (kind_of s.rest) ≡ b → IsLocalToEnd (while_next goes_on turn x) s
   one_turn x s next true on = record {
+    same_end = λ y s'' e.
+        let m = then_ok (turn x s) (while_next goes_on turn) (y, s'') (sym (while_on goes_on turn progress x s on) ∙ e) in
+        (next m.0.0 m.0.1 on m.1).same_end y s'' m.2 ∙ ((each x s).stops m.0.0 m.0.1 m.1).same_end;
     untold = λ y s'' e.
         let m = then_ok (turn x s) (while_next goes_on turn) (y, s'') (sym (while_on goes_on turn progress x s on) ∙ e) in
         while_on goes_on turn progress x (hushed s) on
@@ -432,6 +436,7 @@ module _ {A : Type 0} (goes_on : Option TokenKind → Bool) (turn : A → Reader
         };
   }
   one_turn x s next false off = record {
+    same_end = λ y s'' e. sym (ap (λ (p : A × State). p.1.end_line) (ok_is (x, s) (y, s'') (sym (while_off goes_on turn x s off) ∙ e)));
     untold = λ y s'' e. while_off goes_on turn x (hushed s) off ∙ ap (λ (p : A × State). let q : Result (A × State) Fault = Ok (p.0, hushed p.1) in q) (ok_is (x, s) (y, s'') (sym (while_off goes_on turn x s off) ∙ e));
     fails = λ e h. absurd (let both = sym (while_off goes_on turn x s off) ∙ h in cc);
   }
