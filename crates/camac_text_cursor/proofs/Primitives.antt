@@ -135,10 +135,6 @@ pub begins_if : {A : Type 0} (b : Bool) (f g : Reader A) (s : State) → (b ≡ 
 begins_if true f g s on off = on refl
 begins_if false f g s on off = off refl
 
-pub local_check : {B : Type 0} (holds : Bool) (case : TextCase) (g : Reader B) (s : State) → CaseFits case (kind_of s.rest) → (holds ≡ true → IsLocal g s) → IsLocal (check holds case >> g) s
-local_check true case g s fits next = next refl
-local_check false case g s fits next = local_fail case s fits
-
 pub begins_check : {B : Type 0} (holds : Bool) (case : TextCase) (g : Reader B) (s : State) → is_of_order case ≡ false → CaseFits case (kind_of s.rest) → (holds ≡ true → Begins g s) → Begins (check holds case >> g) s
 begins_check true case g s free fits next = next refl
 begins_check false case g s free fits next = begins_fail case s free fits
