@@ -49,9 +49,9 @@ unfolding parameters_at
 local_parameters {B} g s closes next =
     local_same (parameters_at >>= g) (peek >>= λ k. cond (is_sign sign.RightBracket k) (g []) (miss (choice.Mark sign.RightBracket) >> (parameter_list >>= g))) s (λ u. by u (is_sign sign.RightBracket (kind_of u.rest)))
     (local_test (choice.Mark sign.RightBracket) (is_sign sign.RightBracket) (λ at. refl) (g []) (parameter_list >>= g) s closes (λ u. local_then parameter_list g u (local_list u) next)) where
-  by : (u : State) (b : Bool) → then_read (let f : Reader (List Parameter) = cond b (give []) (miss (choice.Mark sign.RightBracket) >> parameter_list) in f u) g ≡ (let f : Reader B = cond b (g []) (miss (choice.Mark sign.RightBracket) >> (parameter_list >>= g)) in f u)
-  by u true = refl
-  by u false = refl
+      by : (u : State) (b : Bool) → then_read (let f : Reader (List Parameter) = cond b (give []) (miss (choice.Mark sign.RightBracket) >> parameter_list) in f u) g ≡ (let f : Reader B = cond b (g []) (miss (choice.Mark sign.RightBracket) >> (parameter_list >>= g)) in f u)
+      by u true = refl
+      by u false = refl
 
 abbrev heading_made : List Parameter → ℕ → ℕ → ℕ → Heading
 heading_made ps c w n = record { parameters = ps; cycles = c; words = w; steps = n }

@@ -386,7 +386,11 @@ begins_then f g s first next = begins_after f g s (λ x u. within_local (g x) u 
 module _ {A : Type 0} (f g : Reader A) (s : State) (here : f s ≡ g s) (same : (ts : List Token) (n : ℕ) → f (with_rest n s ts) ≡ g (with_rest n s ts)) where
   abbrev stops_same : (x : A) (s' : State) → StopsAt g s x s' → StopsAt f s x s'
   stops_same x s' a = record {
-    taken = a.taken; mine = a.mine; parts = a.parts; same_end = a.same_end; tries = a.tries;
+    taken = a.taken;
+    mine = a.mine;
+    parts = a.parts;
+    same_end = a.same_end;
+    tries = a.tries;
     untold = same s.rest s.end_line ∙ a.untold;
     again = λ t r n free. same (a.taken ++ t ∷ r) n ∙ a.again t r n free;
     passes = λ t r n is. subst (λ (q : Result (A × State) Fault). Passes r q) (sym (same (a.taken ++ t ∷ r) n)) (a.passes t r n is);
@@ -394,7 +398,14 @@ module _ {A : Type 0} (f g : Reader A) (s : State) (here : f s ≡ g s) (same : 
 
   abbrev fails_same : (e : Fault) → FailsAt g s e → FailsAt f s e
   fails_same e a = record {
-    taken = a.taken; left = a.left; mine = a.mine; parts = a.parts; line = a.line; place = a.place; fits = a.fits; tries = a.tries;
+    taken = a.taken;
+    left = a.left;
+    mine = a.mine;
+    parts = a.parts;
+    line = a.line;
+    place = a.place;
+    fits = a.fits;
+    tries = a.tries;
     untold = same s.rest s.end_line ∙ a.untold;
     again = λ t r r' n h. same (a.taken ++ t ∷ r') n ∙ a.again t r r' n h;
     refuses = λ is t r n free. subst (λ (q : Result (A × State) Fault). Refuses t q) (sym (same (a.taken ++ t ∷ r) n)) (a.refuses is t r n free);
@@ -438,22 +449,37 @@ unexpected_is case is = ap is_of_order is
 pub begins_first : {A : Type 0} (f g : Reader A) (s : State) → f s ≡ g s → ((ts : List Token) (n : ℕ) → kind_of ts ≡ kind_of s.rest → line_of ts n ≡ line_of s.rest s.end_line → f (with_rest n s ts) ≡ g (with_rest n s ts)) → Begins g s → Begins f s
 begins_first {A} f g s here same at = record {
   stops = λ x s' e.
-      let a = at.stops x s' (sym here ∙ e) in
-      (record {
-        taken = a.0.taken; mine = a.0.mine; parts = a.0.parts; same_end = a.0.same_end; tries = a.0.tries;
-        untold = same s.rest s.end_line refl refl ∙ a.0.untold;
-        again = λ t r n free. like a.0.taken s'.rest a.0.parts a.1 (t ∷ r) n ∙ a.0.again t r n free;
-        passes = λ t r n is. subst (λ (q : Result (A × State) Fault). Passes r q) (sym (like a.0.taken s'.rest a.0.parts a.1 (t ∷ r) n)) (a.0.passes t r n is);
-      }, a.1);
+      let a = at.stops x s' (sym here ∙ e) in (
+        record {
+          taken = a.0.taken;
+          mine = a.0.mine;
+          parts = a.0.parts;
+          same_end = a.0.same_end;
+          tries = a.0.tries;
+          untold = same s.rest s.end_line refl refl ∙ a.0.untold;
+          again = λ t r n free. like a.0.taken s'.rest a.0.parts a.1 (t ∷ r) n ∙ a.0.again t r n free;
+          passes = λ t r n is. subst (λ (q : Result (A × State) Fault). Passes r q) (sym (like a.0.taken s'.rest a.0.parts a.1 (t ∷ r) n)) (a.0.passes t r n is);
+        },
+        a.1,
+      );
   fails = λ e h.
-      let a = at.fails e (sym here ∙ h) in
-      (record {
-        taken = a.0.taken; left = a.0.left; mine = a.0.mine; parts = a.0.parts; line = a.0.line; place = a.0.place; fits = a.0.fits; tries = a.0.tries;
-        untold = same s.rest s.end_line refl refl ∙ a.0.untold;
-        again = λ t r r' n k. same (a.0.taken ++ t ∷ r') n (kind_same s.rest a.0.taken a.0.left t r r' a.0.parts k) (line_same s.rest a.0.taken a.0.left s.end_line n t r r' a.0.parts k) ∙ a.0.again t r r' n k;
-        refuses = λ is t r n free. subst (λ (q : Result (A × State) Fault). Refuses t q) (sym (like a.0.taken a.0.left a.0.parts (a.1 (unexpected_is e.case is)) (t ∷ r) n)) (a.0.refuses is t r n free);
-        passes = λ is t r n fit. subst (λ (q : Result (A × State) Fault). Passes r q) (sym (like a.0.taken a.0.left a.0.parts (a.1 (unexpected_is e.case is)) (t ∷ r) n)) (a.0.passes is t r n fit);
-      }, a.1);
+      let a = at.fails e (sym here ∙ h) in (
+        record {
+          taken = a.0.taken;
+          left = a.0.left;
+          mine = a.0.mine;
+          parts = a.0.parts;
+          line = a.0.line;
+          place = a.0.place;
+          fits = a.0.fits;
+          tries = a.0.tries;
+          untold = same s.rest s.end_line refl refl ∙ a.0.untold;
+          again = λ t r r' n k. same (a.0.taken ++ t ∷ r') n (kind_same s.rest a.0.taken a.0.left t r r' a.0.parts k) (line_same s.rest a.0.taken a.0.left s.end_line n t r r' a.0.parts k) ∙ a.0.again t r r' n k;
+          refuses = λ is t r n free. subst (λ (q : Result (A × State) Fault). Refuses t q) (sym (like a.0.taken a.0.left a.0.parts (a.1 (unexpected_is e.case is)) (t ∷ r) n)) (a.0.refuses is t r n free);
+          passes = λ is t r n fit. subst (λ (q : Result (A × State) Fault). Passes r q) (sym (like a.0.taken a.0.left a.0.parts (a.1 (unexpected_is e.case is)) (t ∷ r) n)) (a.0.passes is t r n fit);
+        },
+        a.1,
+      );
 } where
   like : (taken left : List Token) → s.rest ≡ taken ++ left → IsSome taken → (us : List Token) (n : ℕ) → f (with_rest n s (taken ++ us)) ≡ g (with_rest n s (taken ++ us))
   like taken left parts some us n = same (taken ++ us) n (same_kind s.rest taken left us parts some) (same_line s.rest taken left us n s.end_line parts some)

@@ -50,7 +50,15 @@ fault_at case s = record { case = case; line = line_of s.rest s.end_line; left =
 
 fails_at : {A : Type 0} (case : TextCase) (s : State) → CaseFits case (kind_of s.rest) → FailsAt (let f : Reader A = fail case in f) s (fault_at case s)
 fails_at case s fits = record {
-  taken = []; left = s.rest; mine = []; parts = refl; line = refl; place = refl; fits = fits; tries = refl; untold = refl;
+  taken = [];
+  left = s.rest;
+  mine = [];
+  parts = refl;
+  line = refl;
+  place = refl;
+  fits = fits;
+  tries = refl;
+  untold = refl;
   again = λ t r r' n h. rw h refl;
   refuses = λ is t r n free. (ap is_of_order is, refl, refl);
   passes = λ is t r n fit. none_admitted (Some t.kind) fit;
@@ -252,14 +260,28 @@ local_refusing {A} cs bars f s on other = by (admits cs (kind_of s.rest)) refl (
   by : (fit : Bool) → admits cs (kind_of s.rest) ≡ fit → (b : Option ℕ) → bars (kind_of s.rest) ≡ b → IsLocal f s
   by true is b bar = local_of f s (on s is)
   by false off None bar = local_err f s (fault_at told.Unexpected (missed_all cs s)) (other s off ∙ ap (λ (w : Option ℕ). let q : Result (A × State) Fault = refusal cs w s in q) bar) (record {
-    taken = []; left = s.rest; mine = cs; parts = refl; line = refl; place = refl; fits = tt; tries = refl;
+    taken = [];
+    left = s.rest;
+    mine = cs;
+    parts = refl;
+    line = refl;
+    place = refl;
+    fits = tt;
+    tries = refl;
     untold = other (hushed s) off ∙ ap (λ (w : Option ℕ). let q : Result (A × State) Fault = refusal cs w (hushed s) in q) bar ∙ ap (λ (w : Tried). let q : Result (A × State) Fault = Err (record { case = told.Unexpected; line = line_of s.rest s.end_line; left = left_of s.rest; tried = w }) in q) (noted_untold cs);
     again = λ t r r' n h. first t r r' n None h off bar ∙ ap (λ (w : Tried). let q : Result (A × State) Fault = Err (record { case = told.Unexpected; line = t.line; left = t.left; tried = w }) in q) (noted_untold cs) ∙ rw h refl;
     refuses = λ is t r n free. subst (λ (q : Result (A × State) Fault). Refuses t q) (sym (other (with_rest n s (t ∷ r)) free)) (refused (bars (Some t.kind)) t r n);
     passes = λ is t r n fit. passes_begins f (with_rest n s (t ∷ r)) t r refl (on (with_rest n s (t ∷ r)) fit);
   })
   by false off (Some wanted) bar = local_err f s (fault_at (told.ArgumentCount wanted) s) (other s off ∙ ap (λ (w : Option ℕ). let q : Result (A × State) Fault = refusal cs w s in q) bar) (record {
-    taken = []; left = s.rest; mine = []; parts = refl; line = refl; place = refl; fits = tt; tries = refl;
+    taken = [];
+    left = s.rest;
+    mine = [];
+    parts = refl;
+    line = refl;
+    place = refl;
+    fits = tt;
+    tries = refl;
     untold = other (hushed s) off ∙ ap (λ (w : Option ℕ). let q : Result (A × State) Fault = refusal cs w (hushed s) in q) bar;
     again = λ t r r' n h. first t r r' n (Some wanted) h off bar ∙ rw h refl;
     refuses = λ is t r n free. absurd cc;
@@ -276,12 +298,12 @@ local_test c test same f g s on off =
     local_match (c ∷ []) (peek >>= λ k. cond (test k) f (miss c >> g)) g s
     (λ u is. let holds = by (kind_of u.rest) true is in begins_peek (λ k. cond (test k) f (miss c >> g)) u (begins_if (test (kind_of u.rest)) f (miss c >> g) u (λ _. on u holds) (λ fails. absurd (let both = sym holds ∙ fails in cc))))
     (λ u free. other u (test (kind_of u.rest)) (by (kind_of u.rest) false free)) off where
-  by : (at : Option TokenKind) (b : Bool) → admits (c ∷ []) at ≡ b → test at ≡ b
-  by at b is = same at ∙ sym (admits_one c at) ∙ is
+      by : (at : Option TokenKind) (b : Bool) → admits (c ∷ []) at ≡ b → test at ≡ b
+      by at b is = same at ∙ sym (admits_one c at) ∙ is
 
-  other : (u : State) (b : Bool) → b ≡ false → (let h : Reader _ = cond b f (miss c >> g) in h u) ≡ g (missed_all (c ∷ []) u)
-  other u true fails = absurd cc
-  other u false fails = refl
+      other : (u : State) (b : Bool) → b ≡ false → (let h : Reader _ = cond b f (miss c >> g) in h u) ≡ g (missed_all (c ∷ []) u)
+      other u true fails = absurd cc
+      other u false fails = refl
 
 -- what is looked for before a token that is taken does not count
 joined_some : (taken : List Token) (cs ds : List Choice) → IsSome taken → joined taken cs ds ≡ cs
@@ -291,33 +313,37 @@ joined_some (t ∷ ts) cs ds some = refl
 pub begins_missed : {A : Type 0} (cs : List Choice) (g : Reader A) (s : State) → Begins g (missed_all cs s) → Begins (λ u. g (missed_all cs u)) s
 begins_missed {A} cs g s at = record {
   stops = λ x s' e.
-      let a = at.stops x s' e in
-      (record {
-        taken = a.0.taken;
-        mine = joined a.0.taken a.0.mine cs;
-        parts = a.0.parts;
-        same_end = a.0.same_end;
-        tries = a.0.tries ∙ tried_joined [] a.0.taken a.0.mine cs s.tried (noted_all cs s.tried) refl;
-        untold = alike s.rest s.end_line ∙ a.0.untold;
-        again = λ t r n free. alike (a.0.taken ++ t ∷ r) n ∙ a.0.again t r n (not_after a.0.taken a.0.mine cs (Some t.kind) free);
-        passes = λ t r n is. subst (λ (q : Result (A × State) Fault). Passes r q) (sym (alike (a.0.taken ++ t ∷ r) n)) (a.0.passes t r n (mine a.0.taken a.0.mine a.1 (Some t.kind) is));
-      }, a.1);
+      let a = at.stops x s' e in (
+        record {
+          taken = a.0.taken;
+          mine = joined a.0.taken a.0.mine cs;
+          parts = a.0.parts;
+          same_end = a.0.same_end;
+          tries = a.0.tries ∙ tried_joined [] a.0.taken a.0.mine cs s.tried (noted_all cs s.tried) refl;
+          untold = alike s.rest s.end_line ∙ a.0.untold;
+          again = λ t r n free. alike (a.0.taken ++ t ∷ r) n ∙ a.0.again t r n (not_after a.0.taken a.0.mine cs (Some t.kind) free);
+          passes = λ t r n is. subst (λ (q : Result (A × State) Fault). Passes r q) (sym (alike (a.0.taken ++ t ∷ r) n)) (a.0.passes t r n (mine a.0.taken a.0.mine a.1 (Some t.kind) is));
+        },
+        a.1,
+      );
   fails = λ e h.
-      let a = at.fails e h in
-      (record {
-        taken = a.0.taken;
-        left = a.0.left;
-        mine = joined a.0.taken a.0.mine cs;
-        parts = a.0.parts;
-        line = a.0.line;
-        place = a.0.place;
-        fits = a.0.fits;
-        tries = a.0.tries ∙ tried_joined [] a.0.taken a.0.mine cs s.tried (noted_all cs s.tried) refl;
-        untold = alike s.rest s.end_line ∙ a.0.untold;
-        again = λ t r r' n k. alike (a.0.taken ++ t ∷ r') n ∙ a.0.again t r r' n k;
-        refuses = λ is t r n free. subst (λ (q : Result (A × State) Fault). Refuses t q) (sym (alike (a.0.taken ++ t ∷ r) n)) (a.0.refuses is t r n (not_after a.0.taken a.0.mine cs (Some t.kind) free));
-        passes = λ is t r n fit. subst (λ (q : Result (A × State) Fault). Passes r q) (sym (alike (a.0.taken ++ t ∷ r) n)) (a.0.passes is t r n (mine a.0.taken a.0.mine (a.1 (ap is_of_order is)) (Some t.kind) fit));
-      }, a.1);
+      let a = at.fails e h in (
+        record {
+          taken = a.0.taken;
+          left = a.0.left;
+          mine = joined a.0.taken a.0.mine cs;
+          parts = a.0.parts;
+          line = a.0.line;
+          place = a.0.place;
+          fits = a.0.fits;
+          tries = a.0.tries ∙ tried_joined [] a.0.taken a.0.mine cs s.tried (noted_all cs s.tried) refl;
+          untold = alike s.rest s.end_line ∙ a.0.untold;
+          again = λ t r r' n k. alike (a.0.taken ++ t ∷ r') n ∙ a.0.again t r r' n k;
+          refuses = λ is t r n free. subst (λ (q : Result (A × State) Fault). Refuses t q) (sym (alike (a.0.taken ++ t ∷ r) n)) (a.0.refuses is t r n (not_after a.0.taken a.0.mine cs (Some t.kind) free));
+          passes = λ is t r n fit. subst (λ (q : Result (A × State) Fault). Passes r q) (sym (alike (a.0.taken ++ t ∷ r) n)) (a.0.passes is t r n (mine a.0.taken a.0.mine (a.1 (ap is_of_order is)) (Some t.kind) fit));
+        },
+        a.1,
+      );
 } where
   alike : (ts : List Token) (n : ℕ) → g (missed_all cs (with_rest n s ts)) ≡ g (with_rest n s ts)
   alike ts n = ap (λ (w : Tried). g (record s { rest = ts; end_line = n; tried = w })) (noted_untold cs)
@@ -333,13 +359,13 @@ within_turns goes_on turn progress each zero x s few = absurd (omega arith)
 within_turns {A} goes_on turn progress each (suc n) x s few =
     subst (λ (q : Result (A × State) Fault). Within s.rest q) (while_choice goes_on turn progress x s)
     (by (λ y s' on took. let less : length s'.rest < length s.rest = progress x s y s' on took in within_turns goes_on turn progress each n y s' (omega arith)) (goes_on (kind_of s.rest)) refl) where
-  after : ((y : A) (s' : State) → turn x s ≡ Ok (y, s') → Within s'.rest (while_next goes_on turn y s')) → (r : Result (A × State) Fault) → turn x s ≡ r → Within s.rest r → Within s.rest (then_read r (while_next goes_on turn))
-  after next (Ok y) took at = within_ends y.1.rest s.rest (while_next goes_on turn y.0 y.1) at (next y.0 y.1 took)
-  after next (Err e) took at = at
+      after : ((y : A) (s' : State) → turn x s ≡ Ok (y, s') → Within s'.rest (while_next goes_on turn y s')) → (r : Result (A × State) Fault) → turn x s ≡ r → Within s.rest r → Within s.rest (then_read r (while_next goes_on turn))
+      after next (Ok y) took at = within_ends y.1.rest s.rest (while_next goes_on turn y.0 y.1) at (next y.0 y.1 took)
+      after next (Err e) took at = at
 
-  by : ((y : A) (s' : State) → goes_on (kind_of s.rest) ≡ true → turn x s ≡ Ok (y, s') → Within s'.rest (while_next goes_on turn y s')) → (b : Bool) → goes_on (kind_of s.rest) ≡ b → Within s.rest (cond b (turn x >>= while_next goes_on turn) (give x) s)
-  by next true on = after (λ y s' took. next y s' on took) (turn x s) refl (each x s on)
-  by next false off = ([], refl)
+      by : ((y : A) (s' : State) → goes_on (kind_of s.rest) ≡ true → turn x s ≡ Ok (y, s') → Within s'.rest (while_next goes_on turn y s')) → (b : Bool) → goes_on (kind_of s.rest) ≡ b → Within s.rest (cond b (turn x >>= while_next goes_on turn) (give x) s)
+      by next true on = after (λ y s' took. next y s' on took) (turn x s) refl (each x s on)
+      by next false off = ([], refl)
 
 pub within_while : {A : Type 0} (goes_on : Option TokenKind → Bool) (turn : A → Reader A) → Progresses goes_on turn → ((x : A) (s : State) → goes_on (kind_of s.rest) ≡ true → Within s.rest (turn x s)) → GoesOn (while_next goes_on turn)
 within_while goes_on turn progress each x s = within_turns goes_on turn progress each (suc (length s.rest)) x s (omega arith)
@@ -373,12 +399,12 @@ module _ {A : Type 0} (c : Choice) (goes_on : Option TokenKind → Bool) (turn :
   local_turns (suc n) x s few =
       local_choice (c ∷ []) (until c goes_on turn x) (give x) s (admits (c ∷ []) (kind_of s.rest)) refl
       (λ is. let on = on_by (kind_of s.rest) is in
-          local_of (until c goes_on turn x) s
-          (begins_first (until c goes_on turn x) (turn x >>= until c goes_on turn) s (until_by x s true on) (λ ts m k l. until_by x (with_rest m s ts) true (ap goes_on k ∙ on))
-          (begins_after (turn x) (until c goes_on turn) s until_goes_on (each x s on) (λ y s' took. let less : length s'.rest < length s.rest = progress x s y s' on took in local_turns n y s' (omega arith)))))
+      local_of (until c goes_on turn x) s
+      (begins_first (until c goes_on turn x) (turn x >>= until c goes_on turn) s (until_by x s true on) (λ ts m k l. until_by x (with_rest m s ts) true (ap goes_on k ∙ on))
+      (begins_after (turn x) (until c goes_on turn) s until_goes_on (each x s on) (λ y s' took. let less : length s'.rest < length s.rest = progress x s y s' on took in local_turns n y s' (omega arith)))))
       (λ t r m is. let on = on_by (Some t.kind) is in
-          subst (λ (q : Result (A × State) Fault). Passes r q) (sym (until_by x (with_rest m s (t ∷ r)) true on))
-          (passes_then r (turn x (with_rest m s (t ∷ r))) (until c goes_on turn) until_goes_on (passes_begins (turn x) (with_rest m s (t ∷ r)) t r refl (each x (with_rest m s (t ∷ r)) on))))
+      subst (λ (q : Result (A × State) Fault). Passes r q) (sym (until_by x (with_rest m s (t ∷ r)) true on))
+      (passes_then r (turn x (with_rest m s (t ∷ r))) (until c goes_on turn) until_goes_on (passes_begins (turn x) (with_rest m s (t ∷ r)) t r refl (each x (with_rest m s (t ∷ r)) on))))
       (λ u free. until_by x u false (off_by (kind_of u.rest) free))
       (local_give x (missed_all (c ∷ []) s))
 
@@ -424,7 +450,14 @@ module _ {A : Type 0} (goes_on : Option TokenKind → Bool) (turn : A → Reader
     fails = λ e h.
         let a = turn_fails x s next on e (sym (while_on goes_on turn progress x s on) ∙ h) in
         record {
-          taken = a.taken; left = a.left; mine = a.mine; parts = a.parts; line = a.line; place = a.place; fits = a.fits; tries = a.tries;
+          taken = a.taken;
+          left = a.left;
+          mine = a.mine;
+          parts = a.parts;
+          line = a.line;
+          place = a.place;
+          fits = a.fits;
+          tries = a.tries;
           untold = while_on goes_on turn progress x (hushed s) on ∙ a.untold;
           again = λ t r r' m k. at_some x s a.taken t r' m ∙ a.again t r r' m k;
           refuses = λ is t r m free. subst (λ (q : Result (A × State) Fault). Refuses t q) (sym (at_some x s a.taken t r m)) (a.refuses is t r m free);

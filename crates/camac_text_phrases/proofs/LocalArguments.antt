@@ -29,10 +29,10 @@ local_counted w shows wanted s =
     (begins_if (is_sign w (kind_of u.rest)) advance (cond (shows (kind_of u.rest)) (fail (told.ArgumentCount wanted)) (unexpected (choice.Mark w))) u
     (λ _. begins_advance u (here_admitted (choice.Mark w ∷ []) u is)) (λ not_it. absurd (let both = sym (admits_one (choice.Mark w) (kind_of u.rest) ∙ not_it) ∙ is in cc))))
     (λ u free. by u (is_sign w (kind_of u.rest)) (shows (kind_of u.rest)) (sym (admits_one (choice.Mark w) (kind_of u.rest)) ∙ free)) where
-  by : (u : State) (b shown : Bool) → b ≡ false → (let f : Reader (Unit {0}) = cond b advance (cond shown (fail (told.ArgumentCount wanted)) (unexpected (choice.Mark w))) in f u) ≡ refusal (choice.Mark w ∷ []) (wants wanted shown) u
-  by u true shown free = absurd cc
-  by u false true free = refl
-  by u false false free = refl
+      by : (u : State) (b shown : Bool) → b ≡ false → (let f : Reader (Unit {0}) = cond b advance (cond shown (fail (told.ArgumentCount wanted)) (unexpected (choice.Mark w))) in f u) ≡ refusal (choice.Mark w ∷ []) (wants wanted shown) u
+      by u true shown free = absurd cc
+      by u false true free = refl
+      by u false false free = refl
 
 no_value : (k : Option TokenKind) → admits values k ≡ true → is_sign sign.RightBracket k ≡ true → ⊥
 no_value (Some (kind.Sign sign.RightBracket)) is ends = absurd cc
@@ -44,9 +44,9 @@ local_argument wanted room [] s =
     (λ u is. begins_peek (λ k. cond (is_sign sign.RightBracket k) (fail (told.ArgumentCount wanted)) (expression_at room)) u
     (begins_if (is_sign sign.RightBracket (kind_of u.rest)) (fail (told.ArgumentCount wanted)) (expression_at room) u (λ ends. absurd (no_value (kind_of u.rest) is ends)) (λ _. begins_expression room u is)))
     (λ u free. by u (is_sign sign.RightBracket (kind_of u.rest)) (no_expression room u free)) where
-  by : (u : State) (ends : Bool) → expression_at room u ≡ refusal values None u → (let f : Reader Expression = cond ends (fail (told.ArgumentCount wanted)) (expression_at room) in f u) ≡ refusal values (wants wanted ends) u
-  by u true refused = refl
-  by u false refused = refused
+      by : (u : State) (ends : Bool) → expression_at room u ≡ refusal values None u → (let f : Reader Expression = cond ends (fail (told.ArgumentCount wanted)) (expression_at room) in f u) ≡ refusal values (wants wanted ends) u
+      by u true refused = refl
+      by u false refused = refused
 local_argument wanted room (x ∷ xs) s =
     local_then (counted_sign sign.Comma (is_sign sign.RightBracket) wanted) (λ _. expression_at room) s (local_counted sign.Comma (is_sign sign.RightBracket) wanted s) (λ _ u. local_expression room u)
 
