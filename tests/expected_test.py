@@ -1,10 +1,10 @@
 #!/usr/bin/env python3
 """Tests that the parser takes at a place exactly the tokens that `explain` names, for every token of the language.
 
-usage: tests/expected_test.py [-v] [TEST ..]     from any folder; takes about a minute
+usage: tests/expected_test.py [-v] [TEST ..]     from any folder; takes about twenty seconds
 
 A token may be there if the text up to the fault, followed by that token, is not refused by S2 at that token. A name and a number stand for
-their whole kinds: which name or number fits, other rules say. CAMAC_CASES is how many changed scripts with such a fault are tried, 300
+their whole kinds: which name or number fits, other rules say. CAMAC_CASES is how many changed scripts with such a fault are tried, 100
 if it is not set. SEED begins them, 1 if it is not set.
 """
 import concurrent.futures
@@ -129,7 +129,7 @@ class Expected(unittest.TestCase):
         self.assertNotRegex(call("check", FORMS), "^refused S")
 
     def test_changed_scripts(self):
-        wanted, tried, first = int(os.environ.get("CAMAC_CASES", "300")), 0, os.environ.get("SEED", "1")
+        wanted, tried, first = int(os.environ.get("CAMAC_CASES", "100")), 0, os.environ.get("SEED", "1")
         seeds = (f"expected {first} {i}" for i in range(20 * wanted))
         with concurrent.futures.ThreadPoolExecutor(os.cpu_count()) as pool:
             while tried < wanted:
