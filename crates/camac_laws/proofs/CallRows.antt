@@ -2,27 +2,13 @@
 use Rattle.std.proofs.Common.{◌≡◌, ℕ, [], ◌∷◌, List, Some, None, true, refl}
 use Rattle.std.specs.Prelude.{codes}
 use Rattle.camac_func.specs.declared.data.DataMove.TheVariants as moved
-use Rattle.camac_lang.specs.declared.word.WordSize.TheVariants.{Full}
-use Rattle.camac_lang.specs.Tree.{number, variable, add, into, set_register, single, put, call, Procedure, Script}
+use Rattle.camac_lang.specs.Tree.{number, variable, add, call, Procedure, Script}
 use Rattle.camac_lang.specs.View.{block_of}
 use Rattle.camac_lang.specs.Scope.{is_well_formed}
 use Rattle.camac_branch.specs.Branch.{Answer}
 use Rattle.camac_model.specs.Behaviour.{Behaviour, pieces, stop_of, event_left, wrong}
-use Rattle.camac_model.specs.Sample.{sample_plan, script_of, opening, with_r, r, demand, good, reply, cycle_at, event, called, doing, served}
+use Rattle.camac_model.specs.Sample.{sample_plan, script_of, opening, get, demand, good, reply, cycle_at, event, called, doing, served}
 use Rattle.camac_laws.specs.Calls.{guarded_run}
-
--- reads a sub-address from 0 to 11
-abbrev get : Procedure
-get = record {
-  line = 3;
-  name = codes "get";
-  parameters = record { name = codes "s"; low = 0; high = 11 } ∷ [];
-  cycles = 3;
-  words = 1;
-  steps = 3;
-  registers = with_r;
-  body = block_of (set_register 4 r (number 1) (number 5) (variable 0) ∷ single 5 Full 0 r (into 0) ∷ put 6 (variable 0) ∷ []);
-}
 
 -- called for sub-address 0, and then for this one
 abbrev calls : ℕ → Script

@@ -19,7 +19,8 @@ use Rattle.camac_model.proofs.Headline.{fine_services_run}
 use Rattle.camac_rules.specs.Accept.{accept}
 use Rattle.camac_rules.proofs.Accepted.{accepted_fine}
 use Rattle.camac_rules.proofs.Lockless.{block_lockless}
-use Rattle.camac_rules.proofs.ProcedureOrders.{AreNumbers, order_procedures, parameters_are_numbers}
+use Rattle.camac_rules.proofs.Orders.{order_procedures}
+use Rattle.camac_rules.proofs.ParameterNumbers.{AreNumbers, parameters_are_numbers}
 use Rattle.camac_rules.proofs.Routines.{called, AreSmall, RoutineSound}
 use Rattle.camac_rules.proofs.Services.{procedures_in}
 use Rattle.camac_rules.proofs.Settings.{found_at, AreLockless, are_lockless}

@@ -18,7 +18,8 @@ use Rattle.camac_rules.specs.Accept.{of_procedure, of_service, sections, at_star
 use Rattle.camac_rules.proofs.Actions.{Setting, HasWidths, seen}
 use Rattle.camac_rules.proofs.Accepted.{lockless, first_accepted, in_range_small, at_call}
 use Rattle.camac_rules.proofs.Lockless.{block_has_lock}
-use Rattle.camac_rules.proofs.ProcedureOrders.{AreNumbers, order_procedures, parameters_are_numbers}
+use Rattle.camac_rules.proofs.Orders.{order_procedures}
+use Rattle.camac_rules.proofs.ParameterNumbers.{AreNumbers, parameters_are_numbers}
 use Rattle.camac_rules.proofs.Routines.{called, Serves, entry_reached}
 use Rattle.camac_rules.proofs.Services.{outermost, start_inside}
 use Rattle.camac_rules.proofs.Settings.{setting, Matched, found_at, AreLockless}

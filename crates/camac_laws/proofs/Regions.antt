@@ -199,40 +199,29 @@ module _ (plan : Layout) (f : ℕ) (g : Region) (w : Interval) (e : region_width
   abbrev OfStation : ℕ → ℕ → Option Interval
   OfStation c n = station_widths plan f g.sub_addresses c n
 
-  crate_ends : IsEnd OfCrate g.crates.lo (count_below crate_end g.crates) (λ r. r.lo) w.lo × IsEnd OfCrate g.crates.lo (count_below crate_end g.crates) (λ r. r.hi) w.hi
-  crate_ends = hull_ends OfCrate g.crates.lo (count_below crate_end g.crates) w e
+  -- at an address of the region, by the ends of this side
+  end_of : (side : Interval → ℕ) → ((o : ℕ → Option Interval) (lo n : ℕ) (v : Interval) → hull_from o lo n ≡ Some v → IsEnd o lo n side (side v)) → ((c n : ℕ) (v : Interval) → OfStation c n ≡ Some v → IsSub plan f g.sub_addresses c n (side v))
+      → (c n a : ℕ) × IsIn g c n a × (allowed plan (address c n a) f ≡ Some (side w))
+  end_of side hull station =
+      let one = hull OfCrate g.crates.lo (count_below crate_end g.crates) w e in
+      let two = hull (OfStation one.at) g.stations.lo (count_below station_end g.stations) one.part one.is in
+      let three = station one.at two.at two.part two.is in
+      let c_low = one.low in
+      let c_high = one.high in
+      let n_low = two.low in
+      let n_high = two.high in (
+        one.at,
+        two.at,
+        three.at,
+        record { crate_no = record { low = c_low; high = omega arith }; station = record { low = n_low; high = omega arith }; sub_address = three.inside },
+        three.is ∙ ap Some (two.same ∙ one.same),
+      )
 
   least_of : (c n a : ℕ) × IsIn g c n a × (allowed plan (address c n a) f ≡ Some w.lo)
-  least_of =
-      let one = crate_ends.0 in
-      let two = (hull_ends (OfStation one.at) g.stations.lo (count_below station_end g.stations) one.part one.is).0 in
-      let three = (station_ends plan f g.sub_addresses one.at two.at two.part two.is).0 in
-      let c_low = one.low in
-      let c_high = one.high in
-      let n_low = two.low in
-      let n_high = two.high in (
-        one.at,
-        two.at,
-        three.at,
-        record { crate_no = record { low = c_low; high = omega arith }; station = record { low = n_low; high = omega arith }; sub_address = three.inside },
-        three.is ∙ ap Some (two.same ∙ one.same),
-      )
+  least_of = end_of (λ r. r.lo) (λ o lo n v is. (hull_ends o lo n v is).0) (λ c n v is. (station_ends plan f g.sub_addresses c n v is).0)
 
   greatest_of : (c n a : ℕ) × IsIn g c n a × (allowed plan (address c n a) f ≡ Some w.hi)
-  greatest_of =
-      let one = crate_ends.1 in
-      let two = (hull_ends (OfStation one.at) g.stations.lo (count_below station_end g.stations) one.part one.is).1 in
-      let three = (station_ends plan f g.sub_addresses one.at two.at two.part two.is).1 in
-      let c_low = one.low in
-      let c_high = one.high in
-      let n_low = two.low in
-      let n_high = two.high in (
-        one.at,
-        two.at,
-        three.at,
-        record { crate_no = record { low = c_low; high = omega arith }; station = record { low = n_low; high = omega arith }; sub_address = three.inside },
-        three.is ∙ ap Some (two.same ∙ one.same),
-      )
+  greatest_of = end_of (λ r. r.hi) (λ o lo n v is. (hull_ends o lo n v is).1) (λ c n v is. (station_ends plan f g.sub_addresses c n v is).1)
 
   each_of : are_stations plan g ≡ true → (c n a : ℕ) → IsIn g c n a → (k : ℕ) × (allowed plan (address c n a) f ≡ Some k) × IsWithin w k
   each_of there c n a i =

@@ -161,11 +161,11 @@ told_stepwise = record {
   on_release = λ l c s h. (tt, record { at = lock_told l s.branch c false h.at });
 }
 
-abbrev NoneTold : Locked → List Answer → Type 0
+abbrev pub NoneTold : Locked → List Answer → Type 0
 NoneTold l answers = (c : ℕ) → l c ≡ false
 
 module _ (plan : Layout) (script : Script) where
-  told_service : (l : Locked) (a : Answer) (rest : List Answer) (p : ℕ) (v : Chosen) (b : Branch) → slice_get script.services v.number ≡ Some v.service → NoneTold l (a ∷ rest)
+  pub told_service : (l : Locked) (a : Answer) (rest : List Answer) (p : ℕ) (v : Chosen) (b : Branch) → slice_get script.services v.number ≡ Some v.service → NoneTold l (a ∷ rest)
       → NoneHeld l (demanded p (Some v.number)) × Meets locked_after NoneHeld AnyStop (λ y s. NoneHeld y (event_left (event_of v.bit s)) × NoneTold y s.answers) l (service_meaning (context plan script) 65535 v.service b rest)
   told_service l a rest p v b listed none =
       let o : Behaviour State = service_meaning (context plan script) 65535 v.service b rest in (

@@ -7,21 +7,9 @@ use Rattle.camac_lang.specs.Tree.{plain, flag_q, add, number, variable, no_data,
 use Rattle.camac_lang.specs.View.{block_of}
 use Rattle.camac_lang.specs.Scope.{is_well_formed}
 use Rattle.camac_model.specs.Behaviour.{stop_of, items, lock_taken, lock_released, event_left, wrong}
-use Rattle.camac_model.specs.Sample.{script_of, opening, v, k, with_r, r, register, answer, good, reply, cycle_at, event, called, doing, served, left_by}
+use Rattle.camac_model.specs.Sample.{script_of, opening, get, v, k, with_r, r, register, answer, good, reply, cycle_at, event, called, doing, served, left_by}
 
 -- procedure-calls: the callee's variables and registers are its own
-abbrev get : Procedure
-get = record {
-  line = 3;
-  name = codes "get";
-  parameters = record { name = codes "s"; low = 0; high = 11 } ∷ [];
-  cycles = 3;
-  words = 1;
-  steps = 3;
-  registers = with_r;
-  body = block_of (set_register 4 r (number 1) (number 5) (variable 0) ∷ single 5 Full 0 r (into 0) ∷ put 6 (variable 0) ∷ []);
-}
-
 abbrev calls : Script
 calls = script_of opening [] (get ∷ []) 6 2 [] (call 9 0 (number 0 ∷ []) ∷ call 10 0 (number 11 ∷ []) ∷ [])
 

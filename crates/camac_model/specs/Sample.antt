@@ -2,7 +2,8 @@
 use Rattle.std.specs.Prelude.{ℕ, zero, suc, List, [], ◌∷◌, Option, Some, None, codes, Bool, true, false, length, option_map, slice_get}
 use Rattle.camac_module.specs.Entry.{Entry, Entries}
 use Rattle.camac_lang.specs.View.{block_of}
-use Rattle.camac_lang.specs.Tree.{Text, number, Statement, set_register, Table, Lam, next_table, next_lam, next_variables, next_procedure, next_service, Procedure, Script}
+use Rattle.camac_lang.specs.declared.word.WordSize.TheVariants.{Full}
+use Rattle.camac_lang.specs.Tree.{Text, number, variable, into, Statement, set_register, single, put, Table, Lam, next_table, next_lam, next_variables, next_procedure, next_service, Procedure, Script}
 use Rattle.camac_func.specs.declared.data.DataMove.{DataMove}
 use Rattle.camac_branch.specs.declared.plan.Kind.{Kind}
 use Rattle.camac_branch.specs.declared.plan.Crate.{Crate}
@@ -103,6 +104,19 @@ s = 1
 -- `cdreg` of a register, on line 4, in crate 1
 abbrev pub register : (register station sub_address : ℕ) → Statement
 register g n a = set_register 4 g (number 1) (number n) (number a)
+
+-- a procedure that reads the converter at a sub-address from 0 to 11
+abbrev pub get : Procedure
+get = record {
+  line = 3;
+  name = codes "get";
+  parameters = record { name = codes "s"; low = 0; high = 11 } ∷ [];
+  cycles = 3;
+  words = 1;
+  steps = 3;
+  registers = with_r;
+  body = block_of (set_register 4 r (number 1) (number 5) (variable 0) ∷ single 5 Full 0 r (into 0) ∷ put 6 (variable 0) ∷ []);
+}
 
 -- the standard opening with this heading and these registers
 abbrev pub script : (cycles words : ℕ) → List Text → List Statement → Script

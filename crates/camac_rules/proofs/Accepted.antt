@@ -18,8 +18,8 @@ use Rattle.camac_rules.specs.Laws.{AcceptedAreFine, AcceptedProceduresAreFine, A
 use Rattle.camac_rules.proofs.Lockless.{block_lockless}
 use Rattle.camac_rules.proofs.Settings.{found_at, AreLockless, are_lockless}
 use Rattle.camac_rules.proofs.Services.{services_in, procedures_in, AreFirst, items_accepted, all_fine, all_within}
-use Rattle.camac_rules.proofs.Orders.{order_services}
-use Rattle.camac_rules.proofs.ProcedureOrders.{AreNumbers, order_procedures, parameters_are_numbers}
+use Rattle.camac_rules.proofs.Orders.{order_procedures, order_services}
+use Rattle.camac_rules.proofs.ParameterNumbers.{AreNumbers, parameters_are_numbers}
 use Rattle.camac_rules.proofs.Stores.{Place}
 use Rattle.camac_rules.proofs.Sound.{Paid, Sound}
 use Rattle.camac_rules.proofs.Routines.{called, AreSmall, RoutineSound}

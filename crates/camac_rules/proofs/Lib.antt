@@ -27,7 +27,7 @@ pub mod Lockless
 pub mod Routines
 pub mod Services
 pub mod Orders
-pub mod ProcedureOrders
+pub mod ParameterNumbers
 pub mod Accepted
 mod Rows
 mod Arms

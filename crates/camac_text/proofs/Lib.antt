@@ -6,6 +6,7 @@ pub mod ProceduresRead
 pub mod Declares
 pub mod Fitting
 pub mod NamesStand
+pub mod Extends
 pub mod Sofar
 pub mod ServicesStand
 pub mod ProceduresStand

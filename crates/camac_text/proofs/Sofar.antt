@@ -1,15 +1,16 @@
 -- The declarations so far are well formed: tables, LAMs and variables.
-use Rattle.std.proofs.Common.{◌≡◌, ℕ, ◌+◌, ◌≤◌, ◌<◌, Bool, true, false, ◌&&◌, nat_eq, nat_le, List, [], ◌∷◌, ◌++◌, length, take, drop, Some, refl, sym, ap, subst, ◌∙◌, append_assoc, length-append, arith}
+use Rattle.std.proofs.Common.{◌≡◌, ℕ, ◌+◌, ◌≤◌, ◌<◌, Bool, true, false, ◌&&◌, nat_eq, nat_le, List, [], ◌∷◌, ◌++◌, length, take, drop, Some, None, refl, sym, ap, subst, ◌∙◌, length-append, arith}
 use Rattle.std.specs.Prelude.{slice_get, option_and_then}
 use Rattle.camac_lang.specs.Scope.{Before, are_declarable, table_stands, lam_stands, with_table, with_lam, with_variables, declared, all_declared, nothing_before}
 use Rattle.camac_lang.specs.Statements.{statements}
 use Rattle.camac_lang.specs.Tests.{unless_broken, total, most, is_new, is_number, is_sub_address}
 use Rattle.camac_lang.specs.Tree.{Text, Table, Lam, Procedure, Service, next_table, next_lam, next_variables, Script}
 use Rattle.camac_text_cursor.specs.Reading.{State}
-use Rattle.camac_text_cursor.specs.Declaring.{with_table as table_added, with_lam as lam_added, with_variables_of}
+use Rattle.camac_text_cursor.specs.Declaring.{with_table as table_added, with_lam as lam_added, with_variables_of, tree_so_far}
 use Rattle.camac_text_cursor.proofs.Moves.{AllFit}
 use Rattle.camac_text_cursor.proofs.Registers.{both, below_le}
 use Rattle.camac_text.proofs.Declares.{VariableDeclaration, LamDeclaration}
+use Rattle.camac_text.proofs.Extends as tree
 use Rattle.camac_text.proofs.TablesRead.{TableDeclaration}
 use Rattle.camac_text.proofs.Listed.{declared_push, at_place, between, same_number, declarable_same, prefix_or_after}
 
@@ -28,17 +29,8 @@ before_of names s = record {
 }
 
 -- a tree that has these declarations, and perhaps more
-pub record Extends (s : State) (t : Script) : Type 0 where
-  pub tables : List Table
-  pub tables_are : t.tables ≡ s.tables ++ tables
-  pub lams : List Lam
-  pub lams_are : t.lams ≡ s.lams ++ lams
-  pub variables : List Text
-  pub variables_are : t.variables ≡ s.variables ++ variables
-  pub procedures : List Procedure
-  pub procedures_are : t.procedures ≡ s.procedures ++ procedures
-  pub services : List Service
-  pub services_are : t.services ≡ s.services ++ services
+abbrev pub Extends : State → Script → Type 0
+Extends s t = tree.Extends (tree_so_far s) t
 
 -- the declarations so far are well formed
 pub record Sofar (s : State) : Type 0 where
@@ -59,20 +51,6 @@ pub record Sofar (s : State) : Type 0 where
   pub few_statements : s.statements ≤ 4096
 
 -- ---- one more table
-
-table_extends : (s u : State) (g : Table) (t : Script) → Extends (table_added g (record s { rest = u.rest; tried = u.tried })) t → Extends s t
-table_extends s u g t x = record {
-  tables = g ∷ x.tables;
-  tables_are = x.tables_are ∙ append_assoc s.tables (g ∷ []) x.tables;
-  lams = x.lams;
-  lams_are = x.lams_are;
-  variables = x.variables;
-  variables_are = x.variables_are;
-  procedures = x.procedures;
-  procedures_are = x.procedures_are;
-  services = x.services;
-  services_are = x.services_are;
-}
 
 table_next : (s u : State) (g : Table) (names : List Text) (t : Script) → Extends (table_added g (record s { rest = u.rest; tried = u.tried })) t → table_stands (before_of names s) g ≡ true → declared t (before_of names s) next_table ≡ Some (before_of (g.name ∷ names) (table_added g (record s { rest = u.rest; tried = u.tried })))
 table_next s u g names t x stands =
@@ -97,7 +75,7 @@ table_sofar s s' so d =
       no_registers = so.no_registers;
       names = g.name ∷ so.names;
       same_names = prefix_or_after (g.name ∷ []) so.names s.declared so.same_names;
-      walked = λ t x. declared_push t nothing_before s.order next_table (before_of so.names s) (before_of (g.name ∷ so.names) v) (so.walked t (table_extends s u g t x)) (table_next s u g so.names t x stands);
+      walked = λ t x. declared_push t nothing_before s.order next_table (before_of so.names s) (before_of (g.name ∷ so.names) v) (so.walked t (tree.fewer (Some (g ∷ [])) None None None None x)) (table_next s u g so.names t x stands);
       few_tables = omega arith;
       counted_variables = so.counted_variables;
       few_variables = so.few_variables;
@@ -110,20 +88,6 @@ table_sofar s s' so d =
     })
 
 -- ---- one more LAM
-
-lam_extends : (s u : State) (l : Lam) (t : Script) → Extends (lam_added l (record s { rest = u.rest; tried = u.tried })) t → Extends s t
-lam_extends s u l t x = record {
-  tables = x.tables;
-  tables_are = x.tables_are;
-  lams = l ∷ x.lams;
-  lams_are = x.lams_are ∙ append_assoc s.lams (l ∷ []) x.lams;
-  variables = x.variables;
-  variables_are = x.variables_are;
-  procedures = x.procedures;
-  procedures_are = x.procedures_are;
-  services = x.services;
-  services_are = x.services_are;
-}
 
 lam_keeps : (names : List Text) (s : State) (l : Lam) → are_declarable (l.name ∷ []) names ≡ true → is_number l.crate_no ≡ true → is_number l.station ≡ true → is_sub_address l.sub_address ≡ true → lam_stands (before_of names s) l ≡ true
 lam_keeps names s l name c n a = both _ _ name (both _ _ c (both _ _ n a))
@@ -151,7 +115,7 @@ lam_sofar s s' so d =
       no_registers = so.no_registers;
       names = l.name ∷ so.names;
       same_names = prefix_or_after (l.name ∷ []) so.names s.declared so.same_names;
-      walked = λ t x. declared_push t nothing_before s.order next_lam (before_of so.names s) (before_of (l.name ∷ so.names) v) (so.walked t (lam_extends s u l t x)) (lam_next s u l so.names t x stands);
+      walked = λ t x. declared_push t nothing_before s.order next_lam (before_of so.names s) (before_of (l.name ∷ so.names) v) (so.walked t (tree.fewer None (Some (l ∷ [])) None None None x)) (lam_next s u l so.names t x stands);
       few_tables = so.few_tables;
       counted_variables = so.counted_variables;
       few_variables = so.few_variables;
@@ -164,20 +128,6 @@ lam_sofar s s' so d =
     })
 
 -- ---- more variables
-
-variables_extend : (s u : State) (line n : ℕ) (xs : List Text) (t : Script) → Extends (with_variables_of line n (record s { rest = u.rest; variables = s.variables ++ xs; variable_count = s.variable_count + length xs; declared = s.declared ++ xs; tried = u.tried })) t → Extends s t
-variables_extend s u line n xs t x = record {
-  tables = x.tables;
-  tables_are = x.tables_are;
-  lams = x.lams;
-  lams_are = x.lams_are;
-  variables = xs ++ x.variables;
-  variables_are = x.variables_are ∙ append_assoc s.variables xs x.variables;
-  procedures = x.procedures;
-  procedures_are = x.procedures_are;
-  services = x.services;
-  services_are = x.services_are;
-}
 
 variables_stand : (names xs : List Text) (n : ℕ) → length xs ≡ n → 1 ≤ n → are_declarable xs names ≡ true → (nat_le 1 n && (nat_eq (length xs) n && are_declarable xs names)) ≡ true
 variables_stand names xs n e some h = both _ _ (below_le 1 n some) (both _ _ (ap (λ (m : ℕ). nat_eq m n) e ∙ same_number n) h)
@@ -204,7 +154,7 @@ variables_sofar s s' so d =
       no_registers = so.no_registers;
       names = xs ++ so.names;
       same_names = prefix_or_after xs so.names s.declared so.same_names;
-      walked = λ t x. declared_push t nothing_before s.order (next_variables d.line d.count) (before_of so.names s) (before_of (xs ++ so.names) v) (so.walked t (variables_extend s u d.line d.count xs t x)) (variables_next s u d.line d.count xs so.names t x d.variables.counted d.some new);
+      walked = λ t x. declared_push t nothing_before s.order (next_variables d.line d.count) (before_of so.names s) (before_of (xs ++ so.names) v) (so.walked t (tree.fewer None None (Some xs) None None x)) (variables_next s u d.line d.count xs so.names t x d.variables.counted d.some new);
       few_tables = so.few_tables;
       counted_variables = let longer : length (s.variables ++ xs) ≡ length s.variables + length xs = length-append s.variables xs in let before : s.variable_count ≡ length s.variables + total (λ (p : Procedure). length p.parameters) s.procedures = so.counted_variables in omega arith;
       few_variables = subst (λ (n : ℕ). n ≤ 64) same few;

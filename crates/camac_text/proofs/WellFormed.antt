@@ -1,7 +1,6 @@
 -- What is read is well formed.
-use Rattle.std.proofs.Common.{◌≡◌, ℕ, ◌+◌, ◌≤◌, true, List, [], length, Option, Ok, refl, sym, ap, ◌∙◌, arith}
+use Rattle.std.proofs.Common.{◌≡◌, ℕ, ◌+◌, ◌≤◌, true, List, [], length, Option, Ok, refl, ap, ◌∙◌, arith}
 use Rattle.std.specs.Prelude.{IsTrue}
-use Rattle.std.proofs.lemmas.List.{append-nil}
 use Rattle.camac_lang.specs.Scope.{Before, is_all, within_limits, is_well_formed}
 use Rattle.camac_lang.specs.Statements.{statements}
 use Rattle.camac_lang.specs.Tests.{has, total, most}
@@ -15,10 +14,11 @@ use Rattle.camac_text.specs.Parser.{start}
 use Rattle.camac_text_cursor.proofs.Steps.{while_keeps}
 use Rattle.camac_text_cursor.proofs.Moves.{AllFit}
 use Rattle.camac_text_cursor.proofs.Registers.{both, below_le}
+use Rattle.camac_text.proofs.Extends.{itself}
 use Rattle.camac_text.proofs.Fitting.{tokens_fit}
 use Rattle.camac_text.proofs.Declares.{Declares, a_procedure, a_table, a_lam, some_variables, a_service, declaration_ok}
 use Rattle.camac_text.proofs.Listed.{same_number}
-use Rattle.camac_text.proofs.Sofar.{before_of, Extends, Sofar, table_sofar, lam_sofar, variables_sofar}
+use Rattle.camac_text.proofs.Sofar.{before_of, Sofar, table_sofar, lam_sofar, variables_sofar}
 use Rattle.camac_text.proofs.ServicesStand.{service_sofar}
 use Rattle.camac_text.proofs.ProceduresStand.{procedure_sofar}
 
@@ -50,20 +50,6 @@ starts ts end_line fit = record {
   few_statements = omega arith;
 }
 
-itself : (s : State) → Extends s (tree_so_far s)
-itself s = record {
-  tables = [];
-  tables_are = sym (append-nil s.tables);
-  lams = [];
-  lams_are = sym (append-nil s.lams);
-  variables = [];
-  variables_are = sym (append-nil s.variables);
-  procedures = [];
-  procedures_are = sym (append-nil s.procedures);
-  services = [];
-  services_are = sym (append-nil s.services);
-}
-
 sofar_limits : (s : State) → Sofar s → within_limits (tree_so_far s) ≡ true
 sofar_limits s so =
     let few_tables : length s.tables ≤ 16 = so.few_tables in
@@ -87,7 +73,7 @@ sofar_all s names = both _ _ (same_number (length s.tables)) (both _ _ (same_num
 sofar_well_formed : (s : State) → Sofar s → IsTrue (is_well_formed (tree_so_far s))
 unfolding is_well_formed
 sofar_well_formed s so =
-    both _ _ (sofar_limits s so) (ap (λ (o : Option Before). has o (is_all (tree_so_far s))) (so.walked (tree_so_far s) (itself s)) ∙ sofar_all s so.names)
+    both _ _ (sofar_limits s so) (ap (λ (o : Option Before). has o (is_all (tree_so_far s))) (so.walked (tree_so_far s) (itself (tree_so_far s))) ∙ sofar_all s so.names)
 
 -- what is read from a text's tokens is well formed
 pub read_well_formed : (text : List ℕ) (ts : List Token) (end_line : ℕ) (y : Unit {0} × State) → tokens_of text ≡ Ok ts → declarations_at (start ts end_line) ≡ Ok y → IsTrue (is_well_formed (tree_so_far y.1))

@@ -1,41 +1,15 @@
 -- Trees that grow by a declaration.
-use Rattle.std.proofs.Common.{◌≡◌, ℕ, ◌+◌, List, [], ◌∷◌, ◌++◌, length, take, drop, Option, Some, refl, sym, ap, subst, ◌∙◌, append_assoc, length-append}
+use Rattle.std.proofs.Common.{◌≡◌, ℕ, ◌+◌, List, [], ◌∷◌, ◌++◌, length, take, drop, Option, Some, None, refl, sym, ap, subst, ◌∙◌, append_assoc, length-append}
 use Rattle.std.specs.Prelude.{slice_get}
 use Rattle.std.proofs.lemmas.List.{append-nil}
 use Rattle.camac_lang.specs.Tree.{Text, Table, Lam, Procedure, Service, Item, next_table, next_lam, next_variables, next_procedure, next_service, Script}
 use Rattle.camac_tokens.specs.declared.token.Token.{Token}
+use Rattle.camac_text.proofs.Extends.{Extends, fewer}
 use Rattle.camac_text.proofs.Listed.{at_place, between}
 use Rattle.camac_text_spelling.specs.Pieces.{Piece, Prefix}
 use Rattle.camac_text_spelling.specs.Declarations as spell
 use Rattle.camac_text_spelling.specs.Declarations.{Passed, none_passed, pass}
 use Rattle.camac_text_spelling.proofs.Prefixes.{prefix_join}
-
--- a tree that has these declarations, and perhaps more
-pub record Extends (s t : Script) : Type 0 where
-  pub tables : List Table
-  pub tables_are : t.tables ≡ s.tables ++ tables
-  pub lams : List Lam
-  pub lams_are : t.lams ≡ s.lams ++ lams
-  pub variables : List Text
-  pub variables_are : t.variables ≡ s.variables ++ variables
-  pub procedures : List Procedure
-  pub procedures_are : t.procedures ≡ s.procedures ++ procedures
-  pub services : List Service
-  pub services_are : t.services ≡ s.services ++ services
-
-pub itself : (s : Script) → Extends s s
-itself s = record {
-  tables = [];
-  tables_are = sym (append-nil s.tables);
-  lams = [];
-  lams_are = sym (append-nil s.lams);
-  variables = [];
-  variables_are = sym (append-nil s.variables);
-  procedures = [];
-  procedures_are = sym (append-nil s.procedures);
-  services = [];
-  services_are = sym (append-nil s.services);
-}
 
 abbrev pub counts : Script → Passed
 counts s = record {
@@ -59,26 +33,12 @@ pub record Declares (s : Script) (ts : List Token) (s' : Script) (ts' : List Tok
 abbrev pub with_table : Script → Table → Script
 with_table s l = record s { tables = s.tables ++ l ∷ []; order = s.order ++ next_table ∷ [] }
 
-table_fewer : (s : Script) (l : Table) (t : Script) → Extends (with_table s l) t → Extends s t
-table_fewer s l t x = record {
-  tables = l ∷ x.tables;
-  tables_are = x.tables_are ∙ append_assoc s.tables (l ∷ []) x.tables;
-  lams = x.lams;
-  lams_are = x.lams_are;
-  variables = x.variables;
-  variables_are = x.variables_are;
-  procedures = x.procedures;
-  procedures_are = x.procedures_are;
-  services = x.services;
-  services_are = x.services_are;
-}
-
 pub declares_table : (s : Script) (l : Table) (ts ts' : List Token) → Prefix ts (spell.table_declaration l) ts' → Declares s ts (with_table s l) ts'
 declares_table s l ts ts' f = record {
   item = next_table;
   ordered = refl;
   counted = ap (λ (k : ℕ). record (counts s) { tables = k }) (length-append s.tables (l ∷ []));
-  fewer = table_fewer s l;
+  fewer = λ t x. fewer (Some (l ∷ [])) None None None None x;
   prefix = λ t x.
       let there : slice_get t.tables (length s.tables) ≡ Some l = ap (λ (ls : List Table). slice_get ls (length s.tables)) x.tables_are ∙ at_place s.tables l x.tables in
       subst (λ (o : Option Table). Prefix ts (spell.if_there spell.table_declaration o) ts') (sym there) f;
@@ -87,26 +47,12 @@ declares_table s l ts ts' f = record {
 abbrev pub with_lam : Script → Lam → Script
 with_lam s l = record s { lams = s.lams ++ l ∷ []; order = s.order ++ next_lam ∷ [] }
 
-lam_fewer : (s : Script) (l : Lam) (t : Script) → Extends (with_lam s l) t → Extends s t
-lam_fewer s l t x = record {
-  tables = x.tables;
-  tables_are = x.tables_are;
-  lams = l ∷ x.lams;
-  lams_are = x.lams_are ∙ append_assoc s.lams (l ∷ []) x.lams;
-  variables = x.variables;
-  variables_are = x.variables_are;
-  procedures = x.procedures;
-  procedures_are = x.procedures_are;
-  services = x.services;
-  services_are = x.services_are;
-}
-
 pub declares_lam : (s : Script) (l : Lam) (ts ts' : List Token) → Prefix ts (spell.lam_declaration l) ts' → Declares s ts (with_lam s l) ts'
 declares_lam s l ts ts' f = record {
   item = next_lam;
   ordered = refl;
   counted = ap (λ (k : ℕ). record (counts s) { lams = k }) (length-append s.lams (l ∷ []));
-  fewer = lam_fewer s l;
+  fewer = λ t x. fewer None (Some (l ∷ [])) None None None x;
   prefix = λ t x.
       let there : slice_get t.lams (length s.lams) ≡ Some l = ap (λ (ls : List Lam). slice_get ls (length s.lams)) x.lams_are ∙ at_place s.lams l x.lams in
       subst (λ (o : Option Lam). Prefix ts (spell.if_there spell.lam_declaration o) ts') (sym there) f;
@@ -115,26 +61,12 @@ declares_lam s l ts ts' f = record {
 abbrev pub with_variables : Script → ℕ → ℕ → List Text → Script
 with_variables s line n xs = record s { variables = s.variables ++ xs; order = s.order ++ next_variables line n ∷ [] }
 
-variables_fewer : (s : Script) (line n : ℕ) (xs : List Text) (t : Script) → Extends (with_variables s line n xs) t → Extends s t
-variables_fewer s line n xs t x = record {
-  tables = x.tables;
-  tables_are = x.tables_are;
-  lams = x.lams;
-  lams_are = x.lams_are;
-  variables = xs ++ x.variables;
-  variables_are = x.variables_are ∙ append_assoc s.variables xs x.variables;
-  procedures = x.procedures;
-  procedures_are = x.procedures_are;
-  services = x.services;
-  services_are = x.services_are;
-}
-
 pub declares_variables : (s : Script) (line n : ℕ) (xs : List Text) (ts ts' : List Token) → length xs ≡ n → Prefix ts (spell.variable_declaration line xs) ts' → Declares s ts (with_variables s line n xs) ts'
 declares_variables s line n xs ts ts' many f = record {
   item = next_variables line n;
   ordered = refl;
   counted = ap (λ (k : ℕ). record (counts s) { variables = k }) (length-append s.variables xs ∙ ap (λ (k : ℕ). length s.variables + k) many);
-  fewer = variables_fewer s line n xs;
+  fewer = λ t x. fewer None None (Some xs) None None x;
   prefix = λ t x.
       let there : take n (drop (length s.variables) t.variables) ≡ xs = ap (λ (ys : List Text). take n (drop (length s.variables) ys)) x.variables_are ∙ ap (λ (m : ℕ). take m (drop (length s.variables) ((s.variables ++ xs) ++ x.variables))) (sym many) ∙ between s.variables xs x.variables in
       subst (λ (ys : List Text). Prefix ts (spell.variable_declaration line ys) ts') (sym there) f;
@@ -143,57 +75,29 @@ declares_variables s line n xs ts ts' many f = record {
 abbrev pub with_service : Script → Service → Script
 with_service s v = record s { services = s.services ++ v ∷ []; order = s.order ++ next_service ∷ [] }
 
-service_fewer : (s : Script) (v : Service) (t : Script) → Extends (with_service s v) t → Extends s t
-service_fewer s v t x = record {
-  tables = x.tables;
-  tables_are = x.tables_are;
-  lams = x.lams;
-  lams_are = x.lams_are;
-  variables = x.variables;
-  variables_are = x.variables_are;
-  procedures = x.procedures;
-  procedures_are = x.procedures_are;
-  services = v ∷ x.services;
-  services_are = x.services_are ∙ append_assoc s.services (v ∷ []) x.services;
-}
-
 pub declares_service : (s : Script) (v : Service) (ts ts' : List Token) → ((t : Script) → Extends s t → Prefix ts (spell.service_declaration t v) ts') → Declares s ts (with_service s v) ts'
 declares_service s v ts ts' f = record {
   item = next_service;
   ordered = refl;
   counted = ap (λ (k : ℕ). record (counts s) { services = k }) (length-append s.services (v ∷ []));
-  fewer = service_fewer s v;
+  fewer = λ t x. fewer None None None None (Some (v ∷ [])) x;
   prefix = λ t x.
       let there : slice_get t.services (length s.services) ≡ Some v = ap (λ (vs : List Service). slice_get vs (length s.services)) x.services_are ∙ at_place s.services v x.services in
-      subst (λ (o : Option Service). Prefix ts (spell.if_there (spell.service_declaration t) o) ts') (sym there) (f t (service_fewer s v t x));
+      subst (λ (o : Option Service). Prefix ts (spell.if_there (spell.service_declaration t) o) ts') (sym there) (f t (fewer None None None None (Some (v ∷ [])) x));
 }
 
 abbrev pub with_procedure : Script → Procedure → Script
 with_procedure s v = record s { procedures = s.procedures ++ v ∷ []; order = s.order ++ next_procedure ∷ [] }
-
-procedure_fewer : (s : Script) (v : Procedure) (t : Script) → Extends (with_procedure s v) t → Extends s t
-procedure_fewer s v t x = record {
-  tables = x.tables;
-  tables_are = x.tables_are;
-  lams = x.lams;
-  lams_are = x.lams_are;
-  variables = x.variables;
-  variables_are = x.variables_are;
-  procedures = v ∷ x.procedures;
-  procedures_are = x.procedures_are ∙ append_assoc s.procedures (v ∷ []) x.procedures;
-  services = x.services;
-  services_are = x.services_are;
-}
 
 pub declares_procedure : (s : Script) (v : Procedure) (ts ts' : List Token) → ((t : Script) → Extends s t → Prefix ts (spell.procedure_declaration t v) ts') → Declares s ts (with_procedure s v) ts'
 declares_procedure s v ts ts' f = record {
   item = next_procedure;
   ordered = refl;
   counted = ap (λ (k : ℕ). record (counts s) { procedures = k }) (length-append s.procedures (v ∷ []));
-  fewer = procedure_fewer s v;
+  fewer = λ t x. fewer None None None (Some (v ∷ [])) None x;
   prefix = λ t x.
       let there : slice_get t.procedures (length s.procedures) ≡ Some v = ap (λ (vs : List Procedure). slice_get vs (length s.procedures)) x.procedures_are ∙ at_place s.procedures v x.procedures in
-      subst (λ (o : Option Procedure). Prefix ts (spell.if_there (spell.procedure_declaration t) o) ts') (sym there) (f t (procedure_fewer s v t x));
+      subst (λ (o : Option Procedure). Prefix ts (spell.if_there (spell.procedure_declaration t) o) ts') (sym there) (f t (fewer None None None (Some (v ∷ [])) None x));
 }
 
 -- ---- all of them

@@ -1,11 +1,10 @@
 -- Loops that are spelled are read.
-use Rattle.std.proofs.Common.{◌≡◌, ℕ, suc, ◌+◌, ◌≤◌, max, nat_lt, List, [], ◌∷◌, ◌++◌, length, take, Some, refl, ap, ◌∙◌, arith}
+use Rattle.std.proofs.Common.{◌≡◌, ℕ, suc, ◌+◌, ◌≤◌, max, nat_lt, List, [], ◌∷◌, ◌++◌, length, Some, refl, ap, ◌∙◌, arith}
 use Rattle.camac_lang.specs.Depth.{expression_depth, part_depth, inner_depth}
 use Rattle.camac_lang.specs.Expressions.{expression_fits, condition_fits}
-use Rattle.camac_lang.specs.Statements.{head_fits, begun as begun_by, after_block, statements}
+use Rattle.camac_lang.specs.Statements.{head_fits, statements}
 use Rattle.camac_lang.specs.Tests.{most, is_number}
 use Rattle.camac_lang.specs.Tree.{Expression, Condition, Keep, Statement, for_, while_, Block}
-use Rattle.camac_lang.proofs.Options.{unless_parts, then_parts}
 use Rattle.camac_tokens.specs.declared.token.Keyword.TheVariants as keyword
 use Rattle.camac_tokens.specs.declared.token.Sign.TheVariants as mark
 use Rattle.camac_tokens.specs.declared.token.Token.{Token}
@@ -32,7 +31,7 @@ use Rattle.camac_text_spelling.proofs.GivesPhrases.{no_sign, condition_given}
 use Rattle.camac_text_spelling.proofs.GivesKeeps.{keeps_given}
 use Rattle.camac_text_spelling.proofs.Runs.{left_at, begin_given, first_given, listed, block_of_listed}
 use Rattle.camac_text_spelling.proofs.GivesActions.{IsGiven}
-use Rattle.camac_text_spelling.proofs.GivesStatements.{AreGiven, RunsBraced, braced_given, brace_no_sign, brace_first}
+use Rattle.camac_text_spelling.proofs.GivesStatements.{AreGiven, runs_inside, braced_given, brace_no_sign, brace_first}
 
 -- kept ranges, or the brace
 keeps_first : (n : Names) (ks : List Keep) (ts us : List Token) → Prefix ts (phrase.keeps n ks) us → kind_of us ≡ Some (kind.Sign mark.LeftBrace) → NoSign (kind_of ts)
@@ -64,25 +63,14 @@ count_given n line v e1 e2 ks b given room s0 rest j k m c f ends =
     let s3 = prefix_split s2.0 p3 body rest s2.2 in
     let us : List Token = s3.0 in
     let brace = brace_first n b us rest s3.2 in
-    let p = then_parts (λ i. after_block (scope_of s) i b) (begun_by (scope_of s) j x) k c.reached in
-    let r = unless_parts (head_fits (scope_of s) j x) j p.0 p.1 in
-    let own_fits = first_of_both (nat_lt v (length s.variables)) _ r.0 in
-    let fits = second_of_both (nat_lt v (length s.variables)) _ r.0 in
-    let fits_more = second_of_both (expression_fits (scope_of s) e1) _ fits in
     let deep : max (expression_depth e1) (max (expression_depth e2) (suc (inner_depth s.callables b))) ≤ room = c.deep in
     let counted : m ≡ s.statements + suc (statements b) = c.counted in
     let few : m ≤ 4096 = c.few in
     let g : State = begun s in
-    let inside : RunsBraced n (at g us) p.0 k m room b = record {
-      finds = c.finds;
-      sets = c.sets;
-      registers = c.registers ∙ ap (λ (i : ℕ). take i n.registers) r.1;
-      reached = p.2;
-      within = c.within;
-      deep = omega arith;
-      counted = omega arith;
-      few = c.few;
-    } in
+    let inside = runs_inside n s j k m room (head_fits (scope_of s) j x) b c (omega arith) in
+    let own_fits = first_of_both (nat_lt v (length s.variables)) _ inside.keeps in
+    let fits = second_of_both (nat_lt v (length s.variables)) _ inside.keeps in
+    let fits_more = second_of_both (expression_fits (scope_of s) e1) _ fits in
     first_given line room (block_at room) (kind.Keyword keyword.For) s all rest f
     ∙ after (begin s) _ tt g (begin_given s (omega arith))
     (after (used_variable g) _ v (at g t2) (variable_given n g v c.finds own_fits own.0)
@@ -91,7 +79,7 @@ count_given n line v e1 e2 ks b given room s0 rest j k m c f ends =
     (after (expect keyword.To (at g s1.0)) _ tt (at g t4) (expected keyword.To (at g s1.0) to.0)
     (after (expression_at room (at g t4)) _ e2 (at g s2.0) (expression_given n e2 room (at g t4) s2.0 c.finds (first_of_both (expression_fits (scope_of s) e2) _ fits_more) (omega arith) s2.1 (keeps_first n ks s2.0 us s3.1 brace))
     (after (keeps_at (of_loop.Counter v) (at g s2.0)) _ ks (at g us) (keeps_given n (of_loop.Counter v) ks (at g s2.0) us c.finds (second_of_both (expression_fits (scope_of s) e2) _ fits_more) s3.1 brace)
-    (after (block_at room (at g us)) _ (listed b) (left_at n s rest k m) (braced_given n b given room (at g us) rest p.0 k m inside s3.2)
+    (after (block_at room (at g us)) _ (listed b) (left_at n s rest k m) (braced_given n b given room (at g us) rest inside.first k m (inside.runs us) s3.2)
     (ap (λ (w : Block). ok (for_ line v e1 e2 ks w) (left_at n s rest k m)) (block_of_listed b)))))))))
 
 pub while_given : (n : Names) (line : ℕ) (t : Condition) (turns v : ℕ) (ks : List Keep) (b : Block) → AreGiven n b → IsGiven n (while_ line t turns v ks b)
@@ -119,31 +107,20 @@ while_given n line t turns v ks b given room s0 rest j k m c f ends =
     let s3 = prefix_split t5 p3 body rest f4.1 in
     let us : List Token = s3.0 in
     let brace = brace_first n b us rest s3.2 in
-    let p = then_parts (λ i. after_block (scope_of s) i b) (begun_by (scope_of s) j x) k c.reached in
-    let r = unless_parts (head_fits (scope_of s) j x) j p.0 p.1 in
-    let fits = second_of_both (condition_fits (scope_of s) t) _ r.0 in
-    let fits_more = second_of_both (is_number turns) _ fits in
     let deep : max (most part_depth t) (suc (inner_depth s.callables b)) ≤ room = c.deep in
     let counted : m ≡ s.statements + suc (statements b) = c.counted in
     let few : m ≤ 4096 = c.few in
     let g : State = begun s in
-    let inside : RunsBraced n (at g us) p.0 k m room b = record {
-      finds = c.finds;
-      sets = c.sets;
-      registers = c.registers ∙ ap (λ (i : ℕ). take i n.registers) r.1;
-      reached = p.2;
-      within = c.within;
-      deep = omega arith;
-      counted = omega arith;
-      few = c.few;
-    } in
+    let inside = runs_inside n s j k m room (head_fits (scope_of s) j x) b c (omega arith) in
+    let fits = second_of_both (condition_fits (scope_of s) t) _ inside.keeps in
+    let fits_more = second_of_both (is_number turns) _ fits in
     first_given line room (block_at room) (kind.Keyword keyword.While) s (p1 ++ q1) rest f
     ∙ after (begin s) _ tt g (begin_given s (omega arith))
-    (after (condition_at room g) _ t (at g s1.0) (condition_given n t room g s1.0 c.finds (first_of_both (condition_fits (scope_of s) t) _ r.0) (omega arith) s1.1 (no_sign (kind_of s1.0) _ f1.0 (record { product = refl; sum = refl })) (ap (is_keyword keyword.And) f1.0))
+    (after (condition_at room g) _ t (at g s1.0) (condition_given n t room g s1.0 c.finds (first_of_both (condition_fits (scope_of s) t) _ inside.keeps) (omega arith) s1.1 (no_sign (kind_of s1.0) _ f1.0 (record { product = refl; sum = refl })) (ap (is_keyword keyword.And) f1.0))
     (after (expect keyword.Turns (at g s1.0)) _ tt (at g t2) (expected keyword.Turns (at g s1.0) f1.0)
     (after (any_number (at g t2)) _ turns (at g t3) (number_given (at g t2) turns f2.0)
     (after (expect keyword.By (at g t3)) _ tt (at g t4) (expected keyword.By (at g t3) f3.0)
     (after (used_variable (at g t4)) _ v (at g t5) (variable_given n (at g t4) v c.finds (first_of_both (nat_lt v (length s.variables)) _ fits_more) f4.0)
     (after (keeps_at (of_loop.Measure v) (at g t5)) _ ks (at g us) (keeps_given n (of_loop.Measure v) ks (at g t5) us c.finds (second_of_both (nat_lt v (length s.variables)) _ fits_more) s3.1 brace)
-    (after (block_at room (at g us)) _ (listed b) (left_at n s rest k m) (braced_given n b given room (at g us) rest p.0 k m inside s3.2)
+    (after (block_at room (at g us)) _ (listed b) (left_at n s rest k m) (braced_given n b given room (at g us) rest inside.first k m (inside.runs us) s3.2)
     (ap (λ (w : Block). ok (while_ line t turns v ks w) (left_at n s rest k m)) (block_of_listed b)))))))))

@@ -1,8 +1,9 @@
 -- Statements that hold blocks, and blocks, that are spelled are read.
-use Rattle.std.proofs.Common.{◌≡◌, ℕ, zero, suc, ◌+◌, ◌≤◌, max, false, List, [], ◌∷◌, ◌++◌, length, take, Option, Some, refl, ap, ◌∙◌, arith, not}
+use Rattle.std.proofs.Common.{◌≡◌, ℕ, zero, suc, ◌+◌, ◌≤◌, max, Bool, true, false, List, [], ◌∷◌, ◌++◌, length, take, Option, Some, refl, ap, ◌∙◌, arith, not}
+use Rattle.std.specs.Prelude.{option_and_then}
 use Rattle.camac_lang.specs.Depth.{expression_depth, part_depth, inner_depth}
 use Rattle.camac_lang.specs.Statements.{head_fits, begun as begun_by, after_block, statements}
-use Rattle.camac_lang.specs.Tests.{most}
+use Rattle.camac_lang.specs.Tests.{most, unless_broken}
 use Rattle.camac_lang.specs.Tree.{Expression, Condition, Statement, choose, choose_else, locked, Block}
 use Rattle.camac_lang.specs.View.{block_of}
 use Rattle.camac_lang.proofs.Grows.{block_grows}
@@ -74,6 +75,32 @@ brace_no_sign = record { product = refl; sum = refl }
 pub brace_first : (n : Names) (b : Block) (ts rest : List Token) → Prefix ts (spell.braced (spell.block n b)) rest → kind_of ts ≡ Some (kind.Sign mark.LeftBrace)
 brace_first n b ts rest f = (prefix_first ts (sign mark.LeftBrace) (spell.block n b ++ sign mark.RightBrace ∷ []) rest f).0
 
+-- the one block of a statement runs after its head, which breaks no rule
+pub record RunsInside (n : Names) (s : State) (k m room : ℕ) (rule : Bool) (b : Block) : Type 0 where
+  pub first : ℕ
+  pub keeps : rule ≡ true
+  pub runs : (us : List Token) → RunsBraced n (at (begun s) us) first k m room b
+
+pub runs_inside : (n : Names) (s : State) (j k m room : ℕ) (rule : Bool) (b : Block) {depth : ℕ} → Runs n s j k m room (option_and_then (λ i. after_block (scope_of s) i b) (unless_broken rule j)) depth (suc (statements b)) → suc (inner_depth s.callables b) ≤ room → RunsInside n s k m room rule b
+runs_inside n s j k m room rule b c deep =
+    let p = then_parts (λ i. after_block (scope_of s) i b) (unless_broken rule j) k c.reached in
+    let r = unless_parts rule j p.0 p.1 in
+    let counted : m ≡ s.statements + suc (statements b) = c.counted in
+    record {
+      first = p.0;
+      keeps = r.0;
+      runs = λ us. record {
+        finds = c.finds;
+        sets = c.sets;
+        registers = c.registers ∙ ap (λ (i : ℕ). take i n.registers) r.1;
+        reached = p.2;
+        within = c.within;
+        deep = deep;
+        counted = omega arith;
+        few = c.few;
+      };
+    }
+
 -- ---- `lock`
 
 pub locked_given : (n : Names) (line : ℕ) (e : Expression) (b : Block) → AreGiven n b → IsGiven n (locked line e b)
@@ -86,26 +113,15 @@ locked_given n line e b given room s0 rest j k m c f ends =
     let h = prefix_line s.rest s.end_line line (kind.Keyword keyword.Lock) (p1 ++ body) rest f in
     let parts = prefix_split (after_first s.rest) p1 body rest h.2 in
     let us : List Token = parts.0 in
-    let p = then_parts (λ i. after_block (scope_of s) i b) (begun_by (scope_of s) j x) k c.reached in
-    let r = unless_parts (head_fits (scope_of s) j x) j p.0 p.1 in
     let deep : max (expression_depth e) (suc (inner_depth s.callables b)) ≤ room = c.deep in
     let counted : m ≡ s.statements + suc (statements b) = c.counted in
     let few : m ≤ 4096 = c.few in
-    let inside : RunsBraced n (at (begun s) us) p.0 k m room b = record {
-      finds = c.finds;
-      sets = c.sets;
-      registers = c.registers ∙ ap (λ (i : ℕ). take i n.registers) r.1;
-      reached = p.2;
-      within = c.within;
-      deep = omega arith;
-      counted = omega arith;
-      few = c.few;
-    } in
+    let inside = runs_inside n s j k m room (head_fits (scope_of s) j x) b c (omega arith) in
     first_given line room (block_at room) (kind.Keyword keyword.Lock) s (p1 ++ body) rest f
-    ∙ checked (not s.in_procedure) _ _ s (first_of_both (not s.in_procedure) _ r.0)
+    ∙ checked (not s.in_procedure) _ _ s (first_of_both (not s.in_procedure) _ inside.keeps)
     (after (begin s) _ tt (begun s) (begin_given s (omega arith))
-    (after (expression_at room (begun s)) _ e (at (begun s) us) (expression_given n e room (begun s) us c.finds (second_of_both (not s.in_procedure) _ r.0) (omega arith) parts.1 (no_sign (kind_of us) _ (brace_first n b us rest parts.2) brace_no_sign))
-    (after (block_at room (at (begun s) us)) _ (listed b) (left_at n s rest k m) (braced_given n b given room (at (begun s) us) rest p.0 k m inside parts.2)
+    (after (expression_at room (begun s)) _ e (at (begun s) us) (expression_given n e room (begun s) us c.finds (second_of_both (not s.in_procedure) _ inside.keeps) (omega arith) parts.1 (no_sign (kind_of us) _ (brace_first n b us rest parts.2) brace_no_sign))
+    (after (block_at room (at (begun s) us)) _ (listed b) (left_at n s rest k m) (braced_given n b given room (at (begun s) us) rest inside.first k m (inside.runs us) parts.2)
     (ap (λ (w : Block). ok (locked line e w) (left_at n s rest k m)) (block_of_listed b)))))
 
 -- ---- `if`
@@ -125,25 +141,14 @@ choose_given n line t b given room s0 rest j k m c f ends =
     let parts = prefix_split (after_first s.rest) p1 body rest h.2 in
     let us : List Token = parts.0 in
     let brace = brace_first n b us rest parts.2 in
-    let p = then_parts (λ i. after_block (scope_of s) i b) (begun_by (scope_of s) j x) k c.reached in
-    let r = unless_parts (head_fits (scope_of s) j x) j p.0 p.1 in
     let deep : max (most part_depth t) (suc (inner_depth s.callables b)) ≤ room = c.deep in
     let counted : m ≡ s.statements + suc (statements b) = c.counted in
     let few : m ≤ 4096 = c.few in
-    let inside : RunsBraced n (at (begun s) us) p.0 k m room b = record {
-      finds = c.finds;
-      sets = c.sets;
-      registers = c.registers ∙ ap (λ (i : ℕ). take i n.registers) r.1;
-      reached = p.2;
-      within = c.within;
-      deep = omega arith;
-      counted = omega arith;
-      few = c.few;
-    } in
+    let inside = runs_inside n s j k m room (head_fits (scope_of s) j x) b c (omega arith) in
     first_given line room (block_at room) (kind.Keyword keyword.If) s (p1 ++ body) rest f
     ∙ after (begin s) _ tt (begun s) (begin_given s (omega arith))
-    (after (condition_at room (begun s)) _ t (at (begun s) us) (condition_given n t room (begun s) us c.finds r.0 (omega arith) parts.1 (no_sign (kind_of us) _ brace brace_no_sign) (ap (is_keyword keyword.And) brace))
-    (after (block_at room (at (begun s) us)) _ (listed b) (left_at n s rest k m) (braced_given n b given room (at (begun s) us) rest p.0 k m inside parts.2)
+    (after (condition_at room (begun s)) _ t (at (begun s) us) (condition_given n t room (begun s) us c.finds inside.keeps (omega arith) parts.1 (no_sign (kind_of us) _ brace brace_no_sign) (ap (is_keyword keyword.And) brace))
+    (after (block_at room (at (begun s) us)) _ (listed b) (left_at n s rest k m) (braced_given n b given room (at (begun s) us) rest inside.first k m (inside.runs us) parts.2)
     (no_else_by (block_at room) line t (listed b) (kind_of rest) (left_at n s rest k m) ends.no_else
     ∙ ap (λ (w : Block). ok (choose line t w) (left_at n s rest k m)) (block_of_listed b))))
 

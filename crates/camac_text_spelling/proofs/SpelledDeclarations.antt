@@ -19,6 +19,7 @@ use Rattle.camac_text.specs.Parser.{start}
 use Rattle.camac_text_cursor.proofs.Steps.{then_ok, ok_is, err_no_ok, while_keeps, until_keeps}
 use Rattle.camac_text_cursor.proofs.Moves.{check_ok, any_number_ok, sub_address_ok, new_name_ok, number_ok}
 use Rattle.camac_text.proofs.Variables.{DeclaresOne, new_variable_ok}
+use Rattle.camac_text.proofs.Extends.{Extends, itself}
 use Rattle.camac_text_spelling.specs.Pieces.{Piece, first_word, numeral, name, text_at, Prefix, Names}
 use Rattle.camac_text_spelling.specs.Declarations as spell
 use Rattle.camac_text_spelling.specs.Declarations.{service_names}
@@ -27,7 +28,7 @@ use Rattle.camac_text_spelling.proofs.Found.{found_named, found_lam, found_table
 use Rattle.camac_text_spelling.proofs.Takes.{Tells, Took, join, returns, took_one, took_first, took_token, took_word, took_sign, took_branch, took_lam, then_missed}
 use Rattle.camac_text_spelling.proofs.SpelledProcedures.{procedure_spelled}
 use Rattle.camac_text_spelling.proofs.SpelledStatements.{took_block}
-use Rattle.camac_text_spelling.proofs.Declared.{Extends, itself, Declares, with_table, declares_table, with_lam, declares_lam, declares_variables, with_service, declares_service, Sofar, one_more}
+use Rattle.camac_text_spelling.proofs.Declared.{Declares, with_table, declares_table, with_lam, declares_lam, declares_variables, with_service, declares_service, Sofar, one_more}
 
 -- ---- names
 

@@ -17,6 +17,7 @@ use Rattle.camac_text_cursor.proofs.Moves.{TakesOne, check_ok, any_number_ok, ne
 use Rattle.camac_text_statements.specs.Statements.{block_at}
 use Rattle.camac_text.specs.Procedures.{parameter_at, next_parameter, parameter_list, parameters_at, Heading, heading_at, procedure_made, procedure_declaration}
 use Rattle.camac_text.proofs.Variables.{added_ok}
+use Rattle.camac_text.proofs.Extends.{Extends}
 use Rattle.camac_text_spelling.specs.Pieces.{Piece, piece, first_word, word, sign, numeral, name, separated, text_at, Prefix}
 use Rattle.camac_text_spelling.specs.Declarations as spell
 use Rattle.camac_text_spelling.specs.Statements.{braced, block}
@@ -26,7 +27,7 @@ use Rattle.camac_text_spelling.proofs.Found.{found_named, found_lam, found_table
 use Rattle.camac_text_spelling.proofs.Lists.{separated_push}
 use Rattle.camac_text_spelling.proofs.Takes.{Tells, Took, keyword_is, sign_is, expected}
 use Rattle.camac_text_spelling.proofs.SpelledStatements.{took_block}
-use Rattle.camac_text_spelling.proofs.Declared.{Extends, Declares, with_procedure, declares_procedure}
+use Rattle.camac_text_spelling.proofs.Declared.{Declares, with_procedure, declares_procedure}
 use Rattle.camac_text_statements.proofs.Bodies.{block_ok}
 use Rattle.camac_text.proofs.ParametersRead.{heading_ok}
 
