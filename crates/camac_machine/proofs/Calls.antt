@@ -36,6 +36,7 @@ use Rattle.camac_machine.proofs.Locks.{held_push}
 use Rattle.camac_machine.proofs.Passed.{arguments_are}
 use Rattle.camac_machine.proofs.Fitted.{block_fits}
 use Rattle.camac_machine.proofs.Procedures.{Callee, callee_of, total_taken, before, routine_of, body_same}
+use Rattle.camac_machine.proofs.Rooms.{room_with}
 use Rattle.camac_machine.proofs.Scopes.{held_before, opens_same}
 use Rattle.camac_machine.proofs.Stores.{all_same}
 
@@ -126,20 +127,7 @@ module _ {V D C : ℕ} (h : Machine V D C) (i : ℕ) (es : List Expression) (roo
           (subst (λ k. Opens (reach_of script seen) k (statements_of body.now)) n opens)
           ((omega arith, omega arith), room.scope) in
           let held : AreHeld (branch_of h.branch) (opens_of ws qs h.frames.items ++ o ∷ []) = held_push (branch_of h.branch) (opens_of ws qs h.frames.items) o (λ c. refl) (subst (AreHeld (branch_of h.branch)) same_opens room.locks) in
-          record {
-            variables = long ∙ room.variables;
-            registers = long_too ∙ room.registers;
-            fits = room.fits;
-            scope = seen_fits;
-            blocks = subst (OpenFit V script seen D) (sym opens_pushed) fit;
-            words = room.words;
-            steps = room.steps;
-            cycles = room.cycles;
-            few_missed = room.few_missed;
-            missed = room.missed;
-            locks = subst (AreHeld (branch_of h.branch)) (sym opens_pushed) held;
-            unlocks = room.unlocks;
-          }
+          room_with room (long ∙ room.variables) (long_too ∙ room.registers) seen_fits (subst (OpenFit V script seen D) (sym opens_pushed) fit) (subst (AreHeld (branch_of h.branch)) (sym opens_pushed) held) room.unlocks
 
       none_set : registers_in (held_at seen.registers qs) ≡ (λ _. None)
       none_set = ap registers_in unset ∙ fun_ext (λ r. all_same None (size seen.registers) r)

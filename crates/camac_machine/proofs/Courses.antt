@@ -40,6 +40,7 @@ use Rattle.camac_machine.proofs.Pauses.{asked_all}
 use Rattle.camac_machine.proofs.Actions.{known}
 use Rattle.camac_machine.proofs.Commands.{on_branch}
 use Rattle.camac_machine.proofs.Fine.{blank, some_is, fine_given, fine_unless, keeps_rest}
+use Rattle.camac_machine.proofs.Rooms.{room_kept}
 use Rattle.camac_machine.proofs.Scopes.{opens_written, room_written, state_written}
 use Rattle.camac_machine.proofs.Frames.{fine_along}
 use Rattle.camac_machine.proofs.Loops.{fine_as}
@@ -376,23 +377,6 @@ module _ {V D C : ℕ} (h : Machine V D C) where
   unfolding follows
   pause_alone answers = refl
 
-  -- the words and the steps do not change the room
-  room_kept : (ws : List ℕ) (n : ℕ) → HasRoom h → HasRoom (record h { words = ws; steps = n })
-  room_kept ws n r = record {
-    variables = r.variables;
-    registers = r.registers;
-    fits = r.fits;
-    scope = r.scope;
-    blocks = r.blocks;
-    words = r.words;
-    steps = r.steps;
-    cycles = r.cycles;
-    few_missed = r.few_missed;
-    missed = r.missed;
-    locks = r.locks;
-    unlocks = r.unlocks;
-  }
-
 -- a cycle of a transfer
 module _ {V D C : ℕ} (h : Machine V D C) (k : Command) (t : Course) (table : Option (Bor (List ℕ))) (x : ℕ) (a : Answer) (p : IsPending h (Transfer (cycle_at k t table x))) where
   abbrev left : Left
@@ -471,7 +455,7 @@ module _ {V D C : ℕ} (h : Machine V D C) (k : Command) (t : Course) (table : O
             let ws : last.words ≡ words_after (words_sent table) bits d.reply h.words =
             e ∙ same_words ∙ ap (λ (c : Command). words_after (words_sent table) (width h.checked.now.plan (address_of c) c.f) d.reply h.words) (ap (λ (n : CycleDone). n.command) m.done) in
             subst (λ n. Takes h (Transfer (cycle_at k t table x)) a (item.Cycle d) n) (sym same_final) (record {
-              room = room_kept after last.words (h.steps + 1) (room_after h k mid.branch d.reply.q d.reply.x d.wait m.branch room);
+              room = room_kept (room_after h k mid.branch d.reply.q d.reply.x d.wait m.branch room);
               checked = refl;
               service = refl;
               begun = refl;

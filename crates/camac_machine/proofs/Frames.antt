@@ -27,6 +27,7 @@ use Rattle.camac_machine.specs.Within.{StatementFits, Opens, OwnerFits, outer, O
 use Rattle.camac_machine.specs.MachineState.{bounds_at, bounds_of, open_in, opens_in, holds, AreHeld, free, reach, context_in, state_of, left_in, stands, IsFineHere, HasRoomFor, HasRoom, IsPending, Awaits, Wants, Enters, Advances}
 use Rattle.camac_machine.proofs.Blocks.{then_ends, rest_push, opens_push, opens_pop, says_more, measure_falls}
 use Rattle.camac_machine.proofs.Locks.{held_push, held_same}
+use Rattle.camac_machine.proofs.Rooms.{room_with, room_kept}
 
 -- what is left with a frame more
 pub left_pushed : (c : Context) (go : Frame → Open) (fs : List Frame) (f : Frame) (s : State) → rest_in c (map go (fs ++ f ∷ [])) s ≡ then_do (left_of c (go f) s) (rest_in c (map go fs))
@@ -38,41 +39,8 @@ unfolding owed
 plain_left c b s = then_ends (block_meaning c most_turns b s)
 
 module _ {V D C : ℕ} (h : Machine V D C) where
-  -- the room does not depend on the steps
-  pub room_stepped : (n : ℕ) → HasRoom h → HasRoom (record h { steps = n })
-  room_stepped n r = record {
-    variables = r.variables;
-    registers = r.registers;
-    fits = r.fits;
-    scope = r.scope;
-    blocks = r.blocks;
-    words = r.words;
-    steps = r.steps;
-    cycles = r.cycles;
-    few_missed = r.few_missed;
-    missed = r.missed;
-    locks = r.locks;
-    unlocks = r.unlocks;
-  }
-
-  -- nor on the statement that was begun, nor does what is left
+  -- what is left does not depend on the statement that was begun
   module _ (b : Option (Bor Stmt)) where
-    pub room_at : HasRoom h → HasRoom (record h { begun = b })
-    room_at r = record {
-      variables = r.variables;
-      registers = r.registers;
-      fits = r.fits;
-      scope = r.scope;
-      blocks = r.blocks;
-      words = r.words;
-      steps = r.steps;
-      cycles = r.cycles;
-      few_missed = r.few_missed;
-      missed = r.missed;
-      locks = r.locks;
-      unlocks = r.unlocks;
-    }
-
     pub ready_at : (o : Option Pending) → IfSome o (IsPending h) → IfSome o (IsPending (record h { begun = b }))
     ready_at None p = tt
     ready_at (Some (Cycle k)) p = p
@@ -84,23 +52,6 @@ module _ {V D C : ℕ} (h : Machine V D C) where
     pub stands_at : (o : Option Pending) (answers : List Answer) → stands o (record h { begun = b }) answers ≡ stands o h answers
     stands_at None answers = refl
     stands_at (Some w) answers = refl
-
-  -- by other open blocks
-  pub room_with : (fs : ArrayVec Frame) (os qs : List Open) → OpenFit V h.checked.now.script h.scope D qs → AreHeld (branch_of h.branch) qs → HasRoomFor h os → HasRoomFor (record h { frames = fs }) qs
-  room_with fs os qs b l r = record {
-    variables = r.variables;
-    registers = r.registers;
-    fits = r.fits;
-    scope = r.scope;
-    blocks = b;
-    words = r.words;
-    steps = r.steps;
-    cycles = r.cycles;
-    few_missed = r.few_missed;
-    missed = r.missed;
-    locks = l;
-    unlocks = r.unlocks;
-  }
 
   opens_length : length (opens_in h) ≡ length h.frames.items
   opens_length = length-map h.frames.items (open_in h)
@@ -116,7 +67,7 @@ module _ {V D C : ℕ} (h : Machine V D C) where
         let n : D - length h.frames.items ≡ D - length (opens_in h) = ap (λ k. D - k) (sym opens_length) in
         let fit = opens_push V s h.scope D (opens_in h) (open_in h f) (subst (λ (u : Scope). OpenFit V s u D (opens_in h)) (sym stays) r.blocks) (subst (λ d. Opens (reach h) d (open_in h f).block) n b) (subst (λ d. OwnerFits V s h.scope d (open_in h f).owner) n w) in
         let held = held_push (branch_of h.branch) (opens_in h) (open_in h f) none r.locks in
-        room_with fs (opens_in h) (map (open_in h) fs.items) (subst (OpenFit V h.checked.now.script h.scope D) (sym (opens_pushed e)) fit) (subst (AreHeld (branch_of h.branch)) (sym (opens_pushed e)) held) r
+        room_with r r.variables r.registers r.scope (subst (OpenFit V h.checked.now.script h.scope D) (sym (opens_pushed e)) fit) (subst (AreHeld (branch_of h.branch)) (sym (opens_pushed e)) held) r.unlocks
 
     -- the same block with its first statement begun
     pub room_begun : (o : Open) (st : Statement) → fs.items ≡ h.frames.items ++ f ∷ [] → o.block ≡ next st (open_in h f).block → o.owner ≡ (open_in h f).owner → HasRoomFor h (opens_in h ++ o ∷ []) → HasRoom (record h { frames = fs }) × StatementFits (reach h) (D - length fs.items) st
@@ -129,7 +80,7 @@ module _ {V D C : ℕ} (h : Machine V D C) where
         let held = held_same (branch_of h.branch) os o (open_in h f) (λ c. ap (holds c) w) r.locks in
         let n : length fs.items ≡ length os + 1 = ap length e ∙ length-append h.frames.items (f ∷ []) ∙ ap (λ k. k + 1) (sym opens_length) in
         let d : D - length os - 1 ≡ D - length fs.items = omega (arith, n) in (
-          room_with fs (os ++ o ∷ []) (map (open_in h) fs.items) (subst (OpenFit V h.checked.now.script h.scope D) (sym (opens_pushed e)) fit) (subst (AreHeld (branch_of h.branch)) (sym (opens_pushed e)) held) r,
+          room_with r r.variables r.registers r.scope (subst (OpenFit V h.checked.now.script h.scope D) (sym (opens_pushed e)) fit) (subst (AreHeld (branch_of h.branch)) (sym (opens_pushed e)) held) r.unlocks,
           subst (λ k. StatementFits (reach h) k st) d block.1.0,
         )
 
@@ -155,7 +106,7 @@ module _ {V D C : ℕ} (h : Machine V D C) where
     pub room_popped : h.frames.items ≡ fs.items ++ f ∷ [] → HasRoom h → HasRoomFor (record h { frames = fs }) (map (open_in h) fs.items ++ open_in h f ∷ [])
     room_popped e r =
         let same : opens_in h ≡ map (open_in h) fs.items ++ open_in h f ∷ [] = ap (map (open_in h)) e ∙ map-append (open_in h) fs.items (f ∷ []) in
-        room_with fs (opens_in h) (map (open_in h) fs.items ++ open_in h f ∷ []) (subst (OpenFit V h.checked.now.script h.scope D) same r.blocks) (subst (AreHeld (branch_of h.branch)) same r.locks) r
+        room_with r r.variables r.registers r.scope (subst (OpenFit V h.checked.now.script h.scope D) same r.blocks) (subst (AreHeld (branch_of h.branch)) same r.locks) r.unlocks
 
     pub goes_popped : h.frames.items ≡ fs.items ++ f ∷ [] → (s : State) → left_in h s ≡ then_do (left_of (context_in h.checked.now) (open_in h f) s) (left_in (record h { frames = fs }))
     goes_popped e s =
@@ -164,7 +115,7 @@ module _ {V D C : ℕ} (h : Machine V D C) where
   -- a statement that wants an answer
   pub wants_advance : (st : Statement) (o : Option Pending) → HasRoom h → IsSomeAnd o (Awaits (record h { steps = h.steps + 1 }) (λ c. effect c most_turns st)) → Advances 2 h (λ c s. effect c most_turns st (stepped s)) o (record h { steps = h.steps + 1 })
   wants_advance st (Some w) r k = record {
-    room = room_stepped (h.steps + 1) r;
+    room = room_kept r;
     checked = refl;
     service = refl;
     awaits = k.awaits;

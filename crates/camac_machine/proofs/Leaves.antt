@@ -6,7 +6,7 @@ use Rattle.camac_model.specs.Meaning.{for_turns, turns, block_meaning}
 use Rattle.camac_model.specs.Fine.{most_turns}
 use Rattle.camac_model.specs.State.{Variables, with_variable}
 use Rattle.std.proofs.Common.{◌≡◌, ℕ, ◌+◌, ◌<◌, ◌≤◌, List, [], ◌∷◌, ◌++◌, length, length-append, true, false, refl, sym, ap, subst, ◌∙◌, arith, ◌-◌, suc}
-use Rattle.std.proofs.lemmas.List.{append-nil, length-map}
+use Rattle.std.proofs.lemmas.List.{length-map}
 use Rattle.std.specs.Prelude.{Option, None}
 use Rattle.arrayvec.specs.ArrayVec.{ArrayVec}
 use Rattle.camac_lang.specs.Tree.{done, Condition, Block}
@@ -22,8 +22,8 @@ use Rattle.camac_machine.specs.MachineState.{with_value, open_in, opens_in, AreH
 use Rattle.camac_machine.specs.Rest.{nothing, releases, owed, Owner, Open, for_loop, while_loop, returns, rest_in}
 use Rattle.camac_machine.proofs.Blocks.{LastFits, opens_pop}
 use Rattle.camac_machine.proofs.Fine.{keeps_rest}
-use Rattle.camac_machine.proofs.Frames.{room_with}
 use Rattle.camac_machine.proofs.Locks.{held_pop, held_last, held_released, among_released}
+use Rattle.camac_machine.proofs.Rooms.{room_with, advances_by}
 
 module _ {V D C : ℕ} (h : Machine V D C) where
   abbrev os : List Open
@@ -37,17 +37,7 @@ module _ {V D C : ℕ} (h : Machine V D C) where
 
   pub plain_leaves : HasRoomFor h (os ++ over nothing ∷ []) → Advances 1 h (λ c. owed c nothing) None h
   unfolding owed
-  plain_leaves r = record {
-    room = room_with h h.frames (os ++ over nothing ∷ []) os (last nothing r).others (held_pop (branch_of h.branch) os (over nothing) (λ c. refl) r.locks) r;
-    checked = refl;
-    service = refl;
-    awaits = tt;
-    pace = omega arith;
-    few = omega arith;
-    released = [];
-    unlocks = sym (append-nil h.unlocks.items);
-    goes = λ answers. refl;
-  }
+  plain_leaves r = advances_by (room_with r r.variables r.registers r.scope (last nothing r).others (held_pop (branch_of h.branch) os (over nothing) (λ c. refl) r.locks) r.unlocks) (omega arith) (omega arith) (λ answers. refl)
 
   module _ (k : ℕ) (room : HasRoomFor h (os ++ over (releases k) ∷ [])) where
     -- its crate is one of the branch
@@ -85,20 +75,8 @@ module _ {V D C : ℕ} (h : Machine V D C) where
           let one = one_fewer in
           let n : length us.items ≡ length h.unlocks.items + 1 = ap length released ∙ length-append h.unlocks.items (k ∷ []) in
           let among : locked_among (branch_of b) 7 ≡ locked_among (with_lock k false (branch_of h.branch)) 7 = ap (λ (d : Branch). locked_among d 7) freed in
-          record {
-            variables = room.variables;
-            registers = room.registers;
-            fits = room.fits;
-            scope = room.scope;
-            blocks = (last (releases k) room).others;
-            words = room.words;
-            steps = room.steps;
-            cycles = room.cycles;
-            few_missed = room.few_missed;
-            missed = room.missed;
-            locks = subst (λ (d : Branch). AreHeld d os) (sym freed) (held_released (branch_of h.branch) os done k room.locks);
-            unlocks = omega (arith, few, one, n, among);
-          }
+          room_with room room.variables room.registers room.scope (last (releases k) room).others
+          (subst (λ (d : Branch). AreHeld d os) (sym freed) (held_released (branch_of h.branch) os done k room.locks)) (omega (arith, few, one, n, among))
 
       pub lock_leaves : Advances 1 h (λ c. owed c (releases k)) None after
       unfolding owed
@@ -116,44 +94,20 @@ module _ {V D C : ℕ} (h : Machine V D C) where
 
   -- a block after which no lock is released
   pub room_left : (o : Owner) → outer h.scope o ≡ h.scope → ((c : ℕ) → holds c o ≡ 0) → HasRoomFor h (os ++ over o ∷ []) → HasRoom h
-  room_left o stays none r = room_with h h.frames (os ++ over o ∷ []) os (subst (λ (u : Scope). OpenFit V h.checked.now.script u D os) stays (last o r).others) (held_pop (branch_of h.branch) os (over o) none r.locks) r
+  room_left o stays none r = room_with r r.variables r.registers r.scope (subst (λ (u : Scope). OpenFit V h.checked.now.script u D os) stays (last o r).others) (held_pop (branch_of h.branch) os (over o) none r.locks) r.unlocks
 
   pub owner_left : (o : Owner) → HasRoomFor h (os ++ over o ∷ []) → OwnerFits V h.checked.now.script h.scope (free h) o
   owner_left o r = subst (λ n. OwnerFits V h.checked.now.script h.scope n o) (ap (λ n. D - n) (length-map h.frames.items (open_in h))) (last o r).owner
 
   -- the caller of a procedure goes on
   module _ (p : Scope) (vs : List ℕ) (rs : List (Option Address)) where
-    room_returned : HasRoomFor h (os ++ over (returns p vs rs) ∷ []) → HasRoom (record h { scope = p })
-    room_returned r = record {
-      variables = r.variables;
-      registers = r.registers;
-      fits = r.fits;
-      scope = (last (returns p vs rs) r).owner.1;
-      blocks = (last (returns p vs rs) r).others;
-      words = r.words;
-      steps = r.steps;
-      cycles = r.cycles;
-      few_missed = r.few_missed;
-      missed = r.missed;
-      locks = held_pop (branch_of h.branch) os (over (returns p vs rs)) (λ c. refl) r.locks;
-      unlocks = r.unlocks;
-    }
-
     pub return_leaves : vs ≡ held_at p.variables h.variables → rs ≡ held_at p.registers h.registers → HasRoomFor h (os ++ over (returns p vs rs) ∷ []) → Advances 1 h (λ c. owed c (returns p vs rs)) None (record h { scope = p })
     unfolding owed
-    return_leaves e f r = record {
-      room = room_returned r;
-      checked = refl;
-      service = refl;
-      awaits = tt;
-      pace = omega arith;
-      few = omega arith;
-      released = [];
-      unlocks = sym (append-nil h.unlocks.items);
-      goes = λ answers.
-          ap (λ ws. left_in h (record (state_of h answers) { variables = variables_in ws; registers = registers_in (held_at p.registers h.registers) })) (sym e)
-          ∙ ap (λ qs. left_in h (record (state_of h answers) { variables = variables_in vs; registers = registers_in qs })) (sym f);
-    }
+    return_leaves e f r =
+        let l = last (returns p vs rs) r in
+        advances_by (room_with r r.variables r.registers l.owner.1 l.others (held_pop (branch_of h.branch) os (over (returns p vs rs)) (λ c. refl) r.locks) r.unlocks) (omega arith) (omega arith)
+        (λ answers. ap (λ ws. left_in h (record (state_of h answers) { variables = variables_in ws; registers = registers_in (held_at p.registers h.registers) })) (sym e)
+        ∙ ap (λ qs. left_in h (record (state_of h answers) { variables = variables_in vs; registers = registers_in qs })) (sym f))
 
   -- a `for` goes on
   module _ (x v w n : ℕ) (b : Block) where
@@ -177,20 +131,12 @@ module _ {V D C : ℕ} (h : Machine V D C) where
         advances_as h (λ c. for_turns (suc (w - (v + 1))) n x (v + 1) w (block_meaning c most_turns b)) (λ c. owed c (for_loop x v w n b)) None new (λ answers. sym (turn_next lt answers)) k
 
     pub last_leaves : w ≤ v → x < (reach h).variables → (new : Machine V D C) → new ≡ with_value h x w → HasRoom h → Advances 1 h (λ c. owed c (for_loop x v w n b)) None new
-    last_leaves le lt new same r = subst (λ m. Advances 1 h (λ c. owed c (for_loop x v w n b)) None m) (sym same) (record {
-      room = room_written h x w r;
-      checked = refl;
-      service = refl;
-      awaits = tt;
-      pace = omega arith;
-      few = omega arith;
-      released = [];
-      unlocks = sym (append-nil h.unlocks.items);
-      goes = λ answers.
-          ap (λ os. rest_in (context_in h.checked.now) os (state_of (with_value h x w) answers)) (sym (opens_written h x w r))
-          ∙ ap (λ (vs : Variables). left_in h (record (state_of h answers) { variables = vs })) (variables_written h x w lt r)
-          ∙ ap (λ b. then_do b (left_in h)) (sym (turn_last le answers));
-    })
+    last_leaves le lt new same r =
+        subst (λ m. Advances 1 h (λ c. owed c (for_loop x v w n b)) None m) (sym same)
+        (advances_by (room_written h x w r) (omega arith) (omega arith)
+        (λ answers. ap (λ os. rest_in (context_in h.checked.now) os (state_of (with_value h x w) answers)) (sym (opens_written h x w r))
+        ∙ ap (λ (vs : Variables). left_in h (record (state_of h answers) { variables = vs })) (variables_written h x w lt r)
+        ∙ ap (λ b. then_do b (left_in h)) (sym (turn_last le answers))))
 
   -- a `while` goes on
   module _ (test : Condition) (n : ℕ) (b : Block) where

@@ -1,6 +1,7 @@
 pub mod Codes
 pub mod Fine
 pub mod Stores
+pub mod Rooms
 pub mod Scopes
 pub mod Passed
 pub mod Blocks
@@ -22,6 +23,7 @@ pub mod Bounds
 pub mod Trees
 pub mod Lists
 pub mod Turns
+pub mod Firsts
 pub mod Starts
 pub mod Standing
 pub mod Pauses

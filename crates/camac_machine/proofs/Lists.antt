@@ -1,5 +1,5 @@
 -- A list by its first element, by its last, and by one at a place.
-use Rattle.std.proofs.Common.{◌≡◌, ℕ, zero, suc, ◌+◌, ◌-◌, ◌<◌, ◌≤◌, ◌==◌, true, false, List, [], ◌∷◌, ◌++◌, length, length-append, take, drop, get_or, slice_index_or, slice_set, Some, refl, sym, ap, ◌∙◌, arith}
+use Rattle.std.proofs.Common.{◌≡◌, ℕ, zero, suc, ◌+◌, ◌-◌, ◌<◌, ◌≤◌, ◌==◌, true, false, List, [], ◌∷◌, ◌++◌, length, length-append, take, drop, get_or, slice_index_or, slice_set, Some, refl, sym, ap, subst, ◌∙◌, arith}
 use Rattle.std.specs.Prelude.{slice_get}
 use Rattle.std.specs.Borrow.{Bor}
 use Rattle.std.proofs.lemmas.Bool.{false≢true, eqb-true}
@@ -59,6 +59,10 @@ filled [] [] e = refl
 filled [] (w ∷ ws) e = absurd (omega (arith, e))
 filled (x ∷ xs) [] e = absurd (omega (arith, e))
 filled (x ∷ xs) (w ∷ ws) e = let less : length ws ≡ length xs = omega (arith, e) in ap (λ l. w ∷ l) (filled xs ws less)
+
+-- and what holds of it
+pub of_whole : {A : Type 0} (P : List A → List A → Type 0) (xs ys ws : List A) → length ws ≡ length ys → ys ≡ xs → P ys ws → P xs (take (length xs) (ws ++ drop (length ws) xs))
+of_whole P xs ys ws long e p = subst (λ l. P xs l) (sym (filled xs ws (long ∙ ap length e))) (subst (λ l. P l ws) e p)
 
 pub longer : {A : Type 0} (xs : List A) (x : A) → length (xs ++ x ∷ []) ≡ length xs + 1
 longer xs x = omega (arith, length-append xs (x ∷ []))

@@ -1,6 +1,5 @@
 -- Turns of loops.
 use Rattle.std.proofs.Common.{◌≡◌, ℕ, zero, suc, ◌+◌, ◌-◌, ◌<◌, ◌≤◌, List, [], ◌∷◌, ◌++◌, length, length-append, map, Option, Some, None, true, false, refl, sym, ap, subst, ◌∙◌, arith}
-use Rattle.std.proofs.lemmas.List.{append-nil}
 use Rattle.std.specs.Borrow.{Bor}
 use Rattle.std.specs.Prelude.{IsSome}
 use Rattle.camac_lang.specs.declared.tree.Part as rust_part
@@ -21,6 +20,7 @@ use Rattle.camac_machine.specs.MachineState.{reach, with_value, variables_here, 
 use Rattle.camac_machine.specs.Rest.{owed, left_of, rest_in}
 use Rattle.camac_machine.proofs.Fine.{fine_first, fine_decide, keeps_block, keeps_for, keeps_turns, keeps_rest, turns_are}
 use Rattle.camac_machine.proofs.Frames.{left_pushed}
+use Rattle.camac_machine.proofs.Rooms.{advances_by}
 use Rattle.camac_machine.proofs.Scopes.{opens_written, variables_written}
 
 module _ {V D C : ℕ} (h : Machine V D C) where
@@ -52,17 +52,7 @@ module _ {V D C : ℕ} (h : Machine V D C) where
 
   -- nothing is to be done
   pub unchanged : (go : Context → Action) → ((answers : List Answer) → go ctx (state_of h answers) ≡ ends (state_of h answers)) → HasRoom h → Advances 1 h go None h
-  unchanged go e r = record {
-    room = r;
-    checked = refl;
-    service = refl;
-    awaits = tt;
-    pace = omega arith;
-    few = omega arith;
-    released = [];
-    unlocks = sym (append-nil h.unlocks.items);
-    goes = λ answers. ap (λ b. then_do b (left_in h)) (sym (e answers));
-  }
+  unchanged go e r = advances_by r (omega arith) (omega arith) (λ answers. ap (λ b. then_do b (left_in h)) (sym (e answers)))
 
   first_fine : (b : Behaviour State) → IsFineHere h (then_do b (left_in h)) → IsFineHere h b
   first_fine b f = fine_first h.checked.now.plan (bounds_of h) b (left_in h) keeps f
@@ -90,22 +80,11 @@ module _ {V D C : ℕ} (h : Machine V D C) where
       let f : Frame = turning x value last n body in
       let A : Machine V D C → Type 0 = λ m. HasRoom m → Advances 1 h (λ c. for_turns (suc (last - value)) (suc n) x value last (block_meaning c most_turns (statements_of body.now))) None m in
       let long : length new.frames.items ≡ length h.frames.items + 1 = ap length pushed ∙ length-append h.frames.items (f ∷ []) in
-      subst A (sym same) (λ k. record {
-        room = k;
-        checked = refl;
-        service = refl;
-        awaits = tt;
-        pace = omega (arith, long);
-        few = omega arith;
-        released = [];
-        unlocks = sym (append-nil h.unlocks.items);
-        goes = λ answers.
-            ap (λ (gs : List Frame). rest_in ctx (map (open_in (with_value h x value)) gs) (record (state_of h answers) { variables = variables_here (with_value h x value); steps = h.steps + 1 })) pushed
-            ∙ left_pushed ctx (open_in (with_value h x value)) h.frames.items f (record (state_of h answers) { variables = variables_here (with_value h x value); steps = h.steps + 1 })
-            ∙ ap (λ os. then_do (left_of ctx (open_in h f) (record (state_of h answers) { variables = variables_here (with_value h x value); steps = h.steps + 1 })) (rest_in ctx os)) (sym (opens_written h x value r))
-            ∙ ap (λ (vs : Variables). then_do (left_of ctx (open_in h f) (record (state_of h answers) { variables = vs; steps = h.steps + 1 })) (left_in h)) (variables_written h x value lt r)
-            ∙ ap (λ b. then_do b (left_in h)) (turn_left x value last n body (state_of h answers));
-      }) room
+      subst A (sym same) (λ k. advances_by k (omega (arith, long)) (omega arith) (λ answers. ap (λ (gs : List Frame). rest_in ctx (map (open_in (with_value h x value)) gs) (record (state_of h answers) { variables = variables_here (with_value h x value); steps = h.steps + 1 })) pushed
+      ∙ left_pushed ctx (open_in (with_value h x value)) h.frames.items f (record (state_of h answers) { variables = variables_here (with_value h x value); steps = h.steps + 1 })
+      ∙ ap (λ os. then_do (left_of ctx (open_in h f) (record (state_of h answers) { variables = variables_here (with_value h x value); steps = h.steps + 1 })) (rest_in ctx os)) (sym (opens_written h x value r))
+      ∙ ap (λ (vs : Variables). then_do (left_of ctx (open_in h f) (record (state_of h answers) { variables = vs; steps = h.steps + 1 })) (left_in h)) (variables_written h x value lt r)
+      ∙ ap (λ b. then_do b (left_in h)) (turn_left x value last n body (state_of h answers)))) room
 
   pub turn_advances : (x value last n : ℕ) (body : Bor (List Stmt)) (new : Machine V D C) → x < (reach h).variables → 0 < n → HasRoom h → new ≡ record (with_value h x value) { steps = h.steps + 1; frames = new.frames } → new.frames.items ≡ h.frames.items ++ turning x value last (n - 1) body ∷ [] → HasRoom new
       → Advances 1 h (λ c. for_turns (suc (last - value)) n x value last (block_meaning c most_turns (statements_of body.now))) None new
@@ -170,20 +149,9 @@ module _ {V D C : ℕ} (h : Machine V D C) where
       let f : Frame = while_frame test n body in
       let A : Machine V D C → Type 0 = λ m. HasRoom m → Advances 1 h (λ c. turns (suc n) (map part_of test.now) (block_meaning c most_turns (statements_of body.now))) None m in
       let long : length new.frames.items ≡ length h.frames.items + 1 = ap length pushed ∙ length-append h.frames.items (f ∷ []) in
-      subst A (sym same) (λ k. record {
-        room = k;
-        checked = refl;
-        service = refl;
-        awaits = tt;
-        pace = omega (arith, long);
-        few = omega arith;
-        released = [];
-        unlocks = sym (append-nil h.unlocks.items);
-        goes = λ answers.
-            ap (λ (gs : List Frame). rest_in ctx (map (open_in h) gs) (stepped (state_of h answers))) pushed
-            ∙ left_pushed ctx (open_in h) h.frames.items f (stepped (state_of h answers))
-            ∙ ap (λ b. then_do b (left_in h)) (while_test_left test n body (stepped (state_of h answers)) ∙ sym (while_test_goes (map part_of test.now) (statements_of body.now) n e answers));
-      }) room
+      subst A (sym same) (λ k. advances_by k (omega (arith, long)) (omega arith) (λ answers. ap (λ (gs : List Frame). rest_in ctx (map (open_in h) gs) (stepped (state_of h answers))) pushed
+      ∙ left_pushed ctx (open_in h) h.frames.items f (stepped (state_of h answers))
+      ∙ ap (λ b. then_do b (left_in h)) (while_test_left test n body (stepped (state_of h answers)) ∙ sym (while_test_goes (map part_of test.now) (statements_of body.now) n e answers)))) room
 
   pub while_test_advances : (test : Bor (List rust_part.Part)) (n : ℕ) (body : Bor (List Stmt)) (new : Machine V D C) → 0 < n → truth (map part_of test.now) (variables_here h) h.q h.x ≡ Some true → new ≡ record h { steps = h.steps + 1; frames = new.frames } → new.frames.items ≡ h.frames.items ++ while_frame test (n - 1) body ∷ [] → HasRoom new
       → Advances 1 h (λ c. turns n (map part_of test.now) (block_meaning c most_turns (statements_of body.now))) None new

@@ -19,6 +19,7 @@ use Rattle.camac_machine.specs.MachineState.{owner_of, opens_of, opens_in, AreHe
 use Rattle.camac_machine.specs.Rest.{Owner, nothing, releases, for_loop, while_loop, returns, Open}
 use Rattle.camac_machine.specs.Within.{OwnerFits, outer, outside, OpenFit}
 use Rattle.camac_machine.specs.Store.{size, held_at}
+use Rattle.camac_machine.proofs.Rooms.{room_with}
 use Rattle.camac_machine.proofs.Stores.{set_is, all_same}
 
 take_set : {A : Type 0} (n : ℕ) (xs : List A) (i : ℕ) (v : A) → take n (set xs i v) ≡ set (take n xs) i v
@@ -101,20 +102,7 @@ module _ (v : ℕ) (s : Script) (c : Scope) (vs ws : List ℕ) (rs qs : List (Op
 module _ {V D C : ℕ} (h : Machine V D C) where
   -- by another store that is the same before the places of the innermost body
   pub room_stored : (vs : List ℕ) (rs : List (Option Address)) → length vs ≡ V → length rs ≡ V → opens_in h ≡ opens_of vs rs h.frames.items → HasRoom h → HasRoom (record h { variables = vs; registers = rs })
-  room_stored vs rs n m e r = record {
-    variables = n;
-    registers = m;
-    fits = r.fits;
-    scope = r.scope;
-    blocks = subst (OpenFit V h.checked.now.script h.scope D) e r.blocks;
-    words = r.words;
-    steps = r.steps;
-    cycles = r.cycles;
-    few_missed = r.few_missed;
-    missed = r.missed;
-    locks = subst (AreHeld (branch_of h.branch)) e r.locks;
-    unlocks = r.unlocks;
-  }
+  room_stored vs rs n m e r = room_with r n m r.scope (subst (OpenFit V h.checked.now.script h.scope D) e r.blocks) (subst (AreHeld (branch_of h.branch)) e r.locks) r.unlocks
 
   -- a register of the innermost body is set
   pub opens_register : (i : ℕ) (at : Option Address) → HasRoom h → opens_in h ≡ opens_of h.variables (set h.registers (h.scope.registers.start + i) at) h.frames.items

@@ -12,16 +12,15 @@ use Rattle.camac_machine.specs.declared.machine.Machine.{Machine}
 use Rattle.camac_machine.specs.declared.machine.Owner.TheVariants.{For}
 use Rattle.camac_machine.specs.MachineState.{reach, with_value, state_of, bounds_of, owner_in, opens_in, stands, IsFineHere, FineThen, HasRoomFor, HasRoom, TurnsAgain, LastIsOver, Advances, GoesOn}
 use Rattle.camac_machine.specs.Rest.{Owner, owed, left_of}
-use Rattle.camac_machine.proofs.Frames.{room_stepped, room_opened, room_popped, goes_popped, advances_soon, fine_along}
+use Rattle.camac_machine.proofs.Frames.{room_opened, room_popped, goes_popped, advances_soon, fine_along}
 use Rattle.camac_machine.proofs.Leaves.{room_left, owner_left, next_fine, next_leaves}
-use Rattle.camac_machine.proofs.Lists.{filled, longer}
+use Rattle.camac_machine.proofs.Lists.{of_whole, longer}
 use Rattle.camac_machine.proofs.Loops.{turn_fine, turn_advances}
+use Rattle.camac_machine.proofs.Rooms.{room_kept}
 
 -- the frames after a turn was begun in a slice of them
 pub turn_whole : (fs gs ws : List Frame) (x v : ℕ) → gs ≡ fs → TurnsAgain gs x v ws → TurnsAgain fs x v (take (length fs) (ws ++ drop (length ws) fs))
-turn_whole fs gs ws x v e t =
-    let long : length ws ≡ length fs = ap length t.is ∙ longer t.before _ ∙ sym (longer t.before _) ∙ sym (ap length t.was) ∙ ap length e in
-    subst (λ l. TurnsAgain fs x v l) (sym (filled fs ws long)) (subst (λ l. TurnsAgain l x v ws) e t)
+turn_whole fs gs ws x v e t = of_whole (λ a b. TurnsAgain a x v b) fs gs ws (ap length t.is ∙ longer t.before _ ∙ sym (longer t.before _) ∙ sym (ap length t.was)) e t
 
 module _ {V D C : ℕ} (h : Machine V D C) (x v : ℕ) (fs : ArrayVec Frame) (t : TurnsAgain h.frames.items x v fs.items) (over : LastIsOver h.frames.items) (room : HasRoom h) (fine : (answers : List Answer) → IsFineHere h (stands None h answers)) where
   abbrev last : Frame
@@ -81,7 +80,7 @@ module _ {V D C : ℕ} (h : Machine V D C) (x v : ℕ) (fs : ArrayVec Frame) (t 
         turn_advances without x v t.last t.turns t.body new turn_sets turn_left.0 room_without
         (ap (λ (m : Machine V D C). record m { steps = m.steps + 1; frames = mid.frames }) same)
         (ap (λ (m : Machine V D C). m.frames.items) same ∙ t.is)
-        (room_stepped mid (mid.steps + 1) kept)
+        (room_kept kept)
 
     leaves_on : Advances 1 without (λ c. owed c loops) None new
     leaves_on =

@@ -1,6 +1,6 @@
 // Whether a condition holds.
 
-ghost use Rattle.std.specs.Prelude.{◌≡◌, length, map, Some, IsSome, not};
+ghost use Rattle.std.specs.Prelude.{◌≡◌, length, map, Some, IsSome};
 ghost use Rattle.camac_lang.specs.View.{test_of, part_of};
 ghost use Rattle.camac_model.specs.Value.{test_value, part_value, truth};
 ghost use Rattle.camac_range.specs.Compare.{compared};

@@ -1,7 +1,6 @@
 // What a service in progress holds: the open blocks, innermost last, and its store.
 
-ghost use Rattle.std.specs.Prelude.{◌≡◌, ◌+◌, ◌*◌, ◌-◌, ◌<◌, ◌≤◌, [], List, length, map, true, false, None, Some, IsSome, IfSome, slice_get};
-ghost use Rattle.camac_branch.specs.Address.{Address};
+ghost use Rattle.std.specs.Prelude.{◌≡◌, ◌+◌, ◌*◌, ◌<◌, ◌≤◌, [], List, length, map, true, false, None, Some, IsSome, IfSome, slice_get};
 ghost use Rattle.camac_branch.specs.Branch.{Answer, start};
 ghost use Rattle.camac_lang.specs.View.{expression_of, part_of, statement_of};
 ghost use Rattle.camac_branch.specs.Crates.{branch_of};
@@ -11,7 +10,7 @@ ghost use Rattle.camac_model.specs.Fine.{most_turns};
 ghost use Rattle.camac_model.specs.Meaning.{effect};
 ghost use Rattle.camac_model.specs.State.{fresh, stepped};
 ghost use Rattle.camac_model.specs.Value.{value, truth};
-ghost use Rattle.camac_machine.specs.MachineState.{event_here, variables_here, registers_here, state_of, reach, holds, stands, free, IsFineHere, FineThen, HasRoom, wanted_if, Wants, Advances, Settles, PausesAfter, Serves, is_paused_at};
+ghost use Rattle.camac_machine.specs.MachineState.{event_here, variables_here, registers_here, state_of, reach, stands, free, IsFineHere, FineThen, HasRoom, wanted_if, Wants, Advances, Settles, PausesAfter, Serves, is_paused_at};
 ghost use Rattle.camac_lang.specs.Fits.{fits};
 ghost use Rattle.camac_machine.specs.Store.{registers_in, held_at};
 ghost use Rattle.camac_machine.specs.Within.{Refers, PartsRefer, StatementFits};

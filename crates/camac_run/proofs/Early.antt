@@ -1,5 +1,5 @@
 -- A service that is left before its end.
-use Rattle.std.proofs.Common.{◌≡◌, ℕ, zero, suc, ◌+◌, ◌<◌, List, [], ◌∷◌, ◌++◌, length, map, Option, None, false, refl, sym, ap, subst, ◌∙◌, append_assoc, arith}
+use Rattle.std.proofs.Common.{◌≡◌, ℕ, zero, suc, ◌<◌, List, [], ◌∷◌, ◌++◌, length, map, Option, None, false, refl, sym, ap, subst, ◌∙◌, append_assoc, arith}
 use Rattle.std.specs.Option.{option_to_list}
 use Rattle.std.specs.Prelude.{IsSome}
 use Rattle.std.proofs.lemmas.Bool.{false≢true}
@@ -15,9 +15,9 @@ use Rattle.camac_machine.specs.MachineState.{open_in, opens_in, opens_of, AreHel
 use Rattle.camac_machine.specs.Rest.{releases, Open}
 use Rattle.camac_machine.specs.Within.{OpenFit}
 use Rattle.camac_machine.proofs.Blocks.{opens_pop, opens_push}
-use Rattle.camac_machine.proofs.Frames.{room_stepped, room_with}
 use Rattle.camac_machine.proofs.Leaves.{lock_leaves}
 use Rattle.camac_machine.proofs.Locks.{held_same, none_held, none_locked}
+use Rattle.camac_machine.proofs.Rooms.{room_with, room_kept}
 
 locks_push : (os : List Open) (o : Open) → locks_in (os ++ o ∷ []) ≡ lock_of o.owner ++ locks_in os
 locks_push [] o = sym (append-nil (lock_of o.owner))
@@ -48,13 +48,12 @@ module _ {V D C : ℕ} (h : Machine V D C) where
   room_over os o r =
       let last = opens_pop V h.checked.now.script h.scope D os o r.blocks in
       let over : Open = record { block = done; owner = o.owner } in
-      room_with h h.frames (os ++ o ∷ []) (os ++ over ∷ [])
-      (opens_push V h.checked.now.script h.scope D os over last.others (last.block.0, tt) last.owner)
-      (held_same (branch_of h.branch) os o over (λ c. refl) r.locks) r
+      room_with r r.variables r.registers r.scope (opens_push V h.checked.now.script h.scope D os over last.others (last.block.0, tt) last.owner)
+      (held_same (branch_of h.branch) os o over (λ c. refl) r.locks) r.unlocks
 
   -- its lock is released
   pub room_released : (k : ℕ) → HasRoomFor h (opens_in h ++ record { block = done; owner = releases k } ∷ []) → (b : Crates) (us : ArrayVec ℕ) → branch_of b ≡ with_lock k false (branch_of h.branch) → us.items ≡ h.unlocks.items ++ k ∷ [] → HasRoom (record h { branch = b; unlocks = us })
-  room_released k r b us freed told = room_stepped (record h { branch = b; steps = h.steps + 1; unlocks = us }) h.steps (lock_leaves h k r b us freed told).room
+  room_released k r b us freed told = room_kept (lock_leaves h k r b us freed told).room
 
   -- the locks that are told, and those that are still to be
   pub told_on : (f : Frame) (fs : List Frame) → h.frames.items ≡ fs ++ f ∷ [] → (new : Machine V D C) → opens_in new ≡ map (open_in h) fs → new.unlocks.items ≡ h.unlocks.items ++ lock_of (open_in h f).owner → new.unlocks.items ++ locks_in (opens_in new) ≡ h.unlocks.items ++ locks_in (opens_in h)
@@ -71,20 +70,9 @@ module _ {V D C : ℕ} (h : Machine V D C) where
   room_idle b fs none idle free r =
       let few = r.unlocks in
       let unlocked = among_none (branch_of b) 7 free in
-      record {
-        variables = r.variables;
-        registers = r.registers;
-        fits = r.fits;
-        scope = r.scope;
-        blocks = subst (λ (gs : List Frame). OpenFit V h.checked.now.script h.scope D (opens_of h.variables h.registers gs)) (idle ∙ sym none) r.blocks;
-        words = r.words;
-        steps = r.steps;
-        cycles = r.cycles;
-        few_missed = r.few_missed;
-        missed = r.missed;
-        locks = subst (λ (gs : List Frame). AreHeld (branch_of b) (opens_of h.variables h.registers gs)) (sym none) (none_locked (branch_of b) free);
-        unlocks = omega (arith, few, unlocked);
-      }
+      room_with r r.variables r.registers r.scope
+      (subst (λ (gs : List Frame). OpenFit V h.checked.now.script h.scope D (opens_of h.variables h.registers gs)) (idle ∙ sym none) r.blocks)
+      (subst (λ (gs : List Frame). AreHeld (branch_of b) (opens_of h.variables h.registers gs)) (sym none) (none_locked (branch_of b) free)) (omega (arith, few, unlocked))
 
   -- all locks are told where no block is open
   pub all_told : (locks : List ℕ) → h.frames.items ≡ [] → h.unlocks.items ++ locks_in (opens_in h) ≡ locks → h.unlocks.items ≡ locks

@@ -36,6 +36,7 @@ use Rattle.camac_machine.proofs.Locks.{among_few}
 use Rattle.camac_run.proofs.Serving.{served_says, served_stops, onward_over}
 use Rattle.camac_machine.proofs.Courses.{pause_alone}
 use Rattle.camac_machine.proofs.Pauses.{asked_of, stands_paused}
+use Rattle.camac_machine.proofs.Rooms.{room_with}
 use Rattle.camac_machine.proofs.Settled.{steps_within}
 use Rattle.camac_machine.proofs.Takes.{waits_first}
 
@@ -82,21 +83,7 @@ module _ {V D C : ℕ} where
   pub room_told : (h : Machine V D C) (none : ArrayVec ℕ) → none.items ≡ [] → HasRoom h → HasRoom (record h { unlocks = none })
   room_told h none e r =
       let few : locked_among (branch_of h.branch) 7 ≤ 7 = among_few (branch_of h.branch) 7 in
-      let n : length none.items ≡ 0 = ap length e in
-      record {
-        variables = r.variables;
-        registers = r.registers;
-        fits = r.fits;
-        scope = r.scope;
-        blocks = r.blocks;
-        words = r.words;
-        steps = r.steps;
-        cycles = r.cycles;
-        few_missed = r.few_missed;
-        missed = r.missed;
-        locks = r.locks;
-        unlocks = omega (arith, few, n);
-      }
+      let n : length none.items ≡ 0 = ap length e in room_with r r.variables r.registers r.scope r.blocks r.locks (omega (arith, few, n))
 
   pub sound_after : (old new : Machine V D C) (none : ArrayVec ℕ) (before next' : Option Pending) (fed later count i : ℕ) (d e' : Crates) → none.items ≡ [] → IsSound old before fed count d → count < later → later ≤ 4294967295 → IfSome next' (λ w. (c : ℕ) → (branch_of e' c).locked ≡ false)
       → HasRoom new → new.checked ≡ old.checked → new.service ≡ i → i < length old.checked.now.script.services → IfSome (asked next') (IsPending new) → IfSome (asked next') (StandsIn new) → IfNone next' (new.frames.items ≡ [])

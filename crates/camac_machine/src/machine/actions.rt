@@ -1,7 +1,6 @@
 // Statements that set or write something, and those that make one cycle.
 
-ghost use Rattle.std.specs.Prelude.{◌≡◌, ◌+◌, ◌*◌, ◌-◌, ◌<◌, ◌≤◌, length, None, Some, slice_set, IsSomeAnd};
-ghost use Rattle.camac_branch.specs.Address.{Address};
+ghost use Rattle.std.specs.Prelude.{◌≡◌, ◌<◌, ◌≤◌, length, None, Some, slice_set, IsSomeAnd};
 ghost use Rattle.camac_branch.specs.Allowed.{width};
 ghost use Rattle.camac_lang.specs.View.{assignment_of, crate_action_of, lam_action_of, put_of, setting_of, single_of};
 ghost use Rattle.camac_model.specs.Cycle.{sized};

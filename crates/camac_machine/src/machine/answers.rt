@@ -1,6 +1,6 @@
 // What an answer does: the cycle or the lock that it is for.
 
-ghost use Rattle.std.specs.Prelude.{◌≡◌, ◌+◌, ◌*◌, ◌-◌, ◌<◌, ◌≤◌, [], List, length, true, false, None, Some, IsSome, IfOk, IfErr, OnErr, IfSome, IfNone, OnSome, IsSomeAnd, slice_set, ◌^◌, ◌%◌};
+ghost use Rattle.std.specs.Prelude.{◌≡◌, ◌+◌, ◌<◌, ◌≤◌, [], List, length, true, false, None, Some, IsSome, IfOk, IfErr, OnErr, IfSome, IfNone, OnSome, IsSomeAnd, slice_set, ◌^◌, ◌%◌};
 ghost use Rattle.camac_branch.specs.Branch.{Answer};
 ghost use Rattle.camac_branch.specs.Crates.{branch_of, is_permitted};
 ghost use Rattle.camac_branch.specs.Plan.{crate_waits};

@@ -1,14 +1,14 @@
 // Blocks: how one is opened, what goes on after it, and calls of procedures.
 
-ghost use Rattle.std.specs.Prelude.{◌≡◌, ℕ, suc, ◌+◌, ◌*◌, ◌-◌, ◌<◌, ◌≤◌, length, ◌∷◌, ◌++◌, [], List, map, true, None, Some, IsSome, IfSome, IfNone, IsSomeAnd};
+ghost use Rattle.std.specs.Prelude.{◌≡◌, ℕ, suc, ◌-◌, ◌<◌, ◌≤◌, length, ◌∷◌, ◌++◌, [], List, map, true, None, IsSome, IfSome, IfNone, IsSomeAnd};
 ghost use Rattle.camac_branch.specs.Branch.{Answer};
 ghost use Rattle.camac_lang.specs.View.{call_of, expression_of, for_of, part_of, statements_of};
 ghost use Rattle.camac_lang.specs.Tree.{done, choose_else, locked};
 ghost use Rattle.camac_model.specs.Fine.{most_turns};
 ghost use Rattle.camac_model.specs.Meaning.{effect, block_meaning, for_turns, turns as while_turns};
 ghost use Rattle.camac_model.specs.Value.{value};
-ghost use Rattle.camac_machine.specs.MachineState.{context_in, reach, state_of, owner_in, open_in, opens_in, holds, free, FineThen, HasRoomFor, HasRoom, IsFineHere, stands, TakesFirst, StandsIn, TurnsAgain, LastIsOver, wanted_if, GoesOn, Advances, Enters, Awaits};
-ghost use Rattle.camac_machine.specs.Rest.{releases, owed, left_of};
+ghost use Rattle.camac_machine.specs.MachineState.{context_in, reach, state_of, owner_in, opens_in, holds, free, FineThen, HasRoomFor, HasRoom, IsFineHere, stands, TakesFirst, StandsIn, TurnsAgain, LastIsOver, wanted_if, GoesOn, Advances, Enters, Awaits};
+ghost use Rattle.camac_machine.specs.Rest.{releases, owed};
 ghost use Rattle.camac_machine.specs.Within.{Refers, PartsRefer, Opens, OwnerFits, StatementFits, outer};
 
 use crate::arguments::{pass, wipe};

@@ -1,6 +1,6 @@
 // Block transfers, cycle by cycle.
 
-ghost use Rattle.std.specs.Prelude.{◌≡◌, ◌*◌, ◌-◌, ◌<◌, ◌≤◌, length, None, Some, IsSome, IfSome, is_some, option_map, ◌^◌, ◌%◌};
+ghost use Rattle.std.specs.Prelude.{◌≡◌, ◌<◌, ◌≤◌, length, Some, IsSome, IfSome, is_some, option_map, ◌^◌, ◌%◌};
 ghost use Rattle.camac_branch.specs.Allowed.{width};
 ghost use Rattle.camac_lang.specs.View.{q_repeat_of, q_stop_of, scan_of};
 ghost use Rattle.camac_model.specs.Fine.{most_turns};

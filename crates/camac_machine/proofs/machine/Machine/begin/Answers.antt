@@ -1,4 +1,4 @@
-use Rattle.std.proofs.Common.{◌≡◌, ℕ, ◌+◌, Bool, sym, ap, subst, arith, rules, map}
+use Rattle.std.proofs.Common.{◌≡◌, ℕ, ◌+◌, Bool, sym, ap, subst, arith, rules}
 use Rattle.std.specs.Prelude.{Option, Some, None, is_some}
 use Rattle.camac_lang.specs.Tree.{choose, choose_else, locked}
 use Rattle.camac_lang.specs.View.{assignment_of, call_of, condition_of, crate_action_of, expression_of, for_of, lam_action_of, put_of, q_repeat_of, q_stop_of, scan_of, setting_of, single_of, statement_of, statements_of, while_of}
@@ -8,7 +8,8 @@ use Rattle.camac_machine.specs.declared.machine.Pending.{Pending}
 use Rattle.camac_machine.specs.MachineState.{free, reach, wanted_if, Advances}
 use Rattle.camac_machine.proofs.Actions.{begun}
 use Rattle.camac_machine.proofs.Courses.{proceeds_advance, proceeds_pace}
-use Rattle.camac_machine.proofs.Frames.{room_stepped, wants_advance, wants_first, enter_advances, step_advances}
+use Rattle.camac_machine.proofs.Rooms.{room_kept}
+use Rattle.camac_machine.proofs.Frames.{wants_advance, wants_first, enter_advances, step_advances}
 use Rattle.camac_machine.proofs.Loops.{while_begins}
 use Rattle.camac_machine.proofs.Fine.{turns_are}
 use Rattle.camac_machine.proofs.Trees.{assign_is, register_is, put_is, single_is, crate_is, lam_is, scan_is, q_stop_is, q_repeat_is, choose_is, choose_else_is, lock_is, for_is, while_is, call_is}
@@ -28,9 +29,8 @@ overflow_add-self g c =
 -- statements without a cycle
 pub assign-requires : goal.assign-requires
 assign-requires g c =
-    let h = c.args.self.now in
     let e = assign_is c.in-Assign.assignment in
-    (search, (room_stepped h (h.steps + 1) c.requires.room, (rw (c.in-Assign.is, e) at c.requires.fits, rw (c.in-Assign.is, e) at c.requires.fine)))
+    (search, (room_kept c.requires.room, (rw (c.in-Assign.is, e) at c.requires.fits, rw (c.in-Assign.is, e) at c.requires.fine)))
 
 pub returns-in-Assign-clause-advances : goal.returns-in-Assign-clause-advances
 returns-in-Assign-clause-advances g c =
@@ -39,9 +39,8 @@ returns-in-Assign-clause-advances g c =
 
 pub set_register-requires : goal.set_register-requires
 set_register-requires g c =
-    let h = c.args.self.now in
     let e = register_is c.in-SetRegister.setting in
-    (search, (room_stepped h (h.steps + 1) c.requires.room, (rw (c.in-SetRegister.is, e) at c.requires.fits, rw (c.in-SetRegister.is, e) at c.requires.fine)))
+    (search, (room_kept c.requires.room, (rw (c.in-SetRegister.is, e) at c.requires.fits, rw (c.in-SetRegister.is, e) at c.requires.fine)))
 
 pub returns-in-SetRegister-clause-advances : goal.returns-in-SetRegister-clause-advances
 returns-in-SetRegister-clause-advances g c =
@@ -50,9 +49,8 @@ returns-in-SetRegister-clause-advances g c =
 
 pub put-requires : goal.put-requires
 put-requires g c =
-    let h = c.args.self.now in
     let e = put_is c.in-Put.action in
-    (search, (room_stepped h (h.steps + 1) c.requires.room, (rw (c.in-Put.is, e) at c.requires.fits, rw (c.in-Put.is, e) at c.requires.fine)))
+    (search, (room_kept c.requires.room, (rw (c.in-Put.is, e) at c.requires.fits, rw (c.in-Put.is, e) at c.requires.fine)))
 
 pub returns-in-Put-clause-advances : goal.returns-in-Put-clause-advances
 returns-in-Put-clause-advances g c =
@@ -62,9 +60,8 @@ returns-in-Put-clause-advances g c =
 -- statements of one cycle
 pub single-requires : goal.single-requires
 single-requires g c =
-    let h = c.args.self.now in
     let e = single_is c.in-Single.action in
-    (search, (room_stepped h (h.steps + 1) c.requires.room, (rw (c.in-Single.is, e) at c.requires.fits, rw (c.in-Single.is, e) at c.requires.fine)))
+    (search, (room_kept c.requires.room, (rw (c.in-Single.is, e) at c.requires.fits, rw (c.in-Single.is, e) at c.requires.fine)))
 
 pub returns-in-Single-clause-advances : goal.returns-in-Single-clause-advances
 returns-in-Single-clause-advances g c =
@@ -78,9 +75,8 @@ returns-in-Single-clause-wants g c = λ yes.
 
 pub call_crate-requires : goal.call_crate-requires
 call_crate-requires g c =
-    let h = c.args.self.now in
     let e = crate_is c.in-CrateCall.action in
-    (search, (room_stepped h (h.steps + 1) c.requires.room, (rw (c.in-CrateCall.is, e) at c.requires.fits, rw (c.in-CrateCall.is, e) at c.requires.fine)))
+    (search, (room_kept c.requires.room, (rw (c.in-CrateCall.is, e) at c.requires.fits, rw (c.in-CrateCall.is, e) at c.requires.fine)))
 
 pub returns-in-CrateCall-clause-advances : goal.returns-in-CrateCall-clause-advances
 returns-in-CrateCall-clause-advances g c =
@@ -110,10 +106,9 @@ returns-in-LamCall-clause-wants g c = λ yes.
 -- transfers
 pub scan-requires : goal.scan-requires
 scan-requires g c =
-    let h = c.args.self.now in
     let w = c.in-Scan in
     let e = scan_is w.scan in
-    (search, (room_stepped h (h.steps + 1) c.requires.room, (rw (w.is, e) at c.requires.fits, rw (w.is, e) at c.requires.fine)))
+    (search, (room_kept c.requires.room, (rw (w.is, e) at c.requires.fits, rw (w.is, e) at c.requires.fine)))
 
 pub returns-in-Scan-clause-advances : goal.returns-in-Scan-clause-advances
 returns-in-Scan-clause-advances g c =
@@ -133,10 +128,9 @@ returns-in-Scan-clause-pace g c =
 
 pub q_stop-requires : goal.q_stop-requires
 q_stop-requires g c =
-    let h = c.args.self.now in
     let w = c.in-QStop in
     let e = q_stop_is w.transfer in
-    (search, (room_stepped h (h.steps + 1) c.requires.room, (rw (w.is, e) at c.requires.fits, rw (w.is, e) at c.requires.fine)))
+    (search, (room_kept c.requires.room, (rw (w.is, e) at c.requires.fits, rw (w.is, e) at c.requires.fine)))
 
 pub returns-in-QStop-clause-advances : goal.returns-in-QStop-clause-advances
 returns-in-QStop-clause-advances g c =
@@ -156,10 +150,9 @@ returns-in-QStop-clause-pace g c =
 
 pub q_repeat-requires : goal.q_repeat-requires
 q_repeat-requires g c =
-    let h = c.args.self.now in
     let w = c.in-QRepeat in
     let e = q_repeat_is w.transfer w.limit in
-    (search, (room_stepped h (h.steps + 1) c.requires.room, (rw (w.is, e) at c.requires.fits, rw (w.is, e) at c.requires.fine)))
+    (search, (room_kept c.requires.room, (rw (w.is, e) at c.requires.fits, rw (w.is, e) at c.requires.fine)))
 
 pub returns-in-QRepeat-clause-advances : goal.returns-in-QRepeat-clause-advances
 returns-in-QRepeat-clause-advances g c =
@@ -180,14 +173,13 @@ returns-in-QRepeat-clause-pace g c =
 -- statements with blocks
 pub choose-requires : goal.choose-requires
 choose-requires g c =
-    let h = c.args.self.now in
     let w = c.in-If in
     let e = choose_is w.line w.test w.then in
     let fits = rw (w.is, e) at c.requires.fits in
     let fine = rw (w.is, e) at c.requires.fine in (
       search,
       (
-        room_stepped h (h.steps + 1) c.requires.room,
+        room_kept c.requires.room,
         (
           rw c.deref.ensures.value fits.0,
           (rw c.deref-in-If.ensures.value (fits.1, fits.2), ((fits.1, tt), rw (c.deref.ensures.value, c.deref-in-If.ensures.value) fine)),
@@ -203,14 +195,13 @@ returns-in-If-clause-advances g c =
 
 pub choose-requires-in-IfElse : goal.choose-requires-in-IfElse
 choose-requires-in-IfElse g c =
-    let h = c.args.self.now in
     let w = c.in-IfElse in
     let e = choose_else_is w.line w.test w.then w.otherwise in
     let fits = rw (w.is, e) at c.requires.fits in
     let fine = rw (w.is, e) at c.requires.fine in (
       search rules,
       (
-        room_stepped h (h.steps + 1) c.requires.room,
+        room_kept c.requires.room,
         (
           rw c.deref-in-IfElse.ensures.value fits.0,
           (
@@ -230,12 +221,11 @@ returns-in-IfElse-clause-advances g c =
 
 pub want_lock-requires : goal.want_lock-requires
 want_lock-requires g c =
-    let h = c.args.self.now in
     let w = c.in-Lock in
     let e = lock_is w.line w.crate_no w.body in
     let fits = rw (w.is, e) at c.requires.fits in
     let fine = rw (w.is, e) at c.requires.fine in
-    (search, (room_stepped h (h.steps + 1) c.requires.room, (fits.0, (rw c.deref-in-Lock.ensures.value (fits.1, fits.2), rw c.deref-in-Lock.ensures.value fine))))
+    (search, (room_kept c.requires.room, (fits.0, (rw c.deref-in-Lock.ensures.value (fits.1, fits.2), rw c.deref-in-Lock.ensures.value fine))))
 
 pub returns-in-Lock-clause-advances : goal.returns-in-Lock-clause-advances
 returns-in-Lock-clause-advances g c =
@@ -251,12 +241,11 @@ returns-in-Lock-clause-wants g c = λ yes.
 
 pub begin_for-requires : goal.begin_for-requires
 begin_for-requires g c =
-    let h = c.args.self.now in
     let w = c.in-For in
     let e = for_is w.head w.body in
     let fits = rw (w.is, e) at c.requires.fits in
     let fine = rw (w.is, e) at c.requires.fine in
-    (search, (room_stepped h (h.steps + 1) c.requires.room, (rw c.deref-in-For.ensures.value fits, rw c.deref-in-For.ensures.value fine)))
+    (search, (room_kept c.requires.room, (rw c.deref-in-For.ensures.value fits, rw c.deref-in-For.ensures.value fine)))
 
 pub returns-in-For-clause-advances : goal.returns-in-For-clause-advances
 returns-in-For-clause-advances g c =
@@ -272,7 +261,7 @@ test_while-requires g c =
     let fits = rw (w.is, e) at c.requires.fits in
     let fine = rw (w.is, e) at c.requires.fine in
     let few = while_begins (record h { steps = h.steps + 1 }) 65535 c.deref-in-While.result.now w.head.test.parts.items c.deref-in-While-2.result.now w.body.items turns_are c.deref-in-While.ensures.value c.deref-in-While-2.ensures.value fine in
-    (search, (room_stepped h (h.steps + 1) c.requires.room, (rw c.deref-in-While.ensures.value fits.0, (rw c.deref-in-While-2.ensures.value (fits.1, fits.2), few))))
+    (search, (room_kept c.requires.room, (rw c.deref-in-While.ensures.value fits.0, (rw c.deref-in-While-2.ensures.value (fits.1, fits.2), few))))
 
 pub returns-in-While-clause-advances : goal.returns-in-While-clause-advances
 returns-in-While-clause-advances g c =
@@ -286,9 +275,8 @@ returns-in-While-clause-advances g c =
 
 pub call-requires : goal.call-requires
 call-requires g c =
-    let h = c.args.self.now in
     let e = call_is c.in-Call.call in
-    (search, (room_stepped h (h.steps + 1) c.requires.room, (rw (c.in-Call.is, e) at c.requires.fits, rw (c.in-Call.is, e) at c.requires.fine)))
+    (search, (room_kept c.requires.room, (rw (c.in-Call.is, e) at c.requires.fits, rw (c.in-Call.is, e) at c.requires.fine)))
 
 pub returns-in-Call-clause-advances : goal.returns-in-Call-clause-advances
 returns-in-Call-clause-advances g c =

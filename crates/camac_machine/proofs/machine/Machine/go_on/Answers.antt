@@ -1,81 +1,30 @@
-use Rattle.std.proofs.Common.{◌≡◌, ◌≤◌, List, [], ◌∷◌, ◌++◌, refl, rules, ap, sym, subst, ◌∙◌, arith, length, ◌+◌}
-use Rattle.std.specs.Prelude.{Option, Some, None}
-use Rattle.std.specs.Borrow.{Bor}
+use Rattle.std.proofs.Common.{◌≡◌, ◌≤◌, List, rules, ap, sym, subst, ◌∙◌, length}
+use Rattle.std.specs.Prelude.{Some, None}
 use Rattle.camac_branch.specs.Branch.{Answer}
-use Rattle.camac_lang.specs.View.{statement_of, statements_of}
-use Rattle.camac_lang.specs.Tree.{Statement}
-use Rattle.camac_lang.specs.declared.tree.Stmt.{Stmt}
 use Rattle.arrayvec.specs.ArrayVec.{ArrayVec, with_items}
 use Rattle.camac_machine.specs.declared.machine.Frame.{Frame}
-use Rattle.camac_machine.specs.declared.machine.Machine.{Machine}
-use Rattle.camac_machine.specs.MachineState.{state_of, open_in, stands, IsFineHere, HasRoom, LastIsOver, wanted_if, GoesOn}
-use Rattle.camac_machine.specs.Rest.{Open, says}
-use Rattle.camac_machine.proofs.Frames.{room_begun, goes_begun, room_popped, goes_popped, fine_along, room_at, ready_at, stands_at}
+use Rattle.camac_machine.specs.MachineState.{stands, IsFineHere, HasRoom, LastIsOver, wanted_if, GoesOn}
+use Rattle.camac_machine.proofs.Firsts.{first_whole, first_room, first_fine, first_goes}
 use Rattle.camac_machine.proofs.Standing.{stands_first}
-use Rattle.camac_machine.proofs.Lists.{filled, longer}
+use Rattle.camac_machine.proofs.Lists.{filled}
 use Rattle.camac_machine.proofs.machine.Machine.go_on.Goals as goal
 
 pub begin-waits-requires : goal.begin-waits-requires
 begin-waits-requires g c =
     let h = c.args.self.now in
-    let t = c.in-Some.ensures.begun in
+    let first = c.in-Some.first.now in
     let fs : ArrayVec Frame = with_items h.frames c.next_statement.new.frames in
-    let before : ArrayVec Frame = record { items = t.before } in
-    let was : h.frames.items ≡ t.before ++ t.last ∷ [] = sym c.as_mut_slice.ensures.value ∙ t.was in
-    let long : length c.next_statement.new.frames ≡ length h.frames.items = ap length t.is ∙ longer t.before _ ∙ sym (longer t.before t.last) ∙ sym (ap length was) in
-    let items = filled h.frames.items c.next_statement.new.frames long ∙ t.is in
-    let o : Open = open_in h t.last in
-    let st : Statement = statement_of c.in-Some.first.now in
-    let e = ap statements_of t.first_is in
-    let mid : Machine g.row.V g.row.DEPTH g.row.CAP = record h { frames = before } in
-    let begun = room_begun mid _ fs o st items e refl (room_popped h t.last before was c.requires.room) in (
-      search rules,
-      (
-        begun.0,
-        (
-          begun.1,
-          λ answers. fine_along (record h { frames = fs }) h refl refl _ _
-              (goes_begun mid _ fs o st items e refl (state_of h answers) ∙ sym (goes_popped h t.last before was (state_of h answers)))
-              (c.requires.fine answers),
-        ),
-      ),
-    )
+    let t = first_whole h.frames.items c.as_mut_slice.result.now c.next_statement.new.frames first c.as_mut_slice.ensures.value c.in-Some.ensures.begun in
+    let room = first_room h first fs t c.requires.room in (search rules, (room.0, (room.1, first_fine h first fs t c.requires.fine)))
 
 pub returns-in-Some-clause-goes : goal.returns-in-Some-clause-goes
 returns-in-Some-clause-goes g c =
     let h = c.args.self.now in
-    let t = c.in-Some.ensures.begun in
+    let first = c.in-Some.first in
+    let b = c.begin-waits in
     let fs : ArrayVec Frame = with_items h.frames c.next_statement.new.frames in
-    let before : ArrayVec Frame = record { items = t.before } in
-    let was : h.frames.items ≡ t.before ++ t.last ∷ [] = sym c.as_mut_slice.ensures.value ∙ t.was in
-    let long : length c.next_statement.new.frames ≡ length h.frames.items = ap length t.is ∙ longer t.before _ ∙ sym (longer t.before t.last) ∙ sym (ap length was) in
-    let items = filled h.frames.items c.next_statement.new.frames long ∙ t.is in
-    let o : Open = open_in h t.last in
-    let st : Statement = statement_of c.in-Some.first.now in
-    let e = ap statements_of t.first_is in
-    let mid : Machine g.row.V g.row.DEPTH g.row.CAP = record h { frames = before } in
-    let a = c.begin-waits.ensures.advances in
-    let new = c.begin-waits.new.self in
-    let at : Option (Bor Stmt) = Some c.in-Some.first in
-    let w = wanted_if c.begin-waits.result c.begin-waits.new.pending in
-    record {
-      before = t.before;
-      last = t.last;
-      was = was;
-      advances = record {
-        room = room_at new at a.room;
-        checked = a.checked;
-        service = a.service;
-        awaits = ready_at new at w a.awaits;
-        pace =
-            let p = c.begin-waits.ensures.pace in
-            let n : length fs.items ≡ length t.before + 1 = ap length items ∙ longer t.before _ in omega (arith, p, n);
-        few = a.few;
-        released = a.released;
-        unlocks = a.unlocks;
-        goes = λ answers. ap (says a.released) (stands_at new at w answers) ∙ a.goes answers ∙ goes_begun mid _ fs o st items e refl (state_of h answers);
-      };
-    }
+    let t = first_whole h.frames.items c.as_mut_slice.result.now c.next_statement.new.frames first.now c.as_mut_slice.ensures.value c.in-Some.ensures.begun in
+    first_goes h first.now fs t (wanted_if b.result b.new.pending) b.new.self (Some first) b.ensures.advances b.ensures.pace
 
 pub returns-in-Some-clause-begun : goal.returns-in-Some-clause-begun
 returns-in-Some-clause-begun g c = λ yes.

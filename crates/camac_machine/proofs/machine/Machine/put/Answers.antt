@@ -1,9 +1,9 @@
-use Rattle.std.proofs.Common.{◌<◌, [], ◌∷◌, ◌++◌, length, refl, ap, sym, ◌∙◌, arith, rules}
-use Rattle.std.proofs.lemmas.List.{append-nil}
+use Rattle.std.proofs.Common.{◌<◌, [], ◌∷◌, ◌++◌, length, ap, ◌∙◌, arith, rules}
 use Rattle.std.proofs.lemmas.Bool.{false≢true}
 use Rattle.camac_lang.specs.View.{expression_of}
 use Rattle.camac_machine.specs.MachineState.{bounds_of}
 use Rattle.camac_machine.proofs.Actions.{has_value, put_fits, put_goes}
+use Rattle.camac_machine.proofs.Rooms.{room_kept, advances_by}
 use Rattle.camac_machine.proofs.machine.Machine.put.Goals as goal
 
 pub value_of-requires : goal.value_of-requires
@@ -24,30 +24,5 @@ unreachable-requires g c =
 pub returns : goal.returns
 returns g c =
     let h = c.args.self.now in
-    let r = c.requires.room in
-    record {
-      room = record {
-        variables = r.variables;
-        registers = r.registers;
-        fits = r.fits;
-        scope = r.scope;
-        blocks = r.blocks;
-        words = r.words;
-        steps = r.steps;
-        cycles = r.cycles;
-        few_missed = r.few_missed;
-        missed = r.missed;
-        locks = r.locks;
-        unlocks = r.unlocks;
-      };
-      checked = refl;
-      service = refl;
-      awaits = tt;
-      pace = omega arith;
-      few = omega arith;
-      released = [];
-      unlocks = sym (append-nil h.unlocks.items);
-      goes = λ answers.
-          put_goes h (expression_of c.args.action.now.value) c.value_of.result c.value_of.ensures c.push.new.self
-          (c.push.ensures ∙ ap (λ w. h.words ++ w ∷ []) c.in-Some.ensures.kept) answers;
-    }
+    advances_by (room_kept c.requires.room) (omega arith) (omega arith)
+    (put_goes h (expression_of c.args.action.now.value) c.value_of.result c.value_of.ensures c.push.new.self (c.push.ensures ∙ ap (λ w. h.words ++ w ∷ []) c.in-Some.ensures.kept))

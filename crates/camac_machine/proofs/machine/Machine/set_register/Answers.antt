@@ -1,5 +1,4 @@
-use Rattle.std.proofs.Common.{[], Some, None, set, ap, sym, ◌∙◌, refl, arith, ◌+◌}
-use Rattle.std.proofs.lemmas.List.{append-nil}
+use Rattle.std.proofs.Common.{[], Some, None, set, ap, sym, ◌∙◌, arith, ◌+◌}
 use Rattle.camac_lang.specs.View.{expression_of}
 use Rattle.camac_branch.specs.Address.{address}
 use Rattle.camac_model.specs.Value.{value}
@@ -7,6 +6,7 @@ use Rattle.camac_machine.specs.MachineState.{context_in, variables_here, state_o
 use Rattle.camac_machine.specs.Rest.{rest_in}
 use Rattle.camac_machine.specs.Store.{registers_in, held_at}
 use Rattle.camac_machine.proofs.Actions.{has_value, known, register_goes}
+use Rattle.camac_machine.proofs.Rooms.{advances_by}
 use Rattle.camac_machine.proofs.Scopes.{held_set, opens_register, room_register}
 use Rattle.camac_machine.proofs.machine.Machine.set_register.Goals as goal
 
@@ -36,18 +36,8 @@ returns g c =
     let at = Some (address c.value_of-c.result c.value_of-n.result c.value_of-a.result) in
     let rs = set h.registers (h.scope.registers.start + r) at in
     let few = c.requires.room.scope.more_registers in
-    rw c.set_in.ensures (record {
-      room = room_register h r at c.requires.room;
-      checked = refl;
-      service = refl;
-      awaits = tt;
-      pace = omega arith;
-      few = omega arith;
-      released = [];
-      unlocks = sym (append-nil h.unlocks.items);
-      goes = λ answers.
-          ap (λ os. rest_in (context_in h.checked.now) os (state_of (record h { registers = rs }) answers)) (sym (opens_register h r at c.requires.room))
-          ∙ register_goes h r (expression_of c.args.setting.now.crate_no) (expression_of c.args.setting.now.station) (expression_of c.args.setting.now.sub_address) c.value_of-c.result c.value_of-n.result c.value_of-a.result c.value_of-c.ensures c.value_of-n.ensures c.value_of-a.ensures (registers_in (held_at h.scope.registers rs))
-          (held_set None h.scope.registers h.registers r at c.requires.fits.0 (omega (arith, few, c.requires.room.registers)))
-          answers;
-    })
+    rw c.set_in.ensures
+    (advances_by (room_register h r at c.requires.room) (omega arith) (omega arith)
+    (λ answers. ap (λ os. rest_in (context_in h.checked.now) os (state_of (record h { registers = rs }) answers)) (sym (opens_register h r at c.requires.room))
+    ∙ register_goes h r (expression_of c.args.setting.now.crate_no) (expression_of c.args.setting.now.station) (expression_of c.args.setting.now.sub_address) c.value_of-c.result c.value_of-n.result c.value_of-a.result c.value_of-c.ensures c.value_of-n.ensures c.value_of-a.ensures (registers_in (held_at h.scope.registers rs))
+    (held_set None h.scope.registers h.registers r at c.requires.fits.0 (omega (arith, few, c.requires.room.registers))) answers))

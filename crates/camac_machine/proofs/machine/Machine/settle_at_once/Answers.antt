@@ -1,88 +1,31 @@
-use Rattle.std.proofs.Common.{[], refl, ◌∙◌, rules}
-use Rattle.std.specs.Prelude.{Option, Some, None, IsSome, IfNone}
-use Rattle.std.proofs.lemmas.Bool.{false≢true}
-use Rattle.arrayvec.specs.ArrayVec.{ArrayVec}
-use Rattle.camac_machine.specs.declared.machine.Frame.{Frame}
-use Rattle.camac_machine.specs.MachineState.{bounds_of, state_of, IsPending, StandsIn}
-use Rattle.camac_machine.proofs.Fine.{keeps_rest, fine_says}
-use Rattle.camac_machine.proofs.Frames.{goes_further, fine_along, smaller}
+use Rattle.std.proofs.Common.{refl, rules}
 use Rattle.camac_machine.proofs.Lists.{some_of, none_of}
-use Rattle.camac_machine.proofs.Pauses.{asked_all, never_pauses}
+use Rattle.camac_machine.proofs.Pauses.{never_pauses}
+use Rattle.camac_machine.proofs.Settled.{fine_still, stays_on, settles_on, smaller_on}
 use Rattle.camac_machine.proofs.machine.Machine.settle_at_once.Goals as goal
-
--- nothing holds only where something is wanted
-none_if_some : {A : Type 0} (o : Option A) (P : Type 0) → IsSome o → IfNone o P
-none_if_some None P some = absurd (false≢true some)
-none_if_some (Some x) P some = tt
 
 pub loop-self-init : goal.loop-self-init
 loop-self-init g c = record { room = c.requires.room; checked = refl; service = refl; goes = λ answers. rw c.requires.quiet refl }
 
 pub go_on-requires : goal.go_on-requires
 go_on-requires g c =
-    let h = c.loop-self.self in
     let v = c.loop-self.invariant in
-    let us = h.unlocks.items in (
-      search rules,
-      (
-        v.room,
-        (
-          some_of h.frames.items c.loop-self-test.ensures,
-          λ answers. fine_says h.checked.now.plan (bounds_of h) us _ (fine_along h c.args.self.now v.checked v.service _ _ (v.goes answers) (c.requires.fine answers)),
-        ),
-      ),
-    )
+    (search rules, (v.room, (some_of c.loop-self.self.frames.items c.loop-self-test.ensures, fine_still v c.requires.fine)))
 
 pub returns-then-go_on-clause-settles : goal.returns-then-go_on-clause-settles
 returns-then-go_on-clause-settles g c =
-    let h = c.loop-self.self in
-    let v = c.loop-self.invariant in
-    let e = c.go_on.ensures.goes in
-    let a = rw c.if-go_on.true at e.advances in
-    let new = c.go_on.new.self in
-    let w = c.go_on.new.pending in
-    let before : ArrayVec Frame = record { items = e.before } in
-    record {
-      room = a.room;
-      checked = a.checked ∙ v.checked;
-      service = a.service ∙ v.service;
-      awaits = asked_all w (IsPending new) a.awaits;
-      begun = asked_all w (StandsIn new) (c.go_on.ensures.begun c.if-go_on.true);
-      over = none_if_some w _ (c.go_on.ensures.some c.if-go_on.true);
-      goes = λ answers. goes_further h new e.last before e.was a.released a.unlocks w answers (a.goes answers) ∙ v.goes answers;
-    }
+    let yes = c.if-go_on.true in
+    settles_on c.loop-self.invariant (rw yes at c.go_on.ensures.goes) (c.go_on.ensures.some yes) (c.go_on.ensures.begun yes)
 
 pub returns-then-go_on-clause-awake : goal.returns-then-go_on-clause-awake
 returns-then-go_on-clause-awake g c =
     let a = rw c.if-go_on.true at c.go_on.ensures.goes.advances in never_pauses c.go_on.new.self c.go_on.new.pending a.awaits
 
 pub loop-self-smaller : goal.loop-self-smaller
-loop-self-smaller g c =
-    let h = c.loop-self.self in
-    let v = c.loop-self.invariant in
-    let e = c.go_on.ensures.goes in
-    let a = rw c.if-go_on.false at e.advances in
-    let new = c.go_on.new.self in
-    let before : ArrayVec Frame = record { items = e.before } in
-    let same = goes_further h new e.last before e.was a.released a.unlocks None [] (a.goes []) ∙ v.goes [] in
-    let fine = fine_says new.checked.now.plan (bounds_of new) new.unlocks.items _ (fine_along new c.args.self.now (a.checked ∙ v.checked) (a.service ∙ v.service) _ _ same (c.requires.fine [])) in
-    let within = keeps_rest new.checked.now.plan (bounds_of new) new.checked.now.script _ (state_of new []) fine in
-    smaller new h before e.last a.checked a.service within.steps a.pace e.was
+loop-self-smaller g c = smaller_on c.loop-self.invariant c.requires.fine (rw c.if-go_on.false at c.go_on.ensures.goes)
 
 pub loop-self-preserved : goal.loop-self-preserved
-loop-self-preserved g c =
-    let h = c.loop-self.self in
-    let v = c.loop-self.invariant in
-    let e = c.go_on.ensures.goes in
-    let a = rw c.if-go_on.false at e.advances in
-    let new = c.go_on.new.self in
-    let before : ArrayVec Frame = record { items = e.before } in
-    record {
-      room = a.room;
-      checked = a.checked ∙ v.checked;
-      service = a.service ∙ v.service;
-      goes = λ answers. goes_further h new e.last before e.was a.released a.unlocks None answers (a.goes answers) ∙ v.goes answers;
-    }
+loop-self-preserved g c = stays_on c.loop-self.invariant (rw c.if-go_on.false at c.go_on.ensures.goes)
 
 pub returns-clause-awake : goal.returns-clause-awake
 returns-clause-awake g c = rw c.wait_for_none.ensures refl

@@ -1,18 +1,11 @@
-use Rattle.std.proofs.Common.{◌≡◌, ◌+◌, ◌-◌, ◌*◌, List, length}
-use Rattle.std.specs.Prelude.{None}
-use Rattle.camac_branch.specs.Branch.{Answer}
-use Rattle.camac_machine.specs.MachineState.{bounds_of, stands, HasRoom}
-use Rattle.camac_machine.specs.Rest.{says}
+use Rattle.std.proofs.Common.{◌+◌, ◌-◌, ◌*◌, length}
+use Rattle.camac_machine.specs.MachineState.{bounds_of}
+use Rattle.camac_machine.proofs.Settled.{StaysAs}
 use Rattle.camac_machine.proofs.machine.Machine.settle_at_once.Given as goal
 
 -- what is left to run stays the same
 abbrev pub invariant-loop-self : goal.invariant-loop-self
-invariant-loop-self g l = record {
-  room : HasRoom l.self;
-  checked : l.self.checked ≡ l.initial.self.checked;
-  service : l.self.service ≡ l.initial.self.service;
-  goes : (answers : List Answer) → says l.self.unlocks.items (stands None l.self answers) ≡ stands None l.initial.self answers;
-}
+invariant-loop-self g l = StaysAs l.initial.self l.self
 
 -- a block more costs a step, and the steps are bounded
 abbrev pub decreases-loop-self : goal.decreases-loop-self

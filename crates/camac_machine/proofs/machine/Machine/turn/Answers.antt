@@ -4,7 +4,7 @@ use Rattle.camac_machine.specs.declared.machine.Machine.{Machine}
 use Rattle.camac_machine.specs.declared.machine.Owner.TheVariants.{For}
 use Rattle.camac_machine.specs.MachineState.{reach, free}
 use Rattle.camac_machine.specs.Within.{Opens}
-use Rattle.camac_machine.proofs.Frames.{room_stepped}
+use Rattle.camac_machine.proofs.Rooms.{room_kept}
 use Rattle.camac_machine.proofs.Loops.{turn_fine, turn_advances}
 use Rattle.camac_machine.proofs.machine.Machine.turn.Goals as goal
 
@@ -24,8 +24,7 @@ open-requires g c =
     let x = c.args.variable in
     let P : Machine g.row.V g.row.DEPTH g.row.CAP → Type 0 = λ m. (x < (reach m).variables) × Opens (reach m) (free m) (statements_of c.args.body.now) in
     let k = subst P (sym c.set_variable.ensures.same) (c.requires.variable, c.requires.body) in
-    let room = room_stepped c.set_variable.new.self (c.set_variable.new.self.steps + 1) c.set_variable.ensures.room in
-    (search, (room, (k.1, (k, (refl, λ n. refl)))))
+    (search, (room_kept c.set_variable.ensures.room, (k.1, (k, (refl, λ n. refl)))))
 
 pub returns : goal.returns
 returns g c =
