@@ -17,7 +17,7 @@ use Rattle.camac_text_spelling.specs.Pieces.{Names, Prefix}
 use Rattle.camac_text_spelling.specs.Statements as spell
 use Rattle.camac_text_spelling.proofs.Prefixes.{prefix_split}
 use Rattle.camac_text_spelling.proofs.Gives.{ok, after, while_turn, left}
-use Rattle.camac_text_spelling.proofs.Runs.{Runs, left_at, listed}
+use Rattle.camac_text_spelling.proofs.Runs.{Runs, left_at, listed, runs_with}
 use Rattle.camac_text_spelling.proofs.Opens.{statement_opens, block_ends}
 use Rattle.camac_text_spelling.proofs.GivesActions.{IsGiven, assignment_given, setting_given, single_given, put_given, crate_given, lam_call_given}
 use Rattle.camac_text_spelling.proofs.GivesTransfers.{scan_given, stop_given, q_repeat_given}
@@ -52,27 +52,9 @@ next_given n x b first others room acc s0 rest j k m c f brace =
     let counted : m ≡ s.statements + (statements_in x + statements b) = c.counted in
     let few : m ≤ 4096 = c.few in
     let m1 : ℕ = s.statements + statements_in x in
-    let one : Runs n s j p.0 m1 room (reached_by (scope_of s) j x) (statement_depth s.callables x) (statements_in x) = record {
-      finds = c.finds;
-      sets = c.sets;
-      registers = c.registers;
-      reached = p.1;
-      within = omega arith;
-      deep = omega arith;
-      counted = refl;
-      few = omega arith;
-    } in
+    let one : Runs n s j p.0 m1 room (reached_by (scope_of s) j x) (statement_depth s.callables x) (statements_in x) = runs_with c c.registers p.1 (omega arith) (omega arith) refl (omega arith) in
     let u : State = left_at n s us p.0 m1 in
-    let rest_of : Runs n u p.0 k m room (after_block (scope_of s) p.0 b) (inner_depth s.callables b) (statements b) = record {
-      finds = c.finds;
-      sets = c.sets;
-      registers = refl;
-      reached = p.2;
-      within = c.within;
-      deep = omega arith;
-      counted = omega arith;
-      few = c.few;
-    } in
+    let rest_of : Runs n u p.0 k m room (after_block (scope_of s) p.0 b) (inner_depth s.callables b) (statements b) = runs_with c refl p.2 c.within (omega arith) (omega arith) c.few in
     while_turn is_no_end (one_more (statement_with room (block_at room))) (statements_progress room) acc s (acc ++ x ∷ []) u (statement_opens n x s.rest us parts.1)
     (after (statement_with room (block_at room) s) (λ y. give (acc ++ y ∷ [])) x u (first room s us j p.0 m1 one parts.1 (block_ends n b us rest parts.2 brace)) refl)
     (others room (acc ++ x ∷ []) u rest p.0 k m rest_of parts.2 brace ∙ ap (λ (xs : List Statement). ok xs (left_at n s rest k m)) (append_assoc acc (x ∷ []) (listed b)))

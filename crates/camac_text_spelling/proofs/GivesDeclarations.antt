@@ -24,7 +24,7 @@ use Rattle.camac_text_spelling.specs.Statements.{braced, block}
 use Rattle.camac_text_spelling.proofs.Prefixes.{prefix_first, prefix_line}
 use Rattle.camac_text_spelling.proofs.Gives.{at, ok, after, checked, expected, number_given, branch_given, sub_address_given, new_name_seen, lam_given, until_off, until_turn}
 use Rattle.camac_text_spelling.proofs.Fresh.{take_all}
-use Rattle.camac_text_spelling.proofs.Runs.{left_at, listed, block_of_listed}
+use Rattle.camac_text_spelling.proofs.Runs.{left_at, listed, block_of_listed, runs_with}
 use Rattle.camac_text_spelling.proofs.GivesStatements.{RunsBraced}
 use Rattle.camac_text_spelling.proofs.GivesBlocks.{body_given}
 
@@ -173,16 +173,7 @@ service_declared t v s0 rest m room lam_fits c f =
     let t7 : List Token = after_first t6 in
     let f7 = prefix_first t7 (word keyword.Words) q8 rest f6.1 in
     let t8 : List Token = after_first t7 in
-    let inside : RunsBraced n (at s t8) 0 (length v.registers) m 16 v.body = record {
-      finds = c.finds;
-      sets = c.sets;
-      registers = c.registers;
-      reached = c.reached;
-      within = c.within;
-      deep = c.deep;
-      counted = c.counted;
-      few = c.few;
-    } in
+    let inside : RunsBraced n (at s t8) 0 (length v.registers) m 16 v.body = runs_with c c.registers c.reached c.within c.deep c.counted c.few in
     let k : ℕ = length v.registers in
     first_given v.line (kind.Keyword keyword.Service) s q1 rest f
     ∙ checked (nat_lt (length s.services) 24) _ _ s (lt-ltb (length s.services) 24 room)

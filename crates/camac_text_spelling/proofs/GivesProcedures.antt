@@ -27,7 +27,7 @@ use Rattle.camac_text_spelling.specs.Statements.{braced, block}
 use Rattle.camac_text_spelling.proofs.Prefixes.{prefix_split, prefix_first, prefix_line}
 use Rattle.camac_text_spelling.proofs.Gives.{at, ok, after, checked, left, expected, expected_sign, sign_same, number_given, new_name_seen, until_off, until_turn}
 use Rattle.camac_text_spelling.proofs.Fresh.{take_all}
-use Rattle.camac_text_spelling.proofs.Runs.{left_at, listed, block_of_listed}
+use Rattle.camac_text_spelling.proofs.Runs.{left_at, listed, block_of_listed, runs_with}
 use Rattle.camac_text_spelling.proofs.GivesStatements.{RunsBraced}
 use Rattle.camac_text_spelling.proofs.GivesBlocks.{body_given}
 use Rattle.camac_text_spelling.proofs.GivesDeclarations.{first_given, with_names, name_added, no_names, new_after, names_joined}
@@ -217,16 +217,7 @@ procedure_declared t p s0 rest m room new new_parameters few count c f =
     let g = heading_given p u body rest new_parameters (omega arith) count f1.1 in
     let us : List Token = g.0 in
     let v : State = with_names u us (names_of p.parameters) in
-    let runs : RunsBraced n v 0 (length p.registers) m 16 p.body = record {
-      finds = c.finds;
-      sets = c.sets;
-      registers = c.registers;
-      reached = c.reached;
-      within = c.within;
-      deep = c.deep;
-      counted = c.counted;
-      few = c.few;
-    } in
+    let runs : RunsBraced n v 0 (length p.registers) m 16 p.body = runs_with c c.registers c.reached c.within c.deep c.counted c.few in
     let k : ℕ = length p.registers in
     let w : State = left_at n v rest k m in
     let names : ℕ = length (s.declared ++ p.name ∷ []) in

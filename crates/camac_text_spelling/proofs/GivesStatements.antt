@@ -30,7 +30,7 @@ use Rattle.camac_text_spelling.proofs.Prefixes.{prefix_split, prefix_first, pref
 use Rattle.camac_text_spelling.proofs.Gives.{at, ok, after, checked, left, expected_sign}
 use Rattle.camac_text_spelling.proofs.GivesExpressions.{NoSign, expression_given}
 use Rattle.camac_text_spelling.proofs.GivesPhrases.{no_sign, condition_given}
-use Rattle.camac_text_spelling.proofs.Runs.{Runs, left_at, begin_given, first_given, listed, block_of_listed}
+use Rattle.camac_text_spelling.proofs.Runs.{Runs, left_at, begin_given, first_given, listed, block_of_listed, runs_with}
 use Rattle.camac_text_spelling.proofs.GivesActions.{IsGiven}
 
 -- The statements of a block that is spelled are read, up to its brace.
@@ -53,16 +53,7 @@ braced_given n b given (suc room) s0 rest j k m c f =
     let us : List Token = parts.0 in
     let closing = prefix_first us (sign mark.RightBrace) [] rest parts.2 in
     let deep : suc (inner_depth s.callables b) ≤ suc room = c.deep in
-    let inside : Runs n u j k m room (after_block (scope_of s) j b) (inner_depth s.callables b) (statements b) = record {
-      finds = c.finds;
-      sets = c.sets;
-      registers = c.registers;
-      reached = c.reached;
-      within = c.within;
-      deep = omega arith;
-      counted = c.counted;
-      few = c.few;
-    } in
+    let inside : Runs n u j k m room (after_block (scope_of s) j b) (inner_depth s.callables b) (statements b) = runs_with c c.registers c.reached c.within (omega arith) c.counted c.few in
     let v : State = left_at n s us k m in
     after (expect_sign mark.LeftBrace s) _ tt u (expected_sign mark.LeftBrace s h.0)
     (after (many is_no_end (statement_with room (block_at room)) u) _ (listed b) v (given room [] u us j k m inside parts.1 closing.0)
@@ -89,16 +80,7 @@ runs_inside n s j k m room rule b c deep =
     record {
       first = p.0;
       keeps = r.0;
-      runs = λ us. record {
-        finds = c.finds;
-        sets = c.sets;
-        registers = c.registers ∙ ap (λ (i : ℕ). take i n.registers) r.1;
-        reached = p.2;
-        within = c.within;
-        deep = deep;
-        counted = omega arith;
-        few = c.few;
-      };
+      runs = λ us. runs_with c (c.registers ∙ ap (λ (i : ℕ). take i n.registers) r.1) p.2 c.within deep (omega arith) c.few;
     }
 
 -- ---- `lock`
@@ -176,27 +158,9 @@ choose_else_given n line t a b given_a given_b room s0 rest j k m c f ends =
     let counted : m ≡ s.statements + suc (statements a + statements b) = c.counted in
     let few : m ≤ 4096 = c.few in
     let m1 : ℕ = suc s.statements + statements a in
-    let inside_a : RunsBraced n (at (begun s) us) q.0 p.0 m1 room a = record {
-      finds = c.finds;
-      sets = c.sets;
-      registers = c.registers ∙ ap (λ (i : ℕ). take i n.registers) r.1;
-      reached = q.2;
-      within = omega arith;
-      deep = omega arith;
-      counted = refl;
-      few = omega arith;
-    } in
+    let inside_a : RunsBraced n (at (begun s) us) q.0 p.0 m1 room a = runs_with c (c.registers ∙ ap (λ (i : ℕ). take i n.registers) r.1) q.2 (omega arith) (omega arith) refl (omega arith) in
     let w : State = left_at n s (after_first vs) p.0 m1 in
-    let inside_b : RunsBraced n w p.0 k m room b = record {
-      finds = c.finds;
-      sets = c.sets;
-      registers = refl;
-      reached = p.2;
-      within = c.within;
-      deep = omega arith;
-      counted = omega arith;
-      few = c.few;
-    } in
+    let inside_b : RunsBraced n w p.0 k m room b = runs_with c refl p.2 c.within (omega arith) (omega arith) c.few in
     first_given line room (block_at room) (kind.Keyword keyword.If) s (p1 ++ (body ++ word keyword.Else ∷ other)) rest f
     ∙ after (begin s) _ tt (begun s) (begin_given s (omega arith))
     (after (condition_at room (begun s)) _ t (at (begun s) us) (condition_given n t room (begun s) us c.finds r.0 (omega arith) parts.1 (no_sign (kind_of us) _ brace brace_no_sign) (ap (is_keyword keyword.And) brace))

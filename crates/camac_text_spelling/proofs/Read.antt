@@ -29,7 +29,7 @@ use Rattle.camac_text_spelling.specs.Laws.{SpelledTokensAreRead, SpelledIsRead, 
 use Rattle.camac_text_spelling.proofs.Prefixes.{prefix_split}
 use Rattle.camac_text_spelling.proofs.Gives.{ok, while_turn}
 use Rattle.camac_text_spelling.proofs.Fresh.{take_all}
-use Rattle.camac_text_spelling.proofs.Walk.{passed_of, Limited, Stands, Closes, declaration_opens}
+use Rattle.camac_text_spelling.proofs.Walk.{passed_of, AreFirst, Limited, Stands, Closes, declaration_opens}
 use Rattle.camac_text_spelling.proofs.WalksBodies.{declaration_goes}
 
 -- ---- the declarations in their order
@@ -115,32 +115,26 @@ limited t e =
 
 begins : (t : Script) (ts : List Token) (end_line : ℕ) → Stands t nothing_before (start ts end_line)
 begins t ts end_line = record {
-  tables = refl;
-  tables_within = omega arith;
-  procedures = refl;
-  procedures_within = omega arith;
+  tables = none_first;
+  lams = none_first;
+  procedures = none_first;
   callables = refl;
   called = refl;
   outside = refl;
   counted = refl;
-  lams = refl;
-  lams_within = omega arith;
   variables = refl;
   variables_within = omega arith;
+  new_variables = refl;
+  covers_variables = λ x h. refl;
   services = refl;
   services_within = omega arith;
   registers = refl;
   statements = refl;
   names = λ x. refl;
-  new_variables = refl;
-  new_lams = refl;
-  new_tables = refl;
-  new_procedures = refl;
-  covers_variables = λ x h. refl;
-  covers_lams = λ x h. refl;
-  covers_tables = λ x h. refl;
-  covers_procedures = λ x h. refl;
 }
+  where
+    none_first : {A : Type 0} {name : A → Text} {all : List A} → AreFirst name [] 0 [] all
+    none_first = record { first = refl; within = omega arith; new = refl; covers = λ x h. refl }
 
 has_before : (o : Option Before) (test : Before → Bool) → has o test ≡ true → (b : Before) × (o ≡ Some b) × (test b ≡ true)
 has_before None test e = absurd cc
@@ -156,11 +150,11 @@ whole_tree t b s st ordered all =
     let e3 = second_of_both (nat_eq b.variables (length t.variables)) _ e2 in
     let procedures_all : b.procedures ≡ length t.procedures = eqb-true b.procedures (length t.procedures) (first_of_both (nat_eq b.procedures (length t.procedures)) _ e3) in
     let services_all : b.services ≡ length t.services = eqb-true b.services (length t.services) (second_of_both (nat_eq b.procedures (length t.procedures)) _ e3) in
-    let lams : s.lams ≡ t.lams = st.lams ∙ ap (λ (i : ℕ). take i t.lams) lams_all ∙ take_all t.lams in
+    let lams : s.lams ≡ t.lams = st.lams.first ∙ ap (λ (i : ℕ). take i t.lams) lams_all ∙ take_all t.lams in
     let variables : s.variables ≡ t.variables = st.variables ∙ ap (λ (i : ℕ). take i t.variables) variables_all ∙ take_all t.variables in
     let services : s.services ≡ t.services = st.services ∙ ap (λ (i : ℕ). take i t.services) services_all ∙ take_all t.services in
-    let tables : s.tables ≡ t.tables = st.tables ∙ ap (λ (i : ℕ). take i t.tables) tables_all ∙ take_all t.tables in
-    let procedures : s.procedures ≡ t.procedures = st.procedures ∙ ap (λ (i : ℕ). take i t.procedures) procedures_all ∙ take_all t.procedures in
+    let tables : s.tables ≡ t.tables = st.tables.first ∙ ap (λ (i : ℕ). take i t.tables) tables_all ∙ take_all t.tables in
+    let procedures : s.procedures ≡ t.procedures = st.procedures.first ∙ ap (λ (i : ℕ). take i t.procedures) procedures_all ∙ take_all t.procedures in
     ap (λ (is : List Item). record (tree_so_far s) { order = is }) ordered
     ∙ ap (λ (xs : List Table). record (tree_so_far s) { order = t.order; tables = xs }) tables
     ∙ ap (λ (xs : List Lam). record (tree_so_far s) { order = t.order; tables = t.tables; lams = xs }) lams

@@ -11,6 +11,7 @@ use Rattle.camac_tokens.specs.declared.token.TokenKind.{TokenKind}
 use Rattle.camac_tokens.specs.declared.token.TokenKind.TheVariants as kind
 use Rattle.camac_text_cursor.specs.Names.{place_of}
 use Rattle.camac_text_cursor.specs.Reading.{State, Reader, ◌>>◌, give, change, advance, kind_of, after_first}
+use Rattle.camac_text_cursor.specs.Tried.{Tried}
 use Rattle.camac_text_cursor.specs.Readers.{other_registers, is_keyword, new_name, with_register, register_at, set_name}
 use Rattle.camac_text_phrases.specs.Expressions.{is_product_sign, is_sum_sign}
 use Rattle.camac_text_cursor.specs.Readers.{begin}
@@ -47,6 +48,21 @@ pub record Runs (n : Names) (s : State) (j k m room : ℕ) (reaches : Option ℕ
 -- the state after it
 abbrev pub left_at : Names → State → List Token → ℕ → ℕ → State
 left_at n s rest k m = record s { rest = rest; registers = take k n.registers; statements = m }
+
+-- the same at other tokens, with other registers and statements so far
+pub runs_with : {n : Names} {s : State} {i j k l m p room place : ℕ} {reaches reached : Option ℕ} {depth deep count counted : ℕ} {rest : List Token} {tried : Tried} {registers : List Text} {statements : ℕ} → Runs n s i k m room reaches depth count
+    → registers ≡ take j n.registers → reached ≡ Some l → l ≤ length n.registers → deep ≤ place → p ≡ statements + counted → p ≤ 4096
+    → Runs n (record s { rest = rest; tried = tried; registers = registers; statements = statements }) j l p place reached deep counted
+runs_with c registers reached within deep counted few = record {
+  finds = c.finds;
+  sets = c.sets;
+  registers = registers;
+  reached = reached;
+  within = within;
+  deep = deep;
+  counted = counted;
+  few = few;
+}
 
 -- ---- how a statement begins
 

@@ -66,33 +66,34 @@ pub record Limited (t : Script) : Type 0 where
   pub registers : total own_registers t.procedures + most service_registers t.services ≤ 64
   pub statements : total procedure_statements t.procedures + total service_statements t.services ≤ 4096
 
+-- These are the first n of all: no two of one name, and each with a name that is declared.
+pub record AreFirst {A : Type 0} (name : A → Text) (declared : List Text) (n : ℕ) (xs all : List A) : Type 0 where
+  pub first : xs ≡ take n all
+  pub within : n ≤ length all
+  pub new : are_new (map name xs) [] ≡ true
+  pub covers : (x : Text) → is_new x declared ≡ true → is_new x (map name xs) ≡ true
+
+pub first_count : {A : Type 0} {name : A → Text} {declared : List Text} {n : ℕ} {xs all : List A} → AreFirst name declared n xs all → length xs ≡ n
+first_count {A = A} {n = n} {all = all} f = ap (λ (ys : List A). length ys) f.first ∙ length-take-le n all f.within
+
 -- The state is that after the first declarations of the tree.
 pub record Stands (t : Script) (b : Before) (s : State) : Type 0 where
-  pub tables : s.tables ≡ take b.tables t.tables
-  pub tables_within : b.tables ≤ length t.tables
-  pub procedures : s.procedures ≡ take b.procedures t.procedures
-  pub procedures_within : b.procedures ≤ length t.procedures
+  pub tables : AreFirst table_name s.declared b.tables s.tables t.tables
+  pub lams : AreFirst lam_name s.declared b.lams s.lams t.lams
+  pub procedures : AreFirst procedure_name s.declared b.procedures s.procedures t.procedures
   pub callables : b.callables ≡ s.callables
   pub called : length s.callables ≡ length s.procedures
   pub outside : s.in_procedure ≡ false
   pub counted : s.variable_count ≡ length s.variables + total parameter_count s.procedures
-  pub lams : s.lams ≡ take b.lams t.lams
-  pub lams_within : b.lams ≤ length t.lams
   pub variables : s.variables ≡ take b.variables t.variables
   pub variables_within : b.variables ≤ length t.variables
+  pub new_variables : are_new s.variables [] ≡ true
+  pub covers_variables : (x : Text) → is_new x s.declared ≡ true → is_new x s.variables ≡ true
   pub services : s.services ≡ take b.services t.services
   pub services_within : b.services ≤ length t.services
   pub registers : s.registers ≡ []
   pub statements : s.statements ≡ total procedure_statements s.procedures + total service_statements s.services
   pub names : (x : Text) → is_new x b.names ≡ is_new x s.declared
-  pub new_variables : are_new s.variables [] ≡ true
-  pub new_lams : are_new (map lam_name s.lams) [] ≡ true
-  pub new_tables : are_new (map table_name s.tables) [] ≡ true
-  pub new_procedures : are_new (map procedure_name s.procedures) [] ≡ true
-  pub covers_variables : (x : Text) → is_new x s.declared ≡ true → is_new x s.variables ≡ true
-  pub covers_lams : (x : Text) → is_new x s.declared ≡ true → is_new x (map lam_name s.lams) ≡ true
-  pub covers_tables : (x : Text) → is_new x s.declared ≡ true → is_new x (map table_name s.tables) ≡ true
-  pub covers_procedures : (x : Text) → is_new x s.declared ≡ true → is_new x (map procedure_name s.procedures) ≡ true
 
 -- ---- what the names of a tree find
 
@@ -115,15 +116,16 @@ new_found : (xs : List Text) (p : ℕ) → are_new xs [] ≡ true → p < length
 new_found xs p e below = ap (place_of (text_at xs p)) (sym (take_all xs)) ∙ found_there xs [] p (length xs) e below (omega arith)
 
 -- the first of a list, each found by its name
-found_first : {A : Type 0} (f : A → Text) (all xs : List A) (j p : ℕ) → xs ≡ take j all → j ≤ length all → are_new (map f xs) [] ≡ true → p < length xs → position_from (λ x. bytes_eq (text_at (map f all) p) (f x)) 0 xs ≡ Some p
-found_first {A} f all xs j p first within new below =
-    let many : length xs ≡ j = ap (λ (ys : List A). length ys) first ∙ length-take-le j all within in
+found_first : {A : Type 0} {f : A → Text} {declared : List Text} {j : ℕ} {xs all : List A} → AreFirst f declared j xs all → (p : ℕ) → p < length xs → position_from (λ x. bytes_eq (text_at (map f all) p) (f x)) 0 xs ≡ Some p
+found_first {A = A} {f = f} {j = j} {xs = xs} {all = all} first p below =
+    let many : length xs ≡ j = first_count first in
+    let within : j ≤ length all = first.within in
     let whole : length (map f all) ≡ length all = map_length f all in
     let here : length (map f xs) ≡ length xs = map_length f xs in
-    let same : text_at (map f all) p ≡ text_at (map f xs) p = prefix_text (map f all) j p (omega arith) (omega arith) ∙ ap (λ (ys : List Text). text_at ys p) (sym (map_take f j all) ∙ ap (map f) (sym first)) in
+    let same : text_at (map f all) p ≡ text_at (map f xs) p = prefix_text (map f all) j p (omega arith) (omega arith) ∙ ap (λ (ys : List Text). text_at ys p) (sym (map_take f j all) ∙ ap (map f) (sym first.first)) in
     ap (λ (z : Text). position_from (λ x. bytes_eq z (f x)) 0 xs) same
     ∙ sym (position_from-map f (bytes_eq (text_at (map f xs) p)) 0 xs)
-    ∙ new_found (map f xs) p new (omega arith)
+    ∙ new_found (map f xs) p first.new (omega arith)
 
 pub finds_names : (t : Script) (b : Before) (s : State) (v : Service) → Stands t b s → FindsAll (service_names t v) s
 finds_names t b s v st = record {
@@ -132,18 +134,18 @@ finds_names t b s v st = record {
       let within : b.variables ≤ length t.variables = st.variables_within in
       let same : text_at t.variables p ≡ text_at s.variables p = prefix_text t.variables b.variables p (omega arith) within ∙ ap (λ (xs : List Text). text_at xs p) (sym st.variables) in
       ap (λ (x : Text). place_of x s.variables) same ∙ new_found s.variables p st.new_variables below;
-  lams = λ p below. found_first lam_name t.lams s.lams b.lams p st.lams st.lams_within st.new_lams below;
-  tables = λ p below. found_first table_name t.tables s.tables b.tables p st.tables st.tables_within st.new_tables below;
-  procedures = λ p below. let called : length s.callables ≡ length s.procedures = st.called in found_first procedure_name t.procedures s.procedures b.procedures p st.procedures st.procedures_within st.new_procedures (omega arith);
+  lams = found_first st.lams;
+  tables = found_first st.tables;
+  procedures = λ p below. let called : length s.callables ≡ length s.procedures = st.called in found_first st.procedures p (omega arith);
 }
 
 -- the variables of a procedure are its parameters
 pub procedure_finds : (t : Script) (b : Before) (s : State) (p : Procedure) → Stands t b s → are_new (names_of p.parameters) [] ≡ true → Finds (procedure_names t p) (names_of p.parameters) s.lams s.tables s.procedures s.callables
 procedure_finds t b s p st new = record {
   variables = λ i below. new_found (names_of p.parameters) i new below;
-  lams = λ i below. found_first lam_name t.lams s.lams b.lams i st.lams st.lams_within st.new_lams below;
-  tables = λ i below. found_first table_name t.tables s.tables b.tables i st.tables st.tables_within st.new_tables below;
-  procedures = λ i below. let called : length s.callables ≡ length s.procedures = st.called in found_first procedure_name t.procedures s.procedures b.procedures i st.procedures st.procedures_within st.new_procedures (omega arith);
+  lams = found_first st.lams;
+  tables = found_first st.tables;
+  procedures = λ i below. let called : length s.callables ≡ length s.procedures = st.called in found_first st.procedures i (omega arith);
 }
 
 pub sets_names : (n : Names) (declared : List Text) (beside : ℕ) → are_new n.registers declared ≡ true → beside + length n.registers ≤ 64 → Sets n declared beside

@@ -26,7 +26,7 @@ use Rattle.camac_text_spelling.proofs.Gives.{at, ok}
 use Rattle.camac_text_spelling.proofs.Fresh.{take_one, new_after, total_first}
 use Rattle.camac_text_spelling.proofs.GivesDeclarations.{lam_declared, with_names, variables_declared}
 use Rattle.camac_text_spelling.proofs.GivesTables.{table_declared}
-use Rattle.camac_text_spelling.proofs.Walk.{lam_name, table_name, procedure_name, parameter_count, passed_of, Limited, Stands, there}
+use Rattle.camac_text_spelling.proofs.Walk.{parameter_count, passed_of, AreFirst, first_count, Limited, Stands, there}
 
 -- One more declaration is read, and the state after it is that after the first declarations.
 pub record Goes (t : Script) (b : Before) (i : Item) (s : State) (rest : List Token) : Type 0 where
@@ -45,6 +45,21 @@ covers_more xs vs ds covers x e =
 pub covers_still : (xs vs ds : List Text) → ((x : Text) → is_new x ds ≡ true → is_new x vs ≡ true) → (x : Text) → is_new x (ds ++ xs) ≡ true → is_new x vs ≡ true
 covers_still xs vs ds covers x e = covers x (first_of_both (is_new x ds) (is_new x xs) (sym (each_append (λ y. not (bytes_eq x y)) ds xs) ∙ e))
 
+-- the first ones are so among more names, and with one more
+pub still_first : {A : Type 0} {name : A → Text} {declared : List Text} {n : ℕ} {xs all : List A} (more : List Text) → AreFirst name declared n xs all → AreFirst name (declared ++ more) n xs all
+still_first {name = name} {declared = declared} {xs = xs} more f = record { first = f.first; within = f.within; new = f.new; covers = covers_still more (map name xs) declared f.covers }
+
+pub one_first : {A : Type 0} {name : A → Text} {declared : List Text} {n : ℕ} {xs all : List A} (x : A) → AreFirst name declared n xs all → slice_get all n ≡ Some x → is_new (name x) declared ≡ true → AreFirst name (declared ++ name x ∷ []) (n + 1) (xs ++ x ∷ []) all
+one_first {A = A} {name = name} {declared = declared} {n = n} {xs = xs} {all = all} x f here new =
+    let within : n < length all = slice_get_within all n x here in
+    let named : map name (xs ++ x ∷ []) ≡ map name xs ++ name x ∷ [] = map-append name xs (x ∷ []) in
+    record {
+      first = ap (λ (ys : List A). ys ++ x ∷ []) f.first ∙ sym (take_one all n x here);
+      within = omega arith;
+      new = subst (λ (ys : List Text). are_new ys [] ≡ true) (sym named) (new_after (name x ∷ []) (map name xs) declared f.new f.covers (both (is_new (name x) declared) true new refl));
+      covers = λ y h. subst (λ (ys : List Text). is_new y ys ≡ true) (sym named) (covers_more (name x ∷ []) (map name xs) declared f.covers y h);
+    }
+
 pub lam_goes : (t : Script) (b b' : Before) (s : State) (rest : List Token) → Limited t → Stands t b s → declared t b next_lam ≡ Some b' → Prefix s.rest (spell.declaration t (passed_of b) next_lam) rest → Goes t b' next_lam s rest
 lam_goes t b b' s rest limits st e f =
     let p = then_parts (λ l. unless_broken (lam_stands b l) (with_lam l.name b)) (slice_get t.lams b.lams) b' e in
@@ -57,37 +72,27 @@ lam_goes t b b' s rest limits st e f =
     let sub_less : l.sub_address < 16 = omega arith in
     let new_b : is_new l.name b.names ≡ true = first_of_both (is_new l.name b.names) true (second_of_both (each is_name (l.name ∷ [])) (are_new (l.name ∷ []) b.names) declarable) in
     let new : is_new l.name s.declared ≡ true = sym (st.names l.name) ∙ new_b in
-    let many : length s.lams ≡ b.lams = ap (λ (ls : List Lam). length ls) st.lams ∙ length-take-le b.lams t.lams st.lams_within in
+    let many : length s.lams ≡ b.lams = first_count st.lams in
     let within : b.lams < length t.lams = slice_get_within t.lams b.lams l p.1 in
     let few : length t.lams ≤ 64 = limits.lams in
     let u : State = lam_added l (at s rest) in
-    let grown : s.lams ++ l ∷ [] ≡ take (b.lams + 1) t.lams = ap (λ (ls : List Lam). ls ++ l ∷ []) st.lams ∙ sym (take_one t.lams b.lams l p.1) in
     let stands : Stands t (with_lam l.name b) u = record {
-      tables = st.tables;
-      tables_within = st.tables_within;
-      procedures = st.procedures;
-      procedures_within = st.procedures_within;
+      tables = still_first (l.name ∷ []) st.tables;
+      lams = one_first l st.lams p.1 new;
+      procedures = still_first (l.name ∷ []) st.procedures;
       callables = st.callables;
       called = st.called;
       outside = st.outside;
       counted = st.counted;
-      lams = grown;
-      lams_within = omega arith;
       variables = st.variables;
       variables_within = st.variables_within;
+      new_variables = st.new_variables;
+      covers_variables = covers_still (l.name ∷ []) s.variables s.declared st.covers_variables;
       services = st.services;
       services_within = st.services_within;
       registers = st.registers;
       statements = st.statements;
       names = prefix_or_after (l.name ∷ []) b.names s.declared st.names;
-      new_variables = st.new_variables;
-      new_lams = subst (λ (xs : List Text). are_new xs [] ≡ true) (sym (map-append lam_name s.lams (l ∷ []))) (new_after (l.name ∷ []) (map lam_name s.lams) s.declared st.new_lams st.covers_lams (both (is_new l.name s.declared) true new refl));
-      covers_variables = covers_still (l.name ∷ []) s.variables s.declared st.covers_variables;
-      covers_lams = λ x h. subst (λ (xs : List Text). is_new x xs ≡ true) (sym (map-append lam_name s.lams (l ∷ []))) (covers_more (l.name ∷ []) (map lam_name s.lams) s.declared st.covers_lams x h);
-      new_tables = st.new_tables;
-      covers_tables = covers_still (l.name ∷ []) (map table_name s.tables) s.declared st.covers_tables;
-      new_procedures = st.new_procedures;
-      covers_procedures = covers_still (l.name ∷ []) (map procedure_name s.procedures) s.declared st.covers_procedures;
     } in
     record {
       next = u;
@@ -107,36 +112,27 @@ table_goes t b b' s rest limits st e f off =
     let upper = second_of_both (nat_le 1 (length g.words)) _ sizes in
     let new_b : is_new g.name b.names ≡ true = first_of_both (is_new g.name b.names) true (second_of_both (each is_name (g.name ∷ [])) (are_new (g.name ∷ []) b.names) declarable) in
     let new : is_new g.name s.declared ≡ true = sym (st.names g.name) ∙ new_b in
-    let many : length s.tables ≡ b.tables = ap (λ (gs : List Table). length gs) st.tables ∙ length-take-le b.tables t.tables st.tables_within in
+    let many : length s.tables ≡ b.tables = first_count st.tables in
     let within : b.tables < length t.tables = slice_get_within t.tables b.tables g p.1 in
     let few : length t.tables ≤ 16 = limits.tables in
     let u : State = table_added g (at s rest) in
     let stands : Stands t (with_table g.name b) u = record {
-      tables = ap (λ (gs : List Table). gs ++ g ∷ []) st.tables ∙ sym (take_one t.tables b.tables g p.1);
-      tables_within = omega arith;
-      procedures = st.procedures;
-      procedures_within = st.procedures_within;
+      tables = one_first g st.tables p.1 new;
+      lams = still_first (g.name ∷ []) st.lams;
+      procedures = still_first (g.name ∷ []) st.procedures;
       callables = st.callables;
       called = st.called;
       outside = st.outside;
       counted = st.counted;
-      lams = st.lams;
-      lams_within = st.lams_within;
       variables = st.variables;
       variables_within = st.variables_within;
+      new_variables = st.new_variables;
+      covers_variables = covers_still (g.name ∷ []) s.variables s.declared st.covers_variables;
       services = st.services;
       services_within = st.services_within;
       registers = st.registers;
       statements = st.statements;
       names = prefix_or_after (g.name ∷ []) b.names s.declared st.names;
-      new_variables = st.new_variables;
-      new_lams = st.new_lams;
-      new_tables = subst (λ (xs : List Text). are_new xs [] ≡ true) (sym (map-append table_name s.tables (g ∷ []))) (new_after (g.name ∷ []) (map table_name s.tables) s.declared st.new_tables st.covers_tables (both (is_new g.name s.declared) true new refl));
-      covers_variables = covers_still (g.name ∷ []) s.variables s.declared st.covers_variables;
-      covers_lams = covers_still (g.name ∷ []) (map lam_name s.lams) s.declared st.covers_lams;
-      covers_tables = λ x h. subst (λ (xs : List Text). is_new x xs ≡ true) (sym (map-append table_name s.tables (g ∷ []))) (covers_more (g.name ∷ []) (map table_name s.tables) s.declared st.covers_tables x h);
-      new_procedures = st.new_procedures;
-      covers_procedures = covers_still (g.name ∷ []) (map procedure_name s.procedures) s.declared st.covers_procedures;
     } in
     record {
       next = u;
@@ -168,36 +164,27 @@ variables_goes t line n b b' s rest limits st e f off =
     let within : b.variables + n ≤ length t.variables = grows.1 in
     let few : length t.variables + total parameter_count t.procedures ≤ 64 = limits.variables in
     let count : s.variable_count ≡ length s.variables + total parameter_count s.procedures = st.counted in
-    let parameters : total parameter_count s.procedures ≤ total parameter_count t.procedures = subst (λ (ps : List Procedure). total parameter_count ps ≤ total parameter_count t.procedures) (sym st.procedures) (total_first parameter_count t.procedures b.procedures) in
+    let parameters : total parameter_count s.procedures ≤ total parameter_count t.procedures = subst (λ (ps : List Procedure). total parameter_count ps ≤ total parameter_count t.procedures) (sym st.procedures.first) (total_first parameter_count t.procedures b.procedures) in
     let longer : length (s.variables ++ xs) ≡ length s.variables + length xs = length-append s.variables xs in
     let u : State = with_variables_of line n (with_names s rest xs) in
     let grown : s.variables ++ xs ≡ take (b.variables + length xs) t.variables = ap (λ (ys : List Text). ys ++ xs) st.variables ∙ grows.0 ∙ ap (λ (i : ℕ). take (b.variables + i) t.variables) (sym many) in
     let stands : Stands t (with_variables xs b) u = record {
-      tables = st.tables;
-      tables_within = st.tables_within;
-      procedures = st.procedures;
-      procedures_within = st.procedures_within;
+      tables = still_first xs st.tables;
+      lams = still_first xs st.lams;
+      procedures = still_first xs st.procedures;
       callables = st.callables;
       called = st.called;
       outside = st.outside;
       counted = omega arith;
-      lams = st.lams;
-      lams_within = st.lams_within;
       variables = grown;
       variables_within = omega arith;
+      new_variables = new_after xs s.variables s.declared st.new_variables st.covers_variables new;
+      covers_variables = covers_more xs s.variables s.declared st.covers_variables;
       services = st.services;
       services_within = st.services_within;
       registers = st.registers;
       statements = st.statements;
       names = prefix_or_after xs b.names s.declared st.names;
-      new_variables = new_after xs s.variables s.declared st.new_variables st.covers_variables new;
-      new_lams = st.new_lams;
-      covers_variables = covers_more xs s.variables s.declared st.covers_variables;
-      covers_lams = covers_still xs (map lam_name s.lams) s.declared st.covers_lams;
-      new_tables = st.new_tables;
-      covers_tables = covers_still xs (map table_name s.tables) s.declared st.covers_tables;
-      new_procedures = st.new_procedures;
-      covers_procedures = covers_still xs (map procedure_name s.procedures) s.declared st.covers_procedures;
     } in
     record {
       next = u;

@@ -1,21 +1,21 @@
 -- Services and procedures of a well-formed tree, which its tokens spell, are read, and so is every declaration.
-use Rattle.std.proofs.Common.{◌≡◌, ℕ, suc, ◌+◌, ◌≤◌, ◌<◌, true, false, ◌&&◌, nat_eq, nat_lt, nat_le, List, [], ◌∷◌, ◌++◌, map, length, Option, Some, None, refl, sym, ap, subst, ◌∙◌, length-append, arith, Bool, cond}
+use Rattle.std.proofs.Common.{◌≡◌, ℕ, suc, ◌+◌, ◌≤◌, ◌<◌, true, false, ◌&&◌, nat_eq, nat_lt, nat_le, List, [], ◌∷◌, ◌++◌, length, Option, Some, None, refl, sym, ap, subst, ◌∙◌, length-append, arith, Bool, cond}
 use Rattle.std.specs.Prelude.{slice_get}
 use Rattle.std.proofs.lemmas.Bool.{leb-true, eqb-true}
-use Rattle.std.proofs.lemmas.List.{length-take-le, map-append}
+use Rattle.std.proofs.lemmas.List.{length-take-le}
 use Rattle.std.proofs.lemmas.Option.{slice_get_within}
 use Rattle.camac_lang.specs.Depth.{inner_depth, callable}
 use Rattle.camac_lang.specs.Expressions.{Scope, Callable}
 use Rattle.camac_lang.specs.Scope.{Before, body_fits, are_declarable, procedure_stands, procedure_scope, service_stands, service_scope, with_procedure, with_service, declared}
 use Rattle.camac_lang.specs.Statements.{after_block, statements}
 use Rattle.camac_lang.specs.Tests.{each, has, total, most, is_name, is_new, are_new, is_number, unless_broken}
-use Rattle.camac_lang.specs.Tree.{Text, Block, Table, Lam, Procedure, Service, Item, next_table, next_lam, next_variables, next_procedure, next_service, Script}
+use Rattle.camac_lang.specs.Tree.{Text, Block, Procedure, Service, Item, next_table, next_lam, next_variables, next_procedure, next_service, Script}
 use Rattle.camac_lang.proofs.Options.{unless_parts, then_parts}
 use Rattle.camac_tokens.specs.declared.token.Token.{Token}
 use Rattle.camac_text_cursor.specs.Reading.{State, kind_of}
 use Rattle.camac_text_cursor.specs.Readers.{other_registers}
 use Rattle.camac_text.proofs.ParametersRead.{names_of, names_counted}
-use Rattle.camac_text_cursor.proofs.Registers.{first_of_both, second_of_both, both}
+use Rattle.camac_text_cursor.proofs.Registers.{first_of_both, second_of_both}
 use Rattle.camac_text.proofs.Listed.{new_same, prefix_or_after, total_push}
 use Rattle.camac_text_cursor.proofs.Places.{hushed}
 use Rattle.camac_text_cursor.proofs.Uses.{scope_of}
@@ -26,8 +26,8 @@ use Rattle.camac_text_spelling.proofs.Fresh.{take_one, new_after, new_parts, mos
 use Rattle.camac_text_spelling.proofs.GivesStatements.{RunsBraced}
 use Rattle.camac_text_spelling.proofs.GivesDeclarations.{with_body, service_declared}
 use Rattle.camac_text_spelling.proofs.GivesProcedures.{inside, with_procedure_body, procedure_declared}
-use Rattle.camac_text_spelling.proofs.Walk.{lam_name, table_name, procedure_name, parameter_count, own_registers, service_registers, procedure_statements, service_statements, passed_of, Limited, Stands, finds_names, procedure_finds, sets_names, there, Closes}
-use Rattle.camac_text_spelling.proofs.Walks.{Goes, covers_more, covers_still, lam_goes, table_goes, variables_goes}
+use Rattle.camac_text_spelling.proofs.Walk.{parameter_count, own_registers, service_registers, procedure_statements, service_statements, passed_of, first_count, Limited, Stands, finds_names, procedure_finds, sets_names, there, Closes}
+use Rattle.camac_text_spelling.proofs.Walks.{Goes, covers_still, still_first, one_first, lam_goes, table_goes, variables_goes}
 
 -- ---- the scope of the tree's rules is that of the reader
 
@@ -36,8 +36,8 @@ scope v g l qs is_procedure = record { variables = v; tables = g; lams = l; call
 
 same_scope : (t : Script) (b : Before) (s : State) (v w : ℕ) (x y : Bool) → Stands t b s → v ≡ w → x ≡ y → scope v b.tables b.lams b.callables x ≡ scope w (length s.tables) (length s.lams) s.callables y
 same_scope t b s v w x y st variables inside_or_not =
-    let lams : b.lams ≡ length s.lams = sym (ap (λ (ls : List Lam). length ls) st.lams ∙ length-take-le b.lams t.lams st.lams_within) in
-    let tables : b.tables ≡ length s.tables = sym (ap (λ (gs : List Table). length gs) st.tables ∙ length-take-le b.tables t.tables st.tables_within) in
+    let lams : b.lams ≡ length s.lams = sym (first_count st.lams) in
+    let tables : b.tables ≡ length s.tables = sym (first_count st.tables) in
     ap (λ (i : ℕ). scope i b.tables b.lams b.callables x) variables
     ∙ ap (λ (i : ℕ). scope w i b.lams b.callables x) tables
     ∙ ap (λ (i : ℕ). scope w (length s.tables) i b.callables x) lams
@@ -82,7 +82,7 @@ counted_so_far t b s st = record {
 }
   where
     of_procedures_first : (f : Procedure → ℕ) → total f s.procedures ≤ total f t.procedures
-    of_procedures_first f = subst (λ (ps : List Procedure). total f ps ≤ total f t.procedures) (sym st.procedures) (total_first f t.procedures b.procedures)
+    of_procedures_first f = subst (λ (ps : List Procedure). total f ps ≤ total f t.procedures) (sym st.procedures.first) (total_first f t.procedures b.procedures)
 
 -- with one more they are still no more
 service_more : (t : Script) (b : Before) (s : State) (v : Service) → Stands t b s → slice_get t.services b.services ≡ Some v → total service_statements s.services + statements v.body ≤ total service_statements t.services
@@ -91,7 +91,7 @@ service_more t b s v st here =
 
 procedure_more : (f : Procedure → ℕ) (t : Script) (b : Before) (s : State) (q : Procedure) → Stands t b s → slice_get t.procedures b.procedures ≡ Some q → total f s.procedures + f q ≤ total f t.procedures
 procedure_more f t b s q st here =
-    subst (λ (ps : List Procedure). total f ps + f q ≤ total f t.procedures) (sym st.procedures) (total_there f t.procedures b.procedures q here)
+    subst (λ (ps : List Procedure). total f ps + f q ≤ total f t.procedures) (sym st.procedures.first) (total_there f t.procedures b.procedures q here)
 
 -- outside of procedures only their registers count beside those of the body
 beside_service : (s : State) → s.in_procedure ≡ false → other_registers s ≡ total own_registers s.procedures
@@ -136,35 +136,26 @@ service_goes t b b' s rest limits st e f =
     let many : length s.services ≡ b.services = ap (λ (vs : List Service). length vs) st.services ∙ length-take-le b.services t.services st.services_within in
     let within : b.services < length t.services = slice_get_within t.services b.services v p.1 in
     let few : length t.services ≤ 24 = limits.services in
-    let lams : b.lams ≡ length s.lams = sym (ap (λ (ys : List Lam). length ys) st.lams ∙ length-take-le b.lams t.lams st.lams_within) in
+    let lams : b.lams ≡ length s.lams = sym (first_count st.lams) in
     let pushed : total service_statements (s.services ++ v ∷ []) ≡ total service_statements s.services + statements v.body = total_push service_statements s.services v in
     let u : State = with_body s rest v m in
     let stands : Stands t (with_service b) u = record {
       tables = st.tables;
-      tables_within = st.tables_within;
+      lams = st.lams;
       procedures = st.procedures;
-      procedures_within = st.procedures_within;
       callables = st.callables;
       called = st.called;
       outside = st.outside;
       counted = st.counted;
-      lams = st.lams;
-      lams_within = st.lams_within;
       variables = st.variables;
       variables_within = st.variables_within;
+      new_variables = st.new_variables;
+      covers_variables = st.covers_variables;
       services = ap (λ (vs : List Service). vs ++ v ∷ []) st.services ∙ sym (take_one t.services b.services v p.1);
       services_within = omega arith;
       registers = refl;
       statements = omega arith;
       names = st.names;
-      new_variables = st.new_variables;
-      new_lams = st.new_lams;
-      new_tables = st.new_tables;
-      new_procedures = st.new_procedures;
-      covers_variables = st.covers_variables;
-      covers_lams = st.covers_lams;
-      covers_tables = st.covers_tables;
-      covers_procedures = st.covers_procedures;
     } in
     record {
       next = u;
@@ -232,38 +223,28 @@ procedure_runs t b s q limits st here fits =
 procedure_leaves : (t : Script) (b : Before) (s : State) (q : Procedure) (rest : List Token) → Stands t b s → slice_get t.procedures b.procedures ≡ Some q → is_new q.name s.declared ≡ true → Stands t (with_procedure q b) (with_procedure_body s rest q (s.statements + statements q.body))
 procedure_leaves t b s q rest st here new =
     let xs : List Text = q.name ∷ [] in
-    let within : b.procedures < length t.procedures = slice_get_within t.procedures b.procedures q here in
     let parameters : length (names_of q.parameters) ≡ length q.parameters = names_counted q.parameters in
     let more_parameters : total parameter_count (s.procedures ++ q ∷ []) ≡ total parameter_count s.procedures + length q.parameters = total_push parameter_count s.procedures q in
     let more_statements : total procedure_statements (s.procedures ++ q ∷ []) ≡ total procedure_statements s.procedures + statements q.body = total_push procedure_statements s.procedures q in
     let counted : s.variable_count ≡ length s.variables + total parameter_count s.procedures = st.counted in
     let so_far : s.statements ≡ total procedure_statements s.procedures + total service_statements s.services = st.statements in
     record {
-      tables = st.tables;
-      tables_within = st.tables_within;
-      procedures = ap (λ (ps : List Procedure). ps ++ q ∷ []) st.procedures ∙ sym (take_one t.procedures b.procedures q here);
-      procedures_within = omega arith;
+      tables = still_first xs st.tables;
+      lams = still_first xs st.lams;
+      procedures = one_first q st.procedures here new;
       callables = ap (λ (qs : List Callable). qs ++ callable qs q ∷ []) st.callables;
       called = length-append s.callables (callable s.callables q ∷ []) ∙ ap (λ (i : ℕ). i + 1) st.called ∙ sym (length-append s.procedures (q ∷ []));
       outside = refl;
       counted = omega arith;
-      lams = st.lams;
-      lams_within = st.lams_within;
       variables = st.variables;
       variables_within = st.variables_within;
+      new_variables = st.new_variables;
+      covers_variables = covers_still xs s.variables s.declared st.covers_variables;
       services = st.services;
       services_within = st.services_within;
       registers = refl;
       statements = omega arith;
       names = prefix_or_after xs b.names s.declared st.names;
-      new_variables = st.new_variables;
-      new_lams = st.new_lams;
-      new_tables = st.new_tables;
-      new_procedures = subst (λ (ys : List Text). are_new ys [] ≡ true) (sym (map-append procedure_name s.procedures (q ∷ []))) (new_after xs (map procedure_name s.procedures) s.declared st.new_procedures st.covers_procedures (both (is_new q.name s.declared) true new refl));
-      covers_variables = covers_still xs s.variables s.declared st.covers_variables;
-      covers_lams = covers_still xs (map lam_name s.lams) s.declared st.covers_lams;
-      covers_tables = covers_still xs (map table_name s.tables) s.declared st.covers_tables;
-      covers_procedures = λ x h. subst (λ (ys : List Text). is_new x ys ≡ true) (sym (map-append procedure_name s.procedures (q ∷ []))) (covers_more xs (map procedure_name s.procedures) s.declared st.covers_procedures x h);
     }
 
 procedure_goes : (t : Script) (b b' : Before) (s : State) (rest : List Token) → Limited t → Stands t b s → declared t b next_procedure ≡ Some b' → Prefix s.rest (spell.declaration t (passed_of b) next_procedure) rest → Goes t b' next_procedure s rest
@@ -273,7 +254,7 @@ procedure_goes t b b' s rest limits st e f =
     let r = unless_parts (procedure_stands b q) (with_procedure q b) b' p.2 in
     let fits : Right t s q = right t b s q st r.0 in
     let m : ℕ = s.statements + statements q.body in
-    let many : length s.procedures ≡ b.procedures = ap (λ (ps : List Procedure). length ps) st.procedures ∙ length-take-le b.procedures t.procedures st.procedures_within in
+    let many : length s.procedures ≡ b.procedures = first_count st.procedures in
     let within : b.procedures < length t.procedures = slice_get_within t.procedures b.procedures q p.1 in
     let few : length t.procedures ≤ 16 = limits.procedures in
     let here : length s.variables ≡ b.variables = ap (λ (ys : List Text). length ys) st.variables ∙ length-take-le b.variables t.variables st.variables_within in
