@@ -37,7 +37,7 @@ pub record Goes (t : Script) (b : Before) (i : Item) (s : State) (rest : List To
   pub stands : Stands t b next
 
 -- new names among those before, before or after
-pub covers_more : (xs vs ds : List Text) → ((x : Text) → is_new x ds ≡ true → is_new x vs ≡ true) → (x : Text) → is_new x (ds ++ xs) ≡ true → is_new x (vs ++ xs) ≡ true
+covers_more : (xs vs ds : List Text) → ((x : Text) → is_new x ds ≡ true → is_new x vs ≡ true) → (x : Text) → is_new x (ds ++ xs) ≡ true → is_new x (vs ++ xs) ≡ true
 covers_more xs vs ds covers x e =
     let parts = sym (each_append (λ y. not (bytes_eq x y)) ds xs) ∙ e in
     each_append (λ y. not (bytes_eq x y)) vs xs ∙ both (is_new x vs) (is_new x xs) (covers x (first_of_both (is_new x ds) (is_new x xs) parts)) (second_of_both (is_new x ds) (is_new x xs) parts)
