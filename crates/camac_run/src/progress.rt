@@ -52,7 +52,7 @@ impl Used {
     }
 
     // Tells the crates whose lockout was released, and leaves none of them. Most answers release none after one that released none, and to
-    // write that each time would cost a run some 2%.
+    // write that anew, and that no event was left, would cost a run some 3%.
     #[inline(always)]
     pub(crate) fn tell_unlocks(&mut self, unlocks: &mut ArrayVec<CrateNo, 7>)
         ensures told { self.new.unlocks.items ≡ unlocks.old.items }

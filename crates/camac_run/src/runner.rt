@@ -128,8 +128,8 @@ impl<'a, const V: usize, const DEPTH: usize, const CAP: usize> Runner<'a, V, DEP
         }
     }
 
-    /// What `next` does, but what the answer was used for is written where the caller keeps it. Returns a wait that is not permitted, and then
-    /// that place stays as it was.
+    /// What `next` does, but what the answer was used for is written where the caller keeps it, since to move it for each answer costs a run some
+    /// 4%. Returns a wait that is not permitted, and then that place stays as it was.
     #[inline(always)]
     pub fn advance(&mut self, answer: Answer, used: &mut Used) -> Option<Overrun>
         requires fed { self.old.fed < 4294967295 }

@@ -71,7 +71,8 @@ impl<'a, const V: usize, const DEPTH: usize, const CAP: usize> Machine<'a, V, DE
         Ok(wait)
     }
 
-    // Makes a cycle that keeps no word.
+    // Makes a cycle that keeps no word. A wait that is not permitted is returned as an `Option`, here and below: the place of a `Result` would be
+    // cleared at each answer, which costs a run some 1%.
     #[inline(always)]
     pub(crate) fn take_cycle(
         &mut self,
@@ -153,8 +154,8 @@ impl<'a, const V: usize, const DEPTH: usize, const CAP: usize> Machine<'a, V, DE
         }
     }
 
-    /// Takes the answer that is wanted, and writes the item that it was used for into its place, since moving it takes time at each answer.
-    /// Where the answer's wait is not permitted, it returns that wait, and nothing changes.
+    /// Takes the answer that is wanted, and writes the item that it was used for into its place. Where the answer's wait is not permitted, it
+    /// returns that wait, and nothing changes.
     #[inline(always)]
     pub fn take(
         &mut self,
