@@ -20,5 +20,5 @@ pub use laws::{
 };
 pub use log::{Log, run};
 pub use place::Place;
-pub use progress::{End, Progress, Wanted};
+pub use progress::{End, Progress, Used, Wanted};
 pub use runner::{FullRunner, Runner};

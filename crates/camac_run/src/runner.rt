@@ -7,7 +7,7 @@ ghost use Rattle.camac_machine.specs.Rest.{is_asking, is_pause, is_paused};
 ghost use Rattle.camac_lang.specs.Fits.{fits};
 ghost use Rattle.camac_model.specs.Behaviour.{stops, short, ends};
 ghost use Rattle.camac_model.specs.Run.{the_run};
-ghost use Rattle.camac_run.specs.Runner.{state_in, rest, last_words_in, event_in, KeepsLimit, NeverPauses, Progresses, Resumes, steps_of, words_of};
+ghost use Rattle.camac_run.specs.Runner.{state_in, rest, last_words_in, event_in, GoesOn, KeepsLimit, NeverPauses, Progresses, Resumes, Stops, steps_of, words_of};
 ghost use Rattle.camac_run.specs.Abandoned.{Abandons};
 ghost use Rattle.camac_run.specs.Ahead.{IsAhead};
 ghost use Rattle.camac_run.specs.Holds.{HoldsAfter};
@@ -19,7 +19,7 @@ ghost use Rattle.camac_run.specs.Sure.{cycle_of};
 use crate::ahead::{Ahead, add_following};
 use crate::leaving::leave_service;
 use crate::place::Place;
-use crate::progress::{Progress, Wanted};
+use crate::progress::{Progress, Used, Wanted};
 use crate::service::service_for;
 use arrayvec::ArrayVec;
 use camac_branch::{Answer, Branch, Overrun, demand};
@@ -117,22 +117,47 @@ impl<'a, const V: usize, const DEPTH: usize, const CAP: usize> Runner<'a, V, DEP
         ensures progresses { Progresses self.old answer result self.new }
         ensures keeps { KeepsLimit self.old self.new }
     {
+        let mut used = Used::new();
+        match self.advance(answer, &mut used) {
+            None => Progress::Went {
+                item: used.item,
+                unlocks: used.unlocks,
+                event: used.event,
+            },
+            Some(overrun) => Progress::Overrun(overrun),
+        }
+    }
+
+    /// What `next` does, but what the answer was used for is written where the caller keeps it, since to move it for each answer costs a run some
+    /// 4%. Returns a wait that is not permitted, and then that place stays as it was.
+    #[inline(always)]
+    pub fn advance(&mut self, answer: Answer, used: &mut Used) -> Option<Overrun>
+        requires fed { self.old.fed < 4294967295 }
+        requires awake { is_paused self.old.pending ≡ false }
+        ensures goes { IfNone result (GoesOn self.old answer used.new.item used.new.unlocks.items used.new.event self.new) }
+        ensures stops { IfSome result (λ o. Stops self.old answer o self.new) }
+        ensures same { OnSome result (used.new ≡ used.old) }
+        ensures keeps { KeepsLimit self.old self.new }
+    {
         if let Some(overrun) = self.overrun {
-            return Progress::Overrun(overrun);
+            return Some(overrun);
         }
         match self.pending {
-            None => self.demand(answer),
-            Some(_) => self.resume(answer),
+            None => {
+                self.demand(answer, used);
+                None
+            }
+            Some(_) => self.resume(answer, used),
         }
     }
 
     // A graded-L operation.
     #[inline(always)]
-    fn demand(&mut self, answer: Answer) -> Progress
+    fn demand(&mut self, answer: Answer, used: &mut Used)
         requires fed { self.old.fed < 4294967295 }
         requires first { self.old.overrun ≡ None }
         requires idle { self.old.pending ≡ None }
-        ensures progresses { Progresses self.old answer result self.new }
+        ensures goes { GoesOn self.old answer used.new.item used.new.unlocks.items used.new.event self.new }
         ensures keeps { KeepsLimit self.old self.new }
     {
         let checked = self.machine.checked;
@@ -141,57 +166,50 @@ impl<'a, const V: usize, const DEPTH: usize, const CAP: usize> Runner<'a, V, DEP
         match service_for(checked, pattern) {
             None => {
                 self.has_event = false;
-                Progress::Went {
-                    item: Item::Demand(pattern, None),
-                    unlocks: ArrayVec::new(),
-                    event: None,
-                }
+                used.item = Item::Demand(pattern, None);
+                used.unlocks.clear();
+                used.tell_event(None);
             }
             Some(called) => {
                 self.at_demand = self.machine.branch.copy();
                 self.machine
                     .serve(called.number, &mut self.pending, self.limit);
-                let unlocks = self.machine.unlocks.take();
+                used.item = Item::Demand(pattern, Some(called.number));
+                used.tell_unlocks(&mut self.machine.unlocks);
                 let event = self.close();
-                Progress::Went {
-                    item: Item::Demand(pattern, Some(called.number)),
-                    unlocks,
-                    event,
-                }
+                used.tell_event(event);
             }
         }
     }
 
     // The answer that the service in progress wants.
     #[inline(always)]
-    fn resume(&mut self, answer: Answer) -> Progress
+    fn resume(&mut self, answer: Answer, used: &mut Used) -> Option<Overrun>
         requires fed { self.old.fed < 4294967295 }
         requires first { self.old.overrun ≡ None }
         requires pending { IsSome self.old.pending }
         requires awake { is_paused self.old.pending ≡ false }
-        ensures progresses { Progresses self.old answer result self.new }
+        ensures goes { IfNone result (GoesOn self.old answer used.new.item used.new.unlocks.items used.new.event self.new) }
+        ensures stops { IfSome result (λ o. Stops self.old answer o self.new) }
+        ensures same { OnSome result (used.new ≡ used.old) }
         ensures keeps { KeepsLimit self.old self.new }
     {
         let taken = match &self.pending {
-            Some(pending) => self.machine.take(pending, answer),
+            Some(pending) => self.machine.take(pending, answer, &mut used.item),
             None => unreachable!(),
         };
         match taken {
-            Ok(item) => {
+            None => {
                 self.machine.go_further(&mut self.pending, self.limit);
                 self.fed += 1;
-                let unlocks = self.machine.unlocks.take();
+                used.tell_unlocks(&mut self.machine.unlocks);
                 let event = self.close();
-                Progress::Went {
-                    item,
-                    unlocks,
-                    event,
-                }
+                used.tell_event(event);
+                None
             }
-            Err(overrun) => {
-                let progress = stopped(&overrun);
+            Some(overrun) => {
                 self.overrun = Some(overrun);
-                progress
+                self.overrun
             }
         }
     }
@@ -448,11 +466,4 @@ fn is_one_cycle(pending: &Pending) -> bool
         Pending::Transfer(_) => false,
         Pending::Pause => false,
     }
-}
-
-// A wait that is not permitted.
-fn stopped(overrun: &Overrun) -> Progress
-    ensures { result ≡ Progress.Overrun overrun.now }
-{
-    Progress::Overrun(*overrun)
 }

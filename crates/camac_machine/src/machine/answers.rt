@@ -1,6 +1,6 @@
 // What an answer does: the cycle or the lock that it is for.
 
-ghost use Rattle.std.specs.Prelude.{◌≡◌, ◌+◌, ◌<◌, ◌≤◌, [], List, length, true, false, None, Some, IsSome, IfOk, IfErr, OnErr, IfSome, IsSomeAnd, slice_set, ◌^◌, ◌%◌};
+ghost use Rattle.std.specs.Prelude.{◌≡◌, ◌+◌, ◌<◌, ◌≤◌, [], List, length, true, false, None, Some, IsSome, IfOk, IfErr, OnErr, IfSome, IfNone, OnSome, IsSomeAnd, slice_set, ◌^◌, ◌%◌};
 ghost use Rattle.camac_branch.specs.Branch.{Answer};
 ghost use Rattle.camac_branch.specs.Crates.{branch_of, is_permitted};
 ghost use Rattle.camac_branch.specs.Plan.{crate_waits};
@@ -71,18 +71,29 @@ impl<'a, const V: usize, const DEPTH: usize, const CAP: usize> Machine<'a, V, DE
         Ok(wait)
     }
 
-    // Makes a cycle that keeps no word.
+    // Makes a cycle that keeps no word. A wait that is not permitted is returned as an `Option`, here and below: the place of a `Result` would be
+    // cleared at each answer, which costs a run some 1%.
     #[inline(always)]
-    pub(crate) fn take_cycle(&mut self, command: Command, answer: Answer) -> Result<Item, Overrun>
+    pub(crate) fn take_cycle(
+        &mut self,
+        command: Command,
+        answer: Answer,
+        item: &mut Item,
+    ) -> Option<Overrun>
         requires room { HasRoom self.old }
         requires pending { IsPending self.old (Pending.Cycle command) }
         requires fine { (answers : List Answer) → IsFineHere self.old (stands (Some (Pending.Cycle command)) self.old answers) }
-        ensures took { IfOk result (λ used. Takes self.old (Pending.Cycle command) answer used self.new) }
-        ensures overrun { IfErr result (λ o. Overruns self.old (Pending.Cycle command) answer o) }
-        ensures same { OnErr result (self.new ≡ self.old) }
+        ensures took { IfNone result (Takes self.old (Pending.Cycle command) answer item.new self.new) }
+        ensures overrun { IfSome result (λ o. Overruns self.old (Pending.Cycle command) answer o) }
+        ensures same { OnSome result ((self.new ≡ self.old) × (item.new ≡ item.old)) }
     {
-        let done = self.make(command, answer)?;
-        Ok(Item::Cycle(done))
+        match self.make(command, answer) {
+            Ok(done) => {
+                *item = Item::Cycle(done);
+                None
+            }
+            Err(overrun) => Some(overrun),
+        }
     }
 
     // Makes a cycle of which a variable keeps so many bits of the word.
@@ -93,18 +104,24 @@ impl<'a, const V: usize, const DEPTH: usize, const CAP: usize> Machine<'a, V, DE
         variable: usize,
         bits: u32,
         answer: Answer,
-    ) -> Result<Item, Overrun>
+        item: &mut Item,
+    ) -> Option<Overrun>
         requires room { HasRoom self.old }
         requires pending { IsPending self.old (Pending.Read command variable bits) }
         requires fine { (answers : List Answer) → IsFineHere self.old (stands (Some (Pending.Read command variable bits)) self.old answers) }
-        ensures took { IfOk result (λ used. Takes self.old (Pending.Read command variable bits) answer used self.new) }
-        ensures overrun { IfErr result (λ o. Overruns self.old (Pending.Read command variable bits) answer o) }
-        ensures same { OnErr result (self.new ≡ self.old) }
+        ensures took { IfNone result (Takes self.old (Pending.Read command variable bits) answer item.new self.new) }
+        ensures overrun { IfSome result (λ o. Overruns self.old (Pending.Read command variable bits) answer o) }
+        ensures same { OnSome result ((self.new ≡ self.old) × (item.new ≡ item.old)) }
     {
-        let done = self.make(command, answer)?;
-        let place = self.scope.variables.start + variable;
-        keep(&mut self.variables, place, bits, word_of(&done));
-        Ok(Item::Cycle(done))
+        match self.make(command, answer) {
+            Ok(done) => {
+                let place = self.scope.variables.start + variable;
+                keep(&mut self.variables, place, bits, word_of(&done));
+                *item = Item::Cycle(done);
+                None
+            }
+            Err(overrun) => Some(overrun),
+        }
     }
 
     // Takes the lock of a crate, and opens its block.
@@ -114,49 +131,63 @@ impl<'a, const V: usize, const DEPTH: usize, const CAP: usize> Machine<'a, V, DE
         crate_no: CrateNo,
         body: &'a [Stmt],
         answer: Answer,
-    ) -> Result<Item, Overrun>
+        item: &mut Item,
+    ) -> Option<Overrun>
         requires room { HasRoom self.old }
         requires quiet { self.old.unlocks.items ≡ [] }
         requires pending { IsPending self.old (Pending.Lock crate_no body) }
         requires fine { (answers : List Answer) → IsFineHere self.old (stands (Some (Pending.Lock crate_no body)) self.old answers) }
-        ensures took { IfOk result (λ used. Takes self.old (Pending.Lock crate_no body.entry) answer used self.new) }
-        ensures overrun { IfErr result (λ o. Overruns self.old (Pending.Lock crate_no body.entry) answer o) }
-        ensures same { OnErr result (self.new ≡ self.old) }
+        ensures took { IfNone result (Takes self.old (Pending.Lock crate_no body.entry) answer item.new self.new) }
+        ensures overrun { IfSome result (λ o. Overruns self.old (Pending.Lock crate_no body.entry) answer o) }
+        ensures same { OnSome result ((self.new ≡ self.old) × (item.new ≡ item.old)) }
     {
-        let wait = self.lock(crate_no, answer)?;
-        self.frames.push(Frame {
-            rest: body,
-            owner: Owner::Locked(crate_no.get()),
-        });
-        Ok(Item::Lock(crate_no, wait))
+        match self.lock(crate_no, answer) {
+            Ok(wait) => {
+                self.frames.push(Frame {
+                    rest: body,
+                    owner: Owner::Locked(crate_no.get()),
+                });
+                *item = Item::Lock(crate_no, wait);
+                None
+            }
+            Err(overrun) => Some(overrun),
+        }
     }
 
-    /// Takes the answer that is wanted, and returns the item that it was used for. Where its wait is not permitted, it returns that wait, and
-    /// nothing changes.
+    /// Takes the answer that is wanted, and writes the item that it was used for into its place. Where the answer's wait is not permitted, it
+    /// returns that wait, and nothing changes.
     #[inline(always)]
-    pub fn take(&mut self, pending: &Pending<'a>, answer: Answer) -> Result<Item, Overrun>
+    pub fn take(
+        &mut self,
+        pending: &Pending<'a>,
+        answer: Answer,
+        item: &mut Item,
+    ) -> Option<Overrun>
         requires room { HasRoom self.old }
         requires quiet { self.old.unlocks.items ≡ [] }
         requires pending { IsPending self.old pending.now }
         requires fine { (answers : List Answer) → IsFineHere self.old (stands (Some pending.now) self.old answers) }
-        ensures took { IfOk result (λ used. Takes self.old pending.now answer used self.new) }
-        ensures overrun { IfErr result (λ o. Overruns self.old pending.now answer o) }
-        ensures same { OnErr result (self.new ≡ self.old) }
+        ensures took { IfNone result (Takes self.old pending.now answer item.new self.new) }
+        ensures overrun { IfSome result (λ o. Overruns self.old pending.now answer o) }
+        ensures same { OnSome result ((self.new ≡ self.old) × (item.new ≡ item.old)) }
     {
         match pending {
-            Pending::Cycle(command) => self.take_cycle(*command, answer),
+            Pending::Cycle(command) => self.take_cycle(*command, answer, item),
             Pending::Read {
                 command,
                 variable,
                 bits,
-            } => self.take_read(*command, *variable, *bits, answer),
-            Pending::Lock { crate_no, body } => self.take_lock(*crate_no, body, answer),
-            Pending::Transfer(transfer) => {
-                let done = self.make(transfer.command, answer)?;
-                self.put_read(transfer.table, &done);
-                self.steps += 1;
-                Ok(Item::Cycle(done))
-            }
+            } => self.take_read(*command, *variable, *bits, answer, item),
+            Pending::Lock { crate_no, body } => self.take_lock(*crate_no, body, answer, item),
+            Pending::Transfer(transfer) => match self.make(transfer.command, answer) {
+                Ok(done) => {
+                    self.put_read(transfer.table, &done);
+                    self.steps += 1;
+                    *item = Item::Cycle(done);
+                    None
+                }
+                Err(overrun) => Some(overrun),
+            },
             Pending::Pause => unreachable!(),
         }
     }

@@ -1,5 +1,4 @@
 use Rattle.std.proofs.Common.{arith}
-use Rattle.std.proofs.lemmas.Result.{err_from_is_err_and}
 use Rattle.camac_machine.proofs.Courses.{transfer_cost, transfer_overruns, put_fits, step_fits, takes_transfer}
 use Rattle.camac_machine.proofs.machine.Machine.take.Goals as goal
 
@@ -18,27 +17,26 @@ make-requires g c =
     let p = rw w.is at c.requires.pending in
     (search, (c.requires.room, (p.0, transfer_cost c.args.self.now w.transfer.command w.transfer.course w.transfer.table w.transfer.tally c.args.answer p (rw w.is at c.requires.fine) c.requires.room)))
 
-pub returns-in_err-done-in-Transfer-clause-overrun : goal.returns-in_err-done-in-Transfer-clause-overrun
-returns-in_err-done-in-Transfer-clause-overrun g c =
+pub returns-in-Err-clause-overrun : goal.returns-in-Err-clause-overrun
+returns-in-Err-clause-overrun g c =
     let w = c.in-Transfer in
-    let e = err_from_is_err_and c.from_residual.result c.from_residual.ensures.1 in
-    rw (e.1, e.2, w.is) (transfer_overruns c.args.self.now w.transfer.command w.transfer.course w.transfer.table w.transfer.tally c.args.answer (rw w.is at c.requires.pending) c.in_err-done-in-Transfer.field-0.0 c.in_err-done-in-Transfer.ensures.overrun)
+    rw w.is (transfer_overruns c.args.self.now w.transfer.command w.transfer.course w.transfer.table w.transfer.tally c.args.answer (rw w.is at c.requires.pending) c.in-Err.overrun c.in-Err.ensures.overrun)
 
 pub put_read-requires : goal.put_read-requires
 put_read-requires g c =
     let w = c.in-Transfer in
-    (search, put_fits c.args.self.now w.transfer.command w.transfer.course w.transfer.table w.transfer.tally c.args.answer (rw w.is at c.requires.pending) (rw w.is at c.requires.fine) c.requires.room c.make.new.self c.in_ok-done-in-Transfer.done c.in_ok-done-in-Transfer.ensures.made)
+    (search, put_fits c.args.self.now w.transfer.command w.transfer.course w.transfer.table w.transfer.tally c.args.answer (rw w.is at c.requires.pending) (rw w.is at c.requires.fine) c.requires.room c.make.new.self c.in-Ok.done c.in-Ok.ensures.made)
 
 pub overflow_add-self : goal.overflow_add-self
 overflow_add-self g c =
     let w = c.in-Transfer in
-    let few = step_fits c.args.self.now w.transfer.command w.transfer.course w.transfer.table w.transfer.tally c.args.answer (rw w.is at c.requires.pending) (rw w.is at c.requires.fine) c.requires.room c.make.new.self c.in_ok-done-in-Transfer.done c.in_ok-done-in-Transfer.ensures.made c.put_read.new.self c.put_read.ensures.same in
+    let few = step_fits c.args.self.now w.transfer.command w.transfer.course w.transfer.table w.transfer.tally c.args.answer (rw w.is at c.requires.pending) (rw w.is at c.requires.fine) c.requires.room c.make.new.self c.in-Ok.done c.in-Ok.ensures.made c.put_read.new.self c.put_read.ensures.same in
     omega (arith, few)
 
-pub returns-in_ok-done-in-Transfer-clause-took : goal.returns-in_ok-done-in-Transfer-clause-took
-returns-in_ok-done-in-Transfer-clause-took g c =
+pub returns-in-Ok-clause-took : goal.returns-in-Ok-clause-took
+returns-in-Ok-clause-took g c =
     let w = c.in-Transfer in
-    rw w.is (takes_transfer c.args.self.now w.transfer.command w.transfer.course w.transfer.table w.transfer.tally c.args.answer (rw w.is at c.requires.pending) (rw w.is at c.requires.fine) c.requires.room c.make.new.self c.in_ok-done-in-Transfer.done c.in_ok-done-in-Transfer.ensures.made c.put_read.new.self c.put_read.ensures.same c.put_read.ensures.words)
+    rw w.is (takes_transfer c.args.self.now w.transfer.command w.transfer.course w.transfer.table w.transfer.tally c.args.answer (rw w.is at c.requires.pending) (rw w.is at c.requires.fine) c.requires.room c.make.new.self c.in-Ok.done c.in-Ok.ensures.made c.put_read.new.self c.put_read.ensures.same c.put_read.ensures.words)
 
 pub unreachable-requires : goal.unreachable-requires
 unreachable-requires g c = let p = rw c.in-Pause.is at c.requires.pending in absurd p.0

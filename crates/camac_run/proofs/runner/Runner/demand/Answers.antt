@@ -4,7 +4,6 @@ use Rattle.camac_branch.specs.Branch.{pattern_of}
 use Rattle.camac_branch.specs.Crates.{Crates, branch_of}
 use Rattle.camac_model.specs.Behaviour.{does, demanded}
 use Rattle.std.specs.Borrow.{Bor}
-use Rattle.arrayvec.specs.ArrayVec.{ArrayVec}
 use Rattle.camac_checked.specs.Checked.{CheckedScript}
 use Rattle.camac_model.specs.Fine.{most_turns}
 use Rattle.camac_model.specs.Run.{Chosen, service_for, service_meaning}
@@ -40,20 +39,20 @@ returns-in-None-clause-keeps g c =
     let pending : r.pending ≡ None = none_wanted pending_of r.pending (ap (λ h. h.pending) c.self.view_is ∙ c.requires.idle) in
     rw (← c.self.view_is) (keeps_awake _ _ refl (ap is_paused_at pending) (each_none r.overrun _ (rw pending (omega arith))))
 
-pub returns-in-None-clause-progresses : goal.returns-in-None-clause-progresses
-returns-in-None-clause-progresses g c =
+pub returns-in-None-clause-goes : goal.returns-in-None-clause-goes
+returns-in-None-clause-goes g c =
     let r = c.self.inside in
     let k = r.machine.checked.now in
     let pending : r.pending ≡ None = none_wanted pending_of r.pending (ap (λ h. h.pending) c.self.view_is ∙ c.requires.idle) in
     let first : r.overrun ≡ None = ap (λ h. h.overrun) c.self.view_is ∙ c.requires.first in
     let pat : c.demand-pattern.result ≡ pattern_of k.plan (branch_of r.machine.branch) c.args.answer.gl = c.demand-pattern.ensures ∙ ap (λ p. pattern_of p (branch_of r.machine.branch) c.args.answer.gl) c.plan.ensures in
     let none : service_for (context_in k) (pattern_of k.plan (branch_of r.machine.branch) c.args.answer.gl) k.script.services ≡ None = ap (λ n. service_for (context_in k) n k.script.services) (sym pat) ∙ c.in-None.ensures.chosen in
-    rw (← c.self.view_is) (record {
+    rw (← c.self.view_is, c.tell_event.ensures) (record {
       first = first;
       goes = λ answers. rw pending
           (onward_passes k.plan k.script (branch_of r.machine.branch) c.args.answer answers none
           ∙ ap (λ n. does (demanded n None) (onward (context_in k) k.script.services (branch_of r.machine.branch) answers)) (sym pat)
-          ∙ ap (λ us. does (demanded c.demand-pattern.result None) (says us (onward (context_in k) k.script.services (branch_of r.machine.branch) answers))) (sym c.new.ensures));
+          ∙ ap (λ us. does (demanded c.demand-pattern.result None) (says us (onward (context_in k) k.script.services (branch_of r.machine.branch) answers))) (sym c.clear.ensures));
       fed = refl;
       same = refl;
       next = tt;
@@ -76,7 +75,7 @@ invariant_of-self-in-Some g c =
     let more : r.fed < 4294967295 = subst (λ (h : RunnerState). h.fed < 4294967295) (sym c.self.view_is) c.requires.fed in
     let pending : r.pending ≡ None = none_wanted pending_of r.pending (ap (λ h. h.pending) c.self.view_is ∙ c.requires.idle) in
     let free : (n : ℕ) → (branch_of c.copy-self-inside.result n).locked ≡ false = λ n. subst (λ (b : Crates). (branch_of b n).locked ≡ false) (sym c.copy-self-inside.ensures) (idle_free r.machine (rw pending at inv.idle) inv.room n) in
-    sound_after r.machine new c.take-unlocks.new.self r.pending c.serve.new.pending r.fed (r.fed + 1) r.events i r.at_demand c.copy-self-inside.result c.take-unlocks.ensures.after inv (omega (arith, few)) (omega (arith, more)) (each_some c.serve.new.pending _ free) s.room s.checked s.service c.in-Some.ensures.known s.awaits s.begun s.over
+    sound_after r.machine new c.tell_unlocks.new.unlocks r.pending c.serve.new.pending r.fed (r.fed + 1) r.events i r.at_demand c.copy-self-inside.result c.tell_unlocks.ensures.taken inv (omega (arith, few)) (omega (arith, more)) (each_some c.serve.new.pending _ free) s.room s.checked s.service c.in-Some.ensures.known s.awaits s.begun s.over
     (serve_fine r.machine new i p.0 c.serve.new.pending inv.checked p.1 s)
 
 pub close-event-requires : goal.close-event-requires
@@ -105,8 +104,8 @@ returns-in-Some-clause-keeps g c =
     (rw pending (let soon = c.serve.ensures.soon in omega (arith, soon)))
     s.awaits (serve_fine r.machine new i p.0 next' c.self.invariant.checked p.1 s) c.close-event.ensures.ended c.close-event.ensures.goes_on)
 
-pub returns-in-Some-clause-progresses : goal.returns-in-Some-clause-progresses
-returns-in-Some-clause-progresses g c =
+pub returns-in-Some-clause-goes : goal.returns-in-Some-clause-goes
+returns-in-Some-clause-goes g c =
     let r = c.self.inside in
     let k = r.machine.checked.now in
     let b = branch_of r.machine.branch in
@@ -126,7 +125,7 @@ returns-in-Some-clause-progresses g c =
     ap (λ n. service_for (context_in k) n k.script.services) (sym pat) ∙ c.in-Some.ensures.chosen ∙ ap (option_map (λ w. record { number = i; bit = bit; service = w })) p.1 in
     let its : bit_at k i ≡ bit = ap (λ o. unwrap_or o 0) c.in-Some.ensures.bit in
     let all = counted new next' event (r.fed + 1) r.events r.has_event r.overrun c.copy-self-inside.result r.limit after s.room.missed c.close-event.ensures.ended c.close-event.ensures.goes_on in
-    rw (← c.self.view_is) (record {
+    rw (← c.self.view_is, c.tell_event-in-Some.ensures, c.tell_unlocks.ensures.same) (record {
       first = first;
       goes = λ answers. rw pending
           (onward_serves k.plan k.script b c.args.answer answers v called
@@ -134,7 +133,7 @@ returns-in-Some-clause-progresses g c =
           ∙ ap (does (demanded c.demand-pattern.result (Some i)))
           (ap (served (context_in k) k.script.services bit) (sym (s.goes answers))
           ∙ told_along new r.machine.checked i bit next' event (r.fed + 1) r.events r.has_event r.overrun c.copy-self-inside.result r.limit after answers s.checked s.service its s.over c.close-event.ensures.ended c.close-event.ensures.goes_on new.unlocks.items
-          ∙ ap (λ us. says us (with_event event (last_words_in after) (rest after answers))) (ap (λ (v : ArrayVec ℕ). v.items) (sym c.take-unlocks.ensures.value))));
+          ∙ ap (λ us. says us (with_event event (last_words_in after) (rest after answers))) (sym c.tell_unlocks.ensures.told)));
       fed = all.3;
       same = all.0;
       next = all.1;

@@ -25,13 +25,13 @@ pub go_further-requires : goal.go_further-requires
 go_further-requires g c =
     let pending : c.self.inside.pending ≡ Some c.in-Some.pending = c.in-Some.is in
     let inv = c.self.invariant in
-    let t = c.in-Ok.ensures.took in (
+    let t = c.in-None-taken.ensures.took in (
       machine_fits _ c.requires-raw.1.1.1.0,
       (
         t.room,
         (
           ap (λ (v : ArrayVec ℕ). v.items) t.unlocks ∙ inv.quiet,
-          rw pending (t.can_follow, (stays_in c.self.inside.machine c.take-taken.new.self (asked (Some c.in-Some.pending)) t.begun t.checked (rw pending at inv.begun), take_fine c.self.inside.machine c.take-taken.new.self c.in-Some.pending c.args.answer c.in-Ok.item (rw pending at inv.fine) t)),
+          rw pending (t.can_follow, (stays_in c.self.inside.machine c.take-taken.new.self (asked (Some c.in-Some.pending)) t.begun t.checked (rw pending at inv.begun), take_fine c.self.inside.machine c.take-taken.new.self c.in-Some.pending c.args.answer c.take-taken.new.item (rw pending at inv.fine) t)),
         ),
       ),
     )
@@ -44,12 +44,12 @@ invariant_of-self g c =
     let mid = c.take-taken.new.self in
     let new = c.go_further.new.self in
     let next' = c.go_further.new.pending in
-    let t = c.in-Ok.ensures.took in
+    let t = c.in-None-taken.ensures.took in
     let s = rw pending at c.go_further.ensures.settles in
     let few = inv.events in
     let more : r.fed < 4294967295 = subst (λ (h : RunnerState). h.fed < 4294967295) (sym c.self.view_is) c.requires.fed in
-    let fine = take_fine r.machine mid c.in-Some.pending c.args.answer c.in-Ok.item (rw pending at inv.fine) t in
-    sound_after r.machine new c.take-unlocks.new.self r.pending next' r.fed (r.fed + 1) r.events r.machine.service r.at_demand r.at_demand c.take-unlocks.ensures.after inv (omega (arith, few)) (omega (arith, more)) (each_some next' _ (rw pending at inv.free)) s.room (s.checked ∙ t.checked) (s.service ∙ t.service) (rw pending at inv.service) s.awaits s.begun s.over
+    let fine = take_fine r.machine mid c.in-Some.pending c.args.answer c.take-taken.new.item (rw pending at inv.fine) t in
+    sound_after r.machine new c.tell_unlocks.new.unlocks r.pending next' r.fed (r.fed + 1) r.events r.machine.service r.at_demand r.at_demand c.tell_unlocks.ensures.taken inv (omega (arith, few)) (omega (arith, more)) (each_some next' _ (rw pending at inv.free)) s.room (s.checked ∙ t.checked) (s.service ∙ t.service) (rw pending at inv.service) s.awaits s.begun s.over
     (settle_fine mid new (λ z. follows z (pending_of c.in-Some.pending)) next' fine s)
 
 pub close-event-requires : goal.close-event-requires
@@ -57,14 +57,14 @@ close-event-requires g c =
     let pending : c.self.inside.pending ≡ Some c.in-Some.pending = c.in-Some.is in
     let inv = c.self.invariant in
     let r = c.self.inside in
-    let t = c.in-Ok.ensures.took in
+    let t = c.in-None-taken.ensures.took in
     let s = rw pending at c.go_further.ensures.settles in
     let few : r.fed < 4294967295 = subst (λ (h : RunnerState). h.fed < 4294967295) (sym c.self.view_is) c.requires.fed in
     let most = inv.events in
     (search, (below_along c.go_further.new.self r.machine.checked r.machine.service (s.checked ∙ t.checked) (s.service ∙ t.service) (rw pending at inv.service), (omega (arith, most), omega (arith, few))))
 
-pub returns-in-Ok-clause-progresses : goal.returns-in-Ok-clause-progresses
-returns-in-Ok-clause-progresses g c =
+pub returns-in-None-taken-clause-goes : goal.returns-in-None-taken-clause-goes
+returns-in-None-taken-clause-goes g c =
     let pending : c.self.inside.pending ≡ Some c.in-Some.pending = c.in-Some.is in
     let r = c.self.inside in
     let k = r.machine.checked.now in
@@ -76,12 +76,12 @@ returns-in-Ok-clause-progresses g c =
     let next' = c.go_further.new.pending in
     let event = c.close-event.result in
     let after = c.close-event.new.self in
-    let d = c.in-Ok.item in
+    let d = c.take-taken.new.item in
     let first : r.overrun ≡ None = ap (λ h. h.overrun) c.self.view_is ∙ c.requires.first in
-    let t = c.in-Ok.ensures.took in
+    let t = c.in-None-taken.ensures.took in
     let s = rw pending at c.go_further.ensures.settles in
     let all = counted new next' event (r.fed + 1) r.events r.has_event r.overrun r.at_demand r.limit after s.room.missed c.close-event.ensures.ended c.close-event.ensures.goes_on in
-    rw (← c.self.view_is) (record {
+    rw (← c.self.view_is, c.tell_event.ensures, c.tell_unlocks.ensures.same) (record {
       first = first;
       goes = λ answers. rw pending
           (ap (served ctx vs bit) (t.goes answers)
@@ -89,7 +89,7 @@ returns-in-Ok-clause-progresses g c =
           ∙ ap (does (piece_of d))
           (ap (served ctx vs bit) (sym (s.goes answers))
           ∙ told_along new r.machine.checked r.machine.service bit next' event (r.fed + 1) r.events r.has_event r.overrun r.at_demand r.limit after answers (s.checked ∙ t.checked) (s.service ∙ t.service) refl s.over c.close-event.ensures.ended c.close-event.ensures.goes_on new.unlocks.items
-          ∙ ap (λ us. says us (with_event event (last_words_in after) (rest after answers))) (ap (λ (v : ArrayVec ℕ). v.items) (sym c.take-unlocks.ensures.value))));
+          ∙ ap (λ us. says us (with_event event (last_words_in after) (rest after answers))) (sym c.tell_unlocks.ensures.told)));
       fed = all.3;
       same = all.0;
       next = all.1;
@@ -99,17 +99,17 @@ returns-in-Ok-clause-progresses g c =
       at_demand = rw pending all.6;
     })
 
-pub returns-in-Ok-clause-keeps : goal.returns-in-Ok-clause-keeps
-returns-in-Ok-clause-keeps g c =
+pub returns-in-None-taken-clause-keeps : goal.returns-in-None-taken-clause-keeps
+returns-in-None-taken-clause-keeps g c =
     let pending : c.self.inside.pending ≡ Some c.in-Some.pending = c.in-Some.is in
     let inv = c.self.invariant in
     let r = c.self.inside in
     let mid = c.take-taken.new.self in
     let new = c.go_further.new.self in
     let next' = c.go_further.new.pending in
-    let t = c.in-Ok.ensures.took in
+    let t = c.in-None-taken.ensures.took in
     let s = rw pending at c.go_further.ensures.settles in
-    let fine = take_fine r.machine mid c.in-Some.pending c.args.answer c.in-Ok.item (rw pending at inv.fine) t in
+    let fine = take_fine r.machine mid c.in-Some.pending c.args.answer c.take-taken.new.item (rw pending at inv.fine) t in
     let more = t.steps in
     let few = t.few in
     rw (← c.self.view_is)
@@ -118,25 +118,25 @@ returns-in-Ok-clause-keeps g c =
     (rw pending (let soon = c.go_further.ensures.soon in omega (arith, soon, few)))
     s.awaits (settle_fine mid new (λ z. follows z (pending_of c.in-Some.pending)) next' fine s) c.close-event.ensures.ended c.close-event.ensures.goes_on)
 
-pub returns-in-Err-clause-keeps : goal.returns-in-Err-clause-keeps
-returns-in-Err-clause-keeps g c =
+pub returns-in-Some-taken-clause-keeps : goal.returns-in-Some-taken-clause-keeps
+returns-in-Some-taken-clause-keeps g c =
     let pending : c.self.inside.pending ≡ Some c.in-Some.pending = c.in-Some.is in
     let r = c.self.inside in
     let awake : is_paused_at r.pending ≡ false = ap (λ h. is_paused h.pending) c.self.view_is ∙ c.requires.awake in
-    let steps = ap (λ (m : Machine g.row.V g.row.DEPTH g.row.CAP). m.steps) c.in-Err.ensures.same in
+    let steps = ap (λ (m : Machine g.row.V g.row.DEPTH g.row.CAP). m.steps) c.in-Some-taken.ensures.same.0 in
     rw (← c.self.view_is) (keeps_awake _ _ refl awake (each_none r.overrun _ (rw pending (omega (arith, steps)))))
 
-pub returns-in-Err-clause-progresses : goal.returns-in-Err-clause-progresses
-returns-in-Err-clause-progresses g c =
+pub returns-in-Some-taken-clause-stops : goal.returns-in-Some-taken-clause-stops
+returns-in-Some-taken-clause-stops g c =
     let pending : c.self.inside.pending ≡ Some c.in-Some.pending = c.in-Some.is in
     let r = c.self.inside in
     let k = r.machine.checked.now in
     let first : r.overrun ≡ None = ap (λ h. h.overrun) c.self.view_is ∙ c.requires.first in
-    rw (c.stopped-progress.ensures, ← c.self.view_is) (record {
+    rw (← c.self.view_is) (record {
       now = rw first (λ answers. rw pending
-          (ap (served (context_in k) k.script.services (bit_at k r.machine.service)) (c.in-Err.ensures.overrun answers)
+          (ap (served (context_in k) k.script.services (bit_at k r.machine.service)) (c.in-Some-taken.ensures.overrun answers)
           ∙ served_stops (context_in k) k.script.services (bit_at k r.machine.service) _ _));
       again = rw first tt;
       same =
-          ap (λ (m : Machine g.row.V g.row.DEPTH g.row.CAP). runner_state m r.pending r.fed r.events r.has_event (Some c.in-Err.overrun) r.at_demand r.limit) c.in-Err.ensures.same;
+          ap (λ (m : Machine g.row.V g.row.DEPTH g.row.CAP). runner_state m r.pending r.fed r.events r.has_event (Some c.in-Some-taken.overrun) r.at_demand r.limit) c.in-Some-taken.ensures.same.0;
     })

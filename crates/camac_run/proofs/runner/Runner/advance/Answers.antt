@@ -3,10 +3,10 @@ use Rattle.camac_machine.specs.MachineState.{is_paused_at}
 use Rattle.camac_machine.specs.Rest.{is_paused}
 use Rattle.camac_run.specs.Sound.{runner_state}
 use Rattle.camac_run.proofs.Told.{keeps_awake}
-use Rattle.camac_run.proofs.runner.Runner.next.Goals as goal
+use Rattle.camac_run.proofs.runner.Runner.advance.Goals as goal
 
-pub returns-in-Some-clause-progresses : goal.returns-in-Some-clause-progresses
-returns-in-Some-clause-progresses g c =
+pub returns-in-Some-clause-stops : goal.returns-in-Some-clause-stops
+returns-in-Some-clause-stops g c =
     let r = c.self.inside in
     rw (← c.self.view_is) (record {
       now = rw c.in-Some.is tt;
