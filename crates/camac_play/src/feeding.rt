@@ -14,7 +14,7 @@ use crate::next::next_answer;
 use crate::run_io::RunIo;
 use crate::telling::{Telling, ask, count_after, tell, write_event};
 use camac_checked::Checked;
-use camac_run::{End, FullRunner, Progress};
+use camac_run::{End, FullRunner, Used};
 
 /// Gives the run all answers that it takes. What it wants is asked for before an answer is read, and what an answer did is given before the
 /// next one. Returns how the run ends, and how many events it left.
@@ -29,6 +29,7 @@ pub fn feed<I: RunIo>(
     let limit = telling.most_answers();
     checked.fits_greatest();
     let mut runner = FullRunner::start(checked);
+    let mut used = Used::new();
     let mut given = 0;
     let mut count = 0;
     'answers: loop {
@@ -40,17 +41,13 @@ pub fn feed<I: RunIo>(
             Err(fault) => return Ok((Ending::Refused(fault), count)),
         };
         given += 1;
-        match runner.next(answer) {
-            Progress::Went {
-                item,
-                unlocks,
-                event,
-            } => {
-                tell(telling, checked, &item, &unlocks, io)?;
-                write_event(io, &event, runner.last_words())?;
-                count = count_after(&event, count);
+        match runner.advance(answer, &mut used) {
+            None => {
+                tell(telling, checked, &used.item, &used.unlocks, io)?;
+                write_event(io, &used.event, runner.last_words())?;
+                count = count_after(&used.event, count);
             }
-            Progress::Overrun(overrun) => return Ok((Ending::End(End::Overrun(overrun)), count)),
+            Some(overrun) => return Ok((Ending::End(End::Overrun(overrun)), count)),
         }
     }
 }

@@ -65,40 +65,40 @@ returns-in-Err-clause-feeds g c =
     inl (faults_here c.args.telling c.args.checked.now.plan c.args.checked.now.script _ _ _ _ c.answers.runner c.answers.count i.fed q.0 q.1
     _ (Sends-kept _ _ _ _ (listing_sent _ _ _ _ (asked_text c.args.telling q.0) c.in_ok-ask.ensures.only.records q.2) c.in_ok-next.ensures.only.listing c.in_ok-next.ensures.only.records) _ (g.I.RunIo.state c.next_answer.new.io).remaining c.in-Err.fault n)
 
-pub returns-in_err-tell-in-Went-clause-feeds : goal.returns-in_err-tell-in-Went-clause-feeds
-returns-in_err-tell-in-Went-clause-feeds g c =
-    let p = err_from_is_err_and c.from_residual-in_err-tell-in-Went.result c.from_residual-in_err-tell-in-Went.ensures.1 in
+pub returns-in_err-tell-in-None-clause-feeds : goal.returns-in_err-tell-in-None-clause-feeds
+returns-in_err-tell-in-None-clause-feeds g c =
+    let p = err_from_is_err_and c.from_residual-in_err-tell-in-None.result c.from_residual-in_err-tell-in-None.ensures.1 in
     let q = c.in_ok-ask.ensures.asks in
     let i = c.answers.invariant in
     let is : c.in_ok-next.next ≡ Ok (Some c.in-Ok-Some.answer) = search rules in
     let n = next_is _ _ _ _ _ _ _ (Ok (Some c.in-Ok-Some.answer)) c.most_answers-limit.ensures c.in_ok-ask.ensures.only.left is c.in_ok-next.ensures.next in
     inl (stops_here c.args.telling c.args.checked.now.plan c.args.checked.now.script _ _ _ _ c.answers.runner c.answers.count i.fed q.0 q.1
-    _ (Sends-kept _ _ _ _ (listing_sent _ _ _ _ (asked_text c.args.telling q.0) c.in_ok-ask.ensures.only.records q.2) c.in_ok-next.ensures.only.listing c.in_ok-next.ensures.only.records) _ _ c.in-Ok-Some.answer n c.next.new.self c.in-Went.item c.in-Went.unlocks.items c.in-Went.event (last_words_in c.next.new.self) c.in-Went.ensures.progresses refl i.events
-    c.from_residual-in_err-tell-in-Went.result _ (p.1 ∙ ap Err p.2) (left_at _ _ _ _ _ (one_more _ _ i.fed.taken c.in-Ok-Some.answer refl i.number) c.in_err-tell-in-Went.ensures.only.left)
-    (SendsPrefix-longer _ _ _ _ (listing_part _ _ _ _ _ c.in_err-tell-in-Went.ensures.only.records (rw c.deref.ensures.0 at c.in_err-tell-in-Went.ensures.text))))
+    _ (Sends-kept _ _ _ _ (listing_sent _ _ _ _ (asked_text c.args.telling q.0) c.in_ok-ask.ensures.only.records q.2) c.in_ok-next.ensures.only.listing c.in_ok-next.ensures.only.records) _ _ c.in-Ok-Some.answer n c.advance.new.self c.advance.new.used.item c.advance.new.used.unlocks.items c.advance.new.used.event (last_words_in c.advance.new.self) c.in-None.ensures.goes refl i.events
+    c.from_residual-in_err-tell-in-None.result _ (p.1 ∙ ap Err p.2) (left_at _ _ _ _ _ (one_more _ _ i.fed.taken c.in-Ok-Some.answer refl i.number) c.in_err-tell-in-None.ensures.only.left)
+    (SendsPrefix-longer _ _ _ _ (listing_part _ _ _ _ _ c.in_err-tell-in-None.ensures.only.records (rw c.deref.ensures.0 at c.in_err-tell-in-None.ensures.text))))
 
-pub returns-in_err-write_event-in-Went-clause-feeds : goal.returns-in_err-write_event-in-Went-clause-feeds
-returns-in_err-write_event-in-Went-clause-feeds g c =
-    let p = err_from_is_err_and c.from_residual-in_err-write_event-in-Went.result c.from_residual-in_err-write_event-in-Went.ensures.1 in
+pub returns-in_err-write_event-in-None-clause-feeds : goal.returns-in_err-write_event-in-None-clause-feeds
+returns-in_err-write_event-in-None-clause-feeds g c =
+    let p = err_from_is_err_and c.from_residual-in_err-write_event-in-None.result c.from_residual-in_err-write_event-in-None.ensures.1 in
     let q = c.in_ok-ask.ensures.asks in
     let i = c.answers.invariant in
     let is : c.in_ok-next.next ≡ Ok (Some c.in-Ok-Some.answer) = search rules in
     let n = next_is _ _ _ _ _ _ _ (Ok (Some c.in-Ok-Some.answer)) c.most_answers-limit.ensures c.in_ok-ask.ensures.only.left is c.in_ok-next.ensures.next in
     inl (stops_here c.args.telling c.args.checked.now.plan c.args.checked.now.script _ _ _ _ c.answers.runner c.answers.count i.fed q.0 q.1
-    _ (Sends-kept _ _ _ _ (listing_sent _ _ _ _ (asked_text c.args.telling q.0) c.in_ok-ask.ensures.only.records q.2) c.in_ok-next.ensures.only.listing c.in_ok-next.ensures.only.records) _ _ c.in-Ok-Some.answer n c.next.new.self c.in-Went.item c.in-Went.unlocks.items c.in-Went.event c.last_words.result.now c.in-Went.ensures.progresses c.last_words.ensures.words i.events
-    c.from_residual-in_err-write_event-in-Went.result _ (p.1 ∙ ap Err p.2)
-    (left_at _ _ _ _ _ (one_more _ _ i.fed.taken c.in-Ok-Some.answer refl i.number) (c.in_err-write_event-in-Went.ensures.only.left ∙ c.in_ok-tell-in-Went.ensures.only.left))
-    (SendsPrefix-after _ _ _ _ _ (listing_sent _ _ _ _ _ c.in_ok-tell-in-Went.ensures.only.records (rw c.deref.ensures.0 at c.in_ok-tell-in-Went.ensures.text))
-    (events_part _ _ _ _ _ c.in_err-write_event-in-Went.ensures.only.listing c.in_err-write_event-in-Went.ensures.text)))
+    _ (Sends-kept _ _ _ _ (listing_sent _ _ _ _ (asked_text c.args.telling q.0) c.in_ok-ask.ensures.only.records q.2) c.in_ok-next.ensures.only.listing c.in_ok-next.ensures.only.records) _ _ c.in-Ok-Some.answer n c.advance.new.self c.advance.new.used.item c.advance.new.used.unlocks.items c.advance.new.used.event c.last_words.result.now c.in-None.ensures.goes c.last_words.ensures.words i.events
+    c.from_residual-in_err-write_event-in-None.result _ (p.1 ∙ ap Err p.2)
+    (left_at _ _ _ _ _ (one_more _ _ i.fed.taken c.in-Ok-Some.answer refl i.number) (c.in_err-write_event-in-None.ensures.only.left ∙ c.in_ok-tell-in-None.ensures.only.left))
+    (SendsPrefix-after _ _ _ _ _ (listing_sent _ _ _ _ _ c.in_ok-tell-in-None.ensures.only.records (rw c.deref.ensures.0 at c.in_ok-tell-in-None.ensures.text))
+    (events_part _ _ _ _ _ c.in_err-write_event-in-None.ensures.only.listing c.in_err-write_event-in-None.ensures.text)))
 
-pub returns-in-Overrun-clause-feeds : goal.returns-in-Overrun-clause-feeds
-returns-in-Overrun-clause-feeds g c =
+pub returns-in-Some-clause-feeds : goal.returns-in-Some-clause-feeds
+returns-in-Some-clause-feeds g c =
     let q = c.in_ok-ask.ensures.asks in
     let i = c.answers.invariant in
     let is : c.in_ok-next.next ≡ Ok (Some c.in-Ok-Some.answer) = search rules in
     let n = next_is _ _ _ _ _ _ _ (Ok (Some c.in-Ok-Some.answer)) c.most_answers-limit.ensures c.in_ok-ask.ensures.only.left is c.in_ok-next.ensures.next in
     inl (overruns_here c.args.telling c.args.checked.now.plan c.args.checked.now.script _ _ _ _ c.answers.runner c.answers.count i.fed q.0 q.1
-    _ (Sends-kept _ _ _ _ (listing_sent _ _ _ _ (asked_text c.args.telling q.0) c.in_ok-ask.ensures.only.records q.2) c.in_ok-next.ensures.only.listing c.in_ok-next.ensures.only.records) _ _ c.in-Ok-Some.answer n c.in-Overrun.overrun c.next.new.self c.in-Overrun.ensures.progresses
+    _ (Sends-kept _ _ _ _ (listing_sent _ _ _ _ (asked_text c.args.telling q.0) c.in_ok-ask.ensures.only.records q.2) c.in_ok-next.ensures.only.listing c.in_ok-next.ensures.only.records) _ _ c.in-Ok-Some.answer n c.in-Some.overrun c.advance.new.self c.in-Some.ensures.stops
     (left_at _ _ _ _ _ (one_more _ _ i.fed.taken c.in-Ok-Some.answer refl i.number) refl))
 
 pub answers-preserved : goal.answers-preserved
@@ -111,22 +111,22 @@ answers-preserved g c =
       fed = goes_on c.args.telling c.args.checked.now.plan c.args.checked.now.script _ _ _ _ c.answers.runner c.answers.count i.fed q.0 q.1
           _ (Sends-kept _ _ _ _ (listing_sent _ _ _ _ (asked_text c.args.telling q.0) c.in_ok-ask.ensures.only.records q.2) c.in_ok-next.ensures.only.listing c.in_ok-next.ensures.only.records)
           _ (g.I.RunIo.state c.next_answer.new.io).remaining c.in-Ok-Some.answer
-          (rw (c.in_ok-write_event-in-Went.ensures.only.left ∙ c.in_ok-tell-in-Went.ensures.only.left) n) c.next.new.self c.in-Went.item c.in-Went.unlocks.items c.in-Went.event c.last_words.result.now c.in-Went.ensures.progresses c.last_words.ensures.words i.events
+          (rw (c.in_ok-write_event-in-None.ensures.only.left ∙ c.in_ok-tell-in-None.ensures.only.left) n) c.advance.new.self c.advance.new.used.item c.advance.new.used.unlocks.items c.advance.new.used.event c.last_words.result.now c.in-None.ensures.goes c.last_words.ensures.words i.events
           _ c.count_after-count.result c.count_after-count.ensures.same c.count_after-count.ensures.next
-          (Sends-trans _ _ _ _ _ (listing_sent _ _ _ _ _ c.in_ok-tell-in-Went.ensures.only.records (rw c.deref.ensures.0 at c.in_ok-tell-in-Went.ensures.text))
-          (events_sent _ _ _ _ _ c.in_ok-write_event-in-Went.ensures.only.listing c.in_ok-write_event-in-Went.ensures.text));
+          (Sends-trans _ _ _ _ _ (listing_sent _ _ _ _ _ c.in_ok-tell-in-None.ensures.only.records (rw c.deref.ensures.0 at c.in_ok-tell-in-None.ensures.text))
+          (events_sent _ _ _ _ _ c.in_ok-write_event-in-None.ensures.only.listing c.in_ok-write_event-in-None.ensures.text));
       number = one_more _ _ i.fed.taken c.in-Ok-Some.answer refl i.number;
-      counted = c.in-Went.ensures.progresses.fed ∙ ap (λ n. n + 1) i.counted;
+      counted = c.in-None.ensures.goes.fed ∙ ap (λ n. n + 1) i.counted;
       few = (let few = (rw is at c.in_ok-next.ensures.few) refl in omega (arith, few, c.most_answers-limit.ensures));
-      events = same_number c.in-Went.event c.answers.runner.events c.answers.count c.next.new.self.events c.count_after-count.result c.in-Went.ensures.progresses.same c.in-Went.ensures.progresses.next i.events c.count_after-count.ensures.same c.count_after-count.ensures.next;
+      events = same_number c.advance.new.used.event c.answers.runner.events c.answers.count c.advance.new.self.events c.count_after-count.result c.in-None.ensures.goes.same c.in-None.ensures.goes.next i.events c.count_after-count.ensures.same c.count_after-count.ensures.next;
       fits = c.count_after-count.ensures.fits;
-      first = c.in-Went.ensures.progresses.overrun;
-      never = never_again c.answers.runner c.next.new.self c.next.ensures.keeps i.never;
+      first = c.in-None.ensures.goes.overrun;
+      never = never_again c.answers.runner c.advance.new.self c.advance.ensures.keeps i.never;
       out_flag =
-          c.in_ok-write_event-in-Went.ensures.only.out_failed ∙ or-false _ ∙ c.in_ok-tell-in-Went.ensures.only.out_failed ∙ or-false _ ∙ c.in_ok-next.ensures.only.out_failed ∙ or-false _
+          c.in_ok-write_event-in-None.ensures.only.out_failed ∙ or-false _ ∙ c.in_ok-tell-in-None.ensures.only.out_failed ∙ or-false _ ∙ c.in_ok-next.ensures.only.out_failed ∙ or-false _
           ∙ c.in_ok-ask.ensures.only.out_failed ∙ or-false _ ∙ i.out_flag;
       in_flag = search rules;
       gathers =
-          c.in_ok-write_event-in-Went.ensures.only.gathers ∙ c.in_ok-tell-in-Went.ensures.only.gathers ∙ c.in_ok-next.ensures.only.gathers ∙ c.in_ok-ask.ensures.only.gathers ∙ i.gathers;
-      same = c.in_ok-write_event-in-Went.ensures.only.same ∙ c.in_ok-tell-in-Went.ensures.only.same ∙ c.in_ok-next.ensures.only.same ∙ c.in_ok-ask.ensures.only.same ∙ i.same;
+          c.in_ok-write_event-in-None.ensures.only.gathers ∙ c.in_ok-tell-in-None.ensures.only.gathers ∙ c.in_ok-next.ensures.only.gathers ∙ c.in_ok-ask.ensures.only.gathers ∙ i.gathers;
+      same = c.in_ok-write_event-in-None.ensures.only.same ∙ c.in_ok-tell-in-None.ensures.only.same ∙ c.in_ok-next.ensures.only.same ∙ c.in_ok-ask.ensures.only.same ∙ i.same;
     }
