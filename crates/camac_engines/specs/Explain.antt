@@ -1,5 +1,7 @@
 -- What `camac explain` tells of a plan and a script.
 use Rattle.std.specs.Prelude.{◌≡◌, ℕ, List, ◌++◌, Option, Some, None, Ok, Err}
+use Rattle.std.specs.Result.{result_ok}
+use Rattle.camac_text.specs.Parser.{script_of}
 use Rattle.camac_branch.specs.Plan.{Layout}
 use Rattle.camac_plan.specs.declared.fault.PlanCase.{PlanCase}
 use Rattle.camac_plan.specs.declared.fault.PlanFault.TheVariants.{Broken}
@@ -11,7 +13,7 @@ use Rattle.camac_explain_text.specs.Text.{IsTextSentence}
 use Rattle.camac_engines.specs.Accepted.{Accepted}
 use Rattle.camac_engines.specs.Mark.{mark_of}
 use Rattle.camac_engines.specs.Plan.{PlanFound}
-use Rattle.camac_engines.specs.Refusals.{all_refusals, also_text}
+use Rattle.camac_engines.specs.Refusals.{also_refused}
 use Rattle.camac_engines.specs.Report.{Report}
 use Rattle.camac_engines.specs.declared.judging.Judged.{Judged}
 use Rattle.camac_engines.specs.declared.judging.Judged.TheVariants as judged
@@ -29,7 +31,7 @@ Explained text f more = (of_text : Option (List ℕ)) × IsOfText text f of_text
 
 -- and then a line for each further refusal
 abbrev pub AllExplained : Layout → List ℕ → Finding → List ℕ → Type 0
-AllExplained plan text f more = (lines : List ℕ) × Explained text f lines × (more ≡ lines ++ also_text (all_refusals plan text))
+AllExplained plan text f more = (lines : List ℕ) × Explained text f lines × (more ≡ lines ++ also_refused plan (result_ok (script_of text)))
 
 -- what explains a finding, where there is one
 abbrev pub ExplainedIf : (Explains : Finding → List ℕ → Type 0) → Accepted → List ℕ → Type 0

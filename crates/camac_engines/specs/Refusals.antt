@@ -1,10 +1,7 @@
 -- All that is refused of a script's text for a plan, and the lines that `camac explain` tells of it after the first.
-use Rattle.std.specs.Prelude.{ℕ, List, [], ◌∷◌, ◌++◌, Result, Ok, Err, codes, drop, flat_map, map}
+use Rattle.std.specs.Prelude.{ℕ, List, [], ◌∷◌, ◌++◌, Option, Some, None, codes, drop, flat_map, map}
 use Rattle.camac_lang.specs.Tree.{Script}
 use Rattle.camac_branch.specs.Plan.{Layout}
-use Rattle.camac_tokens.specs.Fault.{Fault as TextFault}
-use Rattle.camac_tokens.specs.Rules.{rule_of}
-use Rattle.camac_text.specs.Parser.{script_of}
 use Rattle.camac_names.specs.Link.{link_faults}
 use Rattle.camac_names.specs.declared.fault.LinkFault.{LinkFault}
 use Rattle.camac_names.specs.declared.fault.LinkFault.TheVariants as link
@@ -27,17 +24,14 @@ abbrev pub linked_refusals : Layout → Script → List LinkFault → List Refus
 linked_refusals plan script [] = flat_map check_refusal (map fault_of (refusals plan script))
 linked_refusals plan script (f ∷ fs) = flat_map link_refusal (f ∷ fs)
 
--- of a text that is no script its first fault alone
-abbrev pub read_refusals : Layout → Result Script TextFault → List Refusal
-read_refusals plan (Ok script) = linked_refusals plan script (link_faults plan script)
-read_refusals plan (Err flaw) = refusal.Text (rule_of flaw.case) flaw.line ∷ []
-
-abbrev pub all_refusals : Layout → List ℕ → List Refusal
-all_refusals plan text = read_refusals plan (script_of text)
-
 -- `also refused CODE line LINE: MEANING`, for each after the first
 abbrev pub also_line : Refusal → List ℕ
 also_line r = codes "also " ++ refusal_text r
 
 abbrev pub also_text : List Refusal → List ℕ
 also_text rs = flat_map also_line (drop 1 rs)
+
+-- a text that is no script is refused by its first fault alone
+abbrev pub also_refused : Layout → Option Script → List ℕ
+also_refused plan None = []
+also_refused plan (Some script) = also_text (linked_refusals plan script (link_faults plan script))

@@ -2,6 +2,7 @@
 
 ghost use Rattle.std.specs.Prelude.{◌≡◌, ◌||◌, ◌++◌, Err, IfOk, is_err, option_map, string_bytes};
 ghost use Rattle.camac_lines.specs.Refusal.{refusal_text};
+ghost use Rattle.camac_explain.specs.Names.{AreNamesOf};
 ghost use Rattle.camac_engines.specs.Engine.{IsWritten, Shows, is_write_fault};
 ghost use Rattle.camac_engines.specs.Explain.{AllExplained, Explained, ExplainedBy, IsOfText, PlanExplained, ReportsMore};
 ghost use Rattle.camac_engines.specs.Headings.{headings_report_of};
@@ -17,7 +18,7 @@ use crate::outcome::Outcome;
 use crate::plan::PlanRefusal;
 use crate::refusals::push_also;
 use camac_branch::Plan;
-use camac_explain::{Finding, explain_plan, explain_script};
+use camac_explain::{Finding, Names, explain_plan, explain_script};
 use camac_explain_text::text_sentence;
 use camac_lines::{Refusal, write_headings, write_refusal, write_verdict};
 use camac_word::{Watched, WriteFault};
@@ -58,8 +59,9 @@ pub fn explain_judged<W: Write>(
             Ok(Outcome::Good)
         }
         Judged::Refused(finding) => {
-            let mut more = explain_finding(alloc, text, *finding)?;
-            push_also(alloc, &mut more, text, plan)?;
+            let names = Names::new(alloc, text)?;
+            let mut more = explain_finding(alloc, text, &names, *finding)?;
+            push_also(alloc, &mut more, &names, plan)?;
             refuse_and(out, finding.refusal(), &more)
         }
     }
@@ -82,18 +84,25 @@ pub fn explain_headings<W: Write>(
             Ok(Outcome::Good)
         }
         Judged::Refused(finding) => {
-            let more = explain_finding(alloc, text, *finding)?;
+            let names = Names::new(alloc, text)?;
+            let more = explain_finding(alloc, text, &names, *finding)?;
             refuse_and(out, finding.refusal(), &more)
         }
     }
 }
 
-fn explain_finding(alloc: Global, text: &[u8], finding: Finding) -> Result<Vec<u8>, AllocError>
+fn explain_finding(
+    alloc: Global,
+    text: &[u8],
+    names: &Option<Names>,
+    finding: Finding,
+) -> Result<Vec<u8>, AllocError>
+    requires { AreNamesOf text.now names.now }
     ensures { IfOk result (λ more. Explained text.now finding more.items) }
 {
     let mark = mark_of(alloc, text, finding)?;
     let sentence = sentence_of_text(alloc, text, finding)?;
-    explain_script(alloc, text, finding, mark, sentence)
+    explain_script(alloc, text, names, finding, mark, sentence)
 }
 
 // What a rule that the text itself breaks knows, in words.

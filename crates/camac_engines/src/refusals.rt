@@ -1,27 +1,42 @@
 // All that is refused of a script's text for a plan.
 
 ghost use Rattle.std.specs.Prelude.{◌≡◌, ◌++◌, IfOk, OnOk, flat_map};
-ghost use Rattle.camac_engines.specs.Refusals.{all_refusals, also_line, also_text, check_refusal, link_refusal, linked_refusals};
+ghost use Rattle.camac_engines.specs.Refusals.{also_line, also_refused, also_text, check_refusal, link_refusal, linked_refusals};
+ghost use Rattle.camac_explain.specs.Names.{script_in};
 ghost use Rattle.camac_names.specs.Link.{link_faults};
 
 use camac_branch::Plan;
 use camac_check::{CheckFault, refusals};
+use camac_explain::Names;
 use camac_lang::Script;
 use camac_lines::{Refusal, refusal_line};
 use camac_names::{LinkFault, link_faults};
-use camac_text::{TextFault, parse};
 use std::alloc::{AllocError, Global};
 
-/// Puts a line at the end for each refusal of a script's text after the first: of linking, or else of the checker.
+/// Puts a line at the end for each refusal of a script after the first, if there is a script: of linking, or else of the checker.
 pub fn push_also(
     alloc: Global,
     lines: &mut Vec<u8>,
-    text: &[u8],
+    names: &Option<Names>,
     plan: &Plan,
 ) -> Result<(), AllocError>
-    ensures { OnOk result (lines.new.items ≡ lines.old.items ++ also_text (all_refusals plan.now text.now)) }
+    ensures { OnOk result (lines.new.items ≡ lines.old.items ++ also_refused plan.now (script_in names.now)) }
 {
-    let refusals = all_refusals(alloc, text, plan)?;
+    match names {
+        Some(names) => push_further(alloc, lines, names.script(), plan),
+        None => Ok(()),
+    }
+}
+
+fn push_further(
+    alloc: Global,
+    lines: &mut Vec<u8>,
+    script: &Script,
+    plan: &Plan,
+) -> Result<(), AllocError>
+    ensures { OnOk result (lines.new.items ≡ lines.old.items ++ also_text (linked_refusals plan.now script.now (link_faults plan.now script.now))) }
+{
+    let refusals = refusals_of(alloc, script, plan)?;
     match refusals.as_slice() {
         [] => Ok(()),
         [_, further @ ..] => push_lines(lines, further),
@@ -36,19 +51,6 @@ fn push_lines(lines: &mut Vec<u8>, refusals: &[Refusal]) -> Result<(), AllocErro
         lines.extend_from_slice(refusal_line(*refusal).as_bytes())?;
     }
     Ok(())
-}
-
-fn all_refusals(alloc: Global, text: &[u8], plan: &Plan) -> Result<Vec<Refusal>, AllocError>
-    ensures { IfOk result (λ v. v.items ≡ all_refusals plan.now text.now) }
-{
-    match parse(alloc, text) {
-        Ok(script) => refusals_of(alloc, &script, plan),
-        Err(TextFault::OutOfMemory) => Err(AllocError),
-        Err(TextFault::Broken { case, line, .. }) => {
-            let rule = case.rule();
-            Ok(vec![in alloc; Refusal::Text { rule, line }]?)
-        }
-    }
 }
 
 fn refusals_of(alloc: Global, script: &Script, plan: &Plan) -> Result<Vec<Refusal>, AllocError>

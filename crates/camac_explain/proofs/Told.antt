@@ -1,17 +1,7 @@
 -- The parts of an explanation, put one after the other.
-use Rattle.std.proofs.Common.{◌≡◌, ℕ, List, ◌++◌, Option, None, true, ap, ◌∙◌, refl}
-use Rattle.std.specs.Prelude.{Result, Ok, Err, is_err}
-use Rattle.camac_lang.specs.Tree.{Script}
-use Rattle.camac_tokens.specs.Fault.{Fault}
+use Rattle.std.proofs.Common.{◌≡◌, ℕ, List, ◌++◌, Option, ap, ◌∙◌}
 use Rattle.camac_explain.specs.Advice.{Told, told}
-use Rattle.camac_explain.specs.Explanation.{advice_text, in_script, sentence_line}
-
-pub in_script_of : (sentence : Script → Option (List ℕ)) (r : Result Script Fault) (s : Script) → r ≡ Ok s → in_script sentence r ≡ sentence s
-in_script_of sentence r s e = ap (in_script sentence) e
-
-pub in_no_script : (sentence : Script → Option (List ℕ)) (r : Result Script Fault) → is_err r ≡ true → in_script sentence r ≡ None
-in_no_script sentence (Ok s) e = absurd (cc e)
-in_no_script sentence (Err f) e = refl
+use Rattle.camac_explain.specs.Explanation.{advice_text, sentence_line}
 
 pub same_advice : (why fix code code' : List ℕ) (t : Told) → why ≡ t.why → fix ≡ t.fix → code ≡ code' → advice_text (told why fix) code ≡ advice_text t code'
 same_advice why fix code code' t e f g =

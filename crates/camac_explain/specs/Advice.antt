@@ -17,7 +17,6 @@ use Rattle.camac_rules.specs.declared.case.Body.TheVariants.{Procedure}
 use Rattle.camac_rules.specs.declared.case.Case.TheVariants.{Direction, Operation, Turns, Budget, Width, Word}
 use Rattle.camac_rules.specs.declared.case.Numbers.{Numbers}
 use Rattle.camac_rules.specs.declared.case.Operator.TheVariants.{Sub}
-use Rattle.camac_lines.specs.Codes.{plan_code, text_code, link_code, check_code}
 
 pub record Told : Type 0 where
   pub why : List ℕ

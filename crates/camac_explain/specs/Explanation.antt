@@ -1,9 +1,9 @@
 -- The lines that follow a refusal: the source line, at most one sentence, and what is told of the rule.
-use Rattle.std.specs.Prelude.{◌≡◌, ℕ, List, [], ◌++◌, Option, Some, None, Result, Ok, Err, codes, map}
+use Rattle.std.specs.Result.{result_ok}
+use Rattle.std.specs.Prelude.{◌≡◌, ℕ, List, [], ◌++◌, Option, Some, None, option_and_then, codes, map}
 use Rattle.camac_lang.specs.Tree.{Script}
 use Rattle.camac_lines.specs.Codes.{plan_code}
 use Rattle.camac_lines.specs.Refusal.{code_of}
-use Rattle.camac_tokens.specs.Fault.{Fault}
 use Rattle.camac_plan.specs.declared.fault.PlanCase.{PlanCase}
 use Rattle.camac_plan.specs.declared.fault.PlanRule.{PlanRule}
 use Rattle.camac_text.specs.Parser.{script_of}
@@ -33,17 +33,16 @@ abbrev pub sentence_line : Option (List ℕ) → List ℕ
 sentence_line None = []
 sentence_line (Some sentence) = map shown_byte sentence ++ codes "\n"
 
--- what is told of the script of a text, and nothing where the text spells none
-abbrev pub in_script : (Script → Option (List ℕ)) → Result Script Fault → Option (List ℕ)
-in_script sentence (Ok s) = sentence s
-in_script sentence (Err e) = None
+-- what the rule knew of the script, if there is one; of a rule of the text itself the sentence that is handed in
+abbrev pub sentence_in : Option Script → Finding → (of_text : Option (List ℕ)) → Option (List ℕ)
+sentence_in script (Plan rule) of_text = None
+sentence_in script (Text rule line left) of_text = of_text
+sentence_in script (Link rule line case) of_text = option_and_then (λ s. link_sentence_of s rule case) script
+sentence_in script (Check rule line case) of_text = option_and_then (λ s. check_sentence_of s rule case) script
 
--- what the rule knew of the script; of a rule of the text itself the sentence that is handed in
+-- that of the script which the text spells
 abbrev pub sentence_of : (text : List ℕ) → Finding → (of_text : Option (List ℕ)) → Option (List ℕ)
-sentence_of text (Plan rule) of_text = None
-sentence_of text (Text rule line left) of_text = of_text
-sentence_of text (Link rule line case) of_text = in_script (λ s. link_sentence_of s rule case) (script_of text)
-sentence_of text (Check rule line case) of_text = in_script (λ s. check_sentence_of s rule case) (script_of text)
+sentence_of text f of_text = sentence_in (result_ok (script_of text)) f of_text
 
 abbrev pub explanation : (source : List ℕ) → (sentence : Option (List ℕ)) → Told → (code : List ℕ) → List ℕ
 explanation source sentence told code = source ++ sentence_line sentence ++ advice_text told code

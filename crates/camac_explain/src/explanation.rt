@@ -1,9 +1,9 @@
 // The lines of an explanation.
 
-ghost use Rattle.std.specs.Prelude.{◌≡◌, ◌++◌, Some, IfOk, OnOk, option_map, string_bytes};
-ghost use Rattle.camac_text.specs.Parser.{script_of};
+ghost use Rattle.std.specs.Prelude.{◌≡◌, ◌++◌, Some, IfOk, OnOk, option_and_then, option_map, string_bytes};
 ghost use Rattle.camac_explain.specs.Advice.{told};
-ghost use Rattle.camac_explain.specs.Explanation.{IsPlanExplanation, advice_text, explanation_of, in_script, line_of, sentence_line, sentence_of, told_of};
+ghost use Rattle.camac_explain.specs.Explanation.{IsPlanExplanation, advice_text, explanation_of, line_of, sentence_in, sentence_line, told_of};
+ghost use Rattle.camac_explain.specs.Names.{AreNamesOf, script_in};
 ghost use Rattle.camac_explain.specs.Sentence.{link_sentence_of, check_sentence_of};
 ghost use Rattle.camac_explain.specs.Source.{source_of};
 
@@ -41,15 +41,17 @@ pub fn explain_plan(
 pub fn explain_script(
     alloc: Global,
     text: &[u8],
+    names: &Option<Names>,
     finding: Finding,
     mark: Option<usize>,
     of_text: Option<String>,
 ) -> Result<Vec<u8>, AllocError>
+    requires { AreNamesOf text.now names.now }
     ensures { IfOk result (λ v. v.items ≡ explanation_of text.now finding mark (option_map string_bytes of_text)) }
 {
     let mut lines = Vec::new(alloc);
     push_source(&mut lines, text, finding, mark)?;
-    let sentence = sentence(alloc, text, finding, of_text)?;
+    let sentence = sentence(alloc, names, finding, of_text)?;
     let code = finding.refusal().code();
     push_sentence(&mut lines, sentence)?;
     push_advice(&mut lines, code.name, advice_of(finding))?;
@@ -59,46 +61,44 @@ pub fn explain_script(
 // What the rule knew, in words.
 fn sentence(
     alloc: Global,
-    text: &[u8],
+    names: &Option<Names>,
     finding: Finding,
     of_text: Option<String>,
 ) -> Result<Option<String>, AllocError>
-    ensures { IfOk result (λ s. option_map string_bytes s ≡ sentence_of text.now finding (option_map string_bytes of_text)) }
+    ensures { IfOk result (λ s. option_map string_bytes s ≡ sentence_in (script_in names.now) finding (option_map string_bytes of_text)) }
 {
     match finding {
         Finding::Plan(_) => Ok(None),
         Finding::Text { .. } => Ok(of_text),
-        Finding::Link { rule, case, .. } => sentence_of_linking(alloc, text, rule, case),
-        Finding::Check { rule, case, .. } => sentence_of_checker(alloc, text, rule, case),
+        Finding::Link { rule, case, .. } => sentence_of_linking(alloc, names, rule, case),
+        Finding::Check { rule, case, .. } => sentence_of_checker(alloc, names, rule, case),
     }
 }
 
-#[tactic(auto, using(crate::proofs::Told::in_script_of, crate::proofs::Told::in_no_script))]
 fn sentence_of_linking(
     alloc: Global,
-    text: &[u8],
+    names: &Option<Names>,
     rule: LinkRule,
     case: LinkCase,
 ) -> Result<Option<String>, AllocError>
-    ensures { IfOk result (λ s. option_map string_bytes s ≡ in_script (λ t. link_sentence_of t rule case) (script_of text.now)) }
+    ensures { IfOk result (λ s. option_map string_bytes s ≡ option_and_then (λ t. link_sentence_of t rule case) (script_in names.now)) }
 {
-    match Names::new(alloc, text)? {
-        Some(names) => link_sentence(alloc, &names, rule, case),
+    match names {
+        Some(names) => link_sentence(alloc, names, rule, case),
         None => Ok(None),
     }
 }
 
-#[tactic(auto, using(crate::proofs::Told::in_script_of, crate::proofs::Told::in_no_script))]
 fn sentence_of_checker(
     alloc: Global,
-    text: &[u8],
+    names: &Option<Names>,
     rule: CheckRule,
     case: Case,
 ) -> Result<Option<String>, AllocError>
-    ensures { IfOk result (λ s. option_map string_bytes s ≡ in_script (λ t. check_sentence_of t rule case) (script_of text.now)) }
+    ensures { IfOk result (λ s. option_map string_bytes s ≡ option_and_then (λ t. check_sentence_of t rule case) (script_in names.now)) }
 {
-    match Names::new(alloc, text)? {
-        Some(names) => check_sentence(alloc, &names, rule, case),
+    match names {
+        Some(names) => check_sentence(alloc, names, rule, case),
         None => Ok(None),
     }
 }

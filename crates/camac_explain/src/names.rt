@@ -28,6 +28,13 @@ impl Names {
         }
     }
 
+    /// The script.
+    pub fn script(&self) -> &Script
+        ensures { result.now ≡ self.now.script }
+    {
+        &self.script
+    }
+
     /// The variable or parameter of this number in a body.
     pub fn variable(&self, body: Body, number: usize) -> Quote<'_>
         ensures { result.0.now ≡ shown (variable_of self.now.script body number) }

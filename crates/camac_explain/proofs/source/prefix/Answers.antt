@@ -1,4 +1,4 @@
-use Rattle.std.proofs.Common.{sym, ◌≤◌, length, arith}
+use Rattle.std.proofs.Common.{sym, arith}
 use Rattle.std.proofs.lemmas.List.{take_all}
 use Rattle.camac_explain.proofs.source.prefix.Goals as goal
 
