@@ -12,7 +12,7 @@ use clap::{ArgMatches, Error};
 use std::alloc::{AllocError, Global};
 
 /// What the program is asked to do, with its words.
-#[derive(Debug, Drop)]
+#[derive(Drop)]
 pub enum Job<'a> {
     Plan(&'a str),
     /// A plan with its commands.
