@@ -1,13 +1,13 @@
 // Reading a whole input.
 
-ghost use Rattle.std.specs.Prelude.{◌≡◌, ◌≤◌, ◌<◌, ◌+◌, ◌^◌, ◌||◌, IfOk, IsErrOf};
+ghost use Rattle.std.specs.Prelude.{◌≡◌, ◌≤◌, ◌<◌, ◌+◌, ◌^◌, ◌||◌, ◌++◌, IfOk, IsErrOf, OnOk};
 ghost use Rattle.std.specs.Io.KnownBytes.{Consumes, IsAtEnd};
 ghost use Rattle.camac_word.specs.Watched.{inner_of, has_failed};
 ghost use Rattle.camac_engines.specs.Reading.{Reads, is_read_fault};
 
 use crate::fault::ToolFault;
 use camac_word::Watched;
-use std::alloc::Global;
+use std::alloc::{AllocError, Global};
 use std::io::Read;
 
 /// The greatest length of a plan and of a script, in bytes.
@@ -18,6 +18,9 @@ pub const EVENTS_LIMIT: usize = 16_777_216;
 
 /// How many bytes are asked for at a time.
 const CHUNK: usize = 65_536;
+
+/// How many bytes are copied at a time.
+const PIECE: usize = 2_048;
 
 /// All that the reader has left, where that is at most `limit` bytes. No more than one byte past
 /// the limit is taken.
@@ -41,7 +44,20 @@ pub fn read_whole<R: Read>(
         if taken == 0 {
             return Ok(bytes);
         }
-        bytes.extend_from_slice(&part[..taken])?;
+        append(&mut bytes, &part[..taken])?;
     }
     Err(ToolFault::TooLong)
+}
+
+// Puts bytes at the end, in pieces: the C library copies longer ones by an instruction that is slower here.
+fn append(bytes: &mut Vec<u8>, part: &[u8]) -> Result<(), AllocError>
+    ensures { OnOk result (bytes.new.items ≡ bytes.old.items ++ part.now) }
+{
+    let mut rest = part;
+    while rest.len() > PIECE {
+        let (piece, after) = rest.split_at(PIECE);
+        bytes.extend_from_slice(piece)?;
+        rest = after;
+    }
+    bytes.extend_from_slice(rest)
 }

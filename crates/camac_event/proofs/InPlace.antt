@@ -1,6 +1,6 @@
 -- Words and records that are read from the bytes where they lie.
 use Rattle.std.proofs.Common.{◌≡◌, ℕ, zero, suc, ◌+◌, ◌*◌, ◌^◌, ◌<◌, ◌≤◌, cond, ltb, List, [], ◌∷◌, get_or, length, take, drop, Option, Some, Result, Ok, Err, refl, sym, ap, subst, ◌∙◌, length-append, arith}
-use Rattle.std.specs.Prelude.{slice_get}
+use Rattle.std.specs.Prelude.{slice_get, slice_index}
 use Rattle.std.specs.List.{AllByRecursion}
 use Rattle.std.proofs.lemmas.Bool.{ltb-true, ltb-false, le-ltb, lt-ltb}
 use Rattle.std.proofs.lemmas.Option.{get_or_from_slice_get}
@@ -23,6 +23,12 @@ pub length-words_in : (count : ℕ) (bytes : List ℕ) → length (words_in coun
 unfolding words_in
 length-words_in zero bytes = refl
 length-words_in (suc count) bytes = ap suc (length-words_in count (drop 4 bytes))
+
+-- the byte at a place is the first behind those before it
+pub byte_behind : (n : ℕ) (bytes : List ℕ) → slice_index (drop n bytes) 0 ≡ get_or bytes n 0
+byte_behind zero bytes = refl
+byte_behind (suc n) [] = refl
+byte_behind (suc n) (b ∷ bs) = byte_behind n bs
 
 -- the word at a place
 pub words_in-get : (count : ℕ) (bytes : List ℕ) (i : ℕ) → i < count → slice_get (words_in count bytes) i ≡ Some (big_number 4 (drop (4 * i) bytes))

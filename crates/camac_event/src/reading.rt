@@ -7,7 +7,7 @@ ghost use Rattle.camac_event.specs.Reading.{Gives, GivesHead, Passes, PassesAll,
 
 use crate::event::{Usage, Version};
 use crate::fault::{EventFlaw, EventRule};
-use byteorder::{BigEndian, ByteOrder};
+use byteorder::{BigEndian, ByteOrder, LittleEndian};
 use camac_word::{GlBit, Word24};
 
 /// What a record says before its words, of which `words` is the number.
@@ -174,8 +174,8 @@ fn pass_words(count: usize, total: usize, bytes: &mut &[u8]) -> Result<(), Event
     Ok(())
 }
 
-// What is left after that many words, where each has the highest byte 0. The OR of these bytes judges a record at once, so that only one with a
-// fault is read word by word for its offset.
+// What is left after that many words, where each has the highest byte 0. The OR of the words, read the lowest byte first, judges a record at once, so
+// that only one with a fault is read word by word for its offset.
 fn after_words(count: usize, bytes: &[u8]) -> Option<&[u8]>
     ensures { IfSome result (λ rest. (total : ℕ) → words_at count total bytes.now ≡ Ok (words_in count bytes.now, rest.now)) }
 {
@@ -184,9 +184,10 @@ fn after_words(count: usize, bytes: &[u8]) -> Option<&[u8]>
     }
     let mut highest = 0;
     'words: for i in 0..count {
-        highest |= bytes[4 * i];
+        highest |= LittleEndian::read_u32(&bytes[4 * i..]);
     }
-    if highest == 0 {
+    let low = highest % 256;
+    if low == 0 {
         Some(&bytes[4 * count..])
     } else {
         None

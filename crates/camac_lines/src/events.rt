@@ -1,6 +1,6 @@
 // The lines of an event file.
 
-ghost use Rattle.std.specs.Prelude.{◌≡◌, ◌≤◌, ◌<◌, ◌+◌, ◌||◌, ◌++◌, length, is_err, codes, OnOk, Some};
+ghost use Rattle.std.specs.Prelude.{◌≡◌, ◌≤◌, ◌<◌, ◌+◌, ◌||◌, ◌++◌, length, is_err, codes, decimal, OnOk, Some};
 ghost use Rattle.std.specs.List.{flat_map};
 ghost use Rattle.camac_event.specs.Spelling.{entry_of};
 ghost use Rattle.camac_event.specs.Found.{entry_in};
@@ -107,7 +107,21 @@ fn push_start(line: &mut Line, number: usize, gl: GlBit, usage: Option<Usage>, w
         push_usage(line, usage);
     }
     line.push_str(" words ");
-    line.push_count(words);
+    push_words_count(line, words);
+}
+
+// How many words an event has. Most have few, which is quick.
+#[inline(always)]
+fn push_words_count(line: &mut Line, words: usize)
+    requires { length line.old + 20 ≤ LONGEST_LINE }
+    ensures text { line.new ≡ line.old ++ decimal words }
+    ensures short { length line.new ≤ length line.old + 20 }
+{
+    if words < 100 {
+        line.push_small(words as u8);
+    } else {
+        line.push_count(words);
+    }
 }
 
 fn push_usage(line: &mut Line, usage: Usage)

@@ -1,11 +1,11 @@
 // Names that are declared, and names that are used.
 
-ghost use Rattle.std.specs.Prelude.{◌≡◌, Some, None, if◌then◌else◌};
+ghost use Rattle.std.specs.Prelude.{◌≡◌, true, Some, None, Ok, IfSome, IfNone, IsSome, if◌then◌else◌};
 ghost use Rattle.camac_lang.specs.Tests.{is_new};
 ghost use Rattle.camac_tokens.specs.declared.fault.NameKind.TheVariants.{Parameter, Variable};
 ghost use Rattle.camac_tokens.specs.declared.fault.TextCase.TheVariants.{Undeclared};
-ghost use Rattle.camac_text_cursor.specs.Reading.{line_of, left_of};
-ghost use Rattle.camac_text_cursor.specs.Readers.{new_name, added, new_variable, new_parameter, register_at, set_name, declared_as, found_as, found_here, used_register, used_variable, used_lam, used_table, variable_here, procedure_here, called};
+ghost use Rattle.camac_text_cursor.specs.Reading.{kind_of, line_of, left_of};
+ghost use Rattle.camac_text_cursor.specs.Readers.{is_name, new_name, added, new_variable, new_parameter, register_at, set_name, declared_as, found_as, found_here, used_register, used_variable, used_lam, used_table, variable_here, procedure_here, called};
 ghost use Rattle.camac_text_cursor.specs.Parser.{state, Gives};
 
 use crate::choice::Choice;
@@ -182,6 +182,23 @@ impl Parser<'_> {
             }
             None => Err(here.undeclared(NameKind::Register, name)),
         }
+    }
+
+    /// Takes the name of a variable, if one stands next, and answers its number. Else nothing is taken. It is quick, since it tells no fault.
+    #[inline(never)]
+    #[tactic(auto, unfolding(crate::specs::Readers::used, crate::specs::Readers::name_here))]
+    pub fn take_variable(&mut self) -> Option<usize>
+        ensures name { IsSome result → is_name (kind_of (state self.old).rest) ≡ true }
+        ensures some { IfSome result (λ n. used_variable (state self.old) ≡ Ok (n, state self.new)) }
+        ensures none { IfNone result (state self.new ≡ state self.old) }
+    {
+        let here: &Self = self;
+        let Some(TokenKind::Name(name)) = here.peek() else {
+            return None;
+        };
+        let place = place_of(&here.variables, name)?;
+        self.advance();
+        Some(place)
     }
 
     /// Takes the name of a variable, and answers its number; S5 where there is none.

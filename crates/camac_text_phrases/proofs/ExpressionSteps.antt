@@ -1,15 +1,27 @@
 -- An expression, step by step: its first factor, the factors behind it, and the terms behind these.
-use Rattle.std.proofs.Common.{◌≡◌, ℕ, Option, Some, None, Ok, refl}
+use Rattle.std.proofs.Common.{◌≡◌, ℕ, true, Option, Some, None, Ok, refl}
 use Rattle.camac_lang.specs.declared.expression.Node.{Node}
+use Rattle.camac_lang.specs.Tree.{variable}
+use Rattle.camac_tokens.specs.declared.token.TokenKind.{TokenKind}
+use Rattle.camac_tokens.specs.declared.token.TokenKind.TheVariants as kind
 use Rattle.camac_text_cursor.specs.Tried.{Tried}
 use Rattle.camac_tokens.specs.declared.fault.TextFault.{TextFault}
 use Rattle.camac_text_cursor.specs.declared.choice.Choice.TheVariants as choice
-use Rattle.camac_text_cursor.specs.Reading.{State, until}
+use Rattle.camac_text_cursor.specs.Reading.{State, kind_of, until}
+use Rattle.camac_text_cursor.specs.Readers.{is_name, used_variable}
 use Rattle.camac_text_cursor.specs.Parser.{state, FailsWith}
 use Rattle.camac_text_cursor.specs.declared.cursor.Parser.{Parser}
 use Rattle.camac_text_cursor.proofs.Loops.{then_fails}
-use Rattle.camac_text_phrases.specs.Expressions.{Counted, bracketed, expression_at, factor_with, is_product_sign, is_sum_sign, product_turn, product_with, sum_turn, sum_with}
+use Rattle.camac_text_phrases.specs.Expressions.{Counted, counted, bracketed, expression_at, factor_by, factor_with, is_product_sign, is_sum_sign, product_turn, product_with, sum_turn, sum_with}
 use Rattle.camac_text_phrases.specs.Views.{Leaf}
+
+-- a variable as the first factor
+pub variable_taken : (room so_far n : ℕ) (s t : State) → is_name (kind_of s.rest) ≡ true → used_variable s ≡ Ok (n, t) → factor_with (bracketed room) so_far s ≡ Ok (counted (variable n) so_far, t)
+unfolding factor_with
+variable_taken room so_far n s t named taken = by (kind_of s.rest) named where
+  by : (at : Option TokenKind) → is_name at ≡ true → factor_by (bracketed room) so_far at s ≡ Ok (counted (variable n) so_far, t)
+  by (Some (kind.Name x)) is = rw taken refl
+  by _ is = absurd cc
 
 -- the first number or variable, or that there is none, where the parser's state stays
 pub leaf_stays : (room so_far : ℕ) (before : State) (first : Option Node) (p q : Parser) → state q ≡ state p → Leaf room so_far before (Ok first) p → Leaf room so_far before (Ok first) q

@@ -34,8 +34,20 @@ pub fn expression(parser: &mut Parser<'_>, room: u32) -> Result<Expr, TextFault>
 
 // A number or a variable, if one is next; else nothing is taken. Most expressions are no more than that.
 #[inline(always)]
-#[tactic(auto, unfolding(crate::specs::Expressions::factor_with, crate::specs::Expressions::brackets_with))]
+#[tactic(auto, unfolding(crate::specs::Expressions::factor_with))]
 fn leaf(parser: &mut Parser<'_>) -> Result<Option<Node>, TextFault>
+    ensures { (room so_far : ℕ) → Leaf room so_far (state parser.old) result parser.new }
+{
+    match parser.take_variable() {
+        Some(place) => Ok(Some(Node::of_variable(place)?)),
+        None => any_leaf(parser),
+    }
+}
+
+// The same. A variable is read more slowly, since its fault has to be told.
+#[inline(never)]
+#[tactic(auto, unfolding(crate::specs::Expressions::factor_with, crate::specs::Expressions::brackets_with))]
+fn any_leaf(parser: &mut Parser<'_>) -> Result<Option<Node>, TextFault>
     ensures { (room so_far : ℕ) → Leaf room so_far (state parser.old) result parser.new }
 {
     match parser.peek() {

@@ -2,16 +2,19 @@
 use Rattle.std.proofs.Common.{◌≡◌, ℕ, zero, suc, ◌+◌, ◌-◌, ◌*◌, ◌≤◌, ◌<◌, Bool, true, false, ◌&&◌, cond, ltb, eqb, count_by, fold, List, [], ◌∷◌, ◌++◌, length, take, drop, Option, Some, None, IsSome, Result, Ok, Err, refl, sym, ap, subst, ◌∙◌, length-drop, arith}
 use Rattle.std.specs.Prelude.{take_while, slice_index}
 use Rattle.std.specs.Char.{is_ascii_digit, is_ascii_alphabetic}
-use Rattle.std.proofs.lemmas.Bool.{and_parts, eqb-true, le-ltb}
+use Rattle.std.proofs.lemmas.Bool.{and_parts, eqb-true, le-ltb, lt-ltb}
 use Rattle.std.proofs.lemmas.List.Sums.{take_while-cons, sum_by-cons}
 use Rattle.camac_tokens.specs.declared.token.Token.{Token}
 use Rattle.camac_tokens.specs.declared.token.Keyword.{Keyword}
 use Rattle.camac_tokens.specs.declared.token.Sign.{Sign}
+use Rattle.camac_tokens.specs.declared.token.TokenKind.TheVariants as kind
 use Rattle.camac_tokens.specs.Start.{Start}
 use Rattle.camac_tokens.specs.Start as start
+use Rattle.camac_tokens.specs.declared.fault.Limit.TheVariants.{NameBytes}
 use Rattle.camac_tokens.specs.declared.fault.TextCase.{TextCase}
+use Rattle.camac_tokens.specs.declared.fault.TextCase.TheVariants as told
 use Rattle.camac_tokens.specs.Fault.{Fault}
-use Rattle.camac_tokens.specs.Scanning.{is_name_byte, is_blank, is_no_line_feed, keyword_or, pair_at, single_at, pair_or_single, start_of, size, added, wrong, decimal_value, tokens_from, tokens_by, with_first, line_after, line_number}
+use Rattle.camac_tokens.specs.Scanning.{is_name_byte, is_blank, is_no_line_feed, keyword_or, number_or_fault, pair_at, single_at, pair_or_single, start_of, size, added, wrong, decimal_value, tokens_from, tokens_by, with_first, line_after, line_number}
 use Rattle.camac_tokens.specs.Words.{keyword}
 
 -- ---- the bytes at the start that pass a test
@@ -87,6 +90,77 @@ run_of_eight p (a ∷ []) eight e f = absurd (omega arith)
 run_of_eight p (a ∷ b ∷ []) eight e f = absurd (omega arith)
 run_of_eight p (a ∷ b ∷ c ∷ []) eight e f = absurd (omega arith)
 
+-- a run that ends among the first k bytes, and one that does not
+run_len : (p : ℕ → Bool) (x : ℕ) (xs : List ℕ) → length (take_while p (x ∷ xs)) ≡ cond (p x) (suc (length (take_while p xs))) 0
+run_len p x xs = ap length (take_while-cons p x xs) ∙ by (p x) where
+  by : (b : Bool) → length (cond b (x ∷ take_while p xs) []) ≡ cond b (suc (length (take_while p xs))) 0
+  by true = refl
+  by false = refl
+
+ends_step : (b : Bool) (m n k : ℕ) → (n < k → m ≡ n) → cond b (suc n) 0 < suc k → cond b (suc m) 0 ≡ cond b (suc n) 0
+ends_step true m n k same few = ap suc (same (omega (arith, few)))
+ends_step false m n k same few = refl
+
+pub run_ends : (k : ℕ) (p : ℕ → Bool) (xs : List ℕ) → length (take_while p (take k xs)) < k → length (take_while p xs) ≡ length (take_while p (take k xs))
+run_ends zero p xs few = absurd (omega (arith, few))
+run_ends (suc k) p [] few = refl
+run_ends (suc k) p (x ∷ xs) few =
+    run_len p x xs
+    ∙ ends_step (p x) (length (take_while p xs)) (length (take_while p (take k xs))) k (run_ends k p xs) (subst (λ (n : ℕ). n < suc k) (run_len p x (take k xs)) few)
+    ∙ sym (run_len p x (take k xs))
+
+goes_step : (b : Bool) (m n k d : ℕ) → (k ≤ n → m ≡ k + d) → suc k ≤ cond b (suc n) 0 → cond b (suc m) 0 ≡ suc k + d
+goes_step true m n k d on whole = let more : m ≡ k + d = on (omega (arith, whole)) in omega (arith, more)
+goes_step false m n k d on whole = absurd (omega (arith, whole))
+
+pub run_goes : (k : ℕ) (p : ℕ → Bool) (xs : List ℕ) → k ≤ length (take_while p (take k xs)) → length (take_while p xs) ≡ k + length (take_while p (drop k xs))
+run_goes zero p xs whole = omega arith
+run_goes (suc k) p [] whole = absurd (omega (arith, whole))
+run_goes (suc k) p (x ∷ xs) whole =
+    run_len p x xs
+    ∙ goes_step (p x) (length (take_while p xs)) (length (take_while p (take k xs))) k (length (take_while p (drop k xs))) (run_goes k p xs) (subst (λ (n : ℕ). suc k ≤ n) (run_len p x (take k xs)) whole)
+
+-- four bytes one by one
+four_cases : (a b c d : Bool) → cond a (cond b (cond c (cond d 4 3) 2) 1) 0 ≡ cond a (suc (cond b (suc (cond c (suc (cond d 1 0)) 0)) 0)) 0
+four_cases false b c d = refl
+four_cases true false c d = refl
+four_cases true true false d = refl
+four_cases true true true false = refl
+four_cases true true true true = refl
+
+run_of : (p : ℕ → Bool) (a b c d : ℕ) → cond (p a) (cond (p b) (cond (p c) (cond (p d) 4 3) 2) 1) 0 ≡ length (take_while p (a ∷ b ∷ c ∷ d ∷ []))
+run_of p a b c d =
+    four_cases (p a) (p b) (p c) (p d)
+    ∙ sym (run_len p a (b ∷ c ∷ d ∷ [])
+    ∙ ap (λ (n : ℕ). cond (p a) (suc n) 0) (run_len p b (c ∷ d ∷ []) ∙ ap (λ (n : ℕ). cond (p b) (suc n) 0) (run_len p c (d ∷ []) ∙ ap (λ (n : ℕ). cond (p c) (suc n) 0) (run_len p d []))))
+
+four_bytes : (xs : List ℕ) → 8 ≤ length xs → slice_index xs 0 ∷ slice_index xs 1 ∷ slice_index xs 2 ∷ slice_index xs 3 ∷ [] ≡ take 4 xs
+four_bytes (a ∷ b ∷ c ∷ d ∷ xs) eight = refl
+four_bytes [] eight = absurd (omega arith)
+four_bytes (a ∷ []) eight = absurd (omega arith)
+four_bytes (a ∷ b ∷ []) eight = absurd (omega arith)
+four_bytes (a ∷ b ∷ c ∷ []) eight = absurd (omega arith)
+
+next_four_bytes : (xs : List ℕ) → 8 ≤ length xs → slice_index xs 4 ∷ slice_index xs 5 ∷ slice_index xs 6 ∷ slice_index xs 7 ∷ [] ≡ take 4 (drop 4 xs)
+next_four_bytes (a ∷ b ∷ c ∷ d ∷ e ∷ f ∷ g ∷ h ∷ xs) eight = refl
+next_four_bytes [] eight = absurd (omega arith)
+next_four_bytes (a ∷ []) eight = absurd (omega arith)
+next_four_bytes (a ∷ b ∷ []) eight = absurd (omega arith)
+next_four_bytes (a ∷ b ∷ c ∷ []) eight = absurd (omega arith)
+next_four_bytes (a ∷ b ∷ c ∷ d ∷ []) eight = absurd (omega arith)
+next_four_bytes (a ∷ b ∷ c ∷ d ∷ e ∷ []) eight = absurd (omega arith)
+next_four_bytes (a ∷ b ∷ c ∷ d ∷ e ∷ f ∷ []) eight = absurd (omega arith)
+next_four_bytes (a ∷ b ∷ c ∷ d ∷ e ∷ f ∷ g ∷ []) eight = absurd (omega arith)
+
+-- how far a run goes among the first four of eight bytes, and among the next four
+pub front_run : (p : ℕ → Bool) (xs : List ℕ) → 8 ≤ length xs
+    → cond (p (slice_index xs 0)) (cond (p (slice_index xs 1)) (cond (p (slice_index xs 2)) (cond (p (slice_index xs 3)) 4 3) 2) 1) 0 ≡ length (take_while p (take 4 xs))
+front_run p xs eight = run_of p _ _ _ _ ∙ ap (λ (ys : List ℕ). length (take_while p ys)) (four_bytes xs eight)
+
+pub next_run : (p : ℕ → Bool) (xs : List ℕ) → 8 ≤ length xs
+    → cond (p (slice_index xs 4)) (cond (p (slice_index xs 5)) (cond (p (slice_index xs 6)) (cond (p (slice_index xs 7)) 4 3) 2) 1) 0 ≡ length (take_while p (take 4 (drop 4 xs)))
+next_run p xs eight = run_of p _ _ _ _ ∙ ap (λ (ys : List ℕ). length (take_while p ys)) (next_four_bytes xs eight)
+
 -- ---- numbers
 
 grows : (a : ℕ) (ys : List ℕ) → a ≤ fold (λ n d. 10 * n + (d - 48)) a ys
@@ -140,6 +214,47 @@ sized_start b bs =
     sized_if (is_ascii_alphabetic b) _ _ len (λ is. sized_keyword (keyword (take_while is_name_byte (b ∷ bs))) (take_while is_name_byte (b ∷ bs)) len (run_some is_name_byte b bs (name_begins b is)) (run_le is_name_byte (b ∷ bs))) (λ _.
     sized_if (is_ascii_digit b) _ _ len (λ is. sized_if (ltb (decimal_value (take_while is_ascii_digit (b ∷ bs))) 4294967296) _ _ len (λ _ e. (run_some is_ascii_digit b bs is, run_le is_ascii_digit (b ∷ bs))) (λ _ e. absurd cc)) (λ _.
     sized_sign (pair_at (b ∷ bs)) (single_at (b ∷ bs)) len (pair_long (b ∷ bs)) (omega arith)))))
+
+-- ---- what is wrong at the start
+
+abbrev FaultIs : Start → TextCase → Type 0
+FaultIs f told = (case : TextCase) → wrong f ≡ Some case → wrong f ≡ Some told
+
+fault_if : (b : Bool) (f g : Start) (s t : TextCase) → FaultIs f s → FaultIs g t → FaultIs (cond b f g) (cond b s t)
+fault_if true f g s t one other = one
+fault_if false f g s t one other = other
+
+fault_either : (b : Bool) (f g : Start) (s : TextCase) → FaultIs f s → FaultIs g s → FaultIs (cond b f g) s
+fault_either true f g s one other = one
+fault_either false f g s one other = other
+
+fault_word : (k : Option Keyword) (text : List ℕ) → FaultIs (keyword_or k text) (told.Limit NameBytes)
+fault_word (Some w) text = λ case e. absurd cc
+fault_word None text = fault_either (ltb 32 (length text)) _ _ (told.Limit NameBytes) (λ case e. refl) (λ case e. absurd cc)
+
+pub name_wrong : (text : List ℕ) → keyword text ≡ None → 32 < length text → wrong (keyword_or (keyword text) text) ≡ Some (told.Limit NameBytes)
+name_wrong text none long = let over : ltb 32 (length text) ≡ true = lt-ltb 32 (length text) long in rw none (rw over refl)
+
+pub number_wrong : (digits : List ℕ) → cond (ltb (decimal_value digits) 4294967296) (Some (decimal_value digits)) None ≡ None → wrong (number_or_fault digits) ≡ Some (told.Number 4294967295)
+number_wrong digits none = by (ltb (decimal_value digits) 4294967296) none where
+  by : (b : Bool) → cond b (Some (decimal_value digits)) None ≡ None → wrong (cond b (start.Found (kind.Number (decimal_value digits)) (length digits)) (start.Wrong (told.Number 4294967295))) ≡ Some (told.Number 4294967295)
+  by true e = absurd cc
+  by false e = refl
+
+fault_sign : (p q : Option Sign) → FaultIs (pair_or_single p q) told.Byte
+fault_sign (Some w) q = λ case e. absurd cc
+fault_sign None (Some w) = λ case e. absurd cc
+fault_sign None None = λ case e. refl
+
+pub fault_of : (b : ℕ) (bytes : List ℕ) → FaultIs (start_of b bytes) (cond (is_ascii_alphabetic b) (told.Limit NameBytes) (cond (is_ascii_digit b) (told.Number 4294967295) told.Byte))
+unfolding start_of
+fault_of b bytes =
+    let case : TextCase = cond (is_ascii_alphabetic b) (told.Limit NameBytes) (cond (is_ascii_digit b) (told.Number 4294967295) told.Byte) in
+    fault_either (is_blank b) _ _ case (λ _ e. absurd cc) (
+    fault_either (eqb b 35) _ _ case (λ _ e. absurd cc) (
+    fault_if (is_ascii_alphabetic b) _ _ _ _ (fault_word (keyword (take_while is_name_byte bytes)) (take_while is_name_byte bytes)) (
+    fault_if (is_ascii_digit b) _ _ _ _ (fault_either (ltb (decimal_value (take_while is_ascii_digit bytes)) 4294967296) _ _ (told.Number 4294967295) (λ _ e. absurd cc) (λ _ e. refl)) (
+    fault_sign (pair_at bytes) (single_at bytes)))))
 
 -- ---- the rest of a text
 

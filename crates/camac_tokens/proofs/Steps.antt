@@ -10,7 +10,7 @@ use Rattle.camac_tokens.specs.Start as start
 use Rattle.camac_tokens.specs.declared.fault.TextCase.{TextCase}
 use Rattle.camac_tokens.specs.Fault.{Fault}
 use Rattle.camac_tokens.specs.Scanning.{is_blank, is_no_line_feed, start_of, size, wrong, with_first, tokens_by, tokens_from, line_after, line_number, tokens_of, last_line}
-use Rattle.camac_tokens.specs.Left.{before_by, tokens_before, end_by, end_from, Ahead, ahead_from, ahead_of, with_next, IsStop, IsPastGaps, IsPut}
+use Rattle.camac_tokens.specs.Left.{before_by, tokens_before, end_by, end_from, Ahead, ahead_from, ahead_of, with_next, IsStop, IsPastGaps, BeginsNoGap, IsPut}
 use Rattle.camac_tokens.proofs.Scans.{line_feeds, feeds-cons, lines_step, take_run, run_some, skip, with_all, none_all, start_step, sized_start, wrong_is}
 use Rattle.camac_tokens.proofs.OneLine.{run_feeds, OnOneLine, start_on_one_line, feeds_behind}
 
@@ -237,23 +237,6 @@ token_ahead line (b ∷ bs) k n some is =
     ∙ ap (λ (m : ℕ). end_by (tokens_from 0 line (drop n (b ∷ bs))) (line_number (m + line))) (sym (feeds_behind n (b ∷ bs) none)) in
     sym (ap (λ (ts : List Token). let a : Ahead = record { tokens = ts; end = end_from line (b ∷ bs) } in a) tokens ∙ ap (λ (e : Result ℕ Fault). let a : Ahead = record { tokens = t ∷ tokens_before 0 line (drop n (b ∷ bs)); end = e } in a) same)
 
--- what is left once a token is put in its place
-pub record PutLeft (at : ℕ) (rest : List ℕ) (next : Option Token) (n : ℕ) : Type 0 where
-  pub fits : n ≤ length rest
-  pub ahead : with_next next at (drop n rest) ≡ ahead_from at rest
-  pub stop : IsStop next (drop n rest)
-
-pub put_left : (at : ℕ) (rest : List ℕ) (next : Option Token) (n : ℕ) → 0 < length rest → IsPut (Ok n) next (line_number at) (length rest) (start_of (slice_index rest 0) rest) → PutLeft at rest next n
-put_left at rest None n some put = absurd put
-put_left at rest (Some t) n some put = record {
-  fits = (found_size rest t.kind n some put.0).1;
-  ahead =
-      ap (λ (l : ℕ). with_next (Some (record { kind = t.kind; line = l; left = t.left })) at (drop n rest)) put.1
-      ∙ ap (λ (m : ℕ). with_next (Some (record { kind = t.kind; line = line_number at; left = m })) at (drop n rest)) put.2
-      ∙ token_ahead at rest t.kind n some put.0;
-  stop = tt;
-}
-
 -- ---- where no token stands
 
 pub end_behind : (next : Option Token) (line : ℕ) (rest : List ℕ) → (with_next next line rest).end ≡ end_from line rest
@@ -269,6 +252,27 @@ pub fault_ahead : (line : ℕ) (rest : List ℕ) (case : TextCase) → 0 < lengt
 fault_ahead line [] case some bad = absurd (omega arith)
 fault_ahead line (b ∷ bs) case some bad =
     ap (λ (ts : List Token). let a : Ahead = record { tokens = ts; end = end_from line (b ∷ bs) } in a) (sym (before_step b line bs (start.Wrong case) (wrong_is (start_of b (b ∷ bs)) case bad)))
+
+-- what is left once a token is put in its place
+pub record PutLeft (at : ℕ) (rest : List ℕ) (next : Option Token) (n : ℕ) : Type 0 where
+  pub fits : n ≤ length rest
+  pub ahead : with_next next at (drop n rest) ≡ ahead_from at rest
+  pub stop : IsStop next (drop n rest)
+
+pub put_left : (at : ℕ) (rest : List ℕ) (next : Option Token) (n : ℕ) → 0 < length rest → BeginsNoGap rest → IsPut n next (line_number at) (length rest) (start_of (slice_index rest 0) rest) → PutLeft at rest next n
+put_left at rest None n some begins put = subst (λ (m : ℕ). PutLeft at rest None m) (sym put.0) (record {
+  fits = omega arith;
+  ahead = fault_ahead at rest put.1.0 some put.1.1;
+  stop = (begins, λ _. put.1);
+})
+put_left at rest (Some t) n some begins put = record {
+  fits = (found_size rest t.kind n some put.0).1;
+  ahead =
+      ap (λ (l : ℕ). with_next (Some (record { kind = t.kind; line = l; left = t.left })) at (drop n rest)) put.1
+      ∙ ap (λ (m : ℕ). with_next (Some (record { kind = t.kind; line = line_number at; left = m })) at (drop n rest)) put.2
+      ∙ token_ahead at rest t.kind n some put.0;
+  stop = tt;
+}
 
 pub end_here : (line : ℕ) (rest : List ℕ) → length rest ≡ 0 → end_from line rest ≡ Ok (line_number line)
 unfolding tokens_from

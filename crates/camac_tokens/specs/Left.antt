@@ -76,8 +76,7 @@ pub record IsPastGaps (line : ℕ) (text : List ℕ) (after : ℕ) (rest : List 
 abbrev pub eight_spaces : List ℕ
 eight_spaces = 32 ∷ 32 ∷ 32 ∷ 32 ∷ 32 ∷ 32 ∷ 32 ∷ 32 ∷ []
 
--- the token at the start is put in its place, with the line of its bytes and how many are left; or what is wrong there
-abbrev pub IsPut : Result ℕ TextCase → Option Token → ℕ → ℕ → Start → Type 0
-IsPut (Ok n) (Some t) line left f = (f ≡ start.Found t.kind n) × (t.line ≡ line) × (t.left ≡ left)
-IsPut (Ok n) None line left f = ⊥
-IsPut (Err case) next line left f = wrong f ≡ Some case
+-- the token at the start, of n bytes, is put in its place, with the line of its bytes and how many are left; or none, where something is wrong there
+abbrev pub IsPut : ℕ → Option Token → ℕ → ℕ → Start → Type 0
+IsPut n (Some t) line left f = (f ≡ start.Found t.kind n) × (t.line ≡ line) × (t.left ≡ left)
+IsPut n None line left f = (n ≡ 0) × ((case : TextCase) × (wrong f ≡ Some case))

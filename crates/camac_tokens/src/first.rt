@@ -1,98 +1,114 @@
 // The token at the start of a text, put where it stays: a token is larger than all else that cutting it handles.
 
-ghost use Rattle.std.specs.Prelude.{◌<◌, length, slice_index};
+ghost use Rattle.std.specs.Prelude.{◌≡◌, ◌<◌, length, slice_index, take_while, Some};
+ghost use Rattle.std.specs.Char.{is_ascii_digit};
+ghost use Rattle.camac_tokens.specs.declared.fault.TextCase.{TextCase};
 ghost use Rattle.camac_tokens.specs.Words.{keyword};
-ghost use Rattle.camac_tokens.specs.Scanning.{keyword_or, number_or_fault, pair_at, single_at, pair_or_single, start_of};
+ghost use Rattle.camac_tokens.specs.Scanning.{is_name_byte, keyword_or, number_or_fault, pair_at, single_at, pair_or_single, start_of, wrong};
 ghost use Rattle.camac_tokens.specs.Left.{BeginsNoGap, IsPut};
 
 use crate::fault::{Limit, TextCase};
 use crate::scanner::{digits_text, name_text, number, pair_at, single_at};
 use crate::token::{Token, TokenKind};
 use crate::words::keyword;
-use camac_lang::Name;
+use camac_lang::{Name, limits};
 
-/// Puts the token at the start, the longest, in its place, and answers its number of bytes.
+/// Puts the token at the start, the longest, in its place, and answers its number of bytes: 0, and no token, where a token fault stands.
 #[tactic(auto, unfolding(crate::specs::Scanning::start_of))]
-pub fn put_token(next: &mut Option<Token>, text: &[u8], line: u32) -> Result<usize, TextCase>
+#[inline(always)]
+pub fn put_token(next: &mut Option<Token>, text: &[u8], line: u32) -> usize
     requires some { 0 < length text.now }
     requires begins { BeginsNoGap text.now }
     ensures { IsPut result next.new line (length text.now) (start_of (slice_index text.now 0) text.now) }
 {
     let b = text[0];
-    let left = text.len();
     if b.is_ascii_alphabetic() {
-        return put_word(next, name_text(text), line, left);
+        return put_word(next, text, line);
     }
     if b.is_ascii_digit() {
-        return put_number(next, digits_text(text), line, left);
+        return put_number(next, text, line);
     }
-    put_sign(next, text, line, left)
+    put_sign(next, text, line)
 }
 
-fn put_word(
-    next: &mut Option<Token>,
-    text: &[u8],
-    line: u32,
-    left: usize,
-) -> Result<usize, TextCase>
-    requires { 0 < length text.now }
-    ensures { IsPut result next.new line left (keyword_or (keyword text.now) text.now) }
+#[inline(always)]
+fn put_word(next: &mut Option<Token>, text: &[u8], line: u32) -> usize
+    requires { 0 < length (take_while is_name_byte text.now) }
+    ensures { IsPut result next.new line (length text.now) (keyword_or (keyword (take_while is_name_byte text.now)) (take_while is_name_byte text.now)) }
 {
-    match keyword(text) {
-        Some(word) => {
-            let kind = TokenKind::Keyword(word);
-            *next = Some(Token { kind, line, left });
-        }
-        None => match Name::new(text) {
-            Some(name) => {
-                let kind = TokenKind::Name(name);
-                *next = Some(Token { kind, line, left });
-            }
-            None => return Err(TextCase::Limit(Limit::NameBytes)),
-        },
+    let left = text.len();
+    let word = name_text(text);
+    let size = word.len();
+    if let Some(keyword) = keyword(word) {
+        let kind = TokenKind::Keyword(keyword);
+        *next = Some(Token { kind, line, left });
+        return size;
     }
-    Ok(text.len())
+    if size > limits::NAME_BYTES {
+        *next = None;
+        return 0;
+    }
+    let kind = TokenKind::Name(Name::at_start(text, size));
+    *next = Some(Token { kind, line, left });
+    size
 }
 
-fn put_number(
-    next: &mut Option<Token>,
-    digits: &[u8],
-    line: u32,
-    left: usize,
-) -> Result<usize, TextCase>
-    ensures { IsPut result next.new line left (number_or_fault digits.now) }
+fn put_number(next: &mut Option<Token>, text: &[u8], line: u32) -> usize
+    ensures { IsPut result next.new line (length text.now) (number_or_fault (take_while is_ascii_digit text.now)) }
 {
+    let left = text.len();
+    let digits = digits_text(text);
     match number(digits) {
         Some(number) => {
             let kind = TokenKind::Number(number);
             *next = Some(Token { kind, line, left });
-            Ok(digits.len())
+            digits.len()
         }
-        None => Err(TextCase::Number { most: u32::MAX }),
+        None => {
+            *next = None;
+            0
+        }
     }
 }
 
-fn put_sign(
-    next: &mut Option<Token>,
-    text: &[u8],
-    line: u32,
-    left: usize,
-) -> Result<usize, TextCase>
-    ensures { IsPut result next.new line left (pair_or_single (pair_at text.now) (single_at text.now)) }
+#[inline(always)]
+fn put_sign(next: &mut Option<Token>, text: &[u8], line: u32) -> usize
+    ensures { IsPut result next.new line (length text.now) (pair_or_single (pair_at text.now) (single_at text.now)) }
 {
+    let left = text.len();
     match pair_at(text) {
         Some(sign) => {
             let kind = TokenKind::Sign(sign);
             *next = Some(Token { kind, line, left });
-            Ok(2)
+            2
         }
         None => match single_at(text) {
             Some(sign) => {
                 let kind = TokenKind::Sign(sign);
                 *next = Some(Token { kind, line, left });
-                Ok(1)
+                1
             }
-            None => Err(TextCase::Byte),
+            None => {
+                *next = None;
+                0
+            }
         },
+    }
+}
+
+/// What the token fault is that stands at the start.
+#[tactic(auto, unfolding(crate::specs::Scanning::start_of))]
+pub fn fault_at(text: &[u8]) -> TextCase
+    requires some { 0 < length text.now }
+    requires fault { (case : TextCase) × (wrong (start_of (slice_index text.now 0) text.now) ≡ Some case) }
+    ensures { wrong (start_of (slice_index text.now 0) text.now) ≡ Some result }
+{
+    let b = text[0];
+    if b.is_ascii_alphabetic() {
+        TextCase::Limit(Limit::NameBytes)
+    } else if b.is_ascii_digit() {
+        TextCase::Number { most: u32::MAX }
+    } else {
+        TextCase::Byte
     }
 }

@@ -7,7 +7,7 @@ ghost use Rattle.camac_tokens.specs.Left.{Ahead, ahead_from, ahead_of, end_by, w
 
 use crate::bytes::first_eight;
 use crate::fault::TextFault;
-use crate::first::put_token;
+use crate::first::{fault_at, put_token};
 use crate::scanner::{comment_len, is_blank, line_number};
 use crate::token::Token;
 use std::marker::Model;
@@ -55,6 +55,7 @@ impl<'a> TokensLeft<'a> {
     }
 
     /// Leaves the next token behind, if there is one.
+    #[inline(never)]
     pub fn advance(&mut self)
         ensures { self.new ≡ record self.old { tokens = drop 1 self.old.tokens } }
     {
@@ -74,11 +75,11 @@ impl<'a> TokensLeft<'a> {
         if self.rest.is_empty() {
             return Ok(line);
         }
-        let left = self.rest.len();
-        match put_token(&mut None, self.rest, line) {
-            Ok(_) => unreachable!(),
-            Err(case) => Err(TextFault::Broken { case, line, left }),
-        }
+        Err(TextFault::Broken {
+            case: fault_at(self.rest),
+            line,
+            left: self.rest.len(),
+        })
     }
 }
 
@@ -95,6 +96,7 @@ pub fn end_of(text: &[u8]) -> Result<u32, TextFault>
 
 // Cuts the next token off bytes that begin on a line, and answers the bytes behind it, and the line of the first of them. Where a token fault
 // stands, it answers the bytes from there on, and there is no next token.
+#[inline(always)]
 fn cut<'a>(next: &mut Option<Token>, text: &'a [u8], line: usize) -> (&'a [u8], usize)
     requires { line + length text.now ≤ 9223372036854775808 }
     ensures left { IsLeft next.new result.1 result.0.now }
@@ -105,16 +107,9 @@ fn cut<'a>(next: &mut Option<Token>, text: &'a [u8], line: usize) -> (&'a [u8], 
         *next = None;
         return (rest, line);
     }
-    match put_token(next, rest, line_number(line)) {
-        Ok(size) => {
-            let (_, behind) = rest.split_at(size);
-            (behind, line)
-        }
-        Err(_) => {
-            *next = None;
-            (rest, line)
-        }
-    }
+    let size = put_token(next, rest, line_number(line));
+    let (_, behind) = rest.split_at(size);
+    (behind, line)
 }
 
 // The bytes after blanks and comments, and their line. Before most tokens stands one space, or nothing.

@@ -60,20 +60,54 @@ pub fn is_blank(b: u8) -> bool
     b == b' ' || b == b'\t' || b == b'\r' || b == b'\n'
 }
 
-// Four bytes are looked at in a turn, since most words of a script have that many.
+// Eight bytes are looked at in a turn, which costs less than one by one.
 fn name_len(text: &[u8]) -> usize
     ensures { result ≡ length (take_while is_name_byte text.now) }
 {
     let mut rest = text;
     let mut count = 0;
-    while let [first, second, third, fourth, after @ ..] = rest {
-        if !are_name_bytes(*first, *second, *third, *fourth) {
-            break;
+    while let [
+        first,
+        second,
+        third,
+        fourth,
+        fifth,
+        sixth,
+        seventh,
+        eighth,
+        after @ ..,
+    ] = rest
+    {
+        let run = run_of_four(*first, *second, *third, *fourth);
+        if run < 4 {
+            return count + run;
         }
-        count += 4;
+        let run = run_of_four(*fifth, *sixth, *seventh, *eighth);
+        if run < 4 {
+            return count + 4 + run;
+        }
+        count += 8;
         rest = after;
     }
     count + short_name_len(rest)
+}
+
+// With how many of four bytes a name goes on.
+#[inline(always)]
+fn run_of_four(first: u8, second: u8, third: u8, fourth: u8) -> usize
+    ensures { result ≡ (if is_name_byte first then (if is_name_byte second then (if is_name_byte third then (if is_name_byte fourth then 4 else 3) else 2) else 1) else 0) }
+{
+    if !is_name_byte(first) {
+        0
+    } else if !is_name_byte(second) {
+        1
+    } else if !is_name_byte(third) {
+        2
+    } else if !is_name_byte(fourth) {
+        3
+    } else {
+        4
+    }
 }
 
 // The same, byte by byte.
@@ -81,12 +115,6 @@ fn short_name_len(text: &[u8]) -> usize
     ensures { result ≡ length (take_while is_name_byte text.now) }
 {
     text.iter().take_while(|b| is_name_byte(**b)).count()
-}
-
-fn are_name_bytes(first: u8, second: u8, third: u8, fourth: u8) -> bool
-    ensures { result ≡ (is_name_byte first && is_name_byte second && is_name_byte third && is_name_byte fourth) }
-{
-    is_name_byte(first) & is_name_byte(second) & is_name_byte(third) & is_name_byte(fourth)
 }
 
 fn digits_len(text: &[u8]) -> usize

@@ -131,6 +131,7 @@ macro_rules! spelled {
 }
 
 /// The keyword that is spelled so.
+#[inline(always)]
 #[tactic(auto, unfolding(crate::specs::Words::keyword), using(crate::proofs::Spellings::no_long_keyword))]
 pub fn keyword(text: &[u8]) -> Option<Keyword>
     ensures { result ≡ keyword text.now }
@@ -138,6 +139,15 @@ pub fn keyword(text: &[u8]) -> Option<Keyword>
     if text.len() > LONGEST {
         return None;
     }
+    short_keyword(text)
+}
+
+// The same, for a text that may be a keyword by its length.
+#[inline(never)]
+#[tactic(auto, unfolding(crate::specs::Words::keyword))]
+fn short_keyword(text: &[u8]) -> Option<Keyword>
+    ensures { result ≡ keyword text.now }
+{
     if let Some(word) = declaration_word(text) {
         return Some(word);
     }

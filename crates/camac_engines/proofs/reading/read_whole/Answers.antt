@@ -4,9 +4,8 @@ use Rattle.std.proofs.lemmas.Result.{err_from_is_err_and}
 use Rattle.std.proofs.KnownBytes.{Consumes-trans}
 use Rattle.camac_engines.proofs.reading.read_whole.Goals as goal
 
-pub returns-in_err-extend_from_slice-clause-bytes :
-    goal.returns-in_err-extend_from_slice-clause-bytes
-returns-in_err-extend_from_slice-clause-bytes g c =
+pub returns-in_err-append-clause-bytes : goal.returns-in_err-append-clause-bytes
+returns-in_err-append-clause-bytes g c =
     let p = err_from_is_err_and c.from_residual.result c.from_residual.ensures.1 in
     let prefix = c.loop-chunk.bytes.items in
     let piece = take c.in-Ok.taken c.read.new.buf in

@@ -1,7 +1,7 @@
 use Rattle.std.proofs.Common.{◌<◌, length, sym, ◌∙◌}
 use Rattle.std.proofs.lemmas.Bool.{eqb-true}
 use Rattle.camac_tokens.proofs.Scans.{some_left}
-use Rattle.camac_tokens.proofs.Steps.{put_left, nothing_ahead, fault_ahead}
+use Rattle.camac_tokens.proofs.Steps.{put_left, nothing_ahead}
 use Rattle.camac_tokens.proofs.left.cut.Goals as goal
 
 pub returns-then-is_empty-clause-ahead : goal.returns-then-is_empty-clause-ahead
@@ -13,18 +13,11 @@ split_at-requires c =
     let rest = c.past_gaps-line.result.0.now in
     let at = c.past_gaps-line.result.1 in
     let some : 0 < length rest = some_left (length rest) (sym c.is_empty.ensures ∙ c.if-is_empty.false) in
-    (put_left at rest c.put_token.new.next c.in-Ok.size some (rw c.line_number.ensures at c.in-Ok.ensures)).fits
+    (put_left at rest c.put_token-size.new.next c.put_token-size.result some c.past_gaps-line.ensures.begins (rw c.line_number.ensures at c.put_token-size.ensures)).fits
 
-pub returns-in-Ok-clause-ahead : goal.returns-in-Ok-clause-ahead
-returns-in-Ok-clause-ahead c =
+pub returns-clause-ahead : goal.returns-clause-ahead
+returns-clause-ahead c =
     let rest = c.past_gaps-line.result.0.now in
     let at = c.past_gaps-line.result.1 in
     let some : 0 < length rest = some_left (length rest) (sym c.is_empty.ensures ∙ c.if-is_empty.false) in
-    rw c.split_at.ensures.back ((put_left at rest c.put_token.new.next c.in-Ok.size some (rw c.line_number.ensures at c.in-Ok.ensures)).ahead ∙ c.past_gaps-line.ensures.same)
-
-pub returns-in-Err-clause-ahead : goal.returns-in-Err-clause-ahead
-returns-in-Err-clause-ahead c =
-    let rest = c.past_gaps-line.result.0.now in
-    let at = c.past_gaps-line.result.1 in
-    let some : 0 < length rest = some_left (length rest) (sym c.is_empty.ensures ∙ c.if-is_empty.false) in
-    fault_ahead at rest c.in-Err.field-0 some c.in-Err.ensures ∙ c.past_gaps-line.ensures.same
+    rw c.split_at.ensures.back ((put_left at rest c.put_token-size.new.next c.put_token-size.result some c.past_gaps-line.ensures.begins (rw c.line_number.ensures at c.put_token-size.ensures)).ahead ∙ c.past_gaps-line.ensures.same)

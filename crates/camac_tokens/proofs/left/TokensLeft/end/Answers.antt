@@ -20,5 +20,5 @@ returns c =
     let some : 0 < length t.rest.now = some_left (length t.rest.now) (sym c.is_empty.ensures ∙ c.if-is_empty.false) in
     sym (ap (λ (a : Ahead). a.end) c.self.view_is)
     ∙ end_behind t.next t.line t.rest.now
-    ∙ fault_here t.line t.rest.now c.in-Err.case some c.in-Err.ensures
-    ∙ ap (λ (l : ℕ). let r : Result ℕ Fault = Err (record { case = c.in-Err.case; line = l; left = length t.rest.now }) in r) (sym c.line_number-line.ensures)
+    ∙ fault_here t.line t.rest.now c.fault_at.result some c.fault_at.ensures
+    ∙ ap (λ (l : ℕ). let r : Result ℕ Fault = Err (record { case = c.fault_at.result; line = l; left = length t.rest.now }) in r) (sym c.line_number-line.ensures)
