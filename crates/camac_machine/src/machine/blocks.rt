@@ -152,7 +152,7 @@ impl<'a, const V: usize, const DEPTH: usize, const CAP: usize> Machine<'a, V, DE
     }
 
     // `call`: evaluates the arguments in the caller's store, and opens the body with no register set.
-    #[inline(never)]
+    #[inline(always)]
     pub(crate) fn call(&mut self, call: &ProcedureCall)
         requires room { HasRoom self.old }
         requires fits { StatementFits (reach self.old) (free self.old) (call_of call.now) }
@@ -195,7 +195,7 @@ impl<'a, const V: usize, const DEPTH: usize, const CAP: usize> Machine<'a, V, DE
     }
 
     // Goes on after a block that is over.
-    #[inline(never)]
+    #[inline(always)]
     pub(crate) fn leave(&mut self, owner: &Owner<'a>)
         requires room { HasRoomFor self.old (opens_in self.old ++ record { block = done; owner = owner_in self.old owner.now } ∷ []) }
         requires fine { FineThen self.old (λ c. owed c (owner_in self.old owner.now)) }
@@ -261,10 +261,23 @@ impl<'a, const V: usize, const DEPTH: usize, const CAP: usize> Machine<'a, V, DE
                 self.set_variable(variable, value);
                 self.steps += 1;
             }
-            None => match self.frames.pop() {
-                Some(frame) => self.leave(&frame.owner),
-                None => unreachable!(),
-            },
+            None => self.end_block(),
+        }
+    }
+
+    // Goes on after the innermost block, which is over, without it. It is no part of its callers: a call at each end of a block costs less than
+    // the frame that would be moved through memory there.
+    #[inline(never)]
+    fn end_block(&mut self)
+        requires room { HasRoom self.old }
+        requires open { 1 ≤ length self.old.frames.items }
+        requires over { LastIsOver self.old.frames.items }
+        requires fine { (answers : List Answer) → IsFineHere self.old (stands None self.old answers) }
+        ensures { GoesOn self.old None self.new }
+    {
+        match self.frames.pop() {
+            Some(frame) => self.leave(&frame.owner),
+            None => unreachable!(),
         }
     }
 }
