@@ -162,20 +162,20 @@ impl<'a, const V: usize, const DEPTH: usize, const CAP: usize> Machine<'a, V, DE
         let script = self.checked.script();
         script.well_formed();
         let callee = &script.procedures()[call.procedure];
-        let caller = self.scope;
-        let scope = caller.of_procedure(call.procedure, callee);
+        self.frames.push(Frame {
+            rest: callee.body.as_slice(),
+            owner: Owner::Return(self.scope),
+        });
+        let caller = self.scope.variables;
+        let scope = self.scope.of_procedure(call.procedure, callee);
         pass(
             &call.arguments,
-            caller.variables,
+            caller,
             scope.variables.start,
             &mut self.variables,
         );
         wipe(scope.registers, &mut self.registers, None);
         self.scope = scope;
-        self.frames.push(Frame {
-            rest: callee.body.as_slice(),
-            owner: Owner::Return(caller),
-        });
     }
 
     // Releases the lock of a crate.
@@ -238,7 +238,9 @@ impl<'a, const V: usize, const DEPTH: usize, const CAP: usize> Machine<'a, V, DE
         match next_statement(self.frames.as_mut_slice()) {
             Some(first) => {
                 let waits = self.begin(first, pending);
-                self.begun = Some(first);
+                if waits {
+                    self.begun = Some(first);
+                }
                 waits
             }
             None => {
