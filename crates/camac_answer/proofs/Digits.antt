@@ -4,7 +4,7 @@ use Rattle.hex.specs.Hex.{decode_pairs, digit_or_error, hex_digit_value, pair_va
 use Rattle.hex.specs.declared.error.FromHexError.{FromHexError}
 use Rattle.camac_answer.specs.declared.fault.AnswerRule.{AnswerRule}
 use Rattle.camac_answer.specs.declared.fault.AnswerRule.TheVariants.{BadDigit}
-use Rattle.camac_answer.specs.Lines.{number_in, word_at, digit_number, pair_number}
+use Rattle.camac_answer.specs.Lines.{number_in, word_at, wait_at, digit_in, digit_number, pair_number}
 
 ok_or_err : {w : ℕ} → Err BadDigit ≡ Ok w → ⊥
 ok_or_err h = cc h
@@ -30,6 +30,21 @@ most_of (Some v) s = omega (arith, s)
 
 pub digit_number-most : (b : ℕ) → digit_number b ≤ 2 ^ 24
 digit_number-most b = most_of (hex_digit_value b) (small b)
+
+waits : (o : Option ℕ) (n : ℕ) → n ≡ unwrap_or o (2 ^ 24) → n ≤ 15 → digit_in o ≡ Ok n
+waits None n e few = absurd (omega (arith, e, few))
+waits (Some v) n e few = ap Ok (sym e)
+
+waits_not : (o : Option ℕ) → IsSmall o → 15 < unwrap_or o (2 ^ 24) → digit_in o ≡ Err BadDigit
+waits_not None s more = refl
+waits_not (Some v) s more = absurd (omega (arith, s, more))
+
+-- a wait that is a digit
+pub wait_spelled : (b n : ℕ) → n ≡ digit_number b → n ≤ 15 → wait_at b ≡ Ok n
+wait_spelled b n e few = waits (hex_digit_value b) n e few
+
+pub wait_unspelled : (b : ℕ) → 15 < digit_number b → wait_at b ≡ Err BadDigit
+wait_unspelled b more = waits_not (hex_digit_value b) (small b) more
 
 -- what two digits are read as, and their number
 abbrev IsPair : Result ℕ FromHexError → ℕ → Type 0

@@ -89,12 +89,11 @@ fn wait_of(digit: u8) -> Result<u8, AnswerRule>
     ensures value { result ≡ wait_at digit }
     ensures in_range { IfOk result (λ w. w ≤ 15) }
 {
-    match digit {
-        b'0'..=b'9' => Ok(digit - b'0'),
-        b'a'..=b'f' => Ok(digit - b'a' + 10),
-        b'A'..=b'F' => Ok(digit - b'A' + 10),
-        _ => Err(AnswerRule::BadDigit),
+    let value = value_of(digit);
+    if value > 15 {
+        return Err(AnswerRule::BadDigit);
     }
+    Ok(value as u8)
 }
 
 // Whether a line has the length and the spaces of an answer.

@@ -2,7 +2,7 @@
 
 ghost use Rattle.std.specs.Prelude.{◌≡◌, ◌≤◌, ◌<◌, ◌^◌, IsSome, IfOk, IfErr, OnOk, OnErr, is_ok, true, false, Some, bit_and, if◌then◌else◌};
 ghost use Rattle.camac_branch.specs.Address.{address};
-ghost use Rattle.camac_branch.specs.Branch.{start, reply_to, reply_in, branch_after, effect_in, with_lock, enabled_bits, pattern_of};
+ghost use Rattle.camac_branch.specs.Branch.{start, reply_to, controller_reply, branch_after, effect_in, with_lock, enabled_bits, pattern_of};
 ghost use Rattle.camac_branch.specs.Crates.{branch_of, is_permitted};
 ghost use Rattle.camac_branch.specs.Plan.{crate_waits, crate_bits};
 
@@ -71,9 +71,12 @@ pub fn cycle(
     ensures overrun { IfErr result (λ o. (o.c ≡ command.c) × (o.wait ≡ answer.wait)) }
     ensures unchanged { OnErr result (branch.new ≡ branch.old) }
 {
-    let wait = wait_in(branch, plan, command.c, answer)?;
+    let wait = wait_in(branch, plan, command.c, answer.wait)?;
     let reply = match controller(command.n, command.a, command.f) {
-        Some(op) => controlled(branch, plan, command.c, op, answer),
+        Some(op) => {
+            let (word, q) = controlled(branch, plan, command.c, op, answer.gl);
+            Reply { x: true, q, word }
+        }
         None => Reply {
             x: answer.x,
             q: answer.q,
@@ -87,20 +90,28 @@ pub fn cycle(
     })
 }
 
-// Whether the wait of an answer is permitted in a crate.
+// Whether a wait is permitted in a crate. Most cycles come after none, which each crate permits: for them the plan is not looked at.
 #[inline(always)]
-fn wait_in(branch: &Branch, plan: &Plan, c: CrateNo, answer: Answer) -> Result<u8, Overrun>
-    ensures permitted { is_ok result ≡ is_permitted plan.now (branch_of branch.now) c answer.wait }
-    ensures wait { IfOk result (λ w. (w ≡ answer.wait) × (w ≤ 15)) }
-    ensures overrun { IfErr result (λ o. (o.c ≡ c) × (o.wait ≡ answer.wait)) }
+fn wait_in(branch: &Branch, plan: &Plan, c: CrateNo, wait: u8) -> Result<u8, Overrun>
+    ensures permitted { is_ok result ≡ is_permitted plan.now (branch_of branch.now) c wait }
+    ensures wait { IfOk result (λ w. (w ≡ wait) × (w ≤ 15)) }
+    ensures overrun { IfErr result (λ o. (o.c ≡ c) × (o.wait ≡ wait)) }
 {
-    let wait = answer.wait;
-    let waits = plan.waits(c).unwrap_or(0);
-    if branch.locks[(c.get() - 1) as usize].permits(wait, waits) {
+    if wait == 0 || is_permitted(branch, plan, c, wait) {
         Ok(wait)
     } else {
         Err(Overrun { c, wait })
     }
+}
+
+// The same, as the plan and the lockout of the crate have it.
+#[inline(never)]
+fn is_permitted(branch: &Branch, plan: &Plan, c: CrateNo, wait: u8) -> bool
+    ensures permitted { result ≡ is_permitted plan.now (branch_of branch.now) c wait }
+    ensures in_range { result ≡ true → wait ≤ 15 }
+{
+    let waits = plan.waits(c).unwrap_or(0);
+    branch.locks[(c.get() - 1) as usize].permits(wait, waits)
 }
 
 // The bits that both words have.
@@ -114,38 +125,38 @@ fn common_bits(one: Word24, other: Word24) -> Word24
     }
 }
 
-// Does a controller command in a crate, and replies to it.
+// Does a controller command in a crate with this pattern, and replies to it with X: the word and Q of the reply.
 #[inline(never)]
 fn controlled(
     branch: &mut Branch,
     plan: &Plan,
     c: CrateNo,
     op: ControllerOp,
-    answer: Answer,
-) -> Reply
-    ensures reply { result ≡ reply_in plan.now (branch_of branch.old) c (Some op) answer }
+    gl: Word24,
+) -> (Word24, bool)
+    ensures reply { record { x = true; q = result.1; word = result.0 } ≡ controller_reply op (branch_of branch.old c).bits (bit_and gl (crate_bits plan.now c)) }
     ensures next { branch_of branch.new ≡ effect_in c (Some op) (branch_of branch.old) }
 {
-    let gl = common_bits(answer.gl, plan.crate_bits(c));
+    let gl = common_bits(gl, plan.crate_bits(c));
     let place = (c.get() - 1) as usize;
     let mut state = branch.states[place];
-    let (word, q) = apply(&mut state, op, gl);
+    let reply = apply(&mut state, op, gl);
     branch.states[place] = state;
-    Reply { x: true, q, word }
+    reply
 }
 
-/// Locks auxiliary controllers out of a crate (own, after IEEE 675), which may take as many waits as a cycle. Of the answer the wait
-/// alone counts. Refused is a wait that is not permitted; the branch stays then.
-pub fn lock(branch: &mut Branch, plan: &Plan, c: CrateNo, answer: Answer) -> Result<u8, Overrun>
+/// Locks auxiliary controllers out of a crate after this wait (own, after IEEE 675), which may be as long as that of a cycle. Refused is a
+/// wait that is not permitted; the branch stays then.
+pub fn lock(branch: &mut Branch, plan: &Plan, c: CrateNo, wait: u8) -> Result<u8, Overrun>
     requires in_plan { IsSome (crate_waits plan.now c) }
     requires free { (branch_of branch.old c).locked ≡ false }
-    ensures permitted { is_ok result ≡ is_permitted plan.now (branch_of branch.old) c answer.wait }
-    ensures wait { IfOk result (λ w. (w ≡ answer.wait) × (w ≤ 15)) }
+    ensures permitted { is_ok result ≡ is_permitted plan.now (branch_of branch.old) c wait }
+    ensures wait { IfOk result (λ w. (w ≡ wait) × (w ≤ 15)) }
     ensures next { OnOk result (branch_of branch.new ≡ with_lock c true (branch_of branch.old)) }
-    ensures overrun { IfErr result (λ o. (o.c ≡ c) × (o.wait ≡ answer.wait)) }
+    ensures overrun { IfErr result (λ o. (o.c ≡ c) × (o.wait ≡ wait)) }
     ensures unchanged { OnErr result (branch.new ≡ branch.old) }
 {
-    let wait = wait_in(branch, plan, c, answer)?;
+    let wait = wait_in(branch, plan, c, wait)?;
     branch.locks[(c.get() - 1) as usize] = LockState::Locked;
     Ok(wait)
 }

@@ -9,6 +9,7 @@ use crate::bytes::{bytes_in, small_in, text_in};
 use crate::digits::hex_word;
 use camac_branch::{Command, CycleDone, Reply};
 use camac_func::DataMove;
+use camac_word::CrateNo;
 
 /// Lays out the line of a cycle, and returns the place after it.
 pub fn cycle_in(bytes: &mut [u8], start: usize, cycle: &CycleDone) -> usize
@@ -20,8 +21,7 @@ pub fn cycle_in(bytes: &mut [u8], start: usize, cycle: &CycleDone) -> usize
     let moved = command_in(bytes, start, &cycle.command);
     let replied = move_in(bytes, moved, cycle.command.mv, cycle.reply);
     let number = bytes_in(bytes, replied, &reply_text(cycle.reply));
-    let end = small_in(bytes, number, cycle.wait);
-    text_in(bytes, end, "\n")
+    ended_in(bytes, number, cycle.wait, b'\n')
 }
 
 /// Lays out the line's beginning, the command alone, and returns the place after it.
@@ -32,24 +32,35 @@ pub fn command_in(bytes: &mut [u8], start: usize, command: &Command) -> usize
     ensures end { result ≤ start + 22 }
     ensures len { length bytes.new ≡ length bytes.old }
 {
-    let word = *b"cycle ";
-    let c = bytes_in(bytes, start, &word);
-    let n = spaced_in(bytes, c, command.c.get() as u8);
-    let a = spaced_in(bytes, n, command.n.get() as u8);
-    let f = spaced_in(bytes, a, command.a.get() as u8);
-    spaced_in(bytes, f, command.f.get() as u8)
+    let n = bytes_in(bytes, start, &word_and_crate(command.c));
+    let a = ended_in(bytes, n, command.n.get() as u8, b' ');
+    let f = ended_in(bytes, a, command.a.get() as u8, b' ');
+    ended_in(bytes, f, command.f.get() as u8, b' ')
 }
 
-// A number and a space.
+// The line's first word and its crate, which has one digit.
 #[inline(always)]
-fn spaced_in(bytes: &mut [u8], start: usize, number: u8) -> usize
+fn word_and_crate(c: CrateNo) -> [u8; 8]
+    ensures { result ≡ codes "cycle " ++ decimal c ++ codes " " }
+{
+    let digit = b'0' + c.get() as u8;
+    [b'c', b'y', b'c', b'l', b'e', b' ', digit, b' ']
+}
+
+// A number, and the byte that ends it.
+#[inline(always)]
+fn ended_in(bytes: &mut [u8], start: usize, number: u8, end: u8) -> usize
     requires { start + 4 ≤ length bytes.old }
-    ensures written { take result bytes.new ≡ take start bytes.old ++ decimal number ++ codes " " }
+    ensures written { take result bytes.new ≡ take start bytes.old ++ decimal number ++ end ∷ [] }
     ensures end { result ≤ start + 4 }
     ensures len { length bytes.new ≡ length bytes.old }
 {
-    let end = small_in(bytes, start, number);
-    text_in(bytes, end, " ")
+    if number < 10 {
+        bytes_in(bytes, start, &[b'0' + number, end])
+    } else {
+        let last = small_in(bytes, start, number);
+        bytes_in(bytes, last, &[end])
+    }
 }
 
 #[inline(always)]

@@ -403,7 +403,7 @@ module _ {V D C : ℕ} (h : Machine V D C) (k : Command) (t : Course) (table : O
       left_within h k.f (words_sent table) left x (r.q ∷ []) (stepped (record u { words = words_after (words_sent table) bits r u.words }))
       (subst (λ (v : State). IsFineHere h (then_do (transfer h.checked.now.plan k.f words_left left.next_address over (r.q ∷ []) [] (stepped v)) (left_in h))) (keep_is left.tally (words_sent table) bits r u) fine)
 
-  pub transfer_overruns : (o : Overrun) → IsRefused h k.c a o → Overruns h (Transfer (cycle_at k t table x)) a o
+  pub transfer_overruns : (o : Overrun) → IsRefused h k.c a.wait o → Overruns h (Transfer (cycle_at k t table x)) a o
   transfer_overruns o r = λ answers.
       ap (λ b. then_do b (left_in h)) (goes_first answers)
       ∙ refused h k a p.0 G answers r.refused

@@ -73,7 +73,7 @@ module _ {V D C : ℕ} (h : Machine V D C) (k : ℕ) (body : Bor (List Stmt)) (a
       ap (λ o. then_do o (left_in h)) (lock_goes k inside (state_of h (a ∷ answers)) a answers refl ready.1.0 h.checked.now.plan ready.0 p)
       ∙ ap (does (lock_taken k a.wait)) (inside_first (later answers))
 
-  pub lock_overruns : (o : Overrun) → IsRefused h k a o → Overruns h (Lock k body) a o
+  pub lock_overruns : (o : Overrun) → IsRefused h k a.wait o → Overruns h (Lock k body) a o
   unfolding awaited
   lock_overruns o r = λ answers.
       ap (λ x. then_do x (left_in h)) (lock_halts k inside (state_of h (a ∷ answers)) a answers refl ready.1.0 h.checked.now.plan ready.0 r.refused)
@@ -86,7 +86,7 @@ module _ {V D C : ℕ} (h : Machine V D C) (k : ℕ) (body : Bor (List Stmt)) (a
       let within = keeps_rest h.checked.now.plan (bounds_of h) h.checked.now.script _ (later []) ok.1 in
       let c = within.cycles in omega (arith, c, most)
 
-  module _ (mid : Machine V D C) (w : ℕ) (fs : ArrayVec Frame) (room : HasRoom h) (quiet : h.unlocks.items ≡ []) (m : TakesLock h k a w mid) (pushed : fs.items ≡ h.frames.items ++ opened ∷ []) where
+  module _ (mid : Machine V D C) (w : ℕ) (fs : ArrayVec Frame) (room : HasRoom h) (quiet : h.unlocks.items ≡ []) (m : TakesLock h k a.wait w mid) (pushed : fs.items ≡ h.frames.items ++ opened ∷ []) where
     abbrev after : Machine V D C
     after = record h { branch = mid.branch; cost = h.cost + w; frames = fs }
 

@@ -195,12 +195,12 @@ module _ {V D C : ℕ} (h : Machine V D C) (k : Command) (a : Answer) where
   read_cost x bits p fine most =
       cost_fits h k a p.0 (λ l r t. ends (with_variable x (kept bits r) t)) (λ answers. fine (a ∷ answers)) (λ t f. (keeps_rest h.checked.now.plan (bounds_of h) h.checked.now.script _ (with_variable x (kept bits (reply_to h.checked.now.plan (branch_of h.branch) (address_of k) k.f a)) t) f).cycles) most
 
-  pub cycle_overruns : (o : Overrun) → IsPending h (Cycle k) → IsRefused h k.c a o → Overruns h (Cycle k) a o
+  pub cycle_overruns : (o : Overrun) → IsPending h (Cycle k) → IsRefused h k.c a.wait o → Overruns h (Cycle k) a o
   unfolding awaited
   cycle_overruns o p r = λ answers.
       refused h k a p.0 (λ l r t. ends t) answers r.refused ∙ ap (λ (x : Overrun). stops (overrun x.c x.wait) (state_of h (a ∷ answers))) (sym r.overrun)
 
-  pub read_overruns : (x bits : ℕ) (o : Overrun) → IsPending h (Read k x bits) → IsRefused h k.c a o → Overruns h (Read k x bits) a o
+  pub read_overruns : (x bits : ℕ) (o : Overrun) → IsPending h (Read k x bits) → IsRefused h k.c a.wait o → Overruns h (Read k x bits) a o
   unfolding awaited
   read_overruns x bits o p r = λ answers.
       refused h k a p.0 (λ l r t. ends (with_variable x (kept bits r) t)) answers r.refused

@@ -375,14 +375,14 @@ module _ {V D C : ℕ} where
         }
 
   -- the wait is not permitted
-  pub record IsRefused (h : Machine V D C) (crate_no : ℕ) (answer : Answer) (o : Overrun) : Type 0 where
-    pub refused : is_permitted h.checked.now.plan (branch_of h.branch) crate_no answer.wait ≡ false
-    pub overrun : o ≡ record { c = crate_no; wait = answer.wait }
+  pub record IsRefused (h : Machine V D C) (crate_no wait : ℕ) (o : Overrun) : Type 0 where
+    pub refused : is_permitted h.checked.now.plan (branch_of h.branch) crate_no wait ≡ false
+    pub overrun : o ≡ record { c = crate_no; wait = wait }
 
-  -- the lock was taken with this answer; all else stays
-  pub record TakesLock (old : Machine V D C) (crate_no : ℕ) (answer : Answer) (cost : ℕ) (new : Machine V D C) : Type 0 where
-    pub permitted : is_permitted old.checked.now.plan (branch_of old.branch) crate_no answer.wait ≡ true
-    pub waited : cost ≡ answer.wait
+  -- the lock was taken after this wait; all else stays
+  pub record TakesLock (old : Machine V D C) (crate_no wait cost : ℕ) (new : Machine V D C) : Type 0 where
+    pub permitted : is_permitted old.checked.now.plan (branch_of old.branch) crate_no wait ≡ true
+    pub waited : cost ≡ wait
     pub branch : branch_of new.branch ≡ with_lock crate_no true (branch_of old.branch)
     pub same : new ≡ record old { branch = new.branch; cost = old.cost + cost }
 

@@ -123,7 +123,7 @@ pub struct Machine<'a, const V: usize, const DEPTH: usize, const CAP: usize> {
     pub registers: [Option<Address>; V],
     /// What the innermost body sees of the variables and registers.
     pub scope: Scope,
-    /// The statement that was begun last.
+    /// The statement that was begun last of those that wait for an answer.
     pub begun: Option<&'a Stmt>,
     /// Q and X of the last dataway cycle (EUR 4100, IEEE 583).
     pub q: bool,

@@ -45,7 +45,7 @@ fn set_in(registers: &mut [Option<Address>], register: usize, at: Address)
 
 impl<'a, const V: usize, const DEPTH: usize, const CAP: usize> Machine<'a, V, DEPTH, CAP> {
     // `cdreg`.
-    #[inline(never)]
+    #[inline(always)]
     pub(crate) fn set_register(&mut self, setting: &RegisterSetting)
         requires room { HasRoom self.old }
         requires fits { StatementFits (reach self.old) (free self.old) (setting_of setting.now) }

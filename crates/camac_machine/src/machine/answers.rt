@@ -46,7 +46,7 @@ impl<'a, const V: usize, const DEPTH: usize, const CAP: usize> Machine<'a, V, DE
         requires in_plan { IsSome (crate_waits self.old.checked.now.plan command.c) }
         requires few { is_permitted self.old.checked.now.plan (branch_of self.old.branch) command.c answer.wait ≡ true → self.old.cost + (1 + answer.wait) < 2 ^ 32 }
         ensures made { IfOk result (λ d. Makes self.old command answer d self.new) }
-        ensures overrun { IfErr result (λ o. IsRefused self.old command.c answer o) }
+        ensures overrun { IfErr result (λ o. IsRefused self.old command.c answer.wait o) }
         ensures same { OnErr result (self.new ≡ self.old) }
     {
         let done = cycle(&mut self.branch, self.checked.plan(), command, answer)?;
@@ -57,16 +57,16 @@ impl<'a, const V: usize, const DEPTH: usize, const CAP: usize> Machine<'a, V, DE
         Ok(done)
     }
 
-    // Locks auxiliary controllers out of a crate with this answer, and counts its wait.
-    pub(crate) fn lock(&mut self, crate_no: CrateNo, answer: Answer) -> Result<u8, Overrun>
+    // Locks auxiliary controllers out of a crate after this wait, and counts it.
+    pub(crate) fn lock(&mut self, crate_no: CrateNo, wait: u8) -> Result<u8, Overrun>
         requires in_plan { IsSome (crate_waits self.old.checked.now.plan crate_no) }
         requires is_free { (branch_of self.old.branch crate_no).locked ≡ false }
-        requires few { is_permitted self.old.checked.now.plan (branch_of self.old.branch) crate_no answer.wait ≡ true → self.old.cost + answer.wait < 2 ^ 32 }
-        ensures took { IfOk result (λ w. TakesLock self.old crate_no answer w self.new) }
-        ensures overrun { IfErr result (λ o. IsRefused self.old crate_no answer o) }
+        requires few { is_permitted self.old.checked.now.plan (branch_of self.old.branch) crate_no wait ≡ true → self.old.cost + wait < 2 ^ 32 }
+        ensures took { IfOk result (λ w. TakesLock self.old crate_no wait w self.new) }
+        ensures overrun { IfErr result (λ o. IsRefused self.old crate_no wait o) }
         ensures same { OnErr result (self.new ≡ self.old) }
     {
-        let wait = lock(&mut self.branch, self.checked.plan(), crate_no, answer)?;
+        let wait = lock(&mut self.branch, self.checked.plan(), crate_no, wait)?;
         self.cost += u32::from(wait);
         Ok(wait)
     }
@@ -124,24 +124,24 @@ impl<'a, const V: usize, const DEPTH: usize, const CAP: usize> Machine<'a, V, DE
         }
     }
 
-    // Takes the lock of a crate, and opens its block.
+    // Takes the lock of a crate, and opens its block. Of the answer the wait alone counts: the whole one would be laid out in memory for each cycle.
     #[inline(never)]
     pub(crate) fn take_lock(
         &mut self,
         crate_no: CrateNo,
         body: &'a [Stmt],
-        answer: Answer,
+        wait: u8,
         item: &mut Item,
     ) -> Option<Overrun>
         requires room { HasRoom self.old }
         requires quiet { self.old.unlocks.items ≡ [] }
         requires pending { IsPending self.old (Pending.Lock crate_no body) }
         requires fine { (answers : List Answer) → IsFineHere self.old (stands (Some (Pending.Lock crate_no body)) self.old answers) }
-        ensures took { IfNone result (Takes self.old (Pending.Lock crate_no body.entry) answer item.new self.new) }
-        ensures overrun { IfSome result (λ o. Overruns self.old (Pending.Lock crate_no body.entry) answer o) }
+        ensures took { (answer : Answer) → answer.wait ≡ wait → IfNone result (Takes self.old (Pending.Lock crate_no body.entry) answer item.new self.new) }
+        ensures overrun { (answer : Answer) → answer.wait ≡ wait → IfSome result (λ o. Overruns self.old (Pending.Lock crate_no body.entry) answer o) }
         ensures same { OnSome result ((self.new ≡ self.old) × (item.new ≡ item.old)) }
     {
-        match self.lock(crate_no, answer) {
+        match self.lock(crate_no, wait) {
             Ok(wait) => {
                 self.frames.push(Frame {
                     rest: body,
@@ -178,7 +178,7 @@ impl<'a, const V: usize, const DEPTH: usize, const CAP: usize> Machine<'a, V, DE
                 variable,
                 bits,
             } => self.take_read(*command, *variable, *bits, answer, item),
-            Pending::Lock { crate_no, body } => self.take_lock(*crate_no, body, answer, item),
+            Pending::Lock { crate_no, body } => self.take_lock(*crate_no, body, answer.wait, item),
             Pending::Transfer(transfer) => match self.make(transfer.command, answer) {
                 Ok(done) => {
                     self.put_read(transfer.table, &done);

@@ -152,7 +152,7 @@ impl<'a, const V: usize, const DEPTH: usize, const CAP: usize> Machine<'a, V, DE
     }
 
     // `call`: evaluates the arguments in the caller's store, and opens the body with no register set.
-    #[inline(never)]
+    #[inline(always)]
     pub(crate) fn call(&mut self, call: &ProcedureCall)
         requires room { HasRoom self.old }
         requires fits { StatementFits (reach self.old) (free self.old) (call_of call.now) }
@@ -162,20 +162,20 @@ impl<'a, const V: usize, const DEPTH: usize, const CAP: usize> Machine<'a, V, DE
         let script = self.checked.script();
         script.well_formed();
         let callee = &script.procedures()[call.procedure];
-        let caller = self.scope;
-        let scope = caller.of_procedure(call.procedure, callee);
+        self.frames.push(Frame {
+            rest: callee.body.as_slice(),
+            owner: Owner::Return(self.scope),
+        });
+        let caller = self.scope.variables;
+        let scope = self.scope.of_procedure(call.procedure, callee);
         pass(
             &call.arguments,
-            caller.variables,
+            caller,
             scope.variables.start,
             &mut self.variables,
         );
         wipe(scope.registers, &mut self.registers, None);
         self.scope = scope;
-        self.frames.push(Frame {
-            rest: callee.body.as_slice(),
-            owner: Owner::Return(caller),
-        });
     }
 
     // Releases the lock of a crate.
@@ -195,7 +195,7 @@ impl<'a, const V: usize, const DEPTH: usize, const CAP: usize> Machine<'a, V, DE
     }
 
     // Goes on after a block that is over.
-    #[inline(never)]
+    #[inline(always)]
     pub(crate) fn leave(&mut self, owner: &Owner<'a>)
         requires room { HasRoomFor self.old (opens_in self.old ++ record { block = done; owner = owner_in self.old owner.now } ∷ []) }
         requires fine { FineThen self.old (λ c. owed c (owner_in self.old owner.now)) }
@@ -238,7 +238,9 @@ impl<'a, const V: usize, const DEPTH: usize, const CAP: usize> Machine<'a, V, DE
         match next_statement(self.frames.as_mut_slice()) {
             Some(first) => {
                 let waits = self.begin(first, pending);
-                self.begun = Some(first);
+                if waits {
+                    self.begun = Some(first);
+                }
                 waits
             }
             None => {
@@ -261,10 +263,23 @@ impl<'a, const V: usize, const DEPTH: usize, const CAP: usize> Machine<'a, V, DE
                 self.set_variable(variable, value);
                 self.steps += 1;
             }
-            None => match self.frames.pop() {
-                Some(frame) => self.leave(&frame.owner),
-                None => unreachable!(),
-            },
+            None => self.end_block(),
+        }
+    }
+
+    // Goes on after the innermost block, which is over, without it. It is no part of its callers: a call at each end of a block costs less than
+    // the frame that would be moved through memory there.
+    #[inline(never)]
+    fn end_block(&mut self)
+        requires room { HasRoom self.old }
+        requires open { 1 ≤ length self.old.frames.items }
+        requires over { LastIsOver self.old.frames.items }
+        requires fine { (answers : List Answer) → IsFineHere self.old (stands None self.old answers) }
+        ensures { GoesOn self.old None self.new }
+    {
+        match self.frames.pop() {
+            Some(frame) => self.leave(&frame.owner),
+            None => unreachable!(),
         }
     }
 }

@@ -13,4 +13,4 @@ returns-clause-next c =
     let read = state_read kept c.get.result c.index-branch-place.result from below in
     let With : CrateBits → _ = λ bits. with_crate c.get.result (record (branch_of kept c.get.result) { bits = bits }) (branch_of kept) in
     rw (← c.branch.view_is, ← c.get.ensures.value)
-    (branch_of-state kept c.get.result c.apply-word.new.state from below ∙ ap With (c.apply-word.ensures.next ∙ ap (effect c.args.op) read))
+    (branch_of-state kept c.get.result c.apply-reply.new.state from below ∙ ap With (c.apply-reply.ensures.next ∙ ap (effect c.args.op) read))

@@ -1,4 +1,4 @@
-use Rattle.std.proofs.Common.{◌≡◌, ◌+◌, ◌<◌, Some, length, map, sym, ap, subst, ◌∙◌, arith, rules}
+use Rattle.std.proofs.Common.{◌≡◌, ◌+◌, ◌<◌, Some, length, map, refl, sym, ap, subst, ◌∙◌, arith, rules}
 use Rattle.std.proofs.lemmas.List.{length-map}
 use Rattle.std.proofs.lemmas.Option.{same_Some}
 use Rattle.std.specs.Prelude.{IsTrue, slice_get, slice_range}
@@ -8,6 +8,7 @@ use Rattle.camac_lang.specs.View.{expression_of, parameter_of, procedure_of, sta
 use Rattle.camac_lang.proofs.Places.{number_below}
 use Rattle.camac_lang.proofs.Standing.{limits_hold}
 use Rattle.camac_machine.specs.declared.scope.Scope.{Scope}
+use Rattle.camac_machine.specs.Store.{seen_by_procedure}
 use Rattle.camac_machine.proofs.Actions.{call_has}
 use Rattle.camac_machine.proofs.Calls.{callee, seen_fits, variables_room, registers_room, callee_free, enters_filled}
 use Rattle.camac_machine.proofs.Lams.{procedure_at}
@@ -73,7 +74,7 @@ push-requires g c =
     let e : map procedure_of c.procedures.result.now ≡ s.procedures = c.procedures.ensures ∙ ap (λ s. s.procedures) c.script-script.ensures in
     let k = callee h i es c.requires.room c.requires.fits in
     let there : slice_get s.procedures i ≡ Some (procedure_of r) = procedure_at c.procedures.result.now s.procedures i r e (number_below s.procedures i k.procedure k.there) c.index-procedures-call.is in
-    let lt = callee_free h i es c.requires.room c.requires.fits (procedure_of r) there c.of_procedure-scope.result c.of_procedure-scope.ensures (subst F c.script-script.ensures c.well_formed-2.ensures) in (search rules, lt)
+    let lt = callee_free h i es c.requires.room c.requires.fits (procedure_of r) there (seen_by_procedure h.scope i (procedure_of r)) refl (subst F c.script-script.ensures c.well_formed-2.ensures) in (search rules, lt)
 
 pub returns : goal.returns
 returns g c =

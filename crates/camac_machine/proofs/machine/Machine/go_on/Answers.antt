@@ -17,8 +17,8 @@ begin-waits-requires g c =
     let t = first_whole h.frames.items c.as_mut_slice.result.now c.next_statement.new.frames first c.as_mut_slice.ensures.value c.in-Some.ensures.begun in
     let room = first_room h first fs t c.requires.room in (search rules, (room.0, (room.1, first_fine h first fs t c.requires.fine)))
 
-pub returns-in-Some-clause-goes : goal.returns-in-Some-clause-goes
-returns-in-Some-clause-goes g c =
+pub returns-then-waits-clause-goes : goal.returns-then-waits-clause-goes
+returns-then-waits-clause-goes g c =
     let h = c.args.self.now in
     let first = c.in-Some.first in
     let b = c.begin-waits in
@@ -26,11 +26,20 @@ returns-in-Some-clause-goes g c =
     let t = first_whole h.frames.items c.as_mut_slice.result.now c.next_statement.new.frames first.now c.as_mut_slice.ensures.value c.in-Some.ensures.begun in
     first_goes h first.now fs t (wanted_if b.result b.new.pending) b.new.self (Some first) b.ensures.advances b.ensures.pace
 
-pub returns-in-Some-clause-begun : goal.returns-in-Some-clause-begun
-returns-in-Some-clause-begun g c = λ yes.
+pub returns-then-waits-clause-begun : goal.returns-then-waits-clause-begun
+returns-then-waits-clause-begun g c = λ yes.
     let h = c.args.self.now in
     let fs : ArrayVec Frame = with_items h.frames c.next_statement.new.frames in
     stands_first (record h { frames = fs }) c.begin-waits.new.self c.in-Some.first c.begin-waits.new.pending c.begin-waits.ensures.advances.checked (c.begin-waits.ensures.wants yes)
+
+pub returns-else-waits-clause-goes : goal.returns-else-waits-clause-goes
+returns-else-waits-clause-goes g c =
+    let h = c.args.self.now in
+    let first = c.in-Some.first in
+    let b = c.begin-waits in
+    let fs : ArrayVec Frame = with_items h.frames c.next_statement.new.frames in
+    let t = first_whole h.frames.items c.as_mut_slice.result.now c.next_statement.new.frames first.now c.as_mut_slice.ensures.value c.in-Some.ensures.begun in
+    first_goes h first.now fs t (wanted_if b.result b.new.pending) b.new.self b.new.self.begun b.ensures.advances b.ensures.pace
 
 pub close-requires : goal.close-requires
 close-requires g c =

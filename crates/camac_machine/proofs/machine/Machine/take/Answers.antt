@@ -1,4 +1,5 @@
-use Rattle.std.proofs.Common.{arith}
+use Rattle.std.proofs.Common.{ap, sym, arith}
+use Rattle.camac_branch.specs.Branch.{Answer}
 use Rattle.camac_machine.proofs.Courses.{transfer_cost, transfer_overruns, put_fits, step_fits, takes_transfer}
 use Rattle.camac_machine.proofs.machine.Machine.take.Goals as goal
 
@@ -10,6 +11,12 @@ take_read-requires g c = (search, (c.requires.room, (rw c.in-Read.is at c.requir
 
 pub take_lock-requires : goal.take_lock-requires
 take_lock-requires g c = (search, (c.requires.room, (c.requires.quiet, (rw c.in-Lock.is at c.requires.pending, rw c.in-Lock.is at c.requires.fine))))
+
+pub returns-in-Lock-clause-took : goal.returns-in-Lock-clause-took
+returns-in-Lock-clause-took g c = rw c.in-Lock.is (c.take_lock.ensures.took c.args.answer (sym (ap (λ (a : Answer). a.wait) c.answer.view_is)))
+
+pub returns-in-Lock-clause-overrun : goal.returns-in-Lock-clause-overrun
+returns-in-Lock-clause-overrun g c = rw c.in-Lock.is (c.take_lock.ensures.overrun c.args.answer (sym (ap (λ (a : Answer). a.wait) c.answer.view_is)))
 
 pub make-requires : goal.make-requires
 make-requires g c =
