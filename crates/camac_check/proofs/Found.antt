@@ -1,12 +1,12 @@
 -- What the search for the least headings answers.
 use Rattle.std.proofs.Common.{◌≡◌, List, [], ◌∷◌, map, Option, Some, None, Result, Ok, Err, refl, sym, ap, ◌∙◌, subst}
-use Rattle.std.specs.Prelude.{◌≢◌}
+use Rattle.std.specs.Prelude.{◌≢◌, slice_get}
 use Rattle.camac_lang.specs.Headings.{annotate, annotate_service, unannotated}
 use Rattle.camac_lang.specs.Tree.{Procedure, Service, Item, next_table, next_lam, next_variables, next_procedure, next_service, Script}
 use Rattle.camac_branch.specs.Plan.{Layout}
 use Rattle.camac_names.specs.declared.fault.LinkFault.{LinkFault}
 use Rattle.camac_names.specs.declared.fault.LinkFault.TheVariants as link
-use Rattle.camac_names.specs.Link.{link_fault}
+use Rattle.camac_names.specs.Link.{FirstIsLinkFault, link_fault, link_faults}
 use Rattle.camac_names.specs.Linked.{LinkedScript}
 use Rattle.camac_model.specs.Fine.{Bounds}
 use Rattle.camac_check_known.specs.declared.fault.CheckFault.{CheckFault}
@@ -62,32 +62,55 @@ services_twice (v ∷ vs) = ap (λ ws. annotate_service 0 0 v ∷ ws) (services_
 
 -- ---- answers
 
-pub unlinked : {X : Type 0} (view : X → Script) (plan : Layout) (script s0 k : Script) (f : LinkFault) → s0 ≡ unannotated script → k ≡ s0
-    → (f ≢ link.OutOfMemory → link_fault plan k ≡ Some f) → Finds view (Err (of_link f)) (least plan script)
+-- by the first of the faults of linking
+first_told : (plan : Layout) (script : Script) (fs : List LinkFault) (o : Option LinkFault) → FirstIsLinkFault → fs ≡ link_faults plan script → o ≡ slice_get fs 0 → link_fault plan script ≡ o
+first_told plan script fs o law is first = sym (law plan script) ∙ ap (λ gs. slice_get gs 0) (sym is) ∙ sym first
+
+pub link_refuses : (plan : Layout) (script : Script) (fs : List LinkFault) (f : LinkFault) (e : LeastFault) → FirstIsLinkFault → fs ≡ link_faults plan script → Some f ≡ slice_get fs 0 → e ≡ of_link f
+    → Finds {X = Unit {0}} {Y = Unit {0}} (λ u. u) (Err e) (linked (link_fault plan script))
+link_refuses plan script fs f e law is first told =
+    subst (λ (x : LeastFault). Finds {X = Unit {0}} {Y = Unit {0}} (λ u. u) (Err x) (linked (link_fault plan script))) (sym told)
+    (subst (λ (o : Option LinkFault). Finds {X = Unit {0}} {Y = Unit {0}} (λ u. u) (Err (of_link f)) (linked o)) (sym (first_told plan script fs (Some f) law is first)) (finds f))
+  where
+    finds : (f : LinkFault) → Finds {X = Unit {0}} {Y = Unit {0}} (λ u. u) (Err (of_link f)) (linked (Some f))
+    finds link.OutOfMemory = tt
+    finds (link.Broken rule line case) = refl
+
+pub link_accepts : (plan : Layout) (script : Script) (fs : List LinkFault) → FirstIsLinkFault → fs ≡ link_faults plan script → None ≡ slice_get fs 0 → linked (link_fault plan script) ≡ Ok tt
+link_accepts plan script fs law is first = ap linked (first_told plan script fs None law is first)
+
+pub unlinked : {X : Type 0} (view : X → Script) (plan : Layout) (script s0 : Script) (f : LeastFault) → s0 ≡ unannotated script
+    → Finds (λ u. u) (Err f) (linked (link_fault plan s0)) → Finds view (Err f) (least plan script)
 unfolding and_then
-unlinked view plan script s0 k link.OutOfMemory is copy h = tt
-unlinked view plan script s0 k (link.Broken rule line case) is copy h =
-    let e : link_fault plan k ≡ Some (link.Broken rule line case) = h (λ bad. cc) in
-    let there : link_fault plan (unannotated script) ≡ Some (link.Broken rule line case) = ap (link_fault plan) (sym (copy ∙ is)) ∙ e in
-    ap (λ o. and_then (linked o) (λ _. and_then (least_from plan (unannotated script) 0 0 0) (λ h. Ok (record (unannotated script) { procedures = h.procedures; services = h.services })))) there
+unlinked view plan script s0 fault.OutOfMemory is h = tt
+unlinked view plan script s0 (fault.Link rule line case) is h =
+    ap (λ r. and_then r (λ _. and_then (least_from plan (unannotated script) 0 0 0) (λ h. Ok (record (unannotated script) { procedures = h.procedures; services = h.services }))))
+    (ap (λ s. linked (link_fault plan s)) (sym is) ∙ h)
+unlinked view plan script s0 (fault.Check rule line case) is h =
+    ap (λ r. and_then r (λ _. and_then (least_from plan (unannotated script) 0 0 0) (λ h. Ok (record (unannotated script) { procedures = h.procedures; services = h.services }))))
+    (ap (λ s. linked (link_fault plan s)) (sym is) ∙ h)
 
 -- where no rule of linking is broken
-whole : (plan : Layout) (script s0 k : Script) → s0 ≡ unannotated script → k ≡ s0 → link_fault plan k ≡ None
+whole : (plan : Layout) (script s0 : Script) (u : Unit {0}) → s0 ≡ unannotated script → linked (link_fault plan s0) ≡ Ok u
     → least plan script ≡ and_then (least_from plan (unannotated script) 0 0 0) (λ h. Ok (record (unannotated script) { procedures = h.procedures; services = h.services }))
 unfolding and_then
-whole plan script s0 k is copy e =
-    ap (λ o. and_then (linked o) (λ _. and_then (least_from plan (unannotated script) 0 0 0) (λ h. Ok (record (unannotated script) { procedures = h.procedures; services = h.services }))))
-    (ap (link_fault plan) (sym (copy ∙ is)) ∙ e)
+whole plan script s0 u is e =
+    ap (λ r. and_then r (λ _. and_then (least_from plan (unannotated script) 0 0 0) (λ h. Ok (record (unannotated script) { procedures = h.procedures; services = h.services }))))
+    (ap (λ s. linked (link_fault plan s)) (sym is) ∙ e)
 
-pub not_headed : {X : Type 0} (view : X → Script) (plan : Layout) (script s0 k new : Script) (f : LeastFault) → s0 ≡ unannotated script → k ≡ s0 → link_fault plan k ≡ None
+no_fault : (o : Option LinkFault) (u : Unit {0}) → linked o ≡ Ok u → o ≡ None
+no_fault None u e = refl
+no_fault (Some f) u e = absurd (cc)
+
+pub not_headed : {X : Type 0} (view : X → Script) (plan : Layout) (script s0 new : Script) (u : Unit {0}) (f : LeastFault) → s0 ≡ unannotated script → linked (link_fault plan s0) ≡ Ok u
     → Heads (least_from plan s0 0 0 0) s0 new 0 0 (Err f) → Finds view (Err f) (least plan script)
 unfolding and_then
-not_headed view plan script s0 k new fault.OutOfMemory is copy e h = tt
-not_headed view plan script s0 k new (fault.Link rule line case) is copy e h =
-    whole plan script s0 k is copy e
+not_headed view plan script s0 new u fault.OutOfMemory is e h = tt
+not_headed view plan script s0 new u (fault.Link rule line case) is e h =
+    whole plan script s0 u is e
     ∙ ap (λ r. and_then r (λ h. Ok (record (unannotated script) { procedures = h.procedures; services = h.services }))) (ap (λ s. least_from plan s 0 0 0) (sym is) ∙ h)
-not_headed view plan script s0 k new (fault.Check rule line case) is copy e h =
-    whole plan script s0 k is copy e
+not_headed view plan script s0 new u (fault.Check rule line case) is e h =
+    whole plan script s0 u is e
     ∙ ap (λ r. and_then r (λ h. Ok (record (unannotated script) { procedures = h.procedures; services = h.services }))) (ap (λ s. least_from plan s 0 0 0) (sym is) ∙ h)
 
 -- the script has its least headings
@@ -99,23 +122,23 @@ pub record IsHeaded (plan : Layout) (script new : Script) : Type 0 where
   pub accepted : accept plan new ≡ Ok bounds
   pub headings : AreHeadings bounds new.services
 
-pub is_headed : (plan : Layout) (script s0 k new : Script) (u : Unit {0}) → s0 ≡ unannotated script → k ≡ s0 → link_fault plan k ≡ None
-    → Heads (least_from plan s0 0 0 0) s0 new 0 0 (Ok u) → IsHeaded plan script new
+pub is_headed : (plan : Layout) (script s0 new : Script) (u v : Unit {0}) → s0 ≡ unannotated script → linked (link_fault plan s0) ≡ Ok u
+    → Heads (least_from plan s0 0 0 0) s0 new 0 0 (Ok v) → IsHeaded plan script new
 unfolding and_then
-is_headed plan script s0 k new u is copy e heads = go (subst (λ s. Heads (least_from plan s 0 0 0) s new 0 0 (Ok u)) is heads)
+is_headed plan script s0 new u v is e heads = go (subst (λ s. Heads (least_from plan s 0 0 0) s new 0 0 (Ok v)) is heads)
   where
     s : Script
     s = unannotated script
 
-    go : Heads (least_from plan s 0 0 0) s new 0 0 (Ok u) → IsHeaded plan script new
+    go : Heads (least_from plan s 0 0 0) s new 0 0 (Ok v) → IsHeaded plan script new
     go (h, found, there) =
         let there' : new ≡ record s { procedures = h.procedures; services = h.services } = there in
         let items = same_items (bare (λ c. c) plan s) s.order s.procedures s.services h found in
         let accepted = accepted_items (bare (λ c. c) plan s) s.order s.procedures s.services h found in
-        let unlinked' : link_fault plan s ≡ None = ap (link_fault plan) (sym (copy ∙ is)) ∙ e in
+        let unlinked' : link_fault plan s ≡ None = ap (link_fault plan) (sym is) ∙ no_fault (link_fault plan s0) u e in
         record {
           found =
-              whole plan script s0 k is copy e
+              whole plan script s0 u is e
               ∙ ap (λ r. and_then r (λ h. Ok (record s { procedures = h.procedures; services = h.services }))) found
               ∙ ap (λ x. Ok x) (sym there');
           same =

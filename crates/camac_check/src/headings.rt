@@ -5,7 +5,8 @@ ghost use Rattle.camac_lang.specs.Headings.{unannotated};
 ghost use Rattle.camac_lang.specs.Tree.{Procedure as ProcedureTree, Service as ServiceTree};
 ghost use Rattle.camac_lang.specs.View.{item_of};
 ghost use Rattle.camac_check_simple.specs.Gives.{by_rules};
-ghost use Rattle.camac_check.specs.Least.{Finds, AreHeadings, Heads, after_procedures, least, least_from, procedure_needs, service_needs};
+ghost use Rattle.camac_check.specs.Least.{Finds, AreHeadings, Heads, after_procedures, least, least_from, linked, procedure_needs, service_needs};
+ghost use Rattle.camac_names.specs.Link.{link_fault};
 
 use crate::accept::{procedure_within, service_needs};
 use crate::fault::LeastFault;
@@ -14,7 +15,8 @@ use camac_branch::Plan;
 use camac_check_simple::Context;
 use camac_checked::{Bounds, Checked};
 use camac_lang::{Item, Script};
-use camac_names::resolve;
+use camac_names::laws::first_is_link_fault;
+use camac_names::{link_faults, resolve};
 use std::alloc::Global;
 
 /// The script with the least headings that its bodies need, checked: the numbers of each heading are the costs of its body by the
@@ -30,10 +32,22 @@ pub fn least(alloc: Global, script: Script, plan: &Plan) -> Result<Checked, Leas
 {
     let mut script = script;
     script.unannotate();
-    let _unannotated = resolve(alloc, script.try_clone(alloc)?, plan)?;
+    link(alloc, &script, plan)?;
     least_from(alloc, plan, &mut script, 0, 0, 0)?;
     let linked = resolve(alloc, script, plan)?;
     Ok(check(alloc, linked)?)
+}
+
+// By the rules of linking.
+fn link(alloc: Global, script: &Script, plan: &Plan) -> Result<(), LeastFault>
+    ensures { Finds (λ u. u) result (linked (link_fault plan.now script.now)) }
+{
+    first_is_link_fault();
+    let faults = link_faults(alloc, script, plan)?;
+    match faults.first() {
+        Some(fault) => Err(LeastFault::from(*fault)),
+        None => Ok(()),
+    }
 }
 
 // Gives the procedures and services after so many their least headings, from the declaration of this number on.

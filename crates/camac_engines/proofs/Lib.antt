@@ -1,5 +1,6 @@
 pub mod Types
 pub mod Explained
+pub mod Findings
 pub mod Told
 pub mod Responses
 pub mod Marks

@@ -26,14 +26,6 @@ written told o p (Err fault.TooLong) h = absurd h
 pub reported : (told shown : Report) (o p : Option (List ℕ)) (r : Result Outcome ToolFault) → told ≡ shown → Shows shown o p r → IsWritten (Reports told) o p r
 reported told shown o p r is h = subst (λ (q : Report). IsWritten (Reports q) o p r) (sym is) (written shown o p r h)
 
--- one text as another
-pub written_as : (P Q : Outcome → List ℕ → Type 0) (o p : Option (List ℕ)) (r : Result Outcome ToolFault) → ((outcome : Outcome) (text : List ℕ) → P outcome text → Q outcome text) → IsWritten P o p r → IsWritten Q o p r
-written_as P Q o p (Ok outcome) k h = (h.0, k outcome h.0 h.1, h.2)
-written_as P Q o p (Err fault.Write) k h = (h.0, h.1, k h.0 h.1 h.2, h.3)
-written_as P Q o p (Err fault.Memory) k h = h
-written_as P Q o p (Err fault.Read) k h = absurd h
-written_as P Q o p (Err fault.TooLong) k h = absurd h
-
 same_costs : (plan : Layout) (text : List ℕ) (j : Judged) → Accepts (Ok j) plan (accepted plan text) → costs_report_of j ≡ costs_report plan text
 same_costs plan text (judged.Accepted c) is = ap (λ p. costs_shown p c.script) is.0 ∙ sym (ap (costs_found plan) is.1)
 same_costs plan text (judged.Refused f) is = sym (ap (costs_found plan) is)

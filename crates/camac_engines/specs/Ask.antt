@@ -2,12 +2,11 @@
 use Rattle.std.specs.Prelude.{ℕ, ◌+◌, List, Option, Result, Ok, Err}
 use Rattle.camac_branch.specs.Plan.{Layout}
 use Rattle.camac_event.specs.Reading.{file_at}
-use Rattle.camac_engines.specs.Accepted.{accepted}
 use Rattle.camac_engines.specs.Costs.{costs_report}
 use Rattle.camac_engines.specs.Engine.{Answers}
-use Rattle.camac_engines.specs.Explain.{AllExplained, Explained, ExplainedIf, PlanExplained, ReportsMore}
+use Rattle.camac_engines.specs.Explain.{PlanExplained, ReportsMore, TellsExplained, TellsHeadings}
 use Rattle.camac_engines.specs.Found.{Found, HasRead, IsTooLong}
-use Rattle.camac_engines.specs.Headings.{headed, headings_report}
+use Rattle.camac_engines.specs.Headings.{headings_report}
 use Rattle.camac_engines.specs.Known.{known_report}
 use Rattle.camac_engines.specs.Plan.{IsPlanTooLong, PlanFound, Says}
 use Rattle.camac_engines.specs.Reading.{ConsumesSome, WasRead}
@@ -30,8 +29,8 @@ TellsPlan plan_ask.Explain read = ReportsMore (PlanExplained read) (report_plan 
 -- of a script's text, for a plan
 abbrev pub TellsScript : Ask → Layout → List ℕ → Outcome → List ℕ → Type 0
 TellsScript ask.Check plan text = Reports (report plan text)
-TellsScript ask.Explain plan text = ReportsMore (ExplainedIf (AllExplained plan text) (accepted plan text)) (report plan text)
-TellsScript ask.ExplainBounds plan text = ReportsMore (ExplainedIf (Explained text) (headed plan text)) (headings_report plan text)
+TellsScript ask.Explain plan text = TellsExplained plan text
+TellsScript ask.ExplainBounds plan text = TellsHeadings plan text
 TellsScript (ask.ExplainAt line column) plan text = Reports (known_report line column plan text)
 TellsScript ask.Bounds plan text = Reports (headings_report plan text)
 TellsScript ask.Costs plan text = Reports (costs_report plan text)

@@ -6,32 +6,33 @@ use Rattle.camac_names.specs.Link.{link_faults}
 use Rattle.camac_names.specs.declared.fault.LinkFault.{LinkFault}
 use Rattle.camac_names.specs.declared.fault.LinkFault.TheVariants as link
 use Rattle.camac_check.specs.Refusals.{CheckFault, OutOfMemory, Broken, fault_of, refusals}
+use Rattle.camac_explain.specs.Finding.{refusal_of}
+use Rattle.camac_explain.specs.declared.finding.Finding.{Finding}
+use Rattle.camac_explain.specs.declared.finding.Finding.TheVariants as finding
 use Rattle.camac_lines.specs.Refusal.{refusal_text}
-use Rattle.camac_lines.specs.declared.refusal.Refusal.{Refusal}
-use Rattle.camac_lines.specs.declared.refusal.Refusal.TheVariants as refusal
 
--- a fault without its case; none where memory was refused
-abbrev pub link_refusal : LinkFault → List Refusal
-link_refusal (link.Broken rule line case) = refusal.Link rule line ∷ []
-link_refusal link.OutOfMemory = []
+-- a fault as it is found; none where memory was refused
+abbrev pub link_finding : LinkFault → List Finding
+link_finding (link.Broken rule line case) = finding.Link rule line case ∷ []
+link_finding link.OutOfMemory = []
 
-abbrev pub check_refusal : CheckFault → List Refusal
-check_refusal (Broken rule line case) = refusal.Check rule line ∷ []
-check_refusal OutOfMemory = []
+abbrev pub check_finding : CheckFault → List Finding
+check_finding (Broken rule line case) = finding.Check rule line case ∷ []
+check_finding OutOfMemory = []
 
 -- a script that linking refuses is not judged by the checker
-abbrev pub linked_refusals : Layout → Script → List LinkFault → List Refusal
-linked_refusals plan script [] = flat_map check_refusal (map fault_of (refusals plan script))
-linked_refusals plan script (f ∷ fs) = flat_map link_refusal (f ∷ fs)
+abbrev pub linked_findings : Layout → Script → List LinkFault → List Finding
+linked_findings plan script [] = flat_map check_finding (map fault_of (refusals plan script))
+linked_findings plan script (f ∷ fs) = flat_map link_finding (f ∷ fs)
 
--- `also refused CODE line LINE: MEANING`, for each after the first
-abbrev pub also_line : Refusal → List ℕ
-also_line r = codes "also " ++ refusal_text r
+abbrev pub findings_of : Layout → Script → List Finding
+findings_of plan script = linked_findings plan script (link_faults plan script)
 
-abbrev pub also_text : List Refusal → List ℕ
-also_text rs = flat_map also_line (drop 1 rs)
+-- `also refused CODE line LINE: MEANING`
+abbrev pub also_line : Finding → List ℕ
+also_line f = codes "also " ++ refusal_text (refusal_of f)
 
--- a text that is no script is refused by its first fault alone
+-- for each after the first; a text that is no script is refused by its first fault alone
 abbrev pub also_refused : Layout → Option Script → List ℕ
 also_refused plan None = []
-also_refused plan (Some script) = also_text (linked_refusals plan script (link_faults plan script))
+also_refused plan (Some script) = flat_map also_line (drop 1 (findings_of plan script))

@@ -14,7 +14,7 @@ ghost use Rattle.camac_word.specs.Watched.{inner_of, has_failed};
 
 use crate::ask::{Ask, PlanAsk};
 use crate::costs::show_costs;
-use crate::explaining::{explain_headings, explain_judged, explain_refusal};
+use crate::explaining::{explain_headings, explain_refusal, explain_text};
 use crate::fault::ToolFault;
 use crate::headings::{judge_headings, show_headings};
 use crate::judging::{Judged, judge};
@@ -201,10 +201,8 @@ fn tell_script<W: Write>(
 {
     match ask {
         Ask::Check => show(out, &judge(alloc, plan, text)?),
-        Ask::Explain => explain_judged(alloc, plan, text, &judge(alloc, plan, text)?, out),
-        Ask::ExplainBounds => {
-            explain_headings(alloc, text, &judge_headings(alloc, plan, text)?, out)
-        }
+        Ask::Explain => explain_text(alloc, plan, text, out),
+        Ask::ExplainBounds => explain_headings(alloc, plan, text, out),
         Ask::ExplainAt { line, column } => {
             let found = find_known(alloc, plan, text, line, column)?;
             show_known(out, line, column, &found)
@@ -214,7 +212,8 @@ fn tell_script<W: Write>(
     }
 }
 
-fn show<W: Write>(out: &mut Watched<W>, judged: &Judged) -> Result<Outcome, ToolFault>
+/// Writes the bounds of what was accepted, or the line of its refusal.
+pub fn show<W: Write>(out: &mut Watched<W>, judged: &Judged) -> Result<Outcome, ToolFault>
     ensures shows { Shows (report_of judged.now) (W.contents (inner_of out.old)) (W.contents (inner_of out.new)) result }
     ensures failed { has_failed out.new ≡ (has_failed out.old || is_write_fault result) }
 {

@@ -1,26 +1,34 @@
 // Explains a refusal.
 
-ghost use Rattle.std.specs.Prelude.{◌≡◌, ◌||◌, ◌++◌, Err, IfOk, is_err, option_map, string_bytes};
+ghost use Rattle.std.specs.Prelude.{◌≡◌, ◌||◌, ◌++◌, Ok, Err, IfOk, is_err};
+ghost use Rattle.camac_text.specs.Parser.{script_of};
 ghost use Rattle.camac_lines.specs.Refusal.{refusal_text};
-ghost use Rattle.camac_explain.specs.Names.{AreNamesOf};
+ghost use Rattle.camac_explain.specs.Explanation.{explanation_of};
+ghost use Rattle.camac_explain.specs.Sentence.{sentence_of};
 ghost use Rattle.camac_engines.specs.Engine.{IsWritten, Shows, is_write_fault};
-ghost use Rattle.camac_engines.specs.Explain.{AllExplained, Explained, ExplainedBy, IsOfText, PlanExplained, ReportsMore};
-ghost use Rattle.camac_engines.specs.Headings.{headings_report_of};
+ghost use Rattle.camac_engines.specs.Explain.{IsRead, PlanExplained, ReportsMore, TellsExplained, TellsHeadings};
+ghost use Rattle.camac_engines.specs.Mark.{mark_of};
 ghost use Rattle.camac_engines.specs.Plan.{HasCase};
-ghost use Rattle.camac_engines.specs.Report.{refused_and, report_of, report_plan};
+ghost use Rattle.camac_engines.specs.Report.{refused_and, report_plan};
 ghost use Rattle.camac_word.specs.Watched.{inner_of, has_failed};
 ghost use Rattle.camac_word.specs.Writing.{Writes};
 
+use crate::engine::show;
 use crate::fault::ToolFault;
-use crate::judging::Judged;
+use crate::headings::{find_headings, show_headings};
+use crate::judging::{Judged, judge_script};
 use crate::mark::mark_of;
 use crate::outcome::Outcome;
 use crate::plan::PlanRefusal;
-use crate::refusals::push_also;
+use crate::refusals::{findings_of, push_also};
 use camac_branch::Plan;
-use camac_explain::{Finding, Names, explain_plan, explain_script};
+use camac_check::laws::first_is_refusal;
+use camac_explain::{Finding, explain_plan, explain_script, script_sentence};
 use camac_explain_text::text_sentence;
-use camac_lines::{Refusal, write_headings, write_refusal, write_verdict};
+use camac_lang::Script;
+use camac_lines::{Refusal, write_refusal};
+use camac_names::laws::first_is_link_fault;
+use camac_text::{Choices, TextFault, parse_expecting};
 use camac_word::{Watched, WriteFault};
 use std::alloc::{AllocError, Global};
 use std::io::Write;
@@ -41,82 +49,123 @@ pub fn explain_refusal<W: Write>(
     refuse_and(out, Refusal::Plan(refusal.rule), &more)
 }
 
-/// Writes what `camac check` tells of what was judged, and after the line of a refusal the lines that explain it, and one for each further refusal.
-#[tactic(auto, using(crate::proofs::Explained::refusal_explained))]
-pub fn explain_judged<W: Write>(
+/// Writes what `camac check` tells of a script's text, and after the line of a refusal the lines that explain it, and one for each further refusal.
+pub fn explain_text<W: Write>(
     alloc: Global,
     plan: &Plan,
     text: &[u8],
-    judged: &Judged,
     out: &mut Watched<W>,
 ) -> Result<Outcome, ToolFault>
-    ensures tells { IsWritten (ReportsMore (ExplainedBy (AllExplained plan.now text.now) judged.now) (report_of judged.now)) (W.contents (inner_of out.old)) (W.contents (inner_of out.new)) result }
+    ensures tells { IsWritten (TellsExplained plan.now text.now) (W.contents (inner_of out.old)) (W.contents (inner_of out.new)) result }
     ensures failed { has_failed out.new ≡ (has_failed out.old || is_write_fault result) }
 {
-    match judged {
-        Judged::Accepted(checked) => {
-            write_verdict(out, checked)?;
-            Ok(Outcome::Good)
-        }
-        Judged::Refused(finding) => {
-            let names = Names::new(alloc, text)?;
-            let mut more = explain_finding(alloc, text, &names, *finding)?;
-            push_also(alloc, &mut more, &names, plan)?;
-            refuse_and(out, finding.refusal(), &more)
+    match read_script(alloc, text)? {
+        Ok(script) => explain_judged(alloc, plan, text, script, out),
+        Err(fault) => refuse_and(out, fault.finding.refusal(), &fault.lines),
+    }
+}
+
+// Of a text that is this script.
+fn explain_judged<W: Write>(
+    alloc: Global,
+    plan: &Plan,
+    text: &[u8],
+    script: Script,
+    out: &mut Watched<W>,
+) -> Result<Outcome, ToolFault>
+    requires { script_of text.now ≡ Ok script }
+    ensures tells { IsWritten (TellsExplained plan.now text.now) (W.contents (inner_of out.old)) (W.contents (inner_of out.new)) result }
+    ensures failed { has_failed out.new ≡ (has_failed out.old || is_write_fault result) }
+{
+    first_is_link_fault();
+    first_is_refusal();
+    let findings = findings_of(alloc, &script, plan)?;
+    match findings.as_slice() {
+        [] => show(out, &judge_script(alloc, plan, script)?),
+        [first, further @ ..] => {
+            let mut more = explain_finding(alloc, text, &script, *first)?;
+            push_also(&mut more, further)?;
+            refuse_and(out, first.refusal(), &more)
         }
     }
 }
 
-/// Writes what `camac bounds` tells of what was judged, and after the line of a refusal the lines that explain it.
-#[tactic(auto, using(crate::proofs::Explained::refusal_explained))]
+/// Writes what `camac bounds` tells of a script's text, and after the line of a refusal the lines that explain it.
 pub fn explain_headings<W: Write>(
     alloc: Global,
+    plan: &Plan,
     text: &[u8],
-    judged: &Judged,
     out: &mut Watched<W>,
 ) -> Result<Outcome, ToolFault>
-    ensures tells { IsWritten (ReportsMore (ExplainedBy (Explained text.now) judged.now) (headings_report_of judged.now)) (W.contents (inner_of out.old)) (W.contents (inner_of out.new)) result }
+    ensures tells { IsWritten (TellsHeadings plan.now text.now) (W.contents (inner_of out.old)) (W.contents (inner_of out.new)) result }
     ensures failed { has_failed out.new ≡ (has_failed out.old || is_write_fault result) }
 {
-    match judged {
-        Judged::Accepted(checked) => {
-            write_headings(out, checked.script())?;
-            Ok(Outcome::Good)
-        }
+    match read_script(alloc, text)? {
+        Ok(script) => explain_least(alloc, plan, text, script, out),
+        Err(fault) => refuse_and(out, fault.finding.refusal(), &fault.lines),
+    }
+}
+
+// Of a text that is this script. A copy of it keeps the names.
+fn explain_least<W: Write>(
+    alloc: Global,
+    plan: &Plan,
+    text: &[u8],
+    script: Script,
+    out: &mut Watched<W>,
+) -> Result<Outcome, ToolFault>
+    requires { script_of text.now ≡ Ok script }
+    ensures tells { IsWritten (TellsHeadings plan.now text.now) (W.contents (inner_of out.old)) (W.contents (inner_of out.new)) result }
+    ensures failed { has_failed out.new ≡ (has_failed out.old || is_write_fault result) }
+{
+    let named = script.try_clone(alloc)?;
+    let judged = find_headings(alloc, plan, script)?;
+    match &judged {
+        Judged::Accepted(_) => show_headings(out, &judged),
         Judged::Refused(finding) => {
-            let names = Names::new(alloc, text)?;
-            let more = explain_finding(alloc, text, &names, *finding)?;
+            let more = explain_finding(alloc, text, &named, *finding)?;
             refuse_and(out, finding.refusal(), &more)
         }
     }
 }
 
+// The first fault of a text, and the lines that explain it.
+#[derive(Drop)]
+struct TextExplained {
+    finding: Finding,
+    lines: Vec<u8>,
+}
+
+// The script of a text, or why it is none.
+fn read_script(alloc: Global, text: &[u8]) -> Result<Result<Script, TextExplained>, AllocError>
+    ensures { IfOk result (IsRead text.now) }
+{
+    let mut noted = Choices::none();
+    match parse_expecting(alloc, text, &mut noted) {
+        Ok(script) => Ok(Ok(script)),
+        Err(TextFault::OutOfMemory) => Err(AllocError),
+        Err(TextFault::Broken { case, line, left }) => {
+            let rule = case.rule();
+            let finding = Finding::Text { rule, line, left };
+            let sentence = text_sentence(alloc, text, case, left, noted)?;
+            let lines = explain_script(alloc, text, finding, Some(left), Some(sentence))?;
+            Ok(Err(TextExplained { finding, lines }))
+        }
+    }
+}
+
+// What is found of a script, explained.
 fn explain_finding(
     alloc: Global,
     text: &[u8],
-    names: &Option<Names>,
+    script: &Script,
     finding: Finding,
 ) -> Result<Vec<u8>, AllocError>
-    requires { AreNamesOf text.now names.now }
-    ensures { IfOk result (λ more. Explained text.now finding more.items) }
+    ensures { IfOk result (λ more. more.items ≡ explanation_of text.now finding (mark_of text.now finding) (sentence_of script.now finding)) }
 {
     let mark = mark_of(alloc, text, finding)?;
-    let sentence = sentence_of_text(alloc, text, finding)?;
-    explain_script(alloc, text, names, finding, mark, sentence)
-}
-
-// What a rule that the text itself breaks knows, in words.
-fn sentence_of_text(
-    alloc: Global,
-    text: &[u8],
-    finding: Finding,
-) -> Result<Option<String>, AllocError>
-    ensures { IfOk result (λ s. IsOfText text.now finding (option_map string_bytes s)) }
-{
-    match finding {
-        Finding::Text { .. } => text_sentence(alloc, text),
-        Finding::Plan(_) | Finding::Link { .. } | Finding::Check { .. } => Ok(None),
-    }
+    let sentence = script_sentence(alloc, script, finding)?;
+    explain_script(alloc, text, finding, mark, sentence)
 }
 
 fn refuse_and<W: Write>(

@@ -50,7 +50,8 @@ pub fn judge_headings(alloc: Global, plan: &Plan, text: &[u8]) -> Result<Judged,
     }
 }
 
-fn find_headings(alloc: Global, plan: &Plan, script: Script) -> Result<Judged, ToolFault>
+/// The same of a script.
+pub fn find_headings(alloc: Global, plan: &Plan, script: Script) -> Result<Judged, ToolFault>
     ensures report { FindsHeadings result (headings_told (headed_found (least plan.now script))) }
     ensures script { Accepts result plan.now (headed_found (least plan.now script)) }
 {

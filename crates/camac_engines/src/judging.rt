@@ -61,7 +61,8 @@ pub fn judge(alloc: Global, plan: &Plan, text: &[u8]) -> Result<Judged, ToolFaul
     }
 }
 
-fn judge_script(alloc: Global, plan: &Plan, script: Script) -> Result<Judged, ToolFault>
+/// Judges a script for a plan.
+pub fn judge_script(alloc: Global, plan: &Plan, script: Script) -> Result<Judged, ToolFault>
     ensures report { Judges result (report_linked plan.now script (link_fault plan.now script)) }
     ensures script { Accepts result plan.now (accepted_linked plan.now script (link_fault plan.now script)) }
 {

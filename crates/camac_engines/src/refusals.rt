@@ -1,90 +1,60 @@
-// All that is refused of a script's text for a plan.
+// All that is refused of a script for a plan.
 
 ghost use Rattle.std.specs.Prelude.{◌≡◌, ◌++◌, IfOk, OnOk, flat_map};
-ghost use Rattle.camac_engines.specs.Refusals.{also_line, also_refused, also_text, check_refusal, link_refusal, linked_refusals};
-ghost use Rattle.camac_explain.specs.Names.{script_in};
-ghost use Rattle.camac_names.specs.Link.{link_faults};
+ghost use Rattle.camac_engines.specs.Refusals.{also_line, check_finding, findings_of, link_finding};
 
 use camac_branch::Plan;
 use camac_check::{CheckFault, refusals};
-use camac_explain::Names;
+use camac_explain::Finding;
 use camac_lang::Script;
-use camac_lines::{Refusal, refusal_line};
+use camac_lines::refusal_line;
 use camac_names::{LinkFault, link_faults};
 use std::alloc::{AllocError, Global};
 
-/// Puts a line at the end for each refusal of a script after the first, if there is a script: of linking, or else of the checker.
-pub fn push_also(
-    alloc: Global,
-    lines: &mut Vec<u8>,
-    names: &Option<Names>,
-    plan: &Plan,
-) -> Result<(), AllocError>
-    ensures { OnOk result (lines.new.items ≡ lines.old.items ++ also_refused plan.now (script_in names.now)) }
-{
-    match names {
-        Some(names) => push_further(alloc, lines, names.script(), plan),
-        None => Ok(()),
-    }
-}
-
-fn push_further(
-    alloc: Global,
-    lines: &mut Vec<u8>,
-    script: &Script,
-    plan: &Plan,
-) -> Result<(), AllocError>
-    ensures { OnOk result (lines.new.items ≡ lines.old.items ++ also_text (linked_refusals plan.now script.now (link_faults plan.now script.now))) }
-{
-    let refusals = refusals_of(alloc, script, plan)?;
-    match refusals.as_slice() {
-        [] => Ok(()),
-        [_, further @ ..] => push_lines(lines, further),
-    }
-}
-
-fn push_lines(lines: &mut Vec<u8>, refusals: &[Refusal]) -> Result<(), AllocError>
-    ensures { OnOk result (lines.new.items ≡ lines.old.items ++ flat_map also_line refusals.now) }
-{
-    'refusals: for refusal in refusals {
-        lines.extend_from_slice(b"also ")?;
-        lines.extend_from_slice(refusal_line(*refusal).as_bytes())?;
-    }
-    Ok(())
-}
-
-fn refusals_of(alloc: Global, script: &Script, plan: &Plan) -> Result<Vec<Refusal>, AllocError>
-    ensures { IfOk result (λ v. v.items ≡ linked_refusals plan.now script.now (link_faults plan.now script.now)) }
+/// All that is refused of a script, in text order: by linking, or else by the checker.
+pub fn findings_of(alloc: Global, script: &Script, plan: &Plan) -> Result<Vec<Finding>, AllocError>
+    ensures { IfOk result (λ v. v.items ≡ findings_of plan.now script.now) }
 {
     let faults = link_faults(alloc, script, plan)?;
     if faults.is_empty() {
         let faults = refusals(alloc, script, plan)?;
-        check_refusals(alloc, &faults)
+        check_findings(alloc, &faults)
     } else {
-        link_refusals(alloc, &faults)
+        link_findings(alloc, &faults)
     }
 }
 
-fn link_refusals(alloc: Global, faults: &[LinkFault]) -> Result<Vec<Refusal>, AllocError>
-    ensures { IfOk result (λ v. v.items ≡ flat_map link_refusal faults.now) }
+fn link_findings(alloc: Global, faults: &[LinkFault]) -> Result<Vec<Finding>, AllocError>
+    ensures { IfOk result (λ v. v.items ≡ flat_map link_finding faults.now) }
 {
-    let mut refusals = Vec::new(alloc);
+    let mut findings = Vec::new(alloc);
     'faults: for fault in faults {
-        if let LinkFault::Broken { rule, line, .. } = *fault {
-            refusals.push(Refusal::Link { rule, line })?;
+        if let LinkFault::Broken { rule, line, case } = *fault {
+            findings.push(Finding::Link { rule, line, case })?;
         }
     }
-    Ok(refusals)
+    Ok(findings)
 }
 
-fn check_refusals(alloc: Global, faults: &[CheckFault]) -> Result<Vec<Refusal>, AllocError>
-    ensures { IfOk result (λ v. v.items ≡ flat_map check_refusal faults.now) }
+fn check_findings(alloc: Global, faults: &[CheckFault]) -> Result<Vec<Finding>, AllocError>
+    ensures { IfOk result (λ v. v.items ≡ flat_map check_finding faults.now) }
 {
-    let mut refusals = Vec::new(alloc);
+    let mut findings = Vec::new(alloc);
     'faults: for fault in faults {
-        if let CheckFault::Broken { rule, line, .. } = *fault {
-            refusals.push(Refusal::Check { rule, line })?;
+        if let CheckFault::Broken { rule, line, case } = *fault {
+            findings.push(Finding::Check { rule, line, case })?;
         }
     }
-    Ok(refusals)
+    Ok(findings)
+}
+
+/// Puts a line at the end for each of these findings.
+pub fn push_also(lines: &mut Vec<u8>, findings: &[Finding]) -> Result<(), AllocError>
+    ensures { OnOk result (lines.new.items ≡ lines.old.items ++ flat_map also_line findings.now) }
+{
+    'findings: for finding in findings {
+        lines.extend_from_slice(b"also ")?;
+        lines.extend_from_slice(refusal_line(finding.refusal()).as_bytes())?;
+    }
+    Ok(())
 }

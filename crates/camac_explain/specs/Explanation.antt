@@ -1,16 +1,12 @@
 -- The lines that follow a refusal: the source line, at most one sentence, and what is told of the rule.
-use Rattle.std.specs.Result.{result_ok}
-use Rattle.std.specs.Prelude.{◌≡◌, ℕ, List, [], ◌++◌, Option, Some, None, option_and_then, codes, map}
-use Rattle.camac_lang.specs.Tree.{Script}
+use Rattle.std.specs.Prelude.{◌≡◌, ℕ, List, [], ◌++◌, Option, Some, None, codes, map}
 use Rattle.camac_lines.specs.Codes.{plan_code}
 use Rattle.camac_lines.specs.Refusal.{code_of}
 use Rattle.camac_plan.specs.declared.fault.PlanCase.{PlanCase}
 use Rattle.camac_plan.specs.declared.fault.PlanRule.{PlanRule}
-use Rattle.camac_text.specs.Parser.{script_of}
 use Rattle.camac_explain_plan.specs.Sentence.{IsPlanSentence}
 use Rattle.camac_explain.specs.Advice.{Told, plan_told, text_told, link_told, check_told}
 use Rattle.camac_explain.specs.Finding.{refusal_of}
-use Rattle.camac_explain.specs.Sentence.{link_sentence_of, check_sentence_of}
 use Rattle.camac_explain.specs.Source.{shown_byte, source_of}
 use Rattle.camac_explain.specs.declared.finding.Finding.{Finding}
 use Rattle.camac_explain.specs.declared.finding.Finding.TheVariants.{Plan, Text, Link, Check}
@@ -33,23 +29,12 @@ abbrev pub sentence_line : Option (List ℕ) → List ℕ
 sentence_line None = []
 sentence_line (Some sentence) = map shown_byte sentence ++ codes "\n"
 
--- what the rule knew of the script, if there is one; of a rule of the text itself the sentence that is handed in
-abbrev pub sentence_in : Option Script → Finding → (of_text : Option (List ℕ)) → Option (List ℕ)
-sentence_in script (Plan rule) of_text = None
-sentence_in script (Text rule line left) of_text = of_text
-sentence_in script (Link rule line case) of_text = option_and_then (λ s. link_sentence_of s rule case) script
-sentence_in script (Check rule line case) of_text = option_and_then (λ s. check_sentence_of s rule case) script
-
--- that of the script which the text spells
-abbrev pub sentence_of : (text : List ℕ) → Finding → (of_text : Option (List ℕ)) → Option (List ℕ)
-sentence_of text f of_text = sentence_in (result_ok (script_of text)) f of_text
-
 abbrev pub explanation : (source : List ℕ) → (sentence : Option (List ℕ)) → Told → (code : List ℕ) → List ℕ
 explanation source sentence told code = source ++ sentence_line sentence ++ advice_text told code
 
 -- of a script's refusal, with a mark in its line, if its place is known
-abbrev pub explanation_of : (text : List ℕ) → Finding → (mark : Option ℕ) → (of_text : Option (List ℕ)) → List ℕ
-explanation_of text f mark of_text = explanation (source_of text f mark) (sentence_of text f of_text) (told_of f) (code_of (refusal_of f)).0
+abbrev pub explanation_of : (text : List ℕ) → Finding → (mark : Option ℕ) → (sentence : Option (List ℕ)) → List ℕ
+explanation_of text f mark sentence = explanation (source_of text f mark) sentence (told_of f) (code_of (refusal_of f)).0
 
 -- of a refused plan, by its rule in this case
 abbrev pub IsPlanExplanation : (text : List ℕ) → PlanRule → PlanCase → List ℕ → Type 0

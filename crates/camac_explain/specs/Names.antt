@@ -1,19 +1,8 @@
 -- The names that a sentence tells: each is that of the number or the place that its rule knew.
-use Rattle.std.specs.Result.{result_ok}
-use Rattle.std.specs.Prelude.{◌≡◌, ℕ, Bool, false, ◌&&◌, ◌==◌, List, Option, Some, None, option_map, option_and_then, slice_get, find, codes}
+use Rattle.std.specs.Prelude.{ℕ, Bool, false, ◌&&◌, ◌==◌, List, Option, Some, None, option_map, option_and_then, slice_get, find, codes}
 use Rattle.camac_lang.specs.Tree.{Text, Lam, Parameter, Procedure, Service, Script}
 use Rattle.camac_rules.specs.declared.case.Body.{Body}
 use Rattle.camac_rules.specs.declared.case.Body.TheVariants as body
-use Rattle.camac_text.specs.Parser.{script_of}
-use Rattle.camac_explain.specs.declared.names.Names.{Names}
-
--- the script whose names these are, if there is one
-abbrev pub script_in : Option Names → Option Script
-script_in names = option_map (λ (n : Names). n.script) names
-
--- the names are those of the script that the text spells, and there are none exactly where it spells none
-abbrev pub AreNamesOf : (text : List ℕ) → Option Names → Type 0
-AreNamesOf text names = script_in names ≡ result_ok (script_of text)
 
 -- a name that is not there is told as `?`
 abbrev pub shown : Option Text → Text

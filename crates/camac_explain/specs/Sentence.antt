@@ -19,6 +19,8 @@ use Rattle.camac_rules.specs.declared.case.Operator.TheVariants.{Add, Sub, Mul}
 use Rattle.camac_rules.specs.declared.rule.CheckRule.{CheckRule}
 use Rattle.camac_rules.specs.declared.rule.CheckRule.TheVariants.{KeepFailsAtEntry, TooManyWords, TooManyCycles, TooManySteps}
 use Rattle.camac_lines.specs.Words.{quoted}
+use Rattle.camac_explain.specs.declared.finding.Finding.{Finding}
+use Rattle.camac_explain.specs.declared.finding.Finding.TheVariants as finding
 use Rattle.camac_explain.specs.Names.{lam_at, parameter_of, register_of, served_at, shown, variable_of}
 
 abbrev pub name : Option Text → List ℕ
@@ -149,3 +151,10 @@ check_sentence_of s rule (case.Counted body variable) =
     says (codes "A `for` around this line counts the variable " ∷ name (variable_of s body variable) ∷ codes "." ∷ [])
 check_sentence_of s rule (case.Argument procedure argument found wanted) =
     Some (argument_text (place_from_one argument) (name (parameter_of s procedure argument)) found wanted)
+
+-- of a rule of linking or of the checker
+abbrev pub sentence_of : Script → Finding → Option (List ℕ)
+sentence_of s (finding.Plan rule) = None
+sentence_of s (finding.Text rule line left) = None
+sentence_of s (finding.Link rule line case) = link_sentence_of s rule case
+sentence_of s (finding.Check rule line case) = check_sentence_of s rule case

@@ -1,22 +1,16 @@
 // The lines of an explanation.
 
-ghost use Rattle.std.specs.Prelude.{◌≡◌, ◌++◌, Some, IfOk, OnOk, option_and_then, option_map, string_bytes};
+ghost use Rattle.std.specs.Prelude.{◌≡◌, ◌++◌, Some, IfOk, OnOk, option_map, string_bytes};
 ghost use Rattle.camac_explain.specs.Advice.{told};
-ghost use Rattle.camac_explain.specs.Explanation.{IsPlanExplanation, advice_text, explanation_of, line_of, sentence_in, sentence_line, told_of};
-ghost use Rattle.camac_explain.specs.Names.{AreNamesOf, script_in};
-ghost use Rattle.camac_explain.specs.Sentence.{link_sentence_of, check_sentence_of};
+ghost use Rattle.camac_explain.specs.Explanation.{IsPlanExplanation, advice_text, explanation_of, line_of, sentence_line, told_of};
 ghost use Rattle.camac_explain.specs.Source.{source_of};
 
 use crate::advice::{Advice, check_advice, link_advice, plan_advice, text_advice};
 use crate::finding::Finding;
-use crate::names::Names;
-use crate::sentence::{check_sentence, link_sentence};
 use crate::source::{push_shown, push_source};
 use camac_explain_plan::plan_sentence;
 use camac_lines::Refusal;
-use camac_names::{LinkCase, LinkRule};
 use camac_plan::{PlanCase, PlanRule};
-use camac_rules::{Case, CheckRule};
 use std::alloc::{AllocError, Global};
 
 /// Why a plan's text is refused by a rule in this case: the lines that follow the refusal.
@@ -37,70 +31,22 @@ pub fn explain_plan(
 }
 
 /// Why a script's text is refused: the lines that follow the refusal, with a mark below the token from which on so many bytes of the text are
-/// left, if it is known, and with this sentence where the text itself breaks a rule. Of a plan's refusal its rule's texts alone.
+/// left, if it is known, and with this sentence of what the rule knew.
 pub fn explain_script(
     alloc: Global,
     text: &[u8],
-    names: &Option<Names>,
     finding: Finding,
     mark: Option<usize>,
-    of_text: Option<String>,
+    sentence: Option<String>,
 ) -> Result<Vec<u8>, AllocError>
-    requires { AreNamesOf text.now names.now }
-    ensures { IfOk result (λ v. v.items ≡ explanation_of text.now finding mark (option_map string_bytes of_text)) }
+    ensures { IfOk result (λ v. v.items ≡ explanation_of text.now finding mark (option_map string_bytes sentence)) }
 {
     let mut lines = Vec::new(alloc);
     push_source(&mut lines, text, finding, mark)?;
-    let sentence = sentence(alloc, names, finding, of_text)?;
     let code = finding.refusal().code();
     push_sentence(&mut lines, sentence)?;
     push_advice(&mut lines, code.name, advice_of(finding))?;
     Ok(lines)
-}
-
-// What the rule knew, in words.
-fn sentence(
-    alloc: Global,
-    names: &Option<Names>,
-    finding: Finding,
-    of_text: Option<String>,
-) -> Result<Option<String>, AllocError>
-    ensures { IfOk result (λ s. option_map string_bytes s ≡ sentence_in (script_in names.now) finding (option_map string_bytes of_text)) }
-{
-    match finding {
-        Finding::Plan(_) => Ok(None),
-        Finding::Text { .. } => Ok(of_text),
-        Finding::Link { rule, case, .. } => sentence_of_linking(alloc, names, rule, case),
-        Finding::Check { rule, case, .. } => sentence_of_checker(alloc, names, rule, case),
-    }
-}
-
-fn sentence_of_linking(
-    alloc: Global,
-    names: &Option<Names>,
-    rule: LinkRule,
-    case: LinkCase,
-) -> Result<Option<String>, AllocError>
-    ensures { IfOk result (λ s. option_map string_bytes s ≡ option_and_then (λ t. link_sentence_of t rule case) (script_in names.now)) }
-{
-    match names {
-        Some(names) => link_sentence(alloc, names, rule, case),
-        None => Ok(None),
-    }
-}
-
-fn sentence_of_checker(
-    alloc: Global,
-    names: &Option<Names>,
-    rule: CheckRule,
-    case: Case,
-) -> Result<Option<String>, AllocError>
-    ensures { IfOk result (λ s. option_map string_bytes s ≡ option_and_then (λ t. check_sentence_of t rule case) (script_in names.now)) }
-{
-    match names {
-        Some(names) => check_sentence(alloc, names, rule, case),
-        None => Ok(None),
-    }
 }
 
 fn advice_of(finding: Finding) -> Advice

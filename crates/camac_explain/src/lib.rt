@@ -12,5 +12,5 @@ mod source;
 
 pub use explanation::{explain_plan, explain_script};
 pub use finding::Finding;
-pub use names::Names;
 pub use rule::{Rule, explain_rule};
+pub use sentence::script_sentence;

@@ -1,93 +1,60 @@
 // The names of a script, for its sentences.
 
-ghost use Rattle.std.specs.Prelude.{◌≡◌, Some, IfOk, map, option_copied};
+ghost use Rattle.std.specs.Prelude.{◌≡◌, Some, map, option_copied};
 ghost use Rattle.camac_lang.specs.View.{lam_of, procedure_of, service_of};
-ghost use Rattle.camac_explain.specs.Names.{AreNamesOf, is_at, is_served_at, lam_at, first_lam, first_served, name_at, parameter_in, parameter_of, register_in, register_in_service, register_of, served_at, shown, variable_of};
+ghost use Rattle.camac_explain.specs.Names.{is_at, is_served_at, lam_at, first_lam, first_served, name_at, parameter_in, parameter_of, register_in, register_in_service, register_of, served_at, shown, variable_of};
 
 use camac_lang::{Lam, Name, Procedure, Script, Service};
 use camac_lines::Quote;
 use camac_rules::Body;
-use camac_text::{TextFault, parse};
-use std::alloc::{AllocError, Global};
 
-/// The names that a script declares.
-#[derive(Drop)]
-pub struct Names {
-    script: Script,
+/// The variable or parameter of this number in a body.
+pub fn variable(script: &Script, body: Body, number: usize) -> Quote<'_>
+    ensures { result.0.now ≡ shown (variable_of script.now body number) }
+{
+    match body {
+        Body::Procedure(procedure) => parameter(script, procedure, number),
+        Body::Service(_) => quoted(script.variables().get(number)),
+    }
 }
 
-impl Names {
-    /// The names of a text; None where it is no script.
-    pub fn new(alloc: Global, text: &[u8]) -> Result<Option<Names>, AllocError>
-        ensures { IfOk result (AreNamesOf text.now) }
-    {
-        match parse(alloc, text) {
-            Ok(script) => Ok(Some(Names { script })),
-            Err(TextFault::OutOfMemory) => Err(AllocError),
-            Err(TextFault::Broken { .. }) => Ok(None),
-        }
+/// The parameter of this number of a procedure.
+#[tactic(auto, using(crate::proofs::Places::found))]
+pub fn parameter(script: &Script, procedure: usize, number: usize) -> Quote<'_>
+    ensures { result.0.now ≡ shown (parameter_of script.now procedure number) }
+{
+    match script.procedures().get(procedure) {
+        Some(procedure) => parameter_in(procedure, number),
+        None => quoted(None),
     }
+}
 
-    /// The script.
-    pub fn script(&self) -> &Script
-        ensures { result.now ≡ self.now.script }
-    {
-        &self.script
-    }
-
-    /// The variable or parameter of this number in a body.
-    pub fn variable(&self, body: Body, number: usize) -> Quote<'_>
-        ensures { result.0.now ≡ shown (variable_of self.now.script body number) }
-    {
-        match body {
-            Body::Procedure(procedure) => self.parameter(procedure, number),
-            Body::Service(_) => quoted(self.script.variables().get(number)),
-        }
-    }
-
-    /// The parameter of this number of a procedure.
-    #[tactic(auto, using(crate::proofs::Places::found))]
-    pub fn parameter(&self, procedure: usize, number: usize) -> Quote<'_>
-        ensures { result.0.now ≡ shown (parameter_of self.now.script procedure number) }
-    {
-        match self.script.procedures().get(procedure) {
-            Some(procedure) => parameter_in(procedure, number),
+/// The register of this number in a body.
+#[tactic(auto, using(crate::proofs::Places::found))]
+pub fn register(script: &Script, body: Body, number: usize) -> Quote<'_>
+    ensures { result.0.now ≡ shown (register_of script.now body number) }
+{
+    match body {
+        Body::Procedure(place) => match script.procedures().get(place) {
+            Some(procedure) => quoted(procedure.registers.get(number)),
             None => quoted(None),
-        }
+        },
+        Body::Service(lam) => register_of_service(script.services(), lam, number),
     }
+}
 
-    /// The register of this number in a body.
-    #[tactic(auto, using(crate::proofs::Places::found))]
-    pub fn register(&self, body: Body, number: usize) -> Quote<'_>
-        ensures { result.0.now ≡ shown (register_of self.now.script body number) }
-    {
-        match body {
-            Body::Procedure(place) => match self.script.procedures().get(place) {
-                Some(procedure) => quoted(procedure.registers.get(number)),
-                None => quoted(None),
-            },
-            Body::Service(lam) => register_of_service(self.script.services(), lam, number),
-        }
-    }
+/// The first LAM at a station.
+pub fn lam_at(script: &Script, crate_no: u32, station: u32) -> Quote<'_>
+    ensures { result.0.now ≡ shown (lam_at script.now crate_no station) }
+{
+    first_lam(script.lams(), crate_no, station)
+}
 
-    /// The first LAM at a station.
-    pub fn lam_at(&self, crate_no: u32, station: u32) -> Quote<'_>
-        ensures { result.0.now ≡ shown (lam_at self.now.script crate_no station) }
-    {
-        first_lam(self.script.lams(), crate_no, station)
-    }
-
-    /// The LAM of the first service at a station.
-    pub fn served_at(&self, crate_no: u32, station: u32) -> Quote<'_>
-        ensures { result.0.now ≡ shown (served_at self.now.script crate_no station) }
-    {
-        first_served(
-            self.script.lams(),
-            self.script.services(),
-            crate_no,
-            station,
-        )
-    }
+/// The LAM of the first service at a station.
+pub fn served_at(script: &Script, crate_no: u32, station: u32) -> Quote<'_>
+    ensures { result.0.now ≡ shown (served_at script.now crate_no station) }
+{
+    first_served(script.lams(), script.services(), crate_no, station)
 }
 
 #[tactic(auto, using(crate::proofs::Places::found))]

@@ -3,10 +3,12 @@
 ghost use Rattle.std.specs.Prelude.{◌≡◌, Some, IfOk, option_map, string_bytes};
 ghost use Rattle.camac_lines.specs.Words.{quoted};
 ghost use Rattle.camac_names.specs.declared.fault.LinkCase.TheVariants.{Place};
-ghost use Rattle.camac_explain.specs.Sentence.{argument_text, budget_text, direction_text, kept_text, is_service_steps, check_sentence_of, cost, does, limit_text, link_sentence_of, sign_of, span, takes, unit_of, when, who};
+ghost use Rattle.camac_explain.specs.Sentence.{argument_text, budget_text, direction_text, kept_text, is_service_steps, check_sentence_of, cost, does, limit_text, link_sentence_of, sentence_of, sign_of, span, takes, unit_of, when, who};
 
-use crate::names::Names;
+use crate::finding::Finding;
+use crate::names;
 use camac_func::FunctionClass;
+use camac_lang::Script;
 use camac_lines::Quote;
 use camac_names::{LinkCase, LinkRule};
 use camac_rules::{Body, Case, CheckRule, Numbers, Operator};
@@ -28,19 +30,34 @@ impl fmt::Display for Span {
     }
 }
 
-/// What a rule of linking knew, in words.
-pub fn link_sentence(
+/// What a rule knew of a script, in words. None of a rule of the text itself, and of a plan's.
+pub fn script_sentence(
     alloc: Global,
-    names: &Names,
+    script: &Script,
+    finding: Finding,
+) -> Result<Option<String>, AllocError>
+    ensures { IfOk result (λ s. option_map string_bytes s ≡ sentence_of script.now finding) }
+{
+    match finding {
+        Finding::Plan(_) | Finding::Text { .. } => Ok(None),
+        Finding::Link { rule, case, .. } => link_sentence(alloc, script, rule, case),
+        Finding::Check { rule, case, .. } => check_sentence(alloc, script, rule, case),
+    }
+}
+
+// What a rule of linking knew.
+fn link_sentence(
+    alloc: Global,
+    script: &Script,
     rule: LinkRule,
     case: LinkCase,
 ) -> Result<Option<String>, AllocError>
-    ensures { IfOk result (λ s. option_map string_bytes s ≡ link_sentence_of names.now.script rule case) }
+    ensures { IfOk result (λ s. option_map string_bytes s ≡ link_sentence_of script.now rule case) }
 {
     match case {
         LinkCase::Malformed => Ok(None),
         LinkCase::Place { crate_no, station } => {
-            place_sentence(alloc, names, rule, crate_no, station).map(Some)
+            place_sentence(alloc, script, rule, crate_no, station).map(Some)
         }
         LinkCase::Served {
             crate_no,
@@ -58,22 +75,22 @@ pub fn link_sentence(
 // Of the LAM at a station.
 fn place_sentence(
     alloc: Global,
-    names: &Names,
+    script: &Script,
     rule: LinkRule,
     crate_no: u32,
     station: u32,
 ) -> Result<String, AllocError>
-    ensures { IfOk result (λ s. Some (string_bytes s) ≡ link_sentence_of names.now.script rule (Place crate_no station)) }
+    ensures { IfOk result (λ s. Some (string_bytes s) ≡ link_sentence_of script.now rule (Place crate_no station)) }
 {
     match rule {
         LinkRule::LamNotInstalled => {
-            let lam = names.lam_at(crate_no, station);
+            let lam = names::lam_at(script, crate_no, station);
             format!(in alloc;
                 "The LAM {lam} is at crate {crate_no}, station {station}, where the plan has no module."
             )
         }
         _ => {
-            let lam = names.served_at(crate_no, station);
+            let lam = names::served_at(script, crate_no, station);
             format!(in alloc;
                 "The LAM {lam} is at crate {crate_no}, station {station}, which has no GL bit in the plan."
             )
@@ -81,14 +98,14 @@ fn place_sentence(
     }
 }
 
-/// What a rule of the checker knew, in words.
-pub fn check_sentence(
+// What a rule of the checker knew.
+fn check_sentence(
     alloc: Global,
-    names: &Names,
+    script: &Script,
     rule: CheckRule,
     case: Case,
 ) -> Result<Option<String>, AllocError>
-    ensures { IfOk result (λ s. option_map string_bytes s ≡ check_sentence_of names.now.script rule case) }
+    ensures { IfOk result (λ s. option_map string_bytes s ≡ check_sentence_of script.now rule case) }
 {
     match case {
         Case::Malformed => Ok(None),
@@ -123,11 +140,11 @@ pub fn check_sentence(
             "The value may be {greatest}, but has to fit in {bits} bits."
         ).map(Some),
         Case::Unset { body, register } => {
-            let register = names.register(body, register);
+            let register = names::register(script, body, register);
             format!(in alloc; "The register {register} may be unset here.").map(Some)
         }
         Case::Measure { body, variable } => {
-            let variable = names.variable(body, variable);
+            let variable = names::variable(script, body, variable);
             format!(in alloc;
                 "The body itself has to lower {variable} once by a number, and nothing else in it may write {variable}."
             ).map(Some)
@@ -140,7 +157,7 @@ pub fn check_sentence(
         } => kept_sentence(
             alloc,
             when(rule),
-            names.variable(body, variable),
+            names::variable(script, body, variable),
             found,
             kept,
         )
@@ -178,7 +195,7 @@ pub fn check_sentence(
             "The word may be {greatest}, and 24 bits hold at most 16777215."
         ).map(Some),
         Case::Counted { body, variable } => {
-            let variable = names.variable(body, variable);
+            let variable = names::variable(script, body, variable);
             format!(in alloc; "A `for` around this line counts the variable {variable}.").map(Some)
         }
         Case::Argument {
@@ -188,7 +205,7 @@ pub fn check_sentence(
             wanted,
         } => {
             let place = argument.saturating_add(1);
-            let parameter = names.parameter(procedure, argument);
+            let parameter = names::parameter(script, procedure, argument);
             argument_sentence(alloc, place, parameter, found, wanted).map(Some)
         }
     }

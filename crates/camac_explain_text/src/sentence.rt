@@ -8,7 +8,7 @@ ghost use Rattle.camac_explain_text.specs.Hint.{hint_text};
 ghost use Rattle.camac_explain_text.specs.Meant.{word_before};
 ghost use Rattle.camac_explain_text.specs.Mistake.{outside_of_bodies};
 ghost use Rattle.camac_explain_text_place.specs.Place.{place_of};
-ghost use Rattle.camac_explain_text.specs.Text.{IsTextSentence, begins_like_a_plan, fault_text, is_buffer};
+ghost use Rattle.camac_explain_text.specs.Text.{begins_like_a_plan, fault_text, is_buffer};
 ghost use Rattle.camac_explain_text.specs.Sentence.{absent_variable, arguments_text, byte_text, case_text, character, character_size, expected_sentence, first_byte, is_of_another_language, is_truth, missing_text, not_there, noun, number_text, or_empty, other_byte_text, other_kind, other_text, start_text, taken, taken_text, undeclared, unexpected, with_hint};
 
 use crate::expected::expected_list;
@@ -21,29 +21,14 @@ use camac_explain_text_place::{
     rest_of,
 };
 use camac_lines::Quote;
-use camac_text::{Choices, NameKind, TextCase, TextFault, TokenKind, parse_expecting};
+use camac_text::{Choices, NameKind, TextCase, TokenKind};
 use std::alloc::{AllocError, Global};
 
 const PLAN_FIRST: &str = "This begins like a plan: PLAN comes first, then SCRIPT.";
 
-/// What the first rule that a text breaks knew, and what may be meant. None where the text is a script.
-#[tactic(auto, using(crate::proofs::Told::of_script))]
-pub fn text_sentence(alloc: Global, text: &[u8]) -> Result<Option<String>, AllocError>
-    ensures { IfOk result (λ s. IsTextSentence text.now (option_map string_bytes s)) }
-{
-    let mut expected = Choices::none();
-    match parse_expecting(alloc, text, &mut expected) {
-        Ok(_script) => Ok(None),
-        Err(TextFault::OutOfMemory) => Err(AllocError),
-        Err(TextFault::Broken { case, left, .. }) => {
-            let sentence = fault_told(alloc, text, case, left, expected)?;
-            Ok(Some(sentence))
-        }
-    }
-}
-
-// Of a text in which so many bytes are left from the fault on.
-fn fault_told(
+/// What the first rule that a text breaks knew, in this case, and what may be meant: so many bytes of the text are left from its fault on, where
+/// these choices were noted.
+pub fn text_sentence(
     alloc: Global,
     text: &[u8],
     case: TextCase,

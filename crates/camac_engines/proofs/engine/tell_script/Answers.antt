@@ -1,24 +1,13 @@
 use Rattle.camac_word.specs.Watched.{inner_of}
-use Rattle.camac_engines.specs.Accepted.{accepted}
-use Rattle.camac_engines.specs.Explain.{AllExplained, Explained}
-use Rattle.camac_engines.specs.Headings.{headed, headings_report, headings_report_of}
+use Rattle.camac_engines.specs.Headings.{headings_report, headings_report_of}
 use Rattle.camac_engines.specs.Known.{known_report, known_report_of}
 use Rattle.camac_engines.specs.Report.{report, report_of}
-use Rattle.camac_engines.proofs.Explained.{explained}
 use Rattle.camac_engines.proofs.Told.{costs_written, reported}
 use Rattle.camac_engines.proofs.engine.tell_script.Goals as goal
 
 pub returns-in_ok-judge-in-Check-clause-tells : goal.returns-in_ok-judge-in-Check-clause-tells
 returns-in_ok-judge-in-Check-clause-tells g c =
     rw c.in-Check.is (reported (report c.args.plan.now c.args.text.now) (report_of c.in_ok-judge-in-Check.field-0) (g.W.Write.contents (inner_of c.args.out.now)) (g.W.Write.contents (inner_of c.show.new.out)) c.show.result c.in_ok-judge-in-Check.ensures.report c.show.ensures.shows)
-
-pub returns-in_ok-judge-in-Explain-clause-tells : goal.returns-in_ok-judge-in-Explain-clause-tells
-returns-in_ok-judge-in-Explain-clause-tells g c =
-    rw c.in-Explain.is (explained (AllExplained c.args.plan.now c.args.text.now) c.args.plan.now c.in_ok-judge-in-Explain.field-0 (accepted c.args.plan.now c.args.text.now) (report c.args.plan.now c.args.text.now) (report_of c.in_ok-judge-in-Explain.field-0) (g.W.Write.contents (inner_of c.args.out.now)) (g.W.Write.contents (inner_of c.explain_judged.new.out)) c.explain_judged.result c.in_ok-judge-in-Explain.ensures.report c.in_ok-judge-in-Explain.ensures.script c.explain_judged.ensures.tells)
-
-pub returns-in_ok-judge_headings-in-ExplainBounds-clause-tells : goal.returns-in_ok-judge_headings-in-ExplainBounds-clause-tells
-returns-in_ok-judge_headings-in-ExplainBounds-clause-tells g c =
-    rw c.in-ExplainBounds.is (explained (Explained c.args.text.now) c.args.plan.now c.in_ok-judge_headings-in-ExplainBounds.field-0 (headed c.args.plan.now c.args.text.now) (headings_report c.args.plan.now c.args.text.now) (headings_report_of c.in_ok-judge_headings-in-ExplainBounds.field-0) (g.W.Write.contents (inner_of c.args.out.now)) (g.W.Write.contents (inner_of c.explain_headings.new.out)) c.explain_headings.result c.in_ok-judge_headings-in-ExplainBounds.ensures.report c.in_ok-judge_headings-in-ExplainBounds.ensures.script c.explain_headings.ensures.tells)
 
 pub returns-in_ok-found-in-ExplainAt-clause-tells : goal.returns-in_ok-found-in-ExplainAt-clause-tells
 returns-in_ok-found-in-ExplainAt-clause-tells g c =

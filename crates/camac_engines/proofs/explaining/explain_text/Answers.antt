@@ -1,0 +1,10 @@
+use Rattle.std.proofs.Common.{subst}
+use Rattle.camac_word.specs.Watched.{inner_of}
+use Rattle.camac_engines.specs.Explain.{IsRead}
+use Rattle.camac_engines.proofs.Explained.{fault_explained}
+use Rattle.camac_engines.proofs.explaining.explain_text.Goals as goal
+
+pub returns-in-Err-clause-tells : goal.returns-in-Err-clause-tells
+returns-in-Err-clause-tells g c =
+    fault_explained c.args.plan.now c.args.text.now c.in-Err.fault (g.W.Write.contents (inner_of c.args.out.now)) (g.W.Write.contents (inner_of c.refuse_and.new.out)) c.refuse_and.result
+    (subst (IsRead c.args.text.now) c.in-Err.is c.in_ok-script.ensures) (rw (c.refusal.ensures, c.deref.ensures.value) at c.refuse_and.ensures.shows)
