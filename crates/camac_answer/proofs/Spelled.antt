@@ -33,8 +33,8 @@ not_bit x h = cc h
 not_wait : (w : ℕ) → wait_at 10 ≡ Ok w → ⊥
 not_wait w h = cc h
 
-not_digit : digit_number 10 < 2 ^ 24 → ⊥
-not_digit h = omega (arith, h)
+not_digit : (unit : ℕ) → digit_number unit 10 < 2 ^ 24 → ⊥
+not_digit unit h = omega (arith, h)
 
 of_bit : (b : ℕ) (x : Bool) → bit_at b ≡ Ok x → is_inside b ≡ true
 of_bit b x h = other b (λ e. not_bit x (ap bit_at (sym e) ∙ h))
@@ -45,13 +45,13 @@ of_wait b w h = other b (λ e. not_wait w (ap wait_at (sym e) ∙ h))
 of_space : (b : ℕ) → (b == 32) ≡ true → is_inside b ≡ true
 of_space b h = let e = eqb-true b 32 h in other b (λ lf. omega (arith, e, lf))
 
-of_digit : (b : ℕ) → digit_number b < 2 ^ 24 → is_inside b ≡ true
-of_digit b h = other b (λ e. not_digit (subst (λ (x : ℕ). digit_number x < 2 ^ 24) e h))
+of_digit : (unit b : ℕ) → digit_number unit b < 2 ^ 24 → is_inside b ≡ true
+of_digit unit b h = other b (λ e. not_digit unit (subst (λ (x : ℕ). digit_number unit x < 2 ^ 24) e h))
 
 of_word : (a b c d e f w : ℕ) → word_at (a ∷ b ∷ c ∷ d ∷ e ∷ f ∷ []) ≡ Ok w → AreInside (a ∷ b ∷ c ∷ d ∷ e ∷ f ∷ [])
 of_word a b c d e f w h =
     let small = word_small a b c d e f w h in
-    (of_digit a (omega (arith, small)), (of_digit b (omega (arith, small)), (of_digit c (omega (arith, small)), (of_digit d (omega (arith, small)), (of_digit e (omega (arith, small)), (of_digit f (omega (arith, small)), tt))))))
+    (of_digit 0x100000 a (omega (arith, small)), (of_digit 0x10000 b (omega (arith, small)), (of_digit 0x1000 c (omega (arith, small)), (of_digit 0x100 d (omega (arith, small)), (of_digit 0x10 e (omega (arith, small)), (of_digit 1 f (omega (arith, small)), tt))))))
 
 is_shaped : (c : Bool) (r : Result Answer AnswerRule) (a : Answer) → cond c r (Err LineShape) ≡ Ok a → (c ≡ true) × (r ≡ Ok a)
 is_shaped true r a e = (refl, e)

@@ -1,5 +1,5 @@
 -- The lines of an answer text, and the answer that a line spells.
-use Rattle.std.specs.Prelude.{◌≡◌, ◌⊎◌, ℕ, ◌+◌, ◌*◌, ◌^◌, unwrap_or, Bool, true, false, ◌==◌, ◌&&◌, not, List, [], ◌∷◌, length, take_while, slice_index, slice_range, Option, Some, None, Result, Ok, Err, if◌then◌else◌}
+use Rattle.std.specs.Prelude.{◌≡◌, ◌⊎◌, ℕ, ◌*◌, ◌^◌, Bool, true, false, ◌==◌, ◌&&◌, not, List, [], ◌∷◌, length, take_while, slice_index, slice_range, Option, Some, None, Result, Ok, Err, if◌then◌else◌}
 use Rattle.byteorder.specs.Endian.{big_number}
 use Rattle.hex.specs.Hex.{decode_sized, hex_digit_value}
 use Rattle.hex.specs.declared.error.FromHexError.{FromHexError}
@@ -45,13 +45,13 @@ number_in (Err e) = Err BadDigit
 abbrev pub word_at : List ℕ → Result ℕ AnswerRule
 word_at digits = number_in (decode_sized digits 3)
 
--- what a digit spells, or for another byte more than six digits do
-abbrev pub digit_number : ℕ → ℕ
-digit_number b = unwrap_or (hex_digit_value b) (2 ^ 24)
+abbrev pub worth : (unit : ℕ) → Option ℕ → ℕ
+worth unit None = 2 ^ 24
+worth unit (Some v) = v * unit
 
--- what two digits spell, the first of them counting 16
-abbrev pub pair_number : ℕ → ℕ → ℕ
-pair_number high low = digit_number high * 16 + digit_number low
+-- what a digit spells that counts so much, or for another byte more than six digits do
+abbrev pub digit_number : (unit : ℕ) → ℕ → ℕ
+digit_number unit b = worth unit (hex_digit_value b)
 
 abbrev pub digit_in : Option ℕ → Result ℕ AnswerRule
 digit_in (Some v) = Ok v

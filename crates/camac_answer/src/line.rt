@@ -1,7 +1,7 @@
 // The answer that a line spells.
 
-ghost use Rattle.std.specs.Prelude.{◌≡◌, ◌≤◌, ◌<◌, ◌^◌, ◌*◌, length, IfOk};
-ghost use Rattle.camac_answer.specs.Lines.{first_line, IsJudged, bit_at, word_at, digit_number, pair_number, wait_at, has_shape as is_shaped, fields_answer, line_answer};
+ghost use Rattle.std.specs.Prelude.{◌≡◌, ◌≤◌, ◌<◌, ◌-◌, ◌^◌, length, IfOk};
+ghost use Rattle.camac_answer.specs.Lines.{first_line, IsJudged, bit_at, word_at, digit_number, wait_at, has_shape as is_shaped, fields_answer, line_answer};
 
 use crate::fault::AnswerRule;
 use crate::filling::LINE;
@@ -34,53 +34,62 @@ fn word_of(digits: &[u8]) -> Result<Word24, AnswerRule>
     requires { length digits.now ≡ 6 }
     ensures { result ≡ word_at digits.now }
 {
-    let high = pair_of(digits[0], digits[1]);
-    let middle = pair_of(digits[2], digits[3]);
-    let low = pair_of(digits[4], digits[5]);
-    let number = high * 0x10000 + middle * 0x100 + low;
-    if number >= u64::from(NO) {
-        return Err(AnswerRule::BadDigit);
-    }
-    match Word24::new(number as u32) {
+    let number = value_of(0, digits[0])
+        + value_of(1, digits[1])
+        + value_of(2, digits[2])
+        + value_of(3, digits[3])
+        + value_of(4, digits[4])
+        + value_of(5, digits[5]);
+    match Word24::new(number) {
         Some(word) => Ok(word),
-        None => unreachable!(),
+        None => Err(AnswerRule::BadDigit),
     }
 }
 
-// What two digits spell, or more than six digits do.
+// What a digit spells at a place of a word, or more than six digits do.
 #[inline(always)]
-fn pair_of(high: u8, low: u8) -> u64
-    ensures value { result ≡ pair_number high low }
-    ensures most { result ≤ 17 * 2 ^ 24 }
-{
-    u64::from(value_of(high)) * 16 + u64::from(value_of(low))
-}
-
-// What a digit spells, or more than six digits do.
-#[inline(always)]
-fn value_of(digit: u8) -> u32
-    ensures value { result ≡ digit_number digit }
+fn value_of(place: usize, digit: u8) -> u32
+    requires { place < 6 }
+    ensures value { result ≡ digit_number (16 ^ (5 - place)) digit }
     ensures most { result ≤ 2 ^ 24 }
 {
-    VALUES[digit as usize]
+    VALUES[place][digit as usize]
 }
 
-// What stands in the table for a byte that is no digit: more than six digits spell.
+// What stands in the tables for a byte that is no digit: more than six digits spell.
 const NO: u32 = 1 << 24;
 
-// What each byte spells as a hexadecimal digit.
-static VALUES: [u32; 256] = [
-    NO, NO, NO, NO, NO, NO, NO, NO, NO, NO, NO, NO, NO, NO, NO, NO, NO, NO, NO, NO, NO, NO, NO, NO,
-    NO, NO, NO, NO, NO, NO, NO, NO, NO, NO, NO, NO, NO, NO, NO, NO, NO, NO, NO, NO, NO, NO, NO, NO,
-    0, 1, 2, 3, 4, 5, 6, 7, 8, 9, NO, NO, NO, NO, NO, NO, NO, 10, 11, 12, 13, 14, 15, NO, NO, NO,
-    NO, NO, NO, NO, NO, NO, NO, NO, NO, NO, NO, NO, NO, NO, NO, NO, NO, NO, NO, NO, NO, NO, NO, 10,
-    11, 12, 13, 14, 15, NO, NO, NO, NO, NO, NO, NO, NO, NO, NO, NO, NO, NO, NO, NO, NO, NO, NO, NO,
-    NO, NO, NO, NO, NO, NO, NO, NO, NO, NO, NO, NO, NO, NO, NO, NO, NO, NO, NO, NO, NO, NO, NO, NO,
-    NO, NO, NO, NO, NO, NO, NO, NO, NO, NO, NO, NO, NO, NO, NO, NO, NO, NO, NO, NO, NO, NO, NO, NO,
-    NO, NO, NO, NO, NO, NO, NO, NO, NO, NO, NO, NO, NO, NO, NO, NO, NO, NO, NO, NO, NO, NO, NO, NO,
-    NO, NO, NO, NO, NO, NO, NO, NO, NO, NO, NO, NO, NO, NO, NO, NO, NO, NO, NO, NO, NO, NO, NO, NO,
-    NO, NO, NO, NO, NO, NO, NO, NO, NO, NO, NO, NO, NO, NO, NO, NO, NO, NO, NO, NO, NO, NO, NO, NO,
-    NO, NO, NO, NO, NO, NO, NO, NO, NO, NO, NO, NO, NO, NO,
+// What each byte spells as a hexadecimal digit that counts so much.
+macro_rules! values {
+    ($unit:literal) => {
+        [
+            NO, NO, NO, NO, NO, NO, NO, NO, NO, NO, NO, NO, NO, NO, NO, NO, NO, NO, NO, NO, NO,
+            NO, NO, NO, NO, NO, NO, NO, NO, NO, NO, NO, NO, NO, NO, NO, NO, NO, NO, NO, NO, NO,
+            NO, NO, NO, NO, NO, NO, 0, $unit, 2 * $unit, 3 * $unit, 4 * $unit, 5 * $unit,
+            6 * $unit, 7 * $unit, 8 * $unit, 9 * $unit, NO, NO, NO, NO, NO, NO, NO, 10 * $unit,
+            11 * $unit, 12 * $unit, 13 * $unit, 14 * $unit, 15 * $unit, NO, NO, NO, NO, NO, NO,
+            NO, NO, NO, NO, NO, NO, NO, NO, NO, NO, NO, NO, NO, NO, NO, NO, NO, NO, NO, NO,
+            10 * $unit, 11 * $unit, 12 * $unit, 13 * $unit, 14 * $unit, 15 * $unit, NO, NO, NO,
+            NO, NO, NO, NO, NO, NO, NO, NO, NO, NO, NO, NO, NO, NO, NO, NO, NO, NO, NO, NO, NO,
+            NO, NO, NO, NO, NO, NO, NO, NO, NO, NO, NO, NO, NO, NO, NO, NO, NO, NO, NO, NO, NO,
+            NO, NO, NO, NO, NO, NO, NO, NO, NO, NO, NO, NO, NO, NO, NO, NO, NO, NO, NO, NO, NO,
+            NO, NO, NO, NO, NO, NO, NO, NO, NO, NO, NO, NO, NO, NO, NO, NO, NO, NO, NO, NO, NO,
+            NO, NO, NO, NO, NO, NO, NO, NO, NO, NO, NO, NO, NO, NO, NO, NO, NO, NO, NO, NO, NO,
+            NO, NO, NO, NO, NO, NO, NO, NO, NO, NO, NO, NO, NO, NO, NO, NO, NO, NO, NO, NO, NO,
+            NO, NO, NO, NO, NO, NO, NO, NO, NO, NO, NO, NO, NO, NO, NO, NO, NO, NO, NO, NO, NO,
+            NO, NO, NO,
+        ]
+    };
+}
+
+// The same at each place of a word.
+static VALUES: [[u32; 256]; 6] = [
+    values!(0x100000),
+    values!(0x10000),
+    values!(0x1000),
+    values!(0x100),
+    values!(0x10),
+    values!(1),
 ];
 
 // The wait that a digit spells.
@@ -89,7 +98,7 @@ fn wait_of(digit: u8) -> Result<u8, AnswerRule>
     ensures value { result ≡ wait_at digit }
     ensures in_range { IfOk result (λ w. w ≤ 15) }
 {
-    let value = value_of(digit);
+    let value = value_of(5, digit);
     if value > 15 {
         return Err(AnswerRule::BadDigit);
     }
