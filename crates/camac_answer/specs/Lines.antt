@@ -66,15 +66,20 @@ abbrev pub has_shape : List ℕ → Bool
 has_shape line =
     length line == 19 && (slice_index line 1 == 32 && (slice_index line 3 == 32 && (slice_index line 10 == 32 && slice_index line 12 == 32)))
 
+-- the fields after X and Q
+abbrev pub fields_after : Bool → Bool → List ℕ → Result Answer AnswerRule
+fields_after x q line = do
+  word ← word_at (slice_range line 4 10)
+  wait ← wait_at (slice_index line 11)
+  gl ← word_at (slice_range line 13 19)
+  Ok (record { x = x; q = q; word = word; wait = wait; gl = gl })
+
 -- the fields of a line, from left to right
 unfoldable pub fields_answer : List ℕ → Result Answer AnswerRule
 fields_answer line = do
   x ← bit_at (slice_index line 0)
   q ← bit_at (slice_index line 2)
-  word ← word_at (slice_range line 4 10)
-  wait ← wait_at (slice_index line 11)
-  gl ← word_at (slice_range line 13 19)
-  Ok (record { x = x; q = q; word = word; wait = wait; gl = gl })
+  fields_after x q line
 
 -- what a line without its LF spells
 abbrev pub line_answer : List ℕ → Result Answer AnswerRule

@@ -1,7 +1,8 @@
 // The answer that a line spells.
 
-ghost use Rattle.std.specs.Prelude.{◌≡◌, ◌≤◌, ◌<◌, ◌-◌, ◌^◌, length, IfOk};
-ghost use Rattle.camac_answer.specs.Lines.{first_line, IsJudged, bit_at, word_at, digit_number, wait_at, has_shape as is_shaped, fields_answer, line_answer};
+ghost use Rattle.std.specs.Prelude.{◌≡◌, ◌≤◌, ◌<◌, ◌-◌, ◌^◌, ◌⊎◌, length, IfOk, IfSome, IfNone, true, slice_index, Ok, Err, if◌then◌else◌};
+ghost use Rattle.camac_answer.specs.Lines.{first_line, IsJudged, bit_at, word_at, digit_number, wait_at, has_shape as is_shaped, fields_after, fields_answer, line_answer};
+ghost use Rattle.camac_answer.specs.declared.fault.AnswerRule.TheVariants.{LineShape, BadDigit};
 
 use crate::fault::AnswerRule;
 use crate::filling::LINE;
@@ -14,18 +15,6 @@ pub(crate) fn line_length(bytes: &[u8]) -> usize
     ensures { result ≡ length (first_line bytes.now) }
 {
     bytes.iter().take_while(|byte| **byte != b'\n').count()
-}
-
-// The bit that a byte spells.
-#[inline(always)]
-fn bit_of(byte: u8) -> Result<bool, AnswerRule>
-    ensures { result ≡ bit_at byte }
-{
-    match byte {
-        b'0' => Ok(false),
-        b'1' => Ok(true),
-        _ => Err(AnswerRule::BadDigit),
-    }
 }
 
 // The word that six digits spell.
@@ -113,14 +102,12 @@ fn has_shape(line: &[u8]) -> bool
     line.len() == 19 && line[1] == b' ' && line[3] == b' ' && line[10] == b' ' && line[12] == b' '
 }
 
-#[tactic(auto, unfolding(crate::specs::Lines::fields_answer))]
+// The fields after X and Q.
 #[inline(always)]
-fn fields_of(line: &[u8]) -> Result<Answer, AnswerRule>
+fn fields_after(x: bool, q: bool, line: &[u8]) -> Result<Answer, AnswerRule>
     requires { length line.now ≡ 19 }
-    ensures { result ≡ fields_answer line.now }
+    ensures { result ≡ fields_after x q line.now }
 {
-    let x = bit_of(line[0])?;
-    let q = bit_of(line[2])?;
     let word = word_of(&line[4..10])?;
     let wait = wait_of(line[11])?;
     let gl = word_of(&line[13..19])?;
@@ -166,9 +153,56 @@ fn judged_length(bytes: &[u8]) -> usize
 fn answer_of(line: &[u8]) -> Result<Answer, AnswerRule>
     ensures { result ≡ line_answer line.now }
 {
-    if has_shape(line) {
-        fields_of(line)
+    match flags_in(line) {
+        Some((x, q)) => fields_after(x, q, line),
+        None => Err(broken_rule(line)),
+    }
+}
+
+// X and Q of a line that has the length and the spaces of an answer, where it spells both.
+#[inline(always)]
+fn flags_in(line: &[u8]) -> Option<(bool, bool)>
+    ensures shape { IfSome result (λ f. is_shaped line.now ≡ true) }
+    ensures bits { IfSome result (λ f. (bit_at (slice_index line.now 0) ≡ Ok f.0) × (bit_at (slice_index line.now 2) ≡ Ok f.1)) }
+    ensures none { IfNone result (is_shaped line.now ≡ true → (bit_at (slice_index line.now 0) ≡ Err BadDigit) ⊎ (bit_at (slice_index line.now 2) ≡ Err BadDigit)) }
+{
+    if line.len() == 19 && line[10] == b' ' && line[12] == b' ' {
+        flags_of(line[0], line[1], line[2], line[3])
     } else {
-        Err(AnswerRule::LineShape)
+        None
+    }
+}
+
+// X and Q, where these bytes spell both, each with a space after it. They are looked at as one number, of which the first byte is the lowest: a
+// digit is 0x30 or 0x31, and a space 0x20.
+#[inline(always)]
+fn flags_of(x: u8, after_x: u8, q: u8, after_q: u8) -> Option<(bool, bool)>
+    ensures spaces { IfSome result (λ f. (after_x ≡ 32) × (after_q ≡ 32)) }
+    ensures bits { IfSome result (λ f. (bit_at x ≡ Ok f.0) × (bit_at q ≡ Ok f.1)) }
+    ensures none { IfNone result (after_x ≡ 32 → after_q ≡ 32 → (bit_at x ≡ Err BadDigit) ⊎ (bit_at q ≡ Err BadDigit)) }
+{
+    let flags = u32::from_le_bytes([x, after_x, q, after_q]);
+    if flags == 0x2031_2031 {
+        Some((true, true))
+    } else if flags == 0x2030_2031 {
+        Some((true, false))
+    } else if flags == 0x2031_2030 {
+        Some((false, true))
+    } else if flags == 0x2030_2030 {
+        Some((false, false))
+    } else {
+        None
+    }
+}
+
+// The rule that a line breaks which has no X and Q: that of its shape comes first.
+#[inline(always)]
+fn broken_rule(line: &[u8]) -> AnswerRule
+    ensures { result ≡ (if is_shaped line.now then BadDigit else LineShape) }
+{
+    if has_shape(line) {
+        AnswerRule::BadDigit
+    } else {
+        AnswerRule::LineShape
     }
 }
