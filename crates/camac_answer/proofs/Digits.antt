@@ -1,10 +1,10 @@
 -- The number that six digits spell, and what it is where one of them is none.
-use Rattle.std.proofs.Common.{◌≡◌, ℕ, zero, suc, ◌+◌, ◌*◌, ◌^◌, ◌≤◌, ◌<◌, List, [], ◌∷◌, length, slice_index, subst, Option, Some, None, Result, Ok, Err, unwrap_or, refl, sym, ap, ◌∙◌, arith, ◌⊎◌, inl, inr}
+use Rattle.std.proofs.Common.{◌≡◌, ℕ, zero, suc, ◌+◌, ◌*◌, ◌^◌, ◌≤◌, ◌<◌, List, [], ◌∷◌, length, slice_index, subst, Option, Some, None, Result, Ok, Err, refl, sym, ap, ◌∙◌, arith, ◌⊎◌, inl, inr}
 use Rattle.hex.specs.Hex.{decode_pairs, digit_or_error, hex_digit_value, pair_value, ◌>>=◌}
 use Rattle.hex.specs.declared.error.FromHexError.{FromHexError}
 use Rattle.camac_answer.specs.declared.fault.AnswerRule.{AnswerRule}
 use Rattle.camac_answer.specs.declared.fault.AnswerRule.TheVariants.{BadDigit}
-use Rattle.camac_answer.specs.Lines.{number_in, word_at, wait_at, digit_in, digit_number, pair_number}
+use Rattle.camac_answer.specs.Lines.{number_in, word_at, wait_at, digit_in, worth, digit_number}
 
 ok_or_err : {w : ℕ} → Err BadDigit ≡ Ok w → ⊥
 ok_or_err h = cc h
@@ -24,40 +24,34 @@ value_below b v h = grind (arith)
 small : (b : ℕ) → IsSmall (hex_digit_value b)
 small b = small_from (hex_digit_value b) (value_below b)
 
-most_of : (o : Option ℕ) → IsSmall o → unwrap_or o (2 ^ 24) ≤ 2 ^ 24
-most_of None s = omega arith
-most_of (Some v) s = omega (arith, s)
-
-pub digit_number-most : (b : ℕ) → digit_number b ≤ 2 ^ 24
-digit_number-most b = most_of (hex_digit_value b) (small b)
-
-waits : (o : Option ℕ) (n : ℕ) → n ≡ unwrap_or o (2 ^ 24) → n ≤ 15 → digit_in o ≡ Ok n
+waits : (o : Option ℕ) (n : ℕ) → n ≡ worth 1 o → n ≤ 15 → digit_in o ≡ Ok n
 waits None n e few = absurd (omega (arith, e, few))
-waits (Some v) n e few = ap Ok (sym e)
+waits (Some v) n e few = ap Ok (omega (arith, e))
 
-waits_not : (o : Option ℕ) → IsSmall o → 15 < unwrap_or o (2 ^ 24) → digit_in o ≡ Err BadDigit
+waits_not : (o : Option ℕ) → IsSmall o → 15 < worth 1 o → digit_in o ≡ Err BadDigit
 waits_not None s more = refl
 waits_not (Some v) s more = absurd (omega (arith, s, more))
 
 -- a wait that is a digit
-pub wait_spelled : (b n : ℕ) → n ≡ digit_number b → n ≤ 15 → wait_at b ≡ Ok n
+pub wait_spelled : (b n : ℕ) → n ≡ digit_number 1 b → n ≤ 15 → wait_at b ≡ Ok n
 wait_spelled b n e few = waits (hex_digit_value b) n e few
 
-pub wait_unspelled : (b : ℕ) → 15 < digit_number b → wait_at b ≡ Err BadDigit
+pub wait_unspelled : (b : ℕ) → 15 < digit_number 1 b → wait_at b ≡ Err BadDigit
 wait_unspelled b more = waits_not (hex_digit_value b) (small b) more
 
--- what two digits are read as, and their number
-abbrev IsPair : Result ℕ FromHexError → ℕ → Type 0
-IsPair read n = ((read ≡ Ok n) × (n < 256)) ⊎ ((e : FromHexError) × (read ≡ Err e) × (2 ^ 24 ≤ n))
+-- what two digits are read as, and their number, where they count so much
+abbrev IsPair : (high low : ℕ) → Result ℕ FromHexError → ℕ → Type 0
+IsPair high low read n =
+    ((h l : ℕ) × (read ≡ Ok (h * 16 + l)) × (h < 16) × (l < 16) × (n ≡ h * high + l * low)) ⊎ ((e : FromHexError) × (read ≡ Err e) × (2 ^ 24 ≤ n))
 
-pair_is : (a b i : ℕ) (high low : Option ℕ) → IsSmall high → IsSmall low
-    → IsPair (digit_or_error a i high >>= λ h. digit_or_error b (i + 1) low >>= λ l. Ok (h * 16 + l)) (unwrap_or high (2 ^ 24) * 16 + unwrap_or low (2 ^ 24))
-pair_is a b i (Some h) (Some l) small_high small_low = inl (refl, omega (arith, small_high, small_low))
-pair_is a b i (Some h) None small_high small_low = inr (_, refl, omega (arith, small_high))
-pair_is a b i None low small_high small_low = inr (_, refl, omega arith)
+pair_is : (high low a b i : ℕ) (one other : Option ℕ) → IsSmall one → IsSmall other
+    → IsPair high low (digit_or_error a i one >>= λ h. digit_or_error b (i + 1) other >>= λ l. Ok (h * 16 + l)) (worth high one + worth low other)
+pair_is high low a b i (Some h) (Some l) small_high small_low = inl (h, l, refl, small_high, small_low, refl)
+pair_is high low a b i (Some h) None small_high small_low = inr (_, refl, omega arith)
+pair_is high low a b i None other small_high small_low = inr (_, refl, omega arith)
 
-is_pair : (a b i : ℕ) → IsPair (pair_value a b i) (pair_number a b)
-is_pair a b i = pair_is a b i (hex_digit_value a) (hex_digit_value b) (small a) (small b)
+is_pair : (high low a b i : ℕ) → IsPair high low (pair_value a b i) (digit_number high a + digit_number low b)
+is_pair high low a b i = pair_is high low a b i (hex_digit_value a) (hex_digit_value b) (small a) (small b)
 
 -- what three pairs are read as, and their number
 abbrev pub IsWord : Result ℕ AnswerRule → ℕ → Type 0
@@ -66,11 +60,11 @@ IsWord read n = ((read ≡ Ok n) × (n < 2 ^ 24)) ⊎ ((read ≡ Err BadDigit) �
 abbrev three : Result ℕ FromHexError → Result ℕ FromHexError → Result ℕ FromHexError → Result ℕ AnswerRule
 three x y z = number_in (x >>= λ p. (y >>= λ q. (z >>= λ r. Ok (r ∷ [])) >>= λ bytes. Ok (q ∷ bytes)) >>= λ bytes. Ok (p ∷ bytes))
 
-three_are : (x y z : Result ℕ FromHexError) (p q r : ℕ) → IsPair x p → IsPair y q → IsPair z r → IsWord (three x y z) (p * 0x10000 + q * 0x100 + r)
-three_are x y z p q r (inl cx) (inl cy) (inl cz) =
-    inl (rw (cx.0, cy.0, cz.0) (ap Ok (omega arith)), omega (arith, cx.1, cy.1, cz.1))
-three_are x y z p q r (inl cx) (inl cy) (inr cz) = inr (rw (cx.0, cy.0, cz.1) refl, omega (arith, cz.2))
-three_are x y z p q r (inl cx) (inr cy) cz = inr (rw (cx.0, cy.1) refl, omega (arith, cy.2))
+three_are : (x y z : Result ℕ FromHexError) (p q r : ℕ) → IsPair 0x100000 0x10000 x p → IsPair 0x1000 0x100 y q → IsPair 0x10 1 z r → IsWord (three x y z) (p + q + r)
+three_are x y z p q r (inl (h, l, ex, hx, lx, nx)) (inl (h', l', ey, hy, ly, ny)) (inl (h'', l'', ez, hz, lz, nz)) =
+    inl (rw (ex, ey, ez) (ap Ok (omega (arith, nx, ny, nz))), omega (arith, hx, lx, nx, hy, ly, ny, hz, lz, nz))
+three_are x y z p q r (inl (h, l, ex, hx, lx, nx)) (inl (h', l', ey, hy, ly, ny)) (inr cz) = inr (rw (ex, ey, cz.1) refl, omega (arith, cz.2))
+three_are x y z p q r (inl (h, l, ex, hx, lx, nx)) (inr cy) cz = inr (rw (ex, cy.1) refl, omega (arith, cy.2))
 three_are x y z p q r (inr cx) cy cz = inr (rw (cx.1) refl, omega (arith, cx.2))
 
 small_six : (read : Result ℕ AnswerRule) (n w : ℕ) → IsWord read n → read ≡ Ok w → n < 2 ^ 24
@@ -79,11 +73,13 @@ small_six read n w (inr c) h = absurd (ok_or_err (sym c.0 ∙ h))
 
 -- the number that six digits spell
 abbrev pub six : ℕ → ℕ → ℕ → ℕ → ℕ → ℕ → ℕ
-six a b c d e f = pair_number a b * 0x10000 + pair_number c d * 0x100 + pair_number e f
+six a b c d e f = digit_number 0x100000 a + digit_number 0x10000 b + digit_number 0x1000 c + digit_number 0x100 d + digit_number 0x10 e + digit_number 1 f
 
 pub is_word : (a b c d e f : ℕ) → IsWord (word_at (a ∷ b ∷ c ∷ d ∷ e ∷ f ∷ [])) (six a b c d e f)
 unfolding decode_pairs
-is_word a b c d e f = three_are (pair_value a b 0) (pair_value c d 2) (pair_value e f 4) _ _ _ (is_pair a b 0) (is_pair c d 2) (is_pair e f 4)
+is_word a b c d e f =
+    subst (λ (n : ℕ). IsWord (word_at (a ∷ b ∷ c ∷ d ∷ e ∷ f ∷ [])) n) (omega arith)
+    (three_are (pair_value a b 0) (pair_value c d 2) (pair_value e f 4) _ _ _ (is_pair 0x100000 0x10000 a b 0) (is_pair 0x1000 0x100 c d 2) (is_pair 0x10 1 e f 4))
 
 -- a list from its elements
 abbrev pub from_place : ℕ → ℕ → List ℕ → List ℕ

@@ -1,11 +1,11 @@
 -- What spells an answer has no LF in it.
-use Rattle.std.proofs.Common.{◌≡◌, ℕ, zero, suc, ◌^◌, ◌<◌, Bool, true, false, not, ◌==◌, cond, List, [], ◌∷◌, ◌++◌, length, take, slice_index, subst, Result, Ok, Err, refl, sym, ap, ◌∙◌, arith, inl, inr, length-take-le}
-use Rattle.std.proofs.lemmas.Bool.{ne_eqb, eqb-true, and_parts}
+use Rattle.std.proofs.Common.{◌≡◌, ℕ, zero, suc, ◌^◌, ◌<◌, Bool, true, false, not, ◌==◌, cond, List, [], ◌∷◌, ◌++◌, length, take, slice_index, subst, Result, Ok, Err, refl, sym, ap, ◌∙◌, arith, ◌⊎◌, inl, inr, length-take-le}
+use Rattle.std.proofs.lemmas.Bool.{cases_eq, ne_eqb, eqb-true, and_parts}
 use Rattle.std.proofs.lemmas.List.Sums.{take_while-cons}
 use Rattle.camac_branch.specs.Branch.{Answer}
 use Rattle.camac_answer.specs.declared.fault.AnswerRule.{AnswerRule}
-use Rattle.camac_answer.specs.declared.fault.AnswerRule.TheVariants.{LineShape}
-use Rattle.camac_answer.specs.Lines.{is_inside, first_line, IsJudged, bit_at, word_at, wait_at, digit_number, fields_answer, line_answer, ◌>>=◌}
+use Rattle.camac_answer.specs.declared.fault.AnswerRule.TheVariants.{LineShape, BadDigit}
+use Rattle.camac_answer.specs.Lines.{has_shape, is_inside, first_line, IsJudged, bit_at, word_at, wait_at, digit_number, fields_after, fields_answer, line_answer, ◌>>=◌}
 use Rattle.camac_answer.proofs.Digits.{listed, word_small}
 
 abbrev AreInside : List ℕ → Type 0
@@ -33,8 +33,8 @@ not_bit x h = cc h
 not_wait : (w : ℕ) → wait_at 10 ≡ Ok w → ⊥
 not_wait w h = cc h
 
-not_digit : digit_number 10 < 2 ^ 24 → ⊥
-not_digit h = omega (arith, h)
+not_digit : (unit : ℕ) → digit_number unit 10 < 2 ^ 24 → ⊥
+not_digit unit h = omega (arith, h)
 
 of_bit : (b : ℕ) (x : Bool) → bit_at b ≡ Ok x → is_inside b ≡ true
 of_bit b x h = other b (λ e. not_bit x (ap bit_at (sym e) ∙ h))
@@ -45,13 +45,13 @@ of_wait b w h = other b (λ e. not_wait w (ap wait_at (sym e) ∙ h))
 of_space : (b : ℕ) → (b == 32) ≡ true → is_inside b ≡ true
 of_space b h = let e = eqb-true b 32 h in other b (λ lf. omega (arith, e, lf))
 
-of_digit : (b : ℕ) → digit_number b < 2 ^ 24 → is_inside b ≡ true
-of_digit b h = other b (λ e. not_digit (subst (λ (x : ℕ). digit_number x < 2 ^ 24) e h))
+of_digit : (unit b : ℕ) → digit_number unit b < 2 ^ 24 → is_inside b ≡ true
+of_digit unit b h = other b (λ e. not_digit unit (subst (λ (x : ℕ). digit_number unit x < 2 ^ 24) e h))
 
 of_word : (a b c d e f w : ℕ) → word_at (a ∷ b ∷ c ∷ d ∷ e ∷ f ∷ []) ≡ Ok w → AreInside (a ∷ b ∷ c ∷ d ∷ e ∷ f ∷ [])
 of_word a b c d e f w h =
     let small = word_small a b c d e f w h in
-    (of_digit a (omega (arith, small)), (of_digit b (omega (arith, small)), (of_digit c (omega (arith, small)), (of_digit d (omega (arith, small)), (of_digit e (omega (arith, small)), (of_digit f (omega (arith, small)), tt))))))
+    (of_digit 0x100000 a (omega (arith, small)), (of_digit 0x10000 b (omega (arith, small)), (of_digit 0x1000 c (omega (arith, small)), (of_digit 0x100 d (omega (arith, small)), (of_digit 0x10 e (omega (arith, small)), (of_digit 1 f (omega (arith, small)), tt))))))
 
 is_shaped : (c : Bool) (r : Result Answer AnswerRule) (a : Answer) → cond c r (Err LineShape) ≡ Ok a → (c ≡ true) × (r ≡ Ok a)
 is_shaped true r a e = (refl, e)
@@ -115,3 +115,39 @@ first_taken (b ∷ bs) = subst P (sym (take_while-cons is_inside b bs)) (by (is_
 pub spells_first : (bytes : List ℕ) (n : ℕ) (a : Answer) → IsJudged bytes n → Ok a ≡ line_answer (take n bytes) → Ok a ≡ line_answer (first_line bytes)
 spells_first bytes n a (inl e) h = h ∙ ap line_answer (ap (λ (k : ℕ). take k bytes) e ∙ first_taken bytes)
 spells_first bytes n a (inr e) h = sym (nineteen_spelled bytes a e.1 e.2 (ap (λ (k : ℕ). line_answer (take k bytes)) (sym e.0) ∙ sym h))
+
+-- a line that spells X and Q
+pub shaped_answer : (line : List ℕ) (x q : Bool) → has_shape line ≡ true → bit_at (slice_index line 0) ≡ Ok x → bit_at (slice_index line 2) ≡ Ok q → line_answer line ≡ fields_after x q line
+unfolding fields_answer
+shaped_answer line x q shape is_x is_q = rw (shape, is_x, is_q) refl
+
+pub bit_case : (b : ℕ) → (b ≡ 48) ⊎ ((b ≡ 49) ⊎ (bit_at b ≡ Err BadDigit))
+bit_case b =
+    elim (cases_eq b 48) [
+      | inl zero' ↦ inl zero'
+      | inr more ↦
+          elim (cases_eq b 49) [
+            | inl one' ↦ inr (inl one')
+            | inr other' ↦ inr (inr (rw (ne_eqb b 48 more, ne_eqb b 49 other') refl))
+          ]
+    ]
+
+bad_field : (line : List ℕ) → (bit_at (slice_index line 0) ≡ Err BadDigit) ⊎ (bit_at (slice_index line 2) ≡ Err BadDigit) → fields_answer line ≡ Err BadDigit
+unfolding fields_answer
+bad_field line (inl e) = rw e refl
+bad_field line (inr e) =
+    elim (bit_case (slice_index line 0)) [
+      | inl z ↦ rw (z, e) refl
+      | inr (inl o) ↦ rw (o, e) refl
+      | inr (inr bad) ↦ rw bad refl
+    ]
+
+unflagged_by : (line : List ℕ) (s : Bool) → has_shape line ≡ s → (s ≡ true → (bit_at (slice_index line 0) ≡ Err BadDigit) ⊎ (bit_at (slice_index line 2) ≡ Err BadDigit))
+    → cond s (fields_answer line) (Err LineShape) ≡ Err (cond s BadDigit LineShape)
+unflagged_by line true e h = bad_field line (h refl)
+unflagged_by line false e h = refl
+
+-- one that spells neither, or has another shape
+pub unflagged : (line : List ℕ) → (has_shape line ≡ true → (bit_at (slice_index line 0) ≡ Err BadDigit) ⊎ (bit_at (slice_index line 2) ≡ Err BadDigit))
+    → line_answer line ≡ Err (cond (has_shape line) BadDigit LineShape)
+unflagged line h = unflagged_by line (has_shape line) refl h

@@ -1,5 +1,5 @@
 -- The lines of an answer text, and the answer that a line spells.
-use Rattle.std.specs.Prelude.{◌≡◌, ◌⊎◌, ℕ, ◌+◌, ◌*◌, ◌^◌, unwrap_or, Bool, true, false, ◌==◌, ◌&&◌, not, List, [], ◌∷◌, length, take_while, slice_index, slice_range, Option, Some, None, Result, Ok, Err, if◌then◌else◌}
+use Rattle.std.specs.Prelude.{◌≡◌, ◌⊎◌, ℕ, ◌*◌, ◌^◌, Bool, true, false, ◌==◌, ◌&&◌, not, List, [], ◌∷◌, length, take_while, slice_index, slice_range, Option, Some, None, Result, Ok, Err, if◌then◌else◌}
 use Rattle.byteorder.specs.Endian.{big_number}
 use Rattle.hex.specs.Hex.{decode_sized, hex_digit_value}
 use Rattle.hex.specs.declared.error.FromHexError.{FromHexError}
@@ -45,13 +45,13 @@ number_in (Err e) = Err BadDigit
 abbrev pub word_at : List ℕ → Result ℕ AnswerRule
 word_at digits = number_in (decode_sized digits 3)
 
--- what a digit spells, or for another byte more than six digits do
-abbrev pub digit_number : ℕ → ℕ
-digit_number b = unwrap_or (hex_digit_value b) (2 ^ 24)
+abbrev pub worth : (unit : ℕ) → Option ℕ → ℕ
+worth unit None = 2 ^ 24
+worth unit (Some v) = v * unit
 
--- what two digits spell, the first of them counting 16
-abbrev pub pair_number : ℕ → ℕ → ℕ
-pair_number high low = digit_number high * 16 + digit_number low
+-- what a digit spells that counts so much, or for another byte more than six digits do
+abbrev pub digit_number : (unit : ℕ) → ℕ → ℕ
+digit_number unit b = worth unit (hex_digit_value b)
 
 abbrev pub digit_in : Option ℕ → Result ℕ AnswerRule
 digit_in (Some v) = Ok v
@@ -66,15 +66,20 @@ abbrev pub has_shape : List ℕ → Bool
 has_shape line =
     length line == 19 && (slice_index line 1 == 32 && (slice_index line 3 == 32 && (slice_index line 10 == 32 && slice_index line 12 == 32)))
 
+-- the fields after X and Q
+abbrev pub fields_after : Bool → Bool → List ℕ → Result Answer AnswerRule
+fields_after x q line = do
+  word ← word_at (slice_range line 4 10)
+  wait ← wait_at (slice_index line 11)
+  gl ← word_at (slice_range line 13 19)
+  Ok (record { x = x; q = q; word = word; wait = wait; gl = gl })
+
 -- the fields of a line, from left to right
 unfoldable pub fields_answer : List ℕ → Result Answer AnswerRule
 fields_answer line = do
   x ← bit_at (slice_index line 0)
   q ← bit_at (slice_index line 2)
-  word ← word_at (slice_range line 4 10)
-  wait ← wait_at (slice_index line 11)
-  gl ← word_at (slice_range line 13 19)
-  Ok (record { x = x; q = q; word = word; wait = wait; gl = gl })
+  fields_after x q line
 
 -- what a line without its LF spells
 abbrev pub line_answer : List ℕ → Result Answer AnswerRule

@@ -1,7 +1,8 @@
 // The answer that a line spells.
 
-ghost use Rattle.std.specs.Prelude.{◌≡◌, ◌≤◌, ◌<◌, ◌^◌, ◌*◌, length, IfOk};
-ghost use Rattle.camac_answer.specs.Lines.{first_line, IsJudged, bit_at, word_at, digit_number, pair_number, wait_at, has_shape as is_shaped, fields_answer, line_answer};
+ghost use Rattle.std.specs.Prelude.{◌≡◌, ◌≤◌, ◌<◌, ◌-◌, ◌^◌, ◌⊎◌, length, IfOk, IfSome, IfNone, true, slice_index, Ok, Err, if◌then◌else◌};
+ghost use Rattle.camac_answer.specs.Lines.{first_line, IsJudged, bit_at, word_at, digit_number, wait_at, has_shape as is_shaped, fields_after, fields_answer, line_answer};
+ghost use Rattle.camac_answer.specs.declared.fault.AnswerRule.TheVariants.{LineShape, BadDigit};
 
 use crate::fault::AnswerRule;
 use crate::filling::LINE;
@@ -16,71 +17,68 @@ pub(crate) fn line_length(bytes: &[u8]) -> usize
     bytes.iter().take_while(|byte| **byte != b'\n').count()
 }
 
-// The bit that a byte spells.
-#[inline(always)]
-fn bit_of(byte: u8) -> Result<bool, AnswerRule>
-    ensures { result ≡ bit_at byte }
-{
-    match byte {
-        b'0' => Ok(false),
-        b'1' => Ok(true),
-        _ => Err(AnswerRule::BadDigit),
-    }
-}
-
 // The word that six digits spell.
 #[inline(always)]
 fn word_of(digits: &[u8]) -> Result<Word24, AnswerRule>
     requires { length digits.now ≡ 6 }
     ensures { result ≡ word_at digits.now }
 {
-    let high = pair_of(digits[0], digits[1]);
-    let middle = pair_of(digits[2], digits[3]);
-    let low = pair_of(digits[4], digits[5]);
-    let number = high * 0x10000 + middle * 0x100 + low;
-    if number >= u64::from(NO) {
-        return Err(AnswerRule::BadDigit);
-    }
-    match Word24::new(number as u32) {
+    let number = value_of(0, digits[0])
+        + value_of(1, digits[1])
+        + value_of(2, digits[2])
+        + value_of(3, digits[3])
+        + value_of(4, digits[4])
+        + value_of(5, digits[5]);
+    match Word24::new(number) {
         Some(word) => Ok(word),
-        None => unreachable!(),
+        None => Err(AnswerRule::BadDigit),
     }
 }
 
-// What two digits spell, or more than six digits do.
+// What a digit spells at a place of a word, or more than six digits do.
 #[inline(always)]
-fn pair_of(high: u8, low: u8) -> u64
-    ensures value { result ≡ pair_number high low }
-    ensures most { result ≤ 17 * 2 ^ 24 }
-{
-    u64::from(value_of(high)) * 16 + u64::from(value_of(low))
-}
-
-// What a digit spells, or more than six digits do.
-#[inline(always)]
-fn value_of(digit: u8) -> u32
-    ensures value { result ≡ digit_number digit }
+fn value_of(place: usize, digit: u8) -> u32
+    requires { place < 6 }
+    ensures value { result ≡ digit_number (16 ^ (5 - place)) digit }
     ensures most { result ≤ 2 ^ 24 }
 {
-    VALUES[digit as usize]
+    VALUES[place][digit as usize]
 }
 
-// What stands in the table for a byte that is no digit: more than six digits spell.
+// What stands in the tables for a byte that is no digit: more than six digits spell.
 const NO: u32 = 1 << 24;
 
-// What each byte spells as a hexadecimal digit.
-static VALUES: [u32; 256] = [
-    NO, NO, NO, NO, NO, NO, NO, NO, NO, NO, NO, NO, NO, NO, NO, NO, NO, NO, NO, NO, NO, NO, NO, NO,
-    NO, NO, NO, NO, NO, NO, NO, NO, NO, NO, NO, NO, NO, NO, NO, NO, NO, NO, NO, NO, NO, NO, NO, NO,
-    0, 1, 2, 3, 4, 5, 6, 7, 8, 9, NO, NO, NO, NO, NO, NO, NO, 10, 11, 12, 13, 14, 15, NO, NO, NO,
-    NO, NO, NO, NO, NO, NO, NO, NO, NO, NO, NO, NO, NO, NO, NO, NO, NO, NO, NO, NO, NO, NO, NO, 10,
-    11, 12, 13, 14, 15, NO, NO, NO, NO, NO, NO, NO, NO, NO, NO, NO, NO, NO, NO, NO, NO, NO, NO, NO,
-    NO, NO, NO, NO, NO, NO, NO, NO, NO, NO, NO, NO, NO, NO, NO, NO, NO, NO, NO, NO, NO, NO, NO, NO,
-    NO, NO, NO, NO, NO, NO, NO, NO, NO, NO, NO, NO, NO, NO, NO, NO, NO, NO, NO, NO, NO, NO, NO, NO,
-    NO, NO, NO, NO, NO, NO, NO, NO, NO, NO, NO, NO, NO, NO, NO, NO, NO, NO, NO, NO, NO, NO, NO, NO,
-    NO, NO, NO, NO, NO, NO, NO, NO, NO, NO, NO, NO, NO, NO, NO, NO, NO, NO, NO, NO, NO, NO, NO, NO,
-    NO, NO, NO, NO, NO, NO, NO, NO, NO, NO, NO, NO, NO, NO, NO, NO, NO, NO, NO, NO, NO, NO, NO, NO,
-    NO, NO, NO, NO, NO, NO, NO, NO, NO, NO, NO, NO, NO, NO,
+// What each byte spells as a hexadecimal digit that counts so much.
+macro_rules! values {
+    ($unit:literal) => {
+        [
+            NO, NO, NO, NO, NO, NO, NO, NO, NO, NO, NO, NO, NO, NO, NO, NO, NO, NO, NO, NO, NO,
+            NO, NO, NO, NO, NO, NO, NO, NO, NO, NO, NO, NO, NO, NO, NO, NO, NO, NO, NO, NO, NO,
+            NO, NO, NO, NO, NO, NO, 0, $unit, 2 * $unit, 3 * $unit, 4 * $unit, 5 * $unit,
+            6 * $unit, 7 * $unit, 8 * $unit, 9 * $unit, NO, NO, NO, NO, NO, NO, NO, 10 * $unit,
+            11 * $unit, 12 * $unit, 13 * $unit, 14 * $unit, 15 * $unit, NO, NO, NO, NO, NO, NO,
+            NO, NO, NO, NO, NO, NO, NO, NO, NO, NO, NO, NO, NO, NO, NO, NO, NO, NO, NO, NO,
+            10 * $unit, 11 * $unit, 12 * $unit, 13 * $unit, 14 * $unit, 15 * $unit, NO, NO, NO,
+            NO, NO, NO, NO, NO, NO, NO, NO, NO, NO, NO, NO, NO, NO, NO, NO, NO, NO, NO, NO, NO,
+            NO, NO, NO, NO, NO, NO, NO, NO, NO, NO, NO, NO, NO, NO, NO, NO, NO, NO, NO, NO, NO,
+            NO, NO, NO, NO, NO, NO, NO, NO, NO, NO, NO, NO, NO, NO, NO, NO, NO, NO, NO, NO, NO,
+            NO, NO, NO, NO, NO, NO, NO, NO, NO, NO, NO, NO, NO, NO, NO, NO, NO, NO, NO, NO, NO,
+            NO, NO, NO, NO, NO, NO, NO, NO, NO, NO, NO, NO, NO, NO, NO, NO, NO, NO, NO, NO, NO,
+            NO, NO, NO, NO, NO, NO, NO, NO, NO, NO, NO, NO, NO, NO, NO, NO, NO, NO, NO, NO, NO,
+            NO, NO, NO, NO, NO, NO, NO, NO, NO, NO, NO, NO, NO, NO, NO, NO, NO, NO, NO, NO, NO,
+            NO, NO, NO,
+        ]
+    };
+}
+
+// The same at each place of a word.
+static VALUES: [[u32; 256]; 6] = [
+    values!(0x100000),
+    values!(0x10000),
+    values!(0x1000),
+    values!(0x100),
+    values!(0x10),
+    values!(1),
 ];
 
 // The wait that a digit spells.
@@ -89,7 +87,7 @@ fn wait_of(digit: u8) -> Result<u8, AnswerRule>
     ensures value { result ≡ wait_at digit }
     ensures in_range { IfOk result (λ w. w ≤ 15) }
 {
-    let value = value_of(digit);
+    let value = value_of(5, digit);
     if value > 15 {
         return Err(AnswerRule::BadDigit);
     }
@@ -104,14 +102,12 @@ fn has_shape(line: &[u8]) -> bool
     line.len() == 19 && line[1] == b' ' && line[3] == b' ' && line[10] == b' ' && line[12] == b' '
 }
 
-#[tactic(auto, unfolding(crate::specs::Lines::fields_answer))]
+// The fields after X and Q.
 #[inline(always)]
-fn fields_of(line: &[u8]) -> Result<Answer, AnswerRule>
+fn fields_after(x: bool, q: bool, line: &[u8]) -> Result<Answer, AnswerRule>
     requires { length line.now ≡ 19 }
-    ensures { result ≡ fields_answer line.now }
+    ensures { result ≡ fields_after x q line.now }
 {
-    let x = bit_of(line[0])?;
-    let q = bit_of(line[2])?;
     let word = word_of(&line[4..10])?;
     let wait = wait_of(line[11])?;
     let gl = word_of(&line[13..19])?;
@@ -157,9 +153,56 @@ fn judged_length(bytes: &[u8]) -> usize
 fn answer_of(line: &[u8]) -> Result<Answer, AnswerRule>
     ensures { result ≡ line_answer line.now }
 {
-    if has_shape(line) {
-        fields_of(line)
+    match flags_in(line) {
+        Some((x, q)) => fields_after(x, q, line),
+        None => Err(broken_rule(line)),
+    }
+}
+
+// X and Q of a line that has the length and the spaces of an answer, where it spells both.
+#[inline(always)]
+fn flags_in(line: &[u8]) -> Option<(bool, bool)>
+    ensures shape { IfSome result (λ f. is_shaped line.now ≡ true) }
+    ensures bits { IfSome result (λ f. (bit_at (slice_index line.now 0) ≡ Ok f.0) × (bit_at (slice_index line.now 2) ≡ Ok f.1)) }
+    ensures none { IfNone result (is_shaped line.now ≡ true → (bit_at (slice_index line.now 0) ≡ Err BadDigit) ⊎ (bit_at (slice_index line.now 2) ≡ Err BadDigit)) }
+{
+    if line.len() == 19 && line[10] == b' ' && line[12] == b' ' {
+        flags_of(line[0], line[1], line[2], line[3])
     } else {
-        Err(AnswerRule::LineShape)
+        None
+    }
+}
+
+// X and Q, where these bytes spell both, each with a space after it. They are looked at as one number, of which the first byte is the lowest: a
+// digit is 0x30 or 0x31, and a space 0x20.
+#[inline(always)]
+fn flags_of(x: u8, after_x: u8, q: u8, after_q: u8) -> Option<(bool, bool)>
+    ensures spaces { IfSome result (λ f. (after_x ≡ 32) × (after_q ≡ 32)) }
+    ensures bits { IfSome result (λ f. (bit_at x ≡ Ok f.0) × (bit_at q ≡ Ok f.1)) }
+    ensures none { IfNone result (after_x ≡ 32 → after_q ≡ 32 → (bit_at x ≡ Err BadDigit) ⊎ (bit_at q ≡ Err BadDigit)) }
+{
+    let flags = u32::from_le_bytes([x, after_x, q, after_q]);
+    if flags == 0x2031_2031 {
+        Some((true, true))
+    } else if flags == 0x2030_2031 {
+        Some((true, false))
+    } else if flags == 0x2031_2030 {
+        Some((false, true))
+    } else if flags == 0x2030_2030 {
+        Some((false, false))
+    } else {
+        None
+    }
+}
+
+// The rule that a line breaks which has no X and Q: that of its shape comes first.
+#[inline(always)]
+fn broken_rule(line: &[u8]) -> AnswerRule
+    ensures { result ≡ (if is_shaped line.now then BadDigit else LineShape) }
+{
+    if has_shape(line) {
+        AnswerRule::BadDigit
+    } else {
+        AnswerRule::LineShape
     }
 }

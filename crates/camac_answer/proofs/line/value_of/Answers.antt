@@ -1,27 +1,48 @@
-use Rattle.std.proofs.Common.{◌≡◌, ℕ, zero, suc, ◌-◌, ◌<◌, Bool, true, ◌&&◌, T, eqb, get_or, inl, inr, eq-zero-or-pos, eqb→eq, arith}
+use Rattle.std.proofs.Common.{◌≡◌, ℕ, zero, suc, ◌-◌, ◌<◌, ◌≤◌, ◌^◌, Bool, true, ◌&&◌, [], T, eqb, leb, get_or, inl, inr, eq-zero-or-pos, eqb→eq, leb→le, arith}
 use lib.Ieee.Fits.{and_l, and_r}
 use Rattle.camac_answer.specs.Lines.{digit_number}
 use Rattle.camac_answer.specs.declared.line.TheConstants.{VALUES}
-use Rattle.camac_answer.proofs.Digits.{digit_number-most}
 use Rattle.camac_answer.proofs.line.value_of.Goals as goal
 
-abbrev are_numbers : ℕ → Bool
-are_numbers zero = true
-are_numbers (suc b) = eqb (get_or VALUES b 0) (digit_number b) && are_numbers b
+-- what a table has for a byte
+abbrev entry : ℕ → ℕ → ℕ
+entry place b = get_or (get_or VALUES place []) b 0
 
-below : (n b : ℕ) → T (are_numbers n) → b < n → get_or VALUES b 0 ≡ digit_number b
-below zero b t h = absurd (omega arith)
-below (suc n) b t h =
+abbrev are_numbers : (place bytes : ℕ) → Bool
+are_numbers place zero = true
+are_numbers place (suc b) = (eqb (entry place b) (digit_number (16 ^ (5 - place)) b) && leb (entry place b) (2 ^ 24)) && are_numbers place b
+
+abbrev tables_are : ℕ → Bool
+tables_are zero = true
+tables_are (suc place) = are_numbers place 256 && tables_are place
+
+abbrev IsEntry : ℕ → ℕ → Type 0
+IsEntry place b = (entry place b ≡ digit_number (16 ^ (5 - place)) b) × (entry place b ≤ 2 ^ 24)
+
+below : (place n b : ℕ) → T (are_numbers place n) → b < n → IsEntry place b
+below place zero b t h = absurd (omega arith)
+below place (suc n) b t h =
     elim (eq-zero-or-pos (n - b)) [
-      | inl z ↦ let e : b ≡ n = omega arith in rw e (eqb→eq _ _ (and_l _ (are_numbers n) t))
-      | inr g ↦ below n b (and_r _ (are_numbers n) t) (omega arith)
+      | inl z ↦
+          let e : b ≡ n = omega arith in
+          let both = and_l _ (are_numbers place n) t in
+          rw e (eqb→eq _ _ (and_l _ _ both), leb→le _ _ (and_r _ _ both))
+      | inr g ↦ below place n b (and_r _ (are_numbers place n) t) (omega arith)
     ]
 
-in_table : (b : ℕ) → b < 256 → get_or VALUES b 0 ≡ digit_number b
-in_table b h = below 256 b tt h
+table : (n place : ℕ) → T (tables_are n) → place < n → T (are_numbers place 256)
+table zero place t h = absurd (omega arith)
+table (suc n) place t h =
+    elim (eq-zero-or-pos (n - place)) [
+      | inl z ↦ let e : place ≡ n = omega arith in rw e (and_l _ (tables_are n) t)
+      | inr g ↦ table n place (and_r _ (tables_are n) t) (omega arith)
+    ]
+
+in_table : (place b : ℕ) → place < 6 → b < 256 → IsEntry place b
+in_table place b few h = below place 256 b (table 6 place tt few) h
 
 pub returns-clause-value : goal.returns-clause-value
-returns-clause-value c = in_table c.args.digit (omega (arith, c.ranges.digit))
+returns-clause-value c = (in_table c.args.place c.args.digit c.requires (omega (arith, c.ranges.digit))).0
 
 pub returns-clause-most : goal.returns-clause-most
-returns-clause-most c = rw (in_table c.args.digit (omega (arith, c.ranges.digit))) (digit_number-most c.args.digit)
+returns-clause-most c = (in_table c.args.place c.args.digit c.requires (omega (arith, c.ranges.digit))).1
