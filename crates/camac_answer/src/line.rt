@@ -196,7 +196,7 @@ fn flags_of(x: u8, after_x: u8, q: u8, after_q: u8) -> Option<(bool, bool)>
 }
 
 // The rule that a line breaks which has no X and Q: that of its shape comes first.
-#[inline(always)]
+#[inline(never)]
 fn broken_rule(line: &[u8]) -> AnswerRule
     ensures { result ≡ (if is_shaped line.now then BadDigit else LineShape) }
 {
