@@ -162,20 +162,20 @@ impl<'a, const V: usize, const DEPTH: usize, const CAP: usize> Machine<'a, V, DE
         let script = self.checked.script();
         script.well_formed();
         let callee = &script.procedures()[call.procedure];
+        let caller = self.scope;
         self.frames.push(Frame {
             rest: callee.body.as_slice(),
-            owner: Owner::Return(self.scope),
+            owner: Owner::Return(caller),
         });
-        let caller = self.scope.variables;
-        let scope = self.scope.of_procedure(call.procedure, callee);
+        let scope = caller.of_procedure(call.procedure, callee);
+        self.scope = scope;
+        wipe(scope.registers, &mut self.registers, None);
         pass(
             &call.arguments,
-            caller,
+            caller.variables,
             scope.variables.start,
             &mut self.variables,
         );
-        wipe(scope.registers, &mut self.registers, None);
-        self.scope = scope;
     }
 
     // Releases the lock of a crate.
