@@ -1,12 +1,13 @@
 -- A list by its first element, by its last, and by one at a place.
-use Rattle.std.proofs.Common.{◌≡◌, ℕ, zero, suc, ◌+◌, ◌-◌, ◌<◌, ◌≤◌, ◌==◌, true, false, List, [], ◌∷◌, ◌++◌, length, length-append, take, drop, get_or, slice_index_or, slice_set, Some, refl, sym, ap, subst, ◌∙◌, arith}
+use Rattle.std.proofs.Common.{◌≡◌, ℕ, zero, suc, ◌+◌, ◌-◌, ◌<◌, ◌≤◌, ◌==◌, true, false, List, [], ◌∷◌, ◌++◌, length, length-append, take, drop, get_or, take_at, slice_index_or, slice_set, Some, refl, sym, ap, subst, ◌∙◌, arith}
 use Rattle.std.specs.Prelude.{slice_get}
 use Rattle.std.specs.Borrow.{Bor}
 use Rattle.std.proofs.lemmas.Bool.{false≢true, eqb-true}
 use Rattle.camac_lang.specs.declared.tree.Stmt.{Stmt}
 use Rattle.camac_machine.specs.declared.machine.Frame.{Frame}
-use Rattle.camac_machine.specs.declared.machine.Owner.TheVariants.{For}
-use Rattle.camac_machine.specs.MachineState.{TakesFirst, TurnsAgain}
+use Rattle.camac_machine.specs.declared.machine.Owner.TheVariants.{For, Return}
+use Rattle.camac_machine.specs.declared.scope.Scope.{Scope}
+use Rattle.camac_machine.specs.MachineState.{TakesFirst, TurnsAgain, ReturnsTo}
 
 take_all : {A : Type 0} (xs : List A) → take (length xs) xs ≡ xs
 take_all [] = refl
@@ -53,6 +54,13 @@ turned_again fs d x v w n body some e below =
       is = r.2 (record { rest = body; owner = For x (v + 1) w (n - 1) body });
     }
 
+-- the last frame with the caller of its procedure
+pub caller_last : (fs : List Frame) (d : Frame) (p : Scope) → 1 ≤ length fs → (slice_index_or fs (length fs - 1) d).owner ≡ Return p → ReturnsTo fs p
+caller_last fs d p some e =
+    let r = split_last (length fs - 1) fs d (omega (arith, some)) in
+    let f : Frame = slice_index_or fs (length fs - 1) d in
+    record { before = r.0; rest = f.rest; was = r.1 ∙ ap (λ o. r.0 ++ record { rest = f.rest; owner = o } ∷ []) e }
+
 -- a slice that was written whole
 pub filled : {A : Type 0} (xs ws : List A) → length ws ≡ length xs → take (length xs) (ws ++ drop (length ws) xs) ≡ ws
 filled [] [] e = refl
@@ -66,6 +74,11 @@ of_whole P xs ys ws long e p = subst (λ l. P xs l) (sym (filled xs ws (long ∙
 
 pub longer : {A : Type 0} (xs : List A) (x : A) → length (xs ++ x ∷ []) ≡ length xs + 1
 longer xs x = omega (arith, length-append xs (x ∷ []))
+
+pub without_last : {A : Type 0} (before : List A) (x : A) (xs : List A) → xs ≡ before ++ x ∷ [] → take (length xs - 1) xs ≡ before
+without_last before x xs e =
+    let n : length xs - 1 ≡ length before = omega (arith, ap length e, longer before x) in
+    ap (λ k. take k xs) n ∙ ap (take (length before)) e ∙ take_at before (x ∷ []) (length before) refl
 
 -- whether a list is empty, by its length
 pub some_of : {A : Type 0} (xs : List A) → false ≡ (length xs == 0) → 1 ≤ length xs

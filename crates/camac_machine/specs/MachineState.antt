@@ -33,6 +33,7 @@ use Rattle.camac_machine.specs.declared.machine.Owner as rust
 use Rattle.camac_machine.specs.declared.machine.Pending.{Pending}
 use Rattle.camac_machine.specs.declared.machine.Pending.TheVariants as pending
 use Rattle.camac_machine.specs.declared.machine.Pending.TheVariants.{Cycle, Read, Lock, Pause}
+use Rattle.camac_machine.specs.declared.scope.Scope.{Scope}
 use Rattle.camac_machine.specs.declared.transfer.Course.{Course}
 use Rattle.camac_machine.specs.declared.transfer.Transfer.{Transfer}
 
@@ -120,6 +121,12 @@ pub record TurnsAgain (old : List Frame) (variable value : ℕ) (new : List Fram
   pub below : current < last
   pub value_is : value ≡ current + 1
   pub is : new ≡ before ++ record { rest = body; owner = rust.TheVariants.For variable value last (turns - 1) body } ∷ []
+
+-- the innermost of open blocks is the body of a procedure, whose caller sees this
+pub record ReturnsTo (fs : List Frame) (caller : Scope) : Type 0 where
+  pub before : List Frame
+  pub rest : Bor (List Stmt)
+  pub was : fs ≡ before ++ record { rest = rest; owner = rust.TheVariants.Return caller } ∷ []
 
 -- the innermost of open blocks has no statement left
 abbrev pub LastIsOver : List Frame → Type 0

@@ -7,13 +7,14 @@ ghost use Rattle.camac_lang.specs.Tree.{done, choose_else, locked};
 ghost use Rattle.camac_model.specs.Fine.{most_turns};
 ghost use Rattle.camac_model.specs.Meaning.{effect, block_meaning, for_turns, turns as while_turns};
 ghost use Rattle.camac_model.specs.Value.{value};
-ghost use Rattle.camac_machine.specs.MachineState.{context_in, reach, state_of, owner_in, opens_in, holds, free, FineThen, HasRoomFor, HasRoom, IsFineHere, stands, TakesFirst, StandsIn, TurnsAgain, LastIsOver, wanted_if, GoesOn, Advances, Enters, Awaits};
+ghost use Rattle.camac_machine.specs.MachineState.{context_in, reach, state_of, owner_in, opens_in, holds, free, FineThen, HasRoomFor, HasRoom, IsFineHere, stands, TakesFirst, StandsIn, TurnsAgain, ReturnsTo, LastIsOver, wanted_if, GoesOn, Advances, Enters, Awaits};
 ghost use Rattle.camac_machine.specs.Rest.{releases, owed};
 ghost use Rattle.camac_machine.specs.Within.{Refers, PartsRefer, Opens, OwnerFits, StatementFits, outer};
 
 use crate::arguments::{pass, wipe};
 use crate::condition::holds;
 use crate::machine::{Frame, Machine, Owner, Pending};
+use crate::scope::Scope;
 use camac_branch::{Answer, unlock};
 use camac_lang::{Expr, ForHead, Part, ProcedureCall, Stmt, limits};
 use camac_word::CrateNo;
@@ -267,10 +268,28 @@ impl<'a, const V: usize, const DEPTH: usize, const CAP: usize> Machine<'a, V, DE
         }
     }
 
-    // Goes on after the innermost block, which is over, without it. It is no part of its callers: a call at each end of a block costs less than
-    // the frame that would be moved through memory there.
-    #[inline(never)]
+    // Goes on after the innermost block, which is over, without it. Of the body of a procedure no more is read than what its caller sees.
+    #[inline(always)]
     fn end_block(&mut self)
+        requires room { HasRoom self.old }
+        requires open { 1 ≤ length self.old.frames.items }
+        requires over { LastIsOver self.old.frames.items }
+        requires fine { (answers : List Answer) → IsFineHere self.old (stands None self.old answers) }
+        ensures { GoesOn self.old None self.new }
+    {
+        match caller_of(self.frames.as_slice()) {
+            Some(caller) => {
+                self.scope = *caller;
+                self.frames.pop();
+            }
+            None => self.pop_block(),
+        }
+    }
+
+    // The same after any block. It is no part of its callers: a call at each end of a block costs less than the frame that would be moved through
+    // memory there.
+    #[inline(never)]
+    fn pop_block(&mut self)
         requires room { HasRoom self.old }
         requires open { 1 ≤ length self.old.frames.items }
         requires over { LastIsOver self.old.frames.items }
@@ -300,6 +319,20 @@ fn next_statement<'a>(frames: &mut [Frame<'a>]) -> Option<&'a Stmt>
             last.rest = rest;
             Some(first)
         }
+    }
+}
+
+// What the caller of a procedure sees, where the innermost block is the body of one.
+fn caller_of<'b>(frames: &'b [Frame<'_>]) -> Option<&'b Scope>
+    ensures { IfSome result (λ caller. ReturnsTo frames.now caller.now) }
+{
+    let count = frames.len();
+    if count == 0 {
+        return None;
+    }
+    match &frames[count - 1].owner {
+        Owner::Return(caller) => Some(caller),
+        _ => None,
     }
 }
 

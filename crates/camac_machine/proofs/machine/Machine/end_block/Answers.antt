@@ -1,43 +1,37 @@
-use Rattle.std.proofs.Common.{◌≡◌, ◌++◌, [], ◌∷◌, rules, refl, sym, ap, subst, arith}
-use Rattle.std.proofs.lemmas.Bool.{false≢true}
+use Rattle.std.proofs.Common.{◌≡◌, ◌++◌, List, [], ◌∷◌, refl, sym, ap, subst, ◌∙◌}
 use Rattle.std.specs.Prelude.{None}
 use Rattle.camac_lang.specs.Tree.{Block}
 use Rattle.camac_lang.specs.View.{statements_of}
+use Rattle.camac_machine.specs.declared.machine.Frame.{Frame}
 use Rattle.camac_machine.specs.declared.machine.Machine.{Machine}
-use Rattle.camac_machine.specs.MachineState.{state_of, owner_in, opens_in, FineThen, HasRoomFor, Advances}
+use Rattle.camac_machine.specs.declared.machine.Owner.TheVariants.{Return}
+use Rattle.camac_machine.specs.MachineState.{owner_in, opens_in, HasRoomFor, ReturnsTo, Advances}
 use Rattle.camac_machine.specs.Rest.{owed, left_of}
-use Rattle.camac_machine.proofs.Frames.{room_popped, goes_popped, advances_soon, fine_along}
+use Rattle.camac_machine.specs.Store.{held_at}
+use Rattle.camac_machine.proofs.Frames.{room_popped, advances_soon}
+use Rattle.camac_machine.proofs.Leaves.{return_leaves}
+use Rattle.camac_machine.proofs.Lists.{without_last}
 use Rattle.camac_machine.proofs.machine.Machine.end_block.Goals as goal
 
-pub leave-requires : goal.leave-requires
-leave-requires g c =
+pub returns-in-Some : goal.returns-in-Some
+returns-in-Some g c =
     let h = c.args.self.now in
-    let frame = c.in-Some.frame in
-    let was : h.frames.items ≡ c.pop.new.self.items ++ frame ∷ [] = c.in-Some.ensures.items in
-    let o = owner_in h frame.owner in
-    let mid : Machine g.row.V g.row.DEPTH g.row.CAP = record h { frames = c.pop.new.self } in
-    let e = ap statements_of (c.requires.over c.pop.new.self.items frame was) in
+    let p = c.in-Some.caller.now in
+    let fs = c.pop.new.self in
+    let t = subst (λ (gs : List Frame). ReturnsTo gs p) c.as_slice.ensures.value c.in-Some.ensures in
+    let f : Frame = record { rest = t.rest; owner = Return p } in
+    let was : h.frames.items ≡ fs.items ++ f ∷ [] = t.was ∙ ap (λ gs. gs ++ f ∷ []) (sym (c.pop.ensures.rest ∙ without_last t.before f h.frames.items t.was)) in
+    let o = owner_in h f.owner in
+    let mid : Machine g.row.V g.row.DEPTH g.row.CAP = record h { frames = fs } in
+    let e = ap statements_of (c.requires.over fs.items f was) in
     let P : Block → Type 0 = λ b. HasRoomFor mid (opens_in mid ++ record { block = b; owner = o } ∷ []) in
-    let F : Block → Type 0 = λ b. FineThen mid (λ k. left_of k (record { block = b; owner = o })) in (
-      search rules,
-      (
-        subst P e (room_popped h frame c.pop.new.self was c.requires.room),
-        subst F e (λ answers. fine_along mid h refl refl _ _ (sym (goes_popped h frame c.pop.new.self was (state_of h answers))) (c.requires.fine answers)),
-      ),
-    )
-
-pub unreachable-requires : goal.unreachable-requires
-unreachable-requires g c =
-    let open' = c.requires.open in
-    false≢true (c.in-None.ensures.variant.1 (omega (arith, open')))
-
-pub returns : goal.returns
-returns g c =
-    let h = c.args.self.now in
-    let frame = c.in-Some.frame in
-    let was : h.frames.items ≡ c.pop.new.self.items ++ frame ∷ [] = c.in-Some.ensures.items in
-    let o = owner_in h frame.owner in
-    let mid : Machine g.row.V g.row.DEPTH g.row.CAP = record h { frames = c.pop.new.self } in
-    let e = ap statements_of (c.requires.over c.pop.new.self.items frame was) in
-    let A : Block → Type 0 = λ b. Advances 2 mid (λ k. left_of k (record { block = b; owner = o })) None c.leave.new.self in
-    record { before = c.pop.new.self.items; last = frame; was = was; advances = subst A (sym e) (advances_soon mid (λ k. owed k o) None c.leave.new.self c.leave.ensures) }
+    let A : Block → Type 0 = λ b. Advances 2 mid (λ k. left_of k (record { block = b; owner = o })) None (record mid { scope = p }) in
+    record {
+      before = fs.items;
+      last = f;
+      was = was;
+      advances =
+          subst A (sym e)
+          (advances_soon mid (λ k. owed k o) None (record mid { scope = p })
+          (return_leaves mid p (held_at p.variables h.variables) (held_at p.registers h.registers) refl refl (subst P e (room_popped h f fs was c.requires.room))));
+    }
