@@ -1,5 +1,5 @@
 -- Texts one after another.
-use Rattle.std.proofs.Common.{◌≡◌, ℕ, ◌+◌, ◌-◌, ◌<◌, ◌≤◌, List, [], ◌∷◌, ◌++◌, length, get_or, drop, refl, Option, ap, sym, ◌∙◌, zero, suc, append_assoc, append-nil, add-one, subst, arith}
+use Rattle.std.proofs.Common.{◌≡◌, ℕ, ◌+◌, ◌-◌, ◌<◌, ◌≤◌, List, [], ◌∷◌, ◌++◌, length, get_or, take, drop, refl, Option, ap, sym, ◌∙◌, zero, suc, append_assoc, append-nil, take-add, add-one, subst, arith}
 use Rattle.std.specs.Prelude.{Result, Ok, Err}
 use Rattle.std.specs.Result.{IsErr}
 use Rattle.std.specs.List.{between, flat_map, range_with_len}
@@ -96,6 +96,15 @@ laid_all f xs i old le = ap (λ (l : List ℕ). old ++ l) (flat_map-none f xs i 
 pub flat_map-between_more : (f : ℕ → List ℕ) (xs : List ℕ) (from i : ℕ) (d : ℕ) → from ≤ i → i < length xs → flat_map f (between from (i + 1) xs) ≡ flat_map f (between from i xs) ++ f (get_or xs i d)
 flat_map-between_more f xs from i d le lt =
     ap (flat_map f) (between_more xs from i d le lt) ∙ flat_map-append f (between from i xs) (get_or xs i d ∷ []) ∙ ap (λ (l : List ℕ). flat_map f (between from i xs) ++ l) (append-nil (f (get_or xs i d)))
+
+-- the texts of elements from a place on up to another, and then up to a third
+pub flat_map-between_join : (f : ℕ → List ℕ) (xs : List ℕ) (i j k : ℕ) → i ≤ j → j ≤ k → flat_map f (between i k xs) ≡ flat_map f (between i j xs) ++ flat_map f (between j k xs)
+flat_map-between_join f xs i j k le more =
+    let count : k - i ≡ (j - i) + (k - j) = omega (arith, le, more) in
+    let back : i + (j - i) ≡ j = omega (arith, le) in
+    let parts : between i k xs ≡ between i j xs ++ between j k xs =
+    ap (λ (n : ℕ). take n (drop i xs)) count ∙ take-add (j - i) (k - j) (drop i xs) ∙ ap (λ (l : List ℕ). between i j xs ++ take (k - j) l) (drop-drop (j - i) i xs ∙ ap (λ (n : ℕ). drop n xs) back) in
+    ap (flat_map f) parts ∙ flat_map-append f (between i j xs) (between j k xs)
 
 -- those texts were laid after others
 pub laid_between : (f : ℕ → List ℕ) (xs : List ℕ) (i j : ℕ) (old new : List ℕ) → i ≤ j → new ≡ old ++ flat_map f (between i j xs) → old ++ flat_map f (drop i xs) ≡ new ++ flat_map f (drop j xs)

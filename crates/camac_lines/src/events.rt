@@ -169,7 +169,7 @@ fn put_file_words<W: Write>(
     let mut first = 0;
     let mut room = (LONGEST_LINE - 1 - line.len()) / 7;
     'pieces: while words.len() - first > room {
-        line.push_words(words, first, first + room);
+        line.push_many_words(words, first, first + room);
         out.write_text(line.as_bytes())?;
         line.clear();
         first += room;

@@ -1,6 +1,6 @@
 // An output line while it is laid out.
 
-ghost use Rattle.std.specs.Prelude.{◌≡◌, ◌≤◌, ◌+◌, ◌-◌, ◌*◌, ◌++◌, [], length, take, decimal};
+ghost use Rattle.std.specs.Prelude.{◌≡◌, ◌<◌, ◌≤◌, ◌+◌, ◌-◌, ◌*◌, ◌^◌, ◌++◌, [], length, take, slice_index, decimal};
 ghost use Rattle.std.specs.List.{between, flat_map};
 ghost use Rattle.camac_branch.specs.Address.{address};
 ghost use Rattle.camac_lines.specs.Cycles.{cycle_start};
@@ -38,7 +38,21 @@ impl Model for Line {
     ghost invariant = { λ l. l.len ≤ 256 };
 }
 
+// Writes a word of a file over the bytes from a place on, after a space, and returns the place after it.
+#[inline(always)]
+fn word_in(bytes: &mut [u8], start: usize, words: &EventWords<'_>, i: usize) -> usize
+    requires place { i < length words.now }
+    requires room { start + 7 ≤ length bytes.old }
+    ensures written { take result bytes.new ≡ take start bytes.old ++ word_text (slice_index words.now i) }
+    ensures end { result ≡ start + 7 }
+    ensures len { length bytes.new ≡ length bytes.old }
+{
+    let [high, middle, low] = words.bytes(i);
+    bytes_in(bytes, start, &spaced(hex_bytes(high, middle, low)))
+}
+
 // Writes words of a file over the bytes from a place on, each after a space, and returns the place after them.
+#[inline(always)]
 fn words_in(
     bytes: &mut [u8],
     start: usize,
@@ -54,10 +68,48 @@ fn words_in(
 {
     let mut at = start;
     'words: for i in first..last {
-        let [high, middle, low] = words.bytes(i);
-        at = bytes_in(bytes, at, &spaced(hex_bytes(high, middle, low)));
+        at = word_in(bytes, at, words, i);
     }
     at
+}
+
+// Four words of a file from a place on, each after a space.
+#[inline(always)]
+fn four_words(words: &EventWords<'_>, first: usize) -> [u8; 28]
+    requires places { first + 4 ≤ length words.now }
+    requires fits { first + 4 < 2 ^ 64 }
+    ensures { result ≡ flat_map word_text (between first (first + 4) words.now) }
+{
+    let mut bytes = [0; 28];
+    let mut at = 0;
+    'words: for i in 0..4 {
+        at = word_in(&mut bytes, at, words, first + i);
+    }
+    bytes
+}
+
+// The same as `words_in`, and quick where they are many: four are laid out in bytes of their own, so no copy of one is tested for an overlap.
+#[inline(always)]
+fn many_words_in(
+    bytes: &mut [u8],
+    start: usize,
+    words: &EventWords<'_>,
+    first: usize,
+    last: usize,
+) -> usize
+    requires places { (first ≤ last) × (last ≤ length words.now) }
+    requires room { start + 7 * (last - first) ≤ length bytes.old }
+    ensures written { take result bytes.new ≡ take start bytes.old ++ flat_map word_text (between first last words.now) }
+    ensures end { result ≡ start + 7 * (last - first) }
+    ensures len { length bytes.new ≡ length bytes.old }
+{
+    let mut at = start;
+    let mut next = first;
+    'fours: while last - next >= 4 {
+        at = bytes_in(bytes, at, &four_words(words, next));
+        next += 4;
+    }
+    words_in(bytes, at, words, next, last)
 }
 
 impl Line {
@@ -136,6 +188,17 @@ impl Line {
         ensures len { length self.new ≡ length self.old + 7 * (last - first) }
     {
         self.len = words_in(&mut self.bytes, self.len, words, first, last);
+    }
+
+    /// Puts words of a file at the end as `push_words` does. It is quick where they are many.
+    #[inline(always)]
+    pub(crate) fn push_many_words(&mut self, words: &EventWords<'_>, first: usize, last: usize)
+        requires places { (first ≤ last) × (last ≤ length words.now) }
+        requires room { length self.old + 7 * (last - first) ≤ LONGEST_LINE }
+        ensures text { self.new ≡ self.old ++ flat_map word_text (between first last words.now) }
+        ensures len { length self.new ≡ length self.old + 7 * (last - first) }
+    {
+        self.len = many_words_in(&mut self.bytes, self.len, words, first, last);
     }
 
     /// Puts the beginning of a cycle's line at the end, the command alone.

@@ -11,9 +11,9 @@ returns-in_err-write_text-clause-text g c =
     let first = c.pieces.first in
     let last = first + c.pieces.room in
     let end : List ℕ = codes "\n" in
-    let line = c.push_words.new.self in
+    let line = c.push_many_words.new.self in
     let rest : List ℕ = flat_map word_text (drop last c.args.words.now) in
-    let pushed = under_way_laid word_text c.args.words.now first last _ c.pieces.line line end _ _ (omega arith) c.push_words.ensures.text c.pieces.invariant.0 in
+    let pushed = under_way_laid word_text c.args.words.now first last _ c.pieces.line line end _ _ (omega arith) c.push_many_words.ensures.text c.pieces.invariant.0 in
     Puts-at_err c.from_residual.result _ _ _ _ c.from_residual.ensures.0
     (under_way_stops _ _ line (rest ++ end) _ _ _ pushed (append_assoc line rest end) (rw c.as_bytes.ensures at c.in_err-write_text.ensures.text))
 
@@ -22,9 +22,9 @@ pieces-preserved g c =
     let first = c.pieces.first in
     let last = first + c.pieces.room in
     let end : List ℕ = codes "\n" in
-    let line = c.push_words.new.self in
+    let line = c.push_many_words.new.self in
     let rest : List ℕ = flat_map word_text (drop last c.args.words.now) in
-    let pushed = under_way_laid word_text c.args.words.now first last _ c.pieces.line line end _ _ (omega arith) c.push_words.ensures.text c.pieces.invariant.0 in
+    let pushed = under_way_laid word_text c.args.words.now first last _ c.pieces.line line end _ _ (omega arith) c.push_many_words.ensures.text c.pieces.invariant.0 in
     let written = under_way_next _ _ line (rest ++ end) _ _ _ pushed (append_assoc line rest end) (rw c.as_bytes.ensures at c.in_ok-write_text.ensures.text) in (
       under_way_as _ (rest ++ end) (c.clear.new.self ++ rest ++ end) _ _ _ written (ap (λ (l : List ℕ). l ++ rest ++ end) (sym c.clear.ensures)) refl,
       c.in_ok-write_text.ensures.failed ∙ or-false _ ∙ c.pieces.invariant.1,
@@ -39,7 +39,7 @@ returns-clause-text g c =
     let first = c.pieces.first in
     let end : List ℕ = codes "\n" in
     let count = c.len-2.result in
-    let pushed = under_way_laid word_text words first count _ c.pieces.line c.push_words-2.new.self end _ _ (omega (arith, c.len-2.ensures, c.pieces.invariant.2)) c.push_words-2.ensures.text c.pieces.invariant.0 in
+    let pushed = under_way_laid word_text words first count _ c.pieces.line c.push_words.new.self end _ _ (omega (arith, c.len-2.ensures, c.pieces.invariant.2)) c.push_words.ensures.text c.pieces.invariant.0 in
     let past : length words ≤ count = omega (arith, c.len-2.ensures) in
-    let all = ap (λ (l : List ℕ). l ++ end) (laid_all word_text words count c.push_words-2.new.self past) in
+    let all = ap (λ (l : List ℕ). l ++ end) (laid_all word_text words count c.push_words.new.self past) in
     under_way_left _ _ _ _ _ pushed (all ∙ sym c.push_str.ensures.bytes)

@@ -1,8 +1,6 @@
-use Rattle.std.proofs.Common.{◌≡◌, ◌++◌, ◌∙◌, ◌∷◌, [], List, ℕ, codes, get_or, length, take, sym, ap, refl, append-nil, append_assoc, arith}
+use Rattle.std.proofs.Common.{◌≡◌, ◌++◌, ◌∙◌, List, ℕ, get_or, take, sym, ap, append-nil, append_assoc, arith}
 use Rattle.std.specs.List.{between, flat_map}
 use Rattle.std.proofs.lemmas.List.Edits.{between_none}
-use Rattle.hex.specs.Hex.{encode_with, encode_lower}
-use Rattle.camac_lines.specs.Digits.{hex_word}
 use Rattle.camac_lines.specs.Events.{word_text}
 use Rattle.camac_lines.proofs.Texts.{flat_map-between_more}
 use Rattle.camac_lines.proofs.line.words_in.Goals as goal
@@ -14,30 +12,22 @@ words-init c = record {
   len = omega arith;
 }
 
-length-word_text : (word : ℕ) → length (word_text word) ≡ 7
-unfolding hex_word encode_with
-length-word_text word = refl
-
 pub words-preserved : goal.words-preserved
-unfolding hex_word
 words-preserved c =
     let words = c.args.words.now in
     let i = c.words.i in
     let first = c.args.first in
     let before : List ℕ = take c.args.start c.args.bytes.now in
     let old : List ℕ = flat_map word_text (between first i words) in
-    let text : c.spaced.result ≡ word_text (get_or words i 0) =
-    c.spaced.ensures ∙ ap (λ (l : List ℕ). codes " " ++ l) (c.hex_bytes.ensures ∙ ap (λ (b : List ℕ). encode_lower (get_or b 0 0 ∷ get_or b 1 0 ∷ get_or b 2 0 ∷ [])) c.bytes.ensures) in
-    let seven : length c.spaced.result ≡ 7 = ap length text ∙ length-word_text (get_or words i 0) in
+    let text : List ℕ = word_text (get_or words i 0) in
     let more = flat_map-between_more word_text words first i 0 (omega (arith, c.words.auto.i)) (omega (arith, c.words-test.true, c.requires.places.1)) in
     record {
-      so_far = c.bytes_in-at.ensures.written
-          ∙ ap (λ (l : List ℕ). l ++ c.spaced.result) c.words.invariant.so_far
-          ∙ ap (λ (l : List ℕ). (before ++ old) ++ l) text
-          ∙ append_assoc before old (word_text (get_or words i 0))
+      so_far = c.word_in-at.ensures.written
+          ∙ ap (λ (l : List ℕ). l ++ text) c.words.invariant.so_far
+          ∙ append_assoc before old text
           ∙ ap (λ (l : List ℕ). before ++ l) (sym more);
-      place = omega (arith, c.bytes_in-at.ensures.end, seven, c.words.invariant.place, c.words.auto.i);
-      len = c.bytes_in-at.ensures.len ∙ c.words.invariant.len;
+      place = omega (arith, c.word_in-at.ensures.end, c.words.invariant.place, c.words.auto.i);
+      len = c.word_in-at.ensures.len ∙ c.words.invariant.len;
     }
 
 pub returns-clause-written : goal.returns-clause-written
