@@ -6,7 +6,7 @@ from pathlib import Path
 from rounds.repository import Stop
 
 # A crate's rounds run side by side, so none has more bodies.
-MOST = 12
+MOST = 24
 
 
 def read_edits(file):
