@@ -1,10 +1,9 @@
 -- A region of one station.
-use Rattle.std.proofs.Common.{◌≡◌, ℕ, suc, ◌+◌, ◌-◌, ◌<◌, ◌≤◌, Bool, true, Option, Some, Result, Ok, refl, sym, ap, ap₂, ◌∙◌, arith}
+use Rattle.std.proofs.Common.{◌≡◌, ℕ, ◌<◌, Bool, true, Option, Some, Ok, sym, ap, ap₂, ◌∙◌, arith}
 use Rattle.std.specs.Prelude.{◌&&◌, is_some, nat_lt}
 use Rattle.std.proofs.lemmas.Bool.{lt-ltb}
 use Rattle.camac_range.specs.Interval.{Interval}
 use Rattle.camac_branch.specs.Plan.{Layout, crate_waits}
-use Rattle.camac_rules.specs.Fault.{Fault}
 use Rattle.camac_rules.specs.Known.{Region}
 use Rattle.camac_rules.specs.Walks.{all_from, count_below, hull_from}
 use Rattle.camac_rules.specs.Addresses.{all_in, are_stations, are_stations_in, command_widths, crate_end, crate_widths, is_station, missing, region_widths, station_end, station_widths, undeclared}
