@@ -5,10 +5,10 @@ ghost use Rattle.camac_lang.specs.View.{expression_of, parameter_of, procedure_o
 ghost use Rattle.camac_rules.specs.Procedures.{ranges_of, parameter_range, arguments_fit, unfit, call_rule, can_be_called, at_entry};
 ghost use Rattle.camac_rules.specs.Refusal.{given, required};
 ghost use Rattle.camac_range.specs.Interval.{is_inside};
-ghost use Rattle.camac_check_simple.specs.Gives.{Gives, by_code, verdict_of};
+ghost use Rattle.camac_check_simple.specs.Gives.{Gives, by_code, leaving};
 
 use camac_check_known::{CheckFault, Costs, Facts, numbers_of, range_of};
-use camac_check_simple::{Context, Findings};
+use camac_check_simple::Context;
 use camac_lang::{Expr, Parameter, Procedure, ProcedureCall};
 use camac_range::Range;
 use camac_rules::{Case, CheckRule, Numbers};
@@ -20,18 +20,15 @@ pub fn call(
     alloc: Global,
     context: &Context,
     call: &ProcedureCall,
-    known: Facts,
-) -> Result<Findings, CheckFault>
-    ensures { Gives verdict_of result (call_rule (by_code context.now) call.now.line call.now.procedure (map expression_of call.now.arguments.items) known) }
+    known: &mut Facts,
+) -> Result<Costs, CheckFault>
+    ensures { Gives (leaving known.new) result (call_rule (by_code context.now) call.now.line call.now.procedure (map expression_of call.now.arguments.items) known.old) }
 {
     let line = call.line;
     let ranges = ranges_of(alloc, line, &call.arguments, known.ranges())?;
     let called = procedure_at(context.procedures, call.procedure, line)?;
     arguments_in_range(call.procedure, &ranges, &called.parameters, line)?;
-    Ok(Findings {
-        known: Some(known),
-        costs: Costs::of_call(called.cycles, called.words, called.steps),
-    })
+    Ok(Costs::of_call(called.cycles, called.words, called.steps))
 }
 
 // The ranges of these arguments.

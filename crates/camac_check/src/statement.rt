@@ -1,16 +1,18 @@
 // The rules of all statements, and of blocks of them.
 
-ghost use Rattle.std.specs.Prelude.{◌≡◌, IsTrue, OnOk, Some, map};
+ghost use Rattle.std.specs.Prelude.{◌≡◌, IfErr, IfOk, IsFalse, IsTrue, None, OnOk, Some, map};
 ghost use Rattle.camac_lang.specs.Tree.{choose, locked};
 ghost use Rattle.camac_lang.specs.View.{expression_of, for_of, keep_of, part_of, statement_of, statements_of, while_of};
 ghost use Rattle.camac_rules.specs.Loops.{for_rule, with_fixed};
-ghost use Rattle.camac_rules.specs.Costs.{unreached};
+ghost use Rattle.camac_rules.specs.Costs.{no_costs, unreached, verdict};
 ghost use Rattle.camac_rules.specs.Refusal.{if_reached};
 ghost use Rattle.camac_rules.specs.Statements.{accept_statement, accept_block};
 ghost use Rattle.camac_check_rows.specs.Rows.{block_rows, statement_rows, with_rows};
 ghost use Rattle.camac_check_rows.specs.Statements.{is_simple};
 ghost use Rattle.camac_check.specs.Ends.{loop_end};
-ghost use Rattle.camac_check_simple.specs.Gives.{Gives, by_code, verdict_of};
+ghost use Rattle.camac_check_simple.specs.Gives.{Gives, by_code, leaving, verdict_of};
+ghost use Rattle.camac_check_known.specs.declared.fault.CheckFault.TheVariants.{OutOfMemory};
+ghost use Rattle.camac_rules.specs.Cycles.{Around as Surroundings};
 
 use crate::procedure::call;
 use camac_check_known::{Around, CheckFault, Costs, Facts, join, split, waits_of};
@@ -43,90 +45,30 @@ pub fn accept_block(
     let mut here = known;
     let mut costs = Costs::new(0, 0, 0);
     'statements: for statement in block {
-        let next = match accept_next(alloc, context, around, statement, here, rows) {
+        let next = match accept_next(alloc, context, around, statement, &mut here, rows) {
             Ok(next) => next,
             Err(fault) => return Err(fault),
         };
-        here = next.known;
-        costs = costs.then(next.costs);
+        costs = costs.then(next);
     }
     Ok(Findings { known: here, costs })
 }
 
 /// Checks a statement, if it can be reached, and puts its rows. What was known before it is changed in place.
 #[cycle(statements)]
-#[tactic(auto, unfolding(camac_rules::specs::Refusal::if_reached))]
 pub fn accept_next(
     alloc: Global,
     context: &Context,
     around: &Around,
     statement: &Stmt,
-    known: Option<Facts>,
+    known: &mut Option<Facts>,
     rows: &mut Rows,
-) -> Result<Findings, CheckFault>
-    ensures found { Gives verdict_of result (if_reached unreached known (accept_statement (by_code context.now) around.now (statement_of statement.now))) }
-    ensures rows { OnOk result (rows.new ≡ with_rows rows.old (statement_rows (by_code context.now) around.now (statement_of statement.now) known)) }
+) -> Result<Costs, CheckFault>
+    ensures found { Gives (verdict known.new) result (if_reached unreached known.old (accept_statement (by_code context.now) around.now (statement_of statement.now))) }
+    ensures rows { OnOk result (rows.new ≡ with_rows rows.old (statement_rows (by_code context.now) around.now (statement_of statement.now) known.old)) }
 {
-    match known {
-        Some(known) => accept_reached(alloc, context, around, statement, known, rows),
-        None => {
-            rows.pass_over(alloc, context, statement)?;
-            Ok(Findings {
-                known: None,
-                costs: Costs::new(0, 0, 0),
-            })
-        }
-    }
-}
-
-// Checks a statement that can be reached.
-#[cycle(statements)]
-#[tactic(auto, unfolding(camac_rules::specs::Refusal::go_on, camac_rules::specs::Refusal::if_reached))]
-fn accept_reached(
-    alloc: Global,
-    context: &Context,
-    around: &Around,
-    statement: &Stmt,
-    known: Facts,
-    rows: &mut Rows,
-) -> Result<Findings, CheckFault>
-    ensures found { Gives verdict_of result (accept_statement (by_code context.now) around.now (statement_of statement.now) known) }
-    ensures rows { OnOk result (rows.new ≡ with_rows rows.old (statement_rows (by_code context.now) around.now (statement_of statement.now) (Some known))) }
-{
-    let here = Place { context, around };
+    let place = Place { context, around };
     match statement {
-        Stmt::If { line, test, then } => {
-            accept_if(alloc, &here, *line, &test.parts, then, known, rows)
-        }
-        Stmt::IfElse {
-            line,
-            test,
-            then,
-            otherwise,
-        } => {
-            let ways = split(alloc, *line, &test.parts, known)?;
-            let times = times_at(&ways.fails);
-            let mut one = rows.inside(alloc);
-            let first = accept_block(alloc, context, around, then, ways.holds, &mut one)?;
-            let mut two = rows.inside(alloc);
-            let second = accept_block(alloc, context, around, otherwise, ways.fails, &mut two)?;
-            let costs = first.costs.or(second.costs);
-            let own = if_row(*line, costs);
-            rows.put_block(own, &one, first_arm(first.costs, second.costs))?;
-            let other = else_row(*line, times, second.costs);
-            rows.put_block(other, &two, second_arm(first.costs, second.costs))?;
-            Ok(Findings {
-                known: join(alloc, first.known, second.known)?,
-                costs,
-            })
-        }
-        Stmt::Lock {
-            line,
-            crate_no,
-            body,
-        } => accept_lock(alloc, &here, *line, crate_no, body, known, rows),
-        Stmt::For { head, body } => accept_for(alloc, &here, head, body, known, rows),
-        Stmt::While { head, body } => accept_while(alloc, &here, head, body, known, rows),
         Stmt::Assign(_)
         | Stmt::SetRegister(_)
         | Stmt::Single(_)
@@ -136,7 +78,12 @@ fn accept_reached(
         | Stmt::Put(_)
         | Stmt::CrateCall(_)
         | Stmt::LamCall(_)
-        | Stmt::Call(_) => accept_simple(alloc, &here, statement, known, rows),
+        | Stmt::Call(_) => accept_simple(alloc, &place, statement, known, rows),
+        Stmt::If { .. }
+        | Stmt::IfElse { .. }
+        | Stmt::For { .. }
+        | Stmt::While { .. }
+        | Stmt::Lock { .. } => Ok(accept_outer(alloc, &place, statement, known, rows)?),
     }
 }
 
@@ -146,38 +93,60 @@ fn accept_simple(
     alloc: Global,
     place: &Place,
     statement: &Stmt,
-    known: Facts,
+    known: &mut Option<Facts>,
     rows: &mut Rows,
-) -> Result<Findings, CheckFault>
+) -> Result<Costs, CheckFault>
     requires { IsTrue (is_simple (statement_of statement.now)) }
-    ensures found { Gives verdict_of result (accept_statement (by_code place.now.context.now) place.now.around.now (statement_of statement.now) known) }
-    ensures rows { OnOk result (rows.new ≡ with_rows rows.old (statement_rows (by_code place.now.context.now) place.now.around.now (statement_of statement.now) (Some known))) }
+    ensures found { Gives (verdict known.new) result (if_reached unreached known.old (accept_statement (by_code place.now.context.now) place.now.around.now (statement_of statement.now))) }
+    ensures rows { OnOk result (rows.new ≡ with_rows rows.old (statement_rows (by_code place.now.context.now) place.now.around.now (statement_of statement.now) known.old)) }
 {
-    if rows.are_kept() {
-        with_its_row(alloc, place, statement, known, rows)
-    } else {
-        by_its_rule(alloc, place, statement, known)
+    match known {
+        None => pass_over(alloc, place.context, statement, rows),
+        Some(known) => {
+            if rows.are_kept() {
+                with_its_row(alloc, place, statement, known, rows)
+            } else {
+                by_its_rule(alloc, place, statement, known)
+            }
+        }
     }
 }
 
-// The same where rows are kept. It stands apart, so that a check makes no room for its row.
+// Passes over a statement that can't be reached. It stands apart, since this is rare.
+#[inline(never)]
+#[tactic(auto, unfolding(camac_rules::specs::Refusal::if_reached))]
+fn pass_over(
+    alloc: Global,
+    context: &Context,
+    statement: &Stmt,
+    rows: &mut Rows,
+) -> Result<Costs, CheckFault>
+    ensures costs { IfOk result (λ c. c ≡ no_costs) }
+    ensures memory { IfErr result (λ e. e ≡ OutOfMemory) }
+    ensures rows { (around : Surroundings) → OnOk result (rows.new ≡ with_rows rows.old (statement_rows (by_code context.now) around (statement_of statement.now) None)) }
+{
+    rows.pass_over(alloc, context, statement)?;
+    Ok(Costs::new(0, 0, 0))
+}
+
+// A statement that holds no others where rows are kept. It stands apart, so that a check makes no room for its row.
 #[inline(never)]
 #[tactic(auto, unfolding(camac_rules::specs::Refusal::if_reached))]
 fn with_its_row(
     alloc: Global,
     place: &Place,
     statement: &Stmt,
-    known: Facts,
+    known: &mut Facts,
     rows: &mut Rows,
-) -> Result<Findings, CheckFault>
+) -> Result<Costs, CheckFault>
     requires { IsTrue (is_simple (statement_of statement.now)) }
-    ensures found { Gives verdict_of result (accept_statement (by_code place.now.context.now) place.now.around.now (statement_of statement.now) known) }
-    ensures rows { OnOk result (rows.new ≡ with_rows rows.old (statement_rows (by_code place.now.context.now) place.now.around.now (statement_of statement.now) (Some known))) }
+    ensures found { Gives (leaving known.new) result (accept_statement (by_code place.now.context.now) place.now.around.now (statement_of statement.now) known.old) }
+    ensures rows { OnOk result (rows.new ≡ with_rows rows.old (statement_rows (by_code place.now.context.now) place.now.around.now (statement_of statement.now) (Some known.old))) }
 {
-    let detail = detail_of(place.context, statement, Some(&known))?;
-    let found = by_its_rule(alloc, place, statement, known)?;
-    rows.put(statement, found.costs, detail)?;
-    Ok(found)
+    let detail = detail_of(place.context, statement, Some(known))?;
+    let costs = by_its_rule(alloc, place, statement, known)?;
+    rows.put(statement, costs, detail)?;
+    Ok(costs)
 }
 
 // The rule of a statement that holds no others.
@@ -185,10 +154,10 @@ fn by_its_rule(
     alloc: Global,
     place: &Place,
     statement: &Stmt,
-    known: Facts,
-) -> Result<Findings, CheckFault>
+    known: &mut Facts,
+) -> Result<Costs, CheckFault>
     requires { IsTrue (is_simple (statement_of statement.now)) }
-    ensures { Gives verdict_of result (accept_statement (by_code place.now.context.now) place.now.around.now (statement_of statement.now) known) }
+    ensures { Gives (leaving known.new) result (accept_statement (by_code place.now.context.now) place.now.around.now (statement_of statement.now) known.old) }
 {
     match statement {
         Stmt::Assign(assignment) => assign(place.around, assignment, known),
@@ -206,6 +175,92 @@ fn by_its_rule(
         | Stmt::For { .. }
         | Stmt::While { .. }
         | Stmt::Lock { .. } => unreachable!(),
+    }
+}
+
+// Checks a statement that holds others. It stands apart, as those below do, so that no other statement makes room for its variables.
+#[inline(never)]
+#[cycle(statements)]
+#[tactic(auto, unfolding(camac_rules::specs::Refusal::if_reached))]
+fn accept_outer(
+    alloc: Global,
+    place: &Place,
+    statement: &Stmt,
+    known: &mut Option<Facts>,
+    rows: &mut Rows,
+) -> Result<Costs, CheckFault>
+    requires { IsFalse (is_simple (statement_of statement.now)) }
+    ensures found { Gives (verdict known.new) result (if_reached unreached known.old (accept_statement (by_code place.now.context.now) place.now.around.now (statement_of statement.now))) }
+    ensures rows { OnOk result (rows.new ≡ with_rows rows.old (statement_rows (by_code place.now.context.now) place.now.around.now (statement_of statement.now) known.old)) }
+{
+    match known.take() {
+        None => pass_over(alloc, place.context, statement, rows),
+        Some(facts) => {
+            let found = accept_reached(alloc, place, statement, facts, rows)?;
+            *known = found.known;
+            Ok(found.costs)
+        }
+    }
+}
+
+// Checks a statement that holds others and can be reached.
+#[cycle(statements)]
+#[tactic(auto, unfolding(camac_rules::specs::Refusal::go_on, camac_rules::specs::Refusal::if_reached))]
+fn accept_reached(
+    alloc: Global,
+    place: &Place,
+    statement: &Stmt,
+    known: Facts,
+    rows: &mut Rows,
+) -> Result<Findings, CheckFault>
+    requires { IsFalse (is_simple (statement_of statement.now)) }
+    ensures found { Gives verdict_of result (accept_statement (by_code place.now.context.now) place.now.around.now (statement_of statement.now) known) }
+    ensures rows { OnOk result (rows.new ≡ with_rows rows.old (statement_rows (by_code place.now.context.now) place.now.around.now (statement_of statement.now) (Some known))) }
+{
+    match statement {
+        Stmt::If { line, test, then } => {
+            accept_if(alloc, place, *line, &test.parts, then, known, rows)
+        }
+        Stmt::IfElse {
+            line,
+            test,
+            then,
+            otherwise,
+        } => {
+            let ways = split(alloc, *line, &test.parts, known)?;
+            let times = times_at(&ways.fails);
+            let mut one = rows.inside(alloc);
+            let (context, around) = (place.context, place.around);
+            let first = accept_block(alloc, context, around, then, ways.holds, &mut one)?;
+            let mut two = rows.inside(alloc);
+            let second = accept_block(alloc, context, around, otherwise, ways.fails, &mut two)?;
+            let costs = first.costs.or(second.costs);
+            let own = if_row(*line, costs);
+            rows.put_block(own, &one, first_arm(first.costs, second.costs))?;
+            let other = else_row(*line, times, second.costs);
+            rows.put_block(other, &two, second_arm(first.costs, second.costs))?;
+            Ok(Findings {
+                known: join(alloc, first.known, second.known)?,
+                costs,
+            })
+        }
+        Stmt::Lock {
+            line,
+            crate_no,
+            body,
+        } => accept_lock(alloc, place, *line, crate_no, body, known, rows),
+        Stmt::For { head, body } => accept_for(alloc, place, head, body, known, rows),
+        Stmt::While { head, body } => accept_while(alloc, place, head, body, known, rows),
+        Stmt::Assign(_)
+        | Stmt::SetRegister(_)
+        | Stmt::Single(_)
+        | Stmt::Scan(_)
+        | Stmt::QStop { .. }
+        | Stmt::QRepeat { .. }
+        | Stmt::Put(_)
+        | Stmt::CrateCall(_)
+        | Stmt::LamCall(_)
+        | Stmt::Call(_) => unreachable!(),
     }
 }
 

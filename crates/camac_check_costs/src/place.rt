@@ -184,8 +184,15 @@ fn place_in_block<'a>(
             None => return place_in(alloc, context, around, statement, here, left),
             Some(number) => number,
         };
-        let none = &mut Rows::none();
-        let after = accept_next(alloc, context, &around, statement, Some(here), none)?.known;
+        let mut after = Some(here);
+        accept_next(
+            alloc,
+            context,
+            &around,
+            statement,
+            &mut after,
+            &mut Rows::none(),
+        )?;
         here = match after {
             None => return Ok(None),
             Some(known) => known,

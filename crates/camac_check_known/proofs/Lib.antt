@@ -2,3 +2,4 @@ pub mod Steps
 pub mod Walks
 pub mod Lists
 pub mod Joins
+pub mod Stations

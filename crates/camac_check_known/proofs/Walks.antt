@@ -1,6 +1,6 @@
 -- Walks over ranges, a number at a time, and what there is not where no crate is.
-use Rattle.std.proofs.Common.{◌≡◌, ℕ, zero, suc, ◌+◌, ◌-◌, ◌<◌, ◌≤◌, Bool, true, false, ◌∷◌, length, map, Option, Some, None, Result, Ok, Err, refl, ap, ◌∙◌, subst, ⊎_elim, arith}
-use Rattle.std.specs.Prelude.{is_none, IfOk, ◌&&◌, min, max, nat_lt, option_map, unwrap_or, if◌then◌else◌}
+use Rattle.std.proofs.Common.{◌≡◌, ℕ, zero, suc, ◌+◌, ◌-◌, ◌<◌, ◌≤◌, Bool, true, false, ◌∷◌, length, map, Option, Some, None, Result, Ok, Err, refl, sym, ap, ◌∙◌, subst, ⊎_elim, arith}
+use Rattle.std.specs.Prelude.{is_none, IfOk, IfSome, ◌&&◌, min, max, nat_lt, option_map, unwrap_or, if◌then◌else◌}
 use Rattle.std.specs.List.{range_with_len}
 use Rattle.std.proofs.lemmas.Bool.{cond_both, cases_lt}
 use Rattle.std.proofs.lemmas.List.{get_or_past}
@@ -173,6 +173,10 @@ station_small plan allows f subs c n r e = go (nat_lt subs.hi sub_address_end) e
         of (widths plan c n f subs.lo subs.hi)
         (λ x g. least_small (λ a. allowed plan (address c n a) f) subs.lo (subs.hi + 1 - subs.lo) 24 x (λ i v is. (allows (address c n i) f v is).width_to_24) g) f'
     go false f' = cc
+
+pub station_small_if : (plan : Layout) → AllowsCommands plan → (f : ℕ) (subs : Interval) (c n : ℕ) (o : Option Interval) → o ≡ station_widths plan f subs c n → IfSome o (λ r. r.hi ≤ 24)
+station_small_if plan allows f subs c n None e = tt
+station_small_if plan allows f subs c n (Some r) e = station_small plan allows f subs c n r (sym e)
 
 pub region_small : (plan : Layout) → AllowsCommands plan → (f : ℕ) (g : Region) (w : Interval) → region_widths plan f g ≡ Some w → w.hi ≤ 24
 region_small plan allows f g w e =

@@ -1,6 +1,6 @@
 // Which addresses of a region are installed, and how wide a command is there.
 
-ghost use Rattle.std.specs.Prelude.{◌≡◌, ◌<◌, ◌≤◌, ◌-◌, is_some, unwrap_or, IfOk, IfSome};
+ghost use Rattle.std.specs.Prelude.{◌≡◌, ◌<◌, ◌≤◌, ◌-◌, Some, true, is_some, unwrap_or, IfOk, IfSome};
 ghost use Rattle.camac_branch.specs.Plan.{IsPlan, crate_waits};
 ghost use Rattle.camac_rules.specs.Walks.{count_below, first_failing, greatest_from};
 ghost use Rattle.camac_rules.specs.Addresses.{crate_end, station_end, in_plan, is_station, all_in, are_stations_in, are_stations, station_widths, crate_widths, region_widths, missing, undeclared, command_widths, waits_in, cycle_cost};
@@ -33,9 +33,54 @@ pub fn command_widths(plan: &Plan, line: u32, f: Function, g: Region) -> Result<
     ensures rule { Gives (λ r. r) result (command_widths plan.now line f g) }
     ensures in_range { IfOk result (λ r. r.hi ≤ 24) }
 {
+    match widths_at_station(plan, f, g) {
+        Some(widths) => Ok(widths),
+        None => walked_widths(plan, line, f, g),
+    }
+}
+
+// The same by a walk over the addresses.
+#[inline(never)]
+#[tactic(auto, unfolding(camac_rules::specs::Refusal::go_on))]
+fn walked_widths(plan: &Plan, line: u32, f: Function, g: Region) -> Result<Range, CheckFault>
+    ensures rule { Gives (λ r. r) result (command_widths plan.now line f g) }
+    ensures in_range { IfOk result (λ r. r.hi ≤ 24) }
+{
     plan.allows_commands();
     installed(plan, line, g)?;
     declared_widths(plan, line, f, g)
+}
+
+// The same where the region has one station alone, as most have, and nothing is refused: no walk is needed.
+#[tactic(auto, using(crate::proofs::Stations::installed_at, crate::proofs::Stations::widths_at))]
+fn widths_at_station(plan: &Plan, f: Function, g: Region) -> Option<Range>
+    ensures installed { IfSome result (λ r. are_stations plan.now g ≡ true) }
+    ensures widths { IfSome result (λ r. region_widths plan.now f g ≡ Some r) }
+    ensures in_range { IfSome result (λ r. r.hi ≤ 24) }
+{
+    let crate_no = CrateNo::new(only_in(g.crates())?)?;
+    let station = only_in(g.stations())?;
+    if station < STATION_END
+        && plan.waits(crate_no).is_some()
+        && is_station(plan, crate_no, station)
+    {
+        plan.allows_commands();
+        station_widths(plan, f, g.sub_addresses(), crate_no, station)
+    } else {
+        None
+    }
+}
+
+// The number of a range that has one alone.
+fn only_in(range: Range) -> Option<u32>
+    ensures low { IfSome result (λ n. n ≡ range.lo) }
+    ensures high { IfSome result (λ n. n ≡ range.hi) }
+{
+    if range.lo() == range.hi() {
+        Some(range.lo())
+    } else {
+        None
+    }
 }
 
 // Refuses where a station of the region is not installed.

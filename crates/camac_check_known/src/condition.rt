@@ -135,7 +135,11 @@ fn refine(variable: Option<usize>, range: Range, known: Facts) -> Result<Option<
         None => Ok(Some(known)),
         Some(x) => match range_in(known.ranges(), x).meet(range) {
             None => Ok(None),
-            Some(left) => Ok(Some(known.put_range(x, left)?)),
+            Some(left) => {
+                let mut refined = known;
+                refined.put_range(x, left)?;
+                Ok(Some(refined))
+            }
         },
     }
 }

@@ -1,6 +1,6 @@
 // What the checker knows where a statement begins.
 
-ghost use Rattle.std.specs.Prelude.{◌≡◌, ◌≤◌, IfOk, OnOk, OnErr};
+ghost use Rattle.std.specs.Prelude.{◌≡◌, ◌≤◌, IfOk, OnOk, OnErr, length};
 ghost use Rattle.camac_range.specs.Interval.{interval};
 ghost use Rattle.camac_rules.specs.Joined.{join_region, join_facts};
 ghost use Rattle.camac_rules.specs.Known.{write, region, facts, range_at, region_at, with_range, with_region};
@@ -141,22 +141,20 @@ impl Facts {
         })
     }
 
-    /// The same, but for the range of a variable.
-    pub fn put_range(self, variable: usize, range: Range) -> Result<Self, AllocError>
-        ensures { IfOk result (λ k. k ≡ with_range variable range self) }
+    /// Leaves a range in a variable. All else stays, and all of it where memory runs out.
+    pub fn put_range(&mut self, variable: usize, range: Range) -> Result<(), AllocError>
+        ensures ok { OnOk result (self.new ≡ with_range variable range self.old) }
+        ensures err { OnErr result (self.new ≡ self.old) }
     {
-        let mut facts = self;
-        put_at(&mut facts.ranges, variable, range, Range::only(0))?;
-        Ok(facts)
+        put_at(&mut self.ranges, variable, range, Range::only(0))
     }
 
-    /// The same, but for the addresses of a register.
-    pub fn put_region(self, register: usize, region: Region) -> Result<Self, AllocError>
-        ensures { IfOk result (λ k. k ≡ with_region register region self) }
+    /// Leaves addresses in a register. All else stays, and all of it where memory runs out.
+    pub fn put_region(&mut self, register: usize, region: Region) -> Result<(), AllocError>
+        ensures ok { OnOk result (self.new ≡ with_region register region self.old) }
+        ensures err { OnErr result (self.new ≡ self.old) }
     {
-        let mut facts = self;
-        put_at(&mut facts.registers, register, Some(region), None)?;
-        Ok(facts)
+        put_at(&mut self.registers, register, Some(region), None)
     }
 
     /// Leaves any number in a variable. All else stays, and all of it where memory runs out.
@@ -164,8 +162,7 @@ impl Facts {
         ensures ok { OnOk result (self.new ≡ forget_variable variable self.old) }
         ensures err { OnErr result (self.new ≡ self.old) }
     {
-        let any = between(0, u32::MAX);
-        put_at(&mut self.ranges, variable, any, Range::only(0))
+        self.put_range(variable, between(0, u32::MAX))
     }
 
     /// From here on a register may be unset. All else stays, and all of it where memory runs out.
@@ -198,16 +195,34 @@ pub fn range_in(ranges: &[Range], variable: usize) -> Range
 }
 
 // Puts a value at a place. The list grows where it is too short.
+#[tactic(auto, using(crate::proofs::Lists::write_set))]
 fn put_at<T: Copy>(items: &mut Vec<T>, place: usize, value: T, filler: T) -> Result<(), AllocError>
+    ensures ok { OnOk result (items.new.items ≡ write filler items.old.items place value) }
+    ensures err { OnErr result (items.new.items ≡ items.old.items) }
+{
+    if place < items.len() {
+        items[place] = value;
+        return Ok(());
+    }
+    put_past(items, place, value, filler)
+}
+
+// The same past the end. It stands apart, since this is rare.
+#[inline(never)]
+fn put_past<T: Copy>(
+    items: &mut Vec<T>,
+    place: usize,
+    value: T,
+    filler: T,
+) -> Result<(), AllocError>
+    requires { length items.old.items ≤ place }
     ensures ok { OnOk result (items.new.items ≡ write filler items.old.items place value) }
     ensures err { OnErr result (items.new.items ≡ items.old.items) }
 {
     let Some(end) = place.checked_add(1) else {
         return Err(AllocError);
     };
-    if items.len() < end {
-        items.resize(end, filler)?;
-    }
+    items.resize(end, filler)?;
     items[place] = value;
     Ok(())
 }

@@ -60,11 +60,13 @@ impl Limits {
         let values = between(self.first.lo(), self.last.hi());
         let variable = counted.variable;
         let left = range_in(known.ranges(), variable).hull(values);
-        let top = head(body, &counted.keeps, known)?;
-        let copy = top.try_clone(alloc)?;
+        let mut after = head(body, &counted.keeps, known)?;
+        let mut top = after.try_clone(alloc)?;
+        top.put_range(variable, values)?;
+        after.put_range(variable, left)?;
         Ok(LoopFacts {
-            head: Some(copy.put_range(variable, values)?),
-            after: top.put_range(variable, left)?,
+            head: Some(top),
+            after,
         })
     }
 }

@@ -122,7 +122,9 @@ pub fn head(body: &[Stmt], keeps: &[Keep], known: Facts) -> Result<Facts, AllocE
     requires { IsTrue (are_ordered (map keep_of keeps.now)) }
     ensures { IfOk result (λ h. h ≡ head (statements_of body.now) (map keep_of keeps.now) known) }
 {
-    with_keeps(forget_block(known, body)?, keeps)
+    let mut left = known;
+    forget_block(&mut left, body)?;
+    with_keeps(left, keeps)
 }
 
 // The same with each kept variable in its range.
@@ -133,8 +135,9 @@ fn with_keeps(known: Facts, keeps: &[Keep]) -> Result<Facts, AllocError>
     match keeps {
         [] => Ok(known),
         [keep, rest @ ..] => {
-            let others = with_keeps(known, rest)?;
-            others.put_range(keep.variable, between(keep.low, keep.high))
+            let mut kept = with_keeps(known, rest)?;
+            kept.put_range(keep.variable, between(keep.low, keep.high))?;
+            Ok(kept)
         }
     }
 }

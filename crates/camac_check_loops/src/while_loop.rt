@@ -37,8 +37,9 @@ pub fn while_head(
         turns_case(needed, most),
     )?;
     keeps_at_entry(place, &limited.keeps, &known, line)?;
-    let top = head(body, &limited.keeps, known)?;
-    Ok(top.put_range(measure, between(0, greatest))?)
+    let mut top = head(body, &limited.keeps, known)?;
+    top.put_range(measure, between(0, greatest))?;
+    Ok(top)
 }
 
 // What a turn takes from the measure. E7 where it is not taken once and nothing else writes the measure.

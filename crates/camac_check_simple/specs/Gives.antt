@@ -1,5 +1,5 @@
 -- The rules as the checker's code follows them.
-use Rattle.std.specs.Prelude.{ℕ, map, take}
+use Rattle.std.specs.Prelude.{ℕ, Some, map, take}
 use Rattle.camac_branch.specs.Plan.{Layout}
 use Rattle.camac_lang.specs.Tree.{Script}
 use Rattle.camac_lang.specs.View.{lam_of, table_of, procedure_of}
@@ -9,6 +9,7 @@ use Rattle.camac_rules.specs.Accept.{bare}
 use Rattle.camac_rules.specs.Capped.{capped}
 use Rattle.camac_rules.specs.Costs.{Verdict, verdict}
 use Rattle.camac_rules.specs.Cycles.{Context}
+use Rattle.camac_rules.specs.Known.{Facts}
 pub use Rattle.camac_check_known.specs.Gives.{Fails, Gives}
 use Rattle.camac_check_simple.specs.declared.context.Context as code
 use Rattle.camac_check_simple.specs.declared.statement.Findings.{Findings}
@@ -19,6 +20,10 @@ by_code c = record { plan = c.plan.now; tables = map (λ t. t.words) (map table_
 
 abbrev pub verdict_of : Findings → Verdict
 verdict_of f = verdict f.known f.costs
+
+-- what is found of a statement that leaves this known and costs this
+abbrev pub leaving : Facts → Bounds → Verdict
+leaving known costs = verdict (Some known) costs
 
 -- the rules themselves
 abbrev pub by_rules : code.Context → Context

@@ -5,13 +5,13 @@ ghost use Rattle.camac_lang.specs.View.{expression_of};
 ghost use Rattle.camac_rules.specs.Addresses.{is_among};
 ghost use Rattle.camac_rules.specs.Calls.{is_crate, crate_rule, lam_region, lam_rule, lock_unfit, lock_rule};
 ghost use Rattle.camac_rules.specs.Refusal.{given};
-ghost use Rattle.camac_check_simple.specs.Gives.{Gives, by_code, verdict_of};
+ghost use Rattle.camac_check_simple.specs.Gives.{Gives, by_code, leaving};
 
 use crate::context::{Context, Place};
 use crate::cycle::one_cycle;
-use crate::statement::Findings;
 use camac_check_known::{
-    Around, CheckFault, Facts, Region, command_widths, is_crate, numbers_of, range_of, required,
+    Around, CheckFault, Costs, Facts, Region, command_widths, is_crate, numbers_of, range_of,
+    required,
 };
 use camac_esone::lam_function;
 use camac_lang::{CrateAction, Expr, LamAction};
@@ -20,8 +20,12 @@ use camac_rules::{Case, CheckRule};
 
 /// Checks a crate call.
 #[tactic(auto, unfolding(camac_rules::specs::Refusal::go_on))]
-pub fn crate_call(place: &Place, action: &CrateAction, known: Facts) -> Result<Findings, CheckFault>
-    ensures { Gives verdict_of result (crate_rule (by_code place.now.context.now) place.now.around.now action.now.line (expression_of action.now.crate_no) known) }
+pub fn crate_call(
+    place: &Place,
+    action: &CrateAction,
+    known: &mut Facts,
+) -> Result<Costs, CheckFault>
+    ensures { Gives (leaving known.new) result (crate_rule (by_code place.now.context.now) place.now.around.now action.now.line (expression_of action.now.crate_no) known.old) }
 {
     let crates = range_of(action.line, &action.crate_no, known.ranges())?;
     required(
@@ -32,10 +36,7 @@ pub fn crate_call(place: &Place, action: &CrateAction, known: Facts) -> Result<F
             numbers: numbers_of(crates),
         },
     )?;
-    Ok(Findings {
-        known: Some(known),
-        costs: one_cycle(place.context, place.around, crates),
-    })
+    Ok(one_cycle(place.context, place.around, crates))
 }
 
 /// The crate that a `lock` takes. E15 where it is not one crate of the plan, or locked around it.
@@ -82,16 +83,13 @@ fn is_free(context: &Context, around: &Around, crates: Range) -> bool
 
 /// Checks a LAM call.
 #[tactic(auto, unfolding(camac_rules::specs::Refusal::go_on))]
-pub fn lam_call(place: &Place, action: &LamAction, known: Facts) -> Result<Findings, CheckFault>
-    ensures { Gives verdict_of result (lam_rule (by_code place.now.context.now) place.now.around.now action.now.line action.now.call action.now.lam known) }
+pub fn lam_call(place: &Place, action: &LamAction, known: &mut Facts) -> Result<Costs, CheckFault>
+    ensures { Gives (leaving known.new) result (lam_rule (by_code place.now.context.now) place.now.around.now action.now.line action.now.call action.now.lam known.old) }
 {
     let at = address_of(place.context, action.lam, action.line)?;
     let function = lam_function(action.call);
     let _widths = command_widths(place.context.plan, action.line, function, at)?;
-    Ok(Findings {
-        known: Some(known),
-        costs: one_cycle(place.context, place.around, at.crates()),
-    })
+    Ok(one_cycle(place.context, place.around, at.crates()))
 }
 
 // The address of a LAM. E1 where there is no such LAM.

@@ -10,10 +10,9 @@ ghost use Rattle.camac_range.specs.Interval.{interval};
 ghost use Rattle.camac_rules.specs.Cycles.{may_write, same_class, one_cycle, control_rule, read_rule, write_rule, single_rule};
 ghost use Rattle.camac_rules.specs.Known.{region_at};
 ghost use Rattle.camac_rules.specs.Refusal.{given, required};
-ghost use Rattle.camac_check_simple.specs.Gives.{Gives, by_code, verdict_of};
+ghost use Rattle.camac_check_simple.specs.Gives.{Gives, by_code, leaving};
 
 use crate::context::{Context, Place};
-use crate::statement::Findings;
 use camac_check_known::{
     Around, CheckFault, Costs, Facts, Region, command_widths, cycle_cost, range_of, required,
 };
@@ -24,8 +23,8 @@ use camac_rules::{Case, CheckRule};
 use camac_word::Function;
 
 /// Checks a single action.
-pub fn single(place: &Place, action: &SingleAction, known: Facts) -> Result<Findings, CheckFault>
-    ensures { Gives verdict_of result (single_rule (by_code place.now.context.now) place.now.around.now action.now.line action.now.size action.now.function action.now.register (move_of action.now.data) known) }
+pub fn single(place: &Place, action: &SingleAction, known: &mut Facts) -> Result<Costs, CheckFault>
+    ensures { Gives (leaving known.new) result (single_rule (by_code place.now.context.now) place.now.around.now action.now.line action.now.size action.now.function action.now.register (move_of action.now.data) known.old) }
 {
     match &action.data {
         Move::NoData => control(place, action, known),
@@ -36,16 +35,13 @@ pub fn single(place: &Place, action: &SingleAction, known: Facts) -> Result<Find
 
 // A cycle without data.
 #[tactic(auto, unfolding(camac_rules::specs::Refusal::go_on))]
-fn control(place: &Place, action: &SingleAction, known: Facts) -> Result<Findings, CheckFault>
-    ensures { Gives verdict_of result (control_rule (by_code place.now.context.now) place.now.around.now action.now.line action.now.function action.now.register known) }
+fn control(place: &Place, action: &SingleAction, known: &mut Facts) -> Result<Costs, CheckFault>
+    ensures { Gives (leaving known.new) result (control_rule (by_code place.now.context.now) place.now.around.now action.now.line action.now.function action.now.register known.old) }
 {
-    let g = addresses_of(place.around, &known, action.register, action.line)?;
+    let g = addresses_of(place.around, known, action.register, action.line)?;
     let _widths = command_widths(place.context.plan, action.line, action.function, g)?;
     moves(action.function, FunctionClass::Control, action.line)?;
-    Ok(Findings {
-        known: Some(known),
-        costs: one_cycle(place.context, place.around, g.crates()),
-    })
+    Ok(one_cycle(place.context, place.around, g.crates()))
 }
 
 // A read.
@@ -54,19 +50,17 @@ fn read(
     place: &Place,
     action: &SingleAction,
     variable: usize,
-    known: Facts,
-) -> Result<Findings, CheckFault>
-    ensures { Gives verdict_of result (read_rule (by_code place.now.context.now) place.now.around.now action.now.line action.now.size action.now.function action.now.register variable known) }
+    known: &mut Facts,
+) -> Result<Costs, CheckFault>
+    ensures { Gives (leaving known.new) result (read_rule (by_code place.now.context.now) place.now.around.now action.now.line action.now.size action.now.function action.now.register variable known.old) }
 {
     may_write(place.around, variable, action.line)?;
-    let g = addresses_of(place.around, &known, action.register, action.line)?;
+    let g = addresses_of(place.around, known, action.register, action.line)?;
     let widths = command_widths(place.context.plan, action.line, action.function, g)?;
     moves(action.function, FunctionClass::Read, action.line)?;
     let word = words_of(action.size, widths.hi());
-    Ok(Findings {
-        known: Some(known.put_range(variable, word)?),
-        costs: one_cycle(place.context, place.around, g.crates()),
-    })
+    known.put_range(variable, word)?;
+    Ok(one_cycle(place.context, place.around, g.crates()))
 }
 
 // A write.
@@ -75,19 +69,16 @@ fn write(
     place: &Place,
     action: &SingleAction,
     value: &Expr,
-    known: Facts,
-) -> Result<Findings, CheckFault>
-    ensures { Gives verdict_of result (write_rule (by_code place.now.context.now) place.now.around.now action.now.line action.now.size action.now.function action.now.register (expression_of value.now) known) }
+    known: &mut Facts,
+) -> Result<Costs, CheckFault>
+    ensures { Gives (leaving known.new) result (write_rule (by_code place.now.context.now) place.now.around.now action.now.line action.now.size action.now.function action.now.register (expression_of value.now) known.old) }
 {
     let v = range_of(action.line, value, known.ranges())?;
-    let g = addresses_of(place.around, &known, action.register, action.line)?;
+    let g = addresses_of(place.around, known, action.register, action.line)?;
     let widths = command_widths(place.context.plan, action.line, action.function, g)?;
     moves(action.function, FunctionClass::Write, action.line)?;
     value_fits(action.size, v, widths, action.line)?;
-    Ok(Findings {
-        known: Some(known),
-        costs: one_cycle(place.context, place.around, g.crates()),
-    })
+    Ok(one_cycle(place.context, place.around, g.crates()))
 }
 
 /// The addresses of a register. E6 where it may be unset.
@@ -163,7 +154,7 @@ fn words_of(size: WordSize, width: u32) -> Range
     ensures { result ≡ interval 0 (2 ^ sized size width - 1) }
 {
     let bits = sized(size, width);
-    match Range::new(0, 2u32.pow(bits) - 1) {
+    match Range::new(0, (1u32 << bits) - 1) {
         Some(words) => words,
         None => Range::only(0),
     }
@@ -188,7 +179,7 @@ fn value_fits(size: WordSize, values: Range, widths: Range, line: u32) -> Result
     let greatest = values.hi();
     let bits = sized(size, widths.lo());
     required(
-        greatest < 2u32.pow(bits),
+        greatest < 1u32 << bits,
         CheckRule::ValueTooWide,
         line,
         Case::Width { greatest, bits },

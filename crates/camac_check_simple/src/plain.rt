@@ -2,10 +2,9 @@
 
 ghost use Rattle.camac_lang.specs.View.{expression_of};
 ghost use Rattle.camac_rules.specs.Statements.{assign_rule, register_rule, put_rule};
-ghost use Rattle.camac_check_simple.specs.Gives.{Gives, verdict_of};
+ghost use Rattle.camac_check_simple.specs.Gives.{Gives, leaving};
 
 use crate::cycle::may_write;
-use crate::statement::Findings;
 use camac_check_known::{Around, CheckFault, Costs, Facts, Region, range_of, required};
 use camac_lang::{Assignment, PutAction, RegisterSetting};
 use camac_rules::{Case, CheckRule};
@@ -15,36 +14,32 @@ use camac_rules::{Case, CheckRule};
 pub fn assign(
     around: &Around,
     assignment: &Assignment,
-    known: Facts,
-) -> Result<Findings, CheckFault>
-    ensures { Gives verdict_of result (assign_rule around.now assignment.now.line assignment.now.variable (expression_of assignment.now.value) known) }
+    known: &mut Facts,
+) -> Result<Costs, CheckFault>
+    ensures { Gives (leaving known.new) result (assign_rule around.now assignment.now.line assignment.now.variable (expression_of assignment.now.value) known.old) }
 {
     let assigned = range_of(assignment.line, &assignment.value, known.ranges())?;
     may_write(around, assignment.variable, assignment.line)?;
-    Ok(Findings {
-        known: Some(known.put_range(assignment.variable, assigned)?),
-        costs: Costs::new(0, 0, 1),
-    })
+    known.put_range(assignment.variable, assigned)?;
+    Ok(Costs::new(0, 0, 1))
 }
 
 /// Checks `cdreg`.
 #[tactic(auto, unfolding(camac_rules::specs::Refusal::go_on))]
-pub fn set_register(setting: &RegisterSetting, known: Facts) -> Result<Findings, CheckFault>
-    ensures { Gives verdict_of result (register_rule setting.now.line setting.now.register (expression_of setting.now.crate_no) (expression_of setting.now.station) (expression_of setting.now.sub_address) known) }
+pub fn set_register(setting: &RegisterSetting, known: &mut Facts) -> Result<Costs, CheckFault>
+    ensures { Gives (leaving known.new) result (register_rule setting.now.line setting.now.register (expression_of setting.now.crate_no) (expression_of setting.now.station) (expression_of setting.now.sub_address) known.old) }
 {
     let c = range_of(setting.line, &setting.crate_no, known.ranges())?;
     let n = range_of(setting.line, &setting.station, known.ranges())?;
     let a = range_of(setting.line, &setting.sub_address, known.ranges())?;
-    Ok(Findings {
-        known: Some(known.put_region(setting.register, Region::new(c, n, a))?),
-        costs: Costs::new(0, 0, 1),
-    })
+    known.put_region(setting.register, Region::new(c, n, a))?;
+    Ok(Costs::new(0, 0, 1))
 }
 
 /// Checks `put`.
 #[tactic(auto, unfolding(camac_rules::specs::Refusal::go_on))]
-pub fn put(action: &PutAction, known: Facts) -> Result<Findings, CheckFault>
-    ensures { Gives verdict_of result (put_rule action.now.line (expression_of action.now.value) known) }
+pub fn put(action: &PutAction, known: &mut Facts) -> Result<Costs, CheckFault>
+    ensures { Gives (leaving known.new) result (put_rule action.now.line (expression_of action.now.value) known.old) }
 {
     let r = range_of(action.line, &action.value, known.ranges())?;
     let greatest = r.hi();
@@ -54,8 +49,5 @@ pub fn put(action: &PutAction, known: Facts) -> Result<Findings, CheckFault>
         action.line,
         Case::Word { greatest },
     )?;
-    Ok(Findings {
-        known: Some(known),
-        costs: Costs::new(0, 1, 1),
-    })
+    Ok(Costs::new(0, 1, 1))
 }

@@ -8,11 +8,10 @@ ghost use Rattle.camac_rules.specs.declared.case.Case.TheVariants.{Width};
 ghost use Rattle.camac_rules.specs.declared.rule.CheckRule.TheVariants.{StationNotInstalled, CommandNotDeclared, ValueTooWide};
 ghost use Rattle.camac_rules.specs.Transfers.{has_sub_addresses, past_sub_addresses, undeclared_by, words_fit, words_sent, greatest_of, scan_verdict, scan_rule, block_class, event_words, block_region, block_verdict, q_stop_rule, q_repeat_cycles, q_repeat_rule};
 ghost use Rattle.camac_rules.specs.Windows.{window_of, is_installed, missing_over, is_declared};
-ghost use Rattle.camac_check_simple.specs.Gives.{Gives, by_code, verdict_of};
+ghost use Rattle.camac_check_simple.specs.Gives.{Gives, by_code, leaving};
 
 use crate::context::Place;
 use crate::cycle::{addresses_of, may_write, moves};
-use crate::statement::Findings;
 use crate::table::{count_sent, greatest_sent, has_words, words_fit};
 use crate::window::{Window, has_sub_addresses, is_one_crate};
 use camac_branch::Plan;
@@ -29,15 +28,15 @@ use std::alloc::AllocError;
 
 /// Checks an address scan between two registers.
 #[tactic(auto, unfolding(camac_rules::specs::Refusal::go_on))]
-pub fn scan(place: &Place, transfer: &AddressScan, known: Facts) -> Result<Findings, CheckFault>
-    ensures { Gives verdict_of result (scan_rule (by_code place.now.context.now) place.now.around.now transfer.now.line transfer.now.function transfer.now.first transfer.now.last (expression_of transfer.now.max) transfer.now.tally known) }
+pub fn scan(place: &Place, transfer: &AddressScan, known: &mut Facts) -> Result<Costs, CheckFault>
+    ensures { Gives (leaving known.new) result (scan_rule (by_code place.now.context.now) place.now.around.now transfer.now.line transfer.now.function transfer.now.first transfer.now.last (expression_of transfer.now.max) transfer.now.tally known.old) }
 {
     let line = transfer.line;
     let f = transfer.function;
     let most = range_of(line, &transfer.max, known.ranges())?;
     may_write(place.around, transfer.tally, line)?;
-    let g = addresses_of(place.around, &known, transfer.first, line)?;
-    let h = addresses_of(place.around, &known, transfer.last, line)?;
+    let g = addresses_of(place.around, known, transfer.first, line)?;
+    let h = addresses_of(place.around, known, transfer.last, line)?;
     required(
         is_one_crate(g, h),
         CheckRule::ScanCratesDiffer,
@@ -124,9 +123,9 @@ fn scan_findings(
     h: Region,
     most: u32,
     tally: usize,
-    known: Facts,
-) -> Result<Findings, AllocError>
-    ensures { IfOk result (λ f. verdict_of f ≡ scan_verdict (by_code place.now.context.now) place.now.around.now (window_of g h) most tally known) }
+    known: &mut Facts,
+) -> Result<Costs, AllocError>
+    ensures { IfOk result (λ c. leaving known.new c ≡ scan_verdict (by_code place.now.context.now) place.now.around.now (window_of g h) most tally known.old) }
 {
     let window = Window::between(g, h);
     let kept = window.kept(most);
@@ -135,19 +134,21 @@ fn scan_findings(
         place.around,
         Range::only(window.crate_no()),
     );
-    Ok(Findings {
-        known: Some(known.put_range(tally, between(0, kept))?),
-        costs: Costs::of_transfer(window.cycles(most), each, u64::from(kept)),
-    })
+    known.put_range(tally, between(0, kept))?;
+    Ok(Costs::of_transfer(window.cycles(most), each, u64::from(kept)))
 }
 
 /// Checks a block transfer up to the first Q=0.
 #[tactic(auto, unfolding(camac_rules::specs::Refusal::go_on))]
-pub fn q_stop(place: &Place, transfer: &BlockTransfer, known: Facts) -> Result<Findings, CheckFault>
-    ensures { Gives verdict_of result (q_stop_rule (by_code place.now.context.now) place.now.around.now transfer.now.line transfer.now.function transfer.now.register transfer.now.table (expression_of transfer.now.max) transfer.now.tally known) }
+pub fn q_stop(
+    place: &Place,
+    transfer: &BlockTransfer,
+    known: &mut Facts,
+) -> Result<Costs, CheckFault>
+    ensures { Gives (leaving known.new) result (q_stop_rule (by_code place.now.context.now) place.now.around.now transfer.now.line transfer.now.function transfer.now.register transfer.now.table (expression_of transfer.now.max) transfer.now.tally known.old) }
 {
     let most = range_of(transfer.line, &transfer.max, known.ranges())?.hi();
-    let g = block_region(place, transfer, most, &known)?;
+    let g = block_region(place, transfer, most, known)?;
     Ok(block_findings(place, transfer, most, most, g, known)?)
 }
 
@@ -157,13 +158,13 @@ pub fn q_repeat(
     place: &Place,
     transfer: &BlockTransfer,
     limit: &Expr,
-    known: Facts,
-) -> Result<Findings, CheckFault>
-    ensures { Gives verdict_of result (q_repeat_rule (by_code place.now.context.now) place.now.around.now transfer.now.line transfer.now.function transfer.now.register transfer.now.table (expression_of transfer.now.max) (expression_of limit.now) transfer.now.tally known) }
+    known: &mut Facts,
+) -> Result<Costs, CheckFault>
+    ensures { Gives (leaving known.new) result (q_repeat_rule (by_code place.now.context.now) place.now.around.now transfer.now.line transfer.now.function transfer.now.register transfer.now.table (expression_of transfer.now.max) (expression_of limit.now) transfer.now.tally known.old) }
 {
     let most = range_of(transfer.line, &transfer.max, known.ranges())?.hi();
     let cycles = range_of(transfer.line, limit, known.ranges())?.hi();
-    let g = block_region(place, transfer, most, &known)?;
+    let g = block_region(place, transfer, most, known)?;
     let kept = most.min(cycles);
     Ok(block_findings(
         place,
@@ -251,16 +252,14 @@ fn block_findings(
     cycles: u32,
     kept: u32,
     g: Region,
-    known: Facts,
-) -> Result<Findings, AllocError>
-    ensures { IfOk result (λ f. verdict_of f ≡ block_verdict (by_code place.now.context.now) place.now.around.now transfer.now.table cycles kept transfer.now.tally g known) }
+    known: &mut Facts,
+) -> Result<Costs, AllocError>
+    ensures { IfOk result (λ c. leaving known.new c ≡ block_verdict (by_code place.now.context.now) place.now.around.now transfer.now.table cycles kept transfer.now.tally g known.old) }
 {
     let each = cycle_cost(place.context.plan, place.around, g.crates());
     let words = event_words(transfer.table, kept);
-    Ok(Findings {
-        known: Some(known.put_range(transfer.tally, between(0, kept))?),
-        costs: Costs::of_transfer(u64::from(cycles), each, words),
-    })
+    known.put_range(transfer.tally, between(0, kept))?;
+    Ok(Costs::of_transfer(u64::from(cycles), each, words))
 }
 
 // A read puts what it keeps into the event.

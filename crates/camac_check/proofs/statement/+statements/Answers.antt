@@ -63,21 +63,23 @@ accept_block-statements-preserved t c =
     let costs = c.statements.costs in
     let s = statement_of c.statement-item.result in
     let rest = statements_of (drop (i + 1) xs) in
-    let after = block_rows (by_code context) around rest c.in-Ok.next.known in
+    let here = c.accept_next.new.known in
+    let found = verdict here c.in-Ok.next in
+    let after = block_rows (by_code context) around rest here in
     let rows = c.statements.rows in
     let there = next_of xs i c.statement-item.result lt c.statement-item.is in
     let Cut : Bounds → Type 0 = λ a. capped a ≡ a in
     record {
       rest =
-          ap (λ a. rest_rule context around (verdict c.in-Ok.next.known a) rest) c.then-costs.ensures
-          ∙ block_goes_on context around known costs (statement_of c.statement-item.result) rest (verdict_of c.in-Ok.next) c.in-Ok.ensures.found
+          ap (λ a. rest_rule context around (verdict here a) rest) c.then-costs.ensures
+          ∙ block_goes_on context around known costs (statement_of c.statement-item.result) rest found c.in-Ok.ensures.found
           ∙ ap (λ b. rest_rule context around (verdict known costs) b) (sym there)
           ∙ c.statements.invariant.rest;
-      cut = subst Cut (sym c.then-costs.ensures) (capped_twice (plus costs c.in-Ok.next.costs));
+      cut = subst Cut (sym c.then-costs.ensures) (capped_twice (plus costs c.in-Ok.next));
       rows =
           ap (λ k. with_rows k after) c.in-Ok.ensures.rows
           ∙ then_rows rows (statement_rows (by_code context) around s known) after
-          ∙ ap (with_rows rows) (sym (rows_next (by_code context) around s rest known (verdict_of c.in-Ok.next) c.in-Ok.ensures.found))
+          ∙ ap (with_rows rows) (sym (rows_next (by_code context) around s rest known found c.in-Ok.ensures.found))
           ∙ ap (λ b. with_rows rows (block_rows (by_code context) around b known)) (sym there)
           ∙ c.statements.invariant.rows;
     }
@@ -182,8 +184,8 @@ accept_for-returns-clause-rows t c =
 
 pub accept_reached-returns-in_ok-join-in-IfElse-clause-rows : goal.accept_reached-returns-in_ok-join-in-IfElse-clause-rows
 accept_reached-returns-in_ok-join-in-IfElse-clause-rows t c =
-    let context = by_code c.args.context.now in
-    let around = c.args.around.now in
+    let context = by_code c.args.place.now.context.now in
+    let around = c.args.place.now.around.now in
     let line = c.in-IfElse.line in
     let test = condition_of c.in-IfElse.test in
     let a = statements_of c.in-IfElse.then.items in
@@ -214,21 +216,22 @@ accept_reached-returns-in_ok-join-in-IfElse-clause-rows t c =
     (ap (λ p. if_reached unreached fails (accept_block context around (statements_of p))) (sym c.deref-in-IfElse-3.ensures.value) ∙ c.in_ok-second-in-IfElse.ensures.found))
     ∙ sym (ap (λ q. statement_rows context around q (Some c.args.known)) (ap statement_of c.in-IfElse.is ∙ choose_else_is line c.in-IfElse.test c.in-IfElse.then c.in-IfElse.otherwise)))
 
-pub accept_next-returns-in_ok-pass_over-in-None-clause-rows : goal.accept_next-returns-in_ok-pass_over-in-None-clause-rows
-accept_next-returns-in_ok-pass_over-in-None-clause-rows t c =
-    c.in_ok-pass_over-in-None.ensures c.args.around.now
-    ∙ ap (λ k. with_rows c.args.rows.now (statement_rows (by_code c.args.context.now) c.args.around.now (statement_of c.args.statement.now) k)) (sym c.in-None.is)
-
 pub accept_reached-returns-in-For-clause-rows : goal.accept_reached-returns-in-For-clause-rows
 accept_reached-returns-in-For-clause-rows t c =
     let it = c.in-For in
-    subst (λ s. OnOk c.accept_for.result (c.accept_for.new.rows ≡ with_rows c.args.rows.now (statement_rows (by_code c.args.context.now) c.args.around.now s (Some c.args.known))))
+    subst (λ s. OnOk c.accept_for.result (c.accept_for.new.rows ≡ with_rows c.args.rows.now (statement_rows (by_code c.args.place.now.context.now) c.args.place.now.around.now s (Some c.args.known))))
     (ap (λ b. for_of it.head (statements_of b)) c.deref-in-For.ensures.value ∙ sym (ap statement_of it.is ∙ for_tree it.head it.body))
     c.accept_for.ensures.rows
 
 pub accept_reached-returns-in-While-clause-rows : goal.accept_reached-returns-in-While-clause-rows
 accept_reached-returns-in-While-clause-rows t c =
     let it = c.in-While in
-    subst (λ s. OnOk c.accept_while.result (c.accept_while.new.rows ≡ with_rows c.args.rows.now (statement_rows (by_code c.args.context.now) c.args.around.now s (Some c.args.known))))
+    subst (λ s. OnOk c.accept_while.result (c.accept_while.new.rows ≡ with_rows c.args.rows.now (statement_rows (by_code c.args.place.now.context.now) c.args.place.now.around.now s (Some c.args.known))))
     (ap (λ b. while_of it.head (statements_of b)) c.deref-in-While.ensures.value ∙ sym (ap statement_of it.is ∙ while_tree it.head it.body))
     c.accept_while.ensures.rows
+
+pub accept_outer-returns-in-None-clause-rows : goal.accept_outer-returns-in-None-clause-rows
+accept_outer-returns-in-None-clause-rows t c =
+    let place = c.args.place.now in
+    subst (λ k. OnOk c.pass_over.result (c.pass_over.new.rows ≡ with_rows c.args.rows.now (statement_rows (by_code place.context.now) place.around.now (statement_of c.args.statement.now) k)))
+    (sym (sym c.take.ensures.value ∙ c.in-None.is)) (c.pass_over.ensures.rows place.around.now)

@@ -1,6 +1,6 @@
-use Rattle.std.proofs.Common.{◌≡◌, ◌<◌, ◌≤◌, ◌∙◌, length, subst, sym, arith}
-use Rattle.camac_lang.specs.View.{statement_of}
-use Rattle.camac_check_simple.specs.Gives.{Gives, by_code, verdict_of}
+use Rattle.std.proofs.Common.{◌<◌, ◌≤◌, ◌∙◌, length, subst, sym, arith}
+use Rattle.camac_rules.specs.Costs.{verdict}
+use Rattle.camac_check_simple.specs.Gives.{Gives, by_code}
 use Rattle.camac_check_costs.specs.Stands.{place_found}
 use Rattle.camac_check_costs.proofs.Placed.{place_done, place_ends, place_here}
 use Rattle.camac_check_costs.proofs.place.+places.Goals as goal
@@ -22,7 +22,7 @@ place_in_block-returns-in-None-after t c =
     let lt : i < length xs = omega arith in
     sym c.statements.invariant
     ∙ place_ends (by_code c.args.context.now) c.statements.around xs i c.statement-item.result c.statements.here c.statements.left lt c.statement-item.is
-    c.in-Some.number (verdict_of c.in_ok-after.field-0) (sym c.past.ensures ∙ c.in-Some.is) c.in_ok-after.ensures.found c.in-None-after.is
+    c.in-Some.number (verdict c.accept_next.new.known c.in_ok-accept_next.field-0) (sym c.past.ensures ∙ c.in-Some.is) c.in_ok-accept_next.ensures.found c.in-None-after.is
 
 pub place_in_block-returns : goal.place_in_block-returns
 place_in_block-returns t c =

@@ -15,5 +15,5 @@ returns c =
     (step _ c.in_ok-widths.widths _ _ c.in_ok-widths.ensures.rule
     (step _ tt _ _ c.in_ok-moves.ensures
     (step _ tt _ _ c.in_ok-value_fits.ensures
-    (same_findings c.args.known c.args.known c.one_cycle.result (one_cycle (by_code context) around c.in_ok-g.g.crates)
+    (same_findings c.args.known.now c.args.known.now c.one_cycle.result (one_cycle (by_code context) around c.in_ok-g.g.crates)
     refl (c.one_cycle.ensures ∙ ap (λ r. one_cycle (by_code context) around r) c.crates.ensures))))))

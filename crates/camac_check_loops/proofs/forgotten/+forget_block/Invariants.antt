@@ -1,8 +1,0 @@
-use Rattle.std.proofs.Common.{◌≡◌, drop}
-use Rattle.camac_lang.specs.View.{statements_of}
-use Rattle.camac_rules.specs.Writes.{forget_block}
-use Rattle.camac_check_loops.proofs.forgotten.+forget_block.Given as goal
-
-abbrev pub invariant-statements : goal.invariant-statements
-invariant-statements l =
-    forget_block (statements_of (drop l.statement-index l.block)) l.left ≡ forget_block (statements_of l.block) l.fn.known
