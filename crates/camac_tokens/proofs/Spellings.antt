@@ -1,5 +1,6 @@
 -- What tells words apart, and how long those of the language are.
-use Rattle.std.proofs.Common.{◌≡◌, ℕ, ◌≤◌, ◌<◌, Bool, true, false, cond, nat_eq, List, [], ◌∷◌, length, take, Option, Some, None, refl, sym, ap, ◌∙◌, arith, rules}
+use Rattle.std.proofs.Common.{◌≡◌, ℕ, ◌-◌, ◌≤◌, ◌<◌, Bool, true, false, cond, nat_eq, List, [], ◌∷◌, length, take, Option, Some, None, refl, sym, ap, ◌∙◌, arith, rules}
+use Rattle.std.specs.Prelude.{slice_index}
 use Rattle.std.specs.Str.{bytes_eq}
 use Rattle.std.specs.Int.{from_le_bytes, to_le_bytes, w64}
 use Rattle.std.proofs.lemmas.Bool.{eqb-true, eq-eqb}
@@ -10,6 +11,14 @@ use Rattle.camac_tokens.specs.Words.{Spelling, spelled_in, declaration_words, ac
 told : (t : Bool) (one other : List ℕ) → bytes_eq one other ≡ t → (one ≡ other → ⊥) → t ≡ false
 told true one other is differ = absurd (differ ((bytes_eq-Decides one other).0 is))
 told false one other is differ = refl
+
+-- words whose last bytes differ
+pub last_differs : (one other : List ℕ) → nat_eq (slice_index one (length one - 1)) (slice_index other (length other - 1)) ≡ false → bytes_eq one other ≡ false
+last_differs one other differ =
+    told (bytes_eq one other) one other refl (λ same.
+    let lasts : slice_index one (length one - 1) ≡ slice_index other (length other - 1) = ap (λ (xs : List ℕ). slice_index xs (length xs - 1)) same in
+    let both : true ≡ false = sym (eq-eqb _ _ lasts) ∙ differ in
+    absurd cc)
 
 length_differs : (one other : List ℕ) → (length one ≡ length other → ⊥) → bytes_eq one other ≡ false
 length_differs one other differ = told (bytes_eq one other) one other refl (λ same. differ (ap length same))
