@@ -1,7 +1,9 @@
-// Assignments, registers, single actions and words of the event.
+// Assignments, registers, single actions and words of the event: what most scripts have most of. Each is put behind the others where it is made, since it
+// is large: as a result it would be copied twice.
 
 ghost use Rattle.std.specs.Prelude.{◌≡◌};
-ghost use Rattle.camac_lang.specs.View.{move_of, statement_of};
+ghost use Rattle.camac_lang.specs.View.{move_of};
+ghost use Rattle.camac_text_statements.specs.Adding.{Adds};
 ghost use Rattle.camac_text_statements.specs.Statements.{assignment, register_setting, move_at, single_action, put_action};
 ghost use Rattle.camac_text_cursor.specs.Parser.{state, Gives};
 
@@ -11,23 +13,34 @@ use camac_text_phrases::expression;
 use camac_tokens::{Sign, TextFault, TokenKind};
 
 #[tactic(auto, unfolding(crate::specs::Statements::assignment))]
-pub fn assignment(parser: &mut Parser<'_>, room: u32, line: u32) -> Result<Stmt, TextFault>
-    ensures { Gives statement_of result parser.new (assignment room line (state parser.old)) }
+pub fn assignment(
+    parser: &mut Parser<'_>,
+    room: u32,
+    line: u32,
+    body: &mut Vec<Stmt>,
+) -> Result<(), TextFault>
+    ensures { Adds body.old.items body.new.items result parser.new (assignment room line (state parser.old)) }
 {
     let variable = parser.variable_here()?;
     parser.begin()?;
     parser.expect_sign(Sign::Equals)?;
     let value = expression(parser, room)?;
-    Ok(Stmt::Assign(Assignment {
+    body.push(Stmt::Assign(Assignment {
         line,
         variable,
         value,
-    }))
+    }))?;
+    Ok(())
 }
 
 #[tactic(auto, unfolding(crate::specs::Statements::register_setting))]
-pub fn register_setting(parser: &mut Parser<'_>, room: u32, line: u32) -> Result<Stmt, TextFault>
-    ensures { Gives statement_of result parser.new (register_setting room line (state parser.old)) }
+pub fn register_setting(
+    parser: &mut Parser<'_>,
+    room: u32,
+    line: u32,
+    body: &mut Vec<Stmt>,
+) -> Result<(), TextFault>
+    ensures { Adds body.old.items body.new.items result parser.new (register_setting room line (state parser.old)) }
 {
     parser.begin()?;
     let register = parser.set_name()?;
@@ -35,13 +48,14 @@ pub fn register_setting(parser: &mut Parser<'_>, room: u32, line: u32) -> Result
     let crate_no = expression(parser, room)?;
     let station = expression(parser, room)?;
     let sub_address = expression(parser, room)?;
-    Ok(Stmt::SetRegister(RegisterSetting {
+    body.push(Stmt::SetRegister(RegisterSetting {
         line,
         register,
         crate_no,
         station,
         sub_address,
-    }))
+    }))?;
+    Ok(())
 }
 
 #[tactic(auto, unfolding(crate::specs::Statements::single_action))]
@@ -50,20 +64,22 @@ pub fn single_action(
     size: WordSize,
     room: u32,
     line: u32,
-) -> Result<Stmt, TextFault>
-    ensures { Gives statement_of result parser.new (single_action size room line (state parser.old)) }
+    body: &mut Vec<Stmt>,
+) -> Result<(), TextFault>
+    ensures { Adds body.old.items body.new.items result parser.new (single_action size room line (state parser.old)) }
 {
     parser.begin()?;
     let function = parser.function_number()?;
     let register = parser.used_register()?;
     let data = data_move(parser, room)?;
-    Ok(Stmt::Single(SingleAction {
+    body.push(Stmt::Single(SingleAction {
         line,
         size,
         function,
         register,
         data,
-    }))
+    }))?;
+    Ok(())
 }
 
 /// What a single action moves.
@@ -90,10 +106,16 @@ fn data_move(parser: &mut Parser<'_>, room: u32) -> Result<Move, TextFault>
 }
 
 #[tactic(auto, unfolding(crate::specs::Statements::put_action))]
-pub fn put_action(parser: &mut Parser<'_>, room: u32, line: u32) -> Result<Stmt, TextFault>
-    ensures { Gives statement_of result parser.new (put_action room line (state parser.old)) }
+pub fn put_action(
+    parser: &mut Parser<'_>,
+    room: u32,
+    line: u32,
+    body: &mut Vec<Stmt>,
+) -> Result<(), TextFault>
+    ensures { Adds body.old.items body.new.items result parser.new (put_action room line (state parser.old)) }
 {
     parser.begin()?;
     let value = expression(parser, room)?;
-    Ok(Stmt::Put(PutAction { line, value }))
+    body.push(Stmt::Put(PutAction { line, value }))?;
+    Ok(())
 }

@@ -1,14 +1,17 @@
 // Blocks and statements.
 
-ghost use Rattle.std.specs.Prelude.{◌≡◌, Some, true, false, map, suc};
+ghost use Rattle.std.specs.Prelude.{◌≡◌, Result, Some, true, false, map, suc};
+ghost use Rattle.camac_lang.specs.Tree.{Statement};
 ghost use Rattle.camac_lang.specs.View.{statement_of};
 ghost use Rattle.camac_text_cursor.specs.Choice.{takes};
 ghost use Rattle.camac_text_cursor.specs.declared.choice.Choice.TheVariants as choice;
-ghost use Rattle.camac_text_cursor.specs.Reading.{kind_of, left_of, line_of, many, missed};
+ghost use Rattle.camac_text_cursor.specs.Reading.{State, Fault, kind_of, left_of, line_of, many, missed};
 ghost use Rattle.camac_tokens.specs.declared.fault.TextCase.TheVariants.{Unexpected};
 ghost use Rattle.camac_tokens.specs.declared.token.TokenKind.TheVariants as kind;
-ghost use Rattle.camac_text_statements.specs.Statements.{statement_by, statement_with, is_no_end, block_at};
+ghost use Rattle.camac_text_statements.specs.Statements.{nested_by, statement_by, statement_with, is_no_end, block_at};
 ghost use Rattle.camac_text_cursor.specs.Parser.{state, Gives};
+ghost use Rattle.camac_text_cursor.specs.declared.cursor.Parser.{Parser};
+ghost use Rattle.camac_text_statements.specs.Adding.{Adds};
 
 use crate::actions::{assignment, put_action, register_setting, single_action};
 use crate::calls::{crate_action, crate_switch, lam_action, lam_switch};
@@ -51,8 +54,7 @@ fn statements(parser: &mut Parser<'_>, room: u32) -> Result<Vec<Stmt>, TextFault
 {
     let mut body = Vec::new(parser.alloc());
     while is_in_block(parser) {
-        let statement = statement(parser, room)?;
-        body.push(statement)?;
+        statement(parser, room, &mut body)?;
     }
     Ok(body)
 }
@@ -64,26 +66,35 @@ fn is_in_block(parser: &Parser<'_>) -> bool
     !parser.next_is_sign(Sign::RightBrace)
 }
 
-/// A statement, where the block may end, too.
+/// Puts a statement behind those of the block before it, where the block may end, too.
 #[cycle(statement)]
 #[tactic(auto, unfolding(crate::specs::Statements::statement_with))]
-fn statement(parser: &mut Parser<'_>, room: u32) -> Result<Stmt, TextFault>
+fn statement(parser: &mut Parser<'_>, room: u32, body: &mut Vec<Stmt>) -> Result<(), TextFault>
     requires { is_no_end (kind_of (state parser.old).rest) ≡ true }
-    ensures { Gives statement_of result parser.new (statement_with room (block_at room) (state parser.old)) }
+    ensures { Adds body.old.items body.new.items result parser.new (statement_with room (block_at room) (state parser.old)) }
 {
     parser.miss(Choice::Mark(Sign::RightBrace));
     let line = parser.line_here();
     match parser.peek() {
         Some(TokenKind::Name(_)) => {
             parser.miss(Choice::Statement);
-            assignment(parser, room, line)
+            assignment(parser, room, line, body)
         }
         Some(TokenKind::Keyword(word)) => {
             let word = *word;
-            keyword_statement(parser, word, room, line)
+            keyword_statement(parser, word, room, line, body)
         }
         _ => Err(no_statement(parser)),
     }
+}
+
+/// Puts a statement behind others, if it was read.
+fn put(body: &mut Vec<Stmt>, read: Result<Stmt, TextFault>) -> Result<(), TextFault>
+    ensures { (after : Parser) (whole : Result (Statement × State) Fault) → Gives statement_of read after whole → Adds body.old.items body.new.items result after whole }
+{
+    let statement = read?;
+    body.push(statement)?;
+    Ok(())
 }
 
 /// The fault of a token that begins no statement.
@@ -97,22 +108,39 @@ fn no_statement(parser: &mut Parser<'_>) -> TextFault
     parser.unexpected(Choice::Name)
 }
 
-/// The statement that begins with this keyword, which stands next.
+/// Puts the statement that begins with this keyword, which stands next, behind others.
 #[cycle(statement)]
 fn keyword_statement(
     parser: &mut Parser<'_>,
     word: Keyword,
     room: u32,
     line: u32,
-) -> Result<Stmt, TextFault>
+    body: &mut Vec<Stmt>,
+) -> Result<(), TextFault>
     requires { kind_of (state parser.old).rest ≡ Some (kind.Keyword word) }
-    ensures { Gives statement_of result parser.new (statement_by room (block_at room) line (Some (kind.Keyword word)) (state parser.old)) }
+    ensures { Adds body.old.items body.new.items result parser.new (statement_by room (block_at room) line (Some (kind.Keyword word)) (state parser.old)) }
 {
     match word {
-        Keyword::Cdreg => register_setting(parser, room, line),
-        Keyword::Cfsa => single_action(parser, WordSize::Full, room, line),
-        Keyword::Cssa => single_action(parser, WordSize::Short, room, line),
-        Keyword::Put => put_action(parser, room, line),
+        Keyword::Cdreg => register_setting(parser, room, line, body),
+        Keyword::Cfsa => single_action(parser, WordSize::Full, room, line, body),
+        Keyword::Cssa => single_action(parser, WordSize::Short, room, line, body),
+        Keyword::Put => put_action(parser, room, line, body),
+        _ => put(body, other_statement(parser, word, room, line)),
+    }
+}
+
+/// The statement that begins with this keyword, which stands next, but none of those that most scripts have most of.
+#[cycle(statement)]
+fn other_statement(
+    parser: &mut Parser<'_>,
+    word: Keyword,
+    room: u32,
+    line: u32,
+) -> Result<Stmt, TextFault>
+    requires { kind_of (state parser.old).rest ≡ Some (kind.Keyword word) }
+    ensures { Gives statement_of result parser.new (nested_by room (block_at room) line (Some (kind.Keyword word)) (state parser.old)) }
+{
+    match word {
         Keyword::If => if_statement(parser, room, line),
         Keyword::For => for_statement(parser, room, line),
         Keyword::While => while_statement(parser, room, line),

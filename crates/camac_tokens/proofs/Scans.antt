@@ -241,6 +241,19 @@ number_wrong digits none = by (ltb (decimal_value digits) 4294967296) none where
   by true e = absurd cc
   by false e = refl
 
+-- a digit before what is none
+pub one_digit : (text : List ℕ) → 2 ≤ length text → is_ascii_digit (slice_index text 0) ≡ true → is_ascii_digit (slice_index text 1) ≡ false → slice_index text 0 - 48 < 4294967296
+    → number_or_fault (take_while is_ascii_digit text) ≡ start.Found (kind.Number (slice_index text 0 - 48)) 1
+one_digit [] two digit ends small = absurd (omega (arith, two))
+one_digit (d ∷ []) two digit ends small = absurd (omega (arith, two))
+one_digit (d ∷ b ∷ bs) two digit ends small =
+    let none : take_while is_ascii_digit (b ∷ bs) ≡ [] = take_while-cons is_ascii_digit b bs ∙ ap (λ (t : Bool). cond t (b ∷ take_while is_ascii_digit bs) []) ends in
+    let run : take_while is_ascii_digit (d ∷ b ∷ bs) ≡ d ∷ [] = run_one is_ascii_digit d (b ∷ bs) digit ∙ ap (λ (ds : List ℕ). d ∷ ds) none in
+    let value : decimal_value (d ∷ []) ≡ d - 48 = omega arith in
+    ap number_or_fault run
+    ∙ ap (λ (n : ℕ). cond (ltb n 4294967296) (start.Found (kind.Number n) 1) (start.Wrong (told.Number 4294967295))) value
+    ∙ ap (λ (t : Bool). cond t (start.Found (kind.Number (d - 48)) 1) (start.Wrong (told.Number 4294967295))) (lt-ltb (d - 48) 4294967296 small)
+
 fault_sign : (p q : Option Sign) → FaultIs (pair_or_single p q) told.Byte
 fault_sign (Some w) q = λ case e. absurd cc
 fault_sign None (Some w) = λ case e. absurd cc

@@ -1,5 +1,6 @@
 -- The words and signs of the language.
-use Rattle.std.specs.Prelude.{ℕ, List, [], ◌∷◌, Option, Some, None, codes, if◌then◌else◌}
+use Rattle.std.specs.Prelude.{◌≡◌, ◌≤◌, ℕ, List, [], ◌∷◌, length, Option, Some, None, codes, if◌then◌else◌}
+use Rattle.std.specs.Int.{from_le_bytes, to_le_bytes, w64}
 use Rattle.std.specs.Str.{bytes_eq}
 use Rattle.camac_tokens.specs.declared.token.Keyword.{Keyword}
 use Rattle.camac_tokens.specs.declared.token.Keyword.TheVariants as word
@@ -91,6 +92,27 @@ unfoldable pub keyword : List ℕ → Option Keyword
 keyword text =
     or_else (spelled_in declaration_words text)
     (or_else (spelled_in action_words text) (or_else (spelled_in call_words text) (spelled_in control_words text)))
+
+-- Eight bytes that only this text has, if it is of one to seven: its own, zeros, and how many they are.
+abbrev pub filled : List ℕ → List ℕ
+filled [] = 0 ∷ 0 ∷ 0 ∷ 0 ∷ 0 ∷ 0 ∷ 0 ∷ 0 ∷ []
+filled (a ∷ []) = a ∷ 0 ∷ 0 ∷ 0 ∷ 0 ∷ 0 ∷ 0 ∷ 1 ∷ []
+filled (a ∷ b ∷ []) = a ∷ b ∷ 0 ∷ 0 ∷ 0 ∷ 0 ∷ 0 ∷ 2 ∷ []
+filled (a ∷ b ∷ c ∷ []) = a ∷ b ∷ c ∷ 0 ∷ 0 ∷ 0 ∷ 0 ∷ 3 ∷ []
+filled (a ∷ b ∷ c ∷ d ∷ []) = a ∷ b ∷ c ∷ d ∷ 0 ∷ 0 ∷ 0 ∷ 4 ∷ []
+filled (a ∷ b ∷ c ∷ d ∷ e ∷ []) = a ∷ b ∷ c ∷ d ∷ e ∷ 0 ∷ 0 ∷ 5 ∷ []
+filled (a ∷ b ∷ c ∷ d ∷ e ∷ f ∷ []) = a ∷ b ∷ c ∷ d ∷ e ∷ f ∷ 0 ∷ 6 ∷ []
+filled (a ∷ b ∷ c ∷ d ∷ e ∷ f ∷ g ∷ []) = a ∷ b ∷ c ∷ d ∷ e ∷ f ∷ g ∷ 7 ∷ []
+filled (a ∷ b ∷ c ∷ d ∷ e ∷ f ∷ g ∷ h ∷ more) = 0 ∷ 0 ∷ 0 ∷ 0 ∷ 0 ∷ 0 ∷ 0 ∷ 0 ∷ []
+
+-- it stands for these bytes as a number
+pub record HasNumber (text : List ℕ) (number : ℕ) : Type 0 where
+  pub value : number ≡ from_le_bytes w64 (filled text)
+  pub only : to_le_bytes w64 number ≡ filled text
+
+-- of one to seven bytes
+abbrev pub IsShort : List ℕ → Type 0
+IsShort word = (1 ≤ length word) × (length word ≤ 7)
 
 -- signs of two bytes
 abbrev pub pair_signs : List (Spelling Sign)

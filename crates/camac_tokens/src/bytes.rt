@@ -1,11 +1,11 @@
 // Texts that are compared eight bytes at a time.
 
-ghost use Rattle.std.specs.Prelude.{◌≡◌, ◌-◌, ◌≤◌, drop, length, take};
+ghost use Rattle.std.specs.Prelude.{◌≡◌, ◌-◌, ◌≤◌, false, drop, length, take};
 ghost use Rattle.std.specs.Int.{from_le_bytes, to_le_bytes, w64};
 ghost use Rattle.std.specs.Str.{bytes_eq};
 
-/// Whether these are the same bytes. Lengths are looked at first, since most words differ there, and then the last eight bytes, since names
-/// that are much alike differ in a number at their end.
+/// Whether these are the same bytes. Lengths are looked at first, since most words differ there, and then the last bytes, since names that are much
+/// alike differ in a number at their end.
 #[inline]
 pub fn are_same(one: &[u8], other: &[u8]) -> bool
     ensures { result ≡ bytes_eq one.now other.now }
@@ -14,7 +14,7 @@ pub fn are_same(one: &[u8], other: &[u8]) -> bool
         return false;
     }
     if one.len() < 8 {
-        return are_same_from_first(one, other);
+        return may_be_same(one, other) && are_same_from_first(one, other);
     }
     if last_eight(one) != last_eight(other) {
         return false;
@@ -52,6 +52,20 @@ fn last_eight(bytes: &[u8]) -> u64
     ensures only { to_le_bytes w64 result ≡ drop (length bytes.now - 8) bytes.now }
 {
     first_eight(&bytes[bytes.len() - 8..])
+}
+
+// Whether the last byte of each is the same, if both have one.
+#[tactic(auto, using(crate::proofs::Spellings::last_differs))]
+fn may_be_same(one: &[u8], other: &[u8]) -> bool
+    ensures { result ≡ false → bytes_eq one.now other.now ≡ false }
+{
+    match one {
+        [] => true,
+        [.., last] => match other {
+            [] => true,
+            [.., other_last] => *last == *other_last,
+        },
+    }
 }
 
 // It ends at the first bytes that differ.

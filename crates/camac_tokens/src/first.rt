@@ -1,6 +1,6 @@
 // The token at the start of a text, put where it stays: a token is larger than all else that cutting it handles.
 
-ghost use Rattle.std.specs.Prelude.{◌≡◌, ◌<◌, length, slice_index, take_while, Some};
+ghost use Rattle.std.specs.Prelude.{◌≡◌, ◌<◌, length, slice_index, take_while, true, Some, None};
 ghost use Rattle.std.specs.Char.{is_ascii_digit};
 ghost use Rattle.camac_tokens.specs.declared.fault.TextCase.{TextCase};
 ghost use Rattle.camac_tokens.specs.Words.{keyword};
@@ -44,16 +44,60 @@ fn put_word(next: &mut Option<Token>, text: &[u8], line: u32) -> usize
         *next = Some(Token { kind, line, left });
         return size;
     }
+    // A name is copied with what stands behind it. Where the text ends before, that takes another way: apart, so that all others come straight to their place.
+    if left >= limits::NAME_BYTES {
+        put_name(next, text, size, line)
+    } else {
+        put_late_name(next, text, size, line)
+    }
+}
+
+#[inline(always)]
+fn put_name(next: &mut Option<Token>, text: &[u8], size: usize, line: u32) -> usize
+    requires some { 0 < size }
+    requires size { size ≡ length (take_while is_name_byte text.now) }
+    requires none { keyword (take_while is_name_byte text.now) ≡ None }
+    ensures { IsPut result next.new line (length text.now) (keyword_or (keyword (take_while is_name_byte text.now)) (take_while is_name_byte text.now)) }
+{
     if size > limits::NAME_BYTES {
         *next = None;
         return 0;
     }
     let kind = TokenKind::Name(Name::at_start(text, size));
+    let left = text.len();
     *next = Some(Token { kind, line, left });
     size
 }
 
+#[inline(never)]
+fn put_late_name(next: &mut Option<Token>, text: &[u8], size: usize, line: u32) -> usize
+    requires some { 0 < size }
+    requires size { size ≡ length (take_while is_name_byte text.now) }
+    requires none { keyword (take_while is_name_byte text.now) ≡ None }
+    ensures { IsPut result next.new line (length text.now) (keyword_or (keyword (take_while is_name_byte text.now)) (take_while is_name_byte text.now)) }
+{
+    put_name(next, text, size, line)
+}
+
+// Most numbers have one digit.
+#[tactic(auto, using(crate::proofs::Scans::one_digit))]
 fn put_number(next: &mut Option<Token>, text: &[u8], line: u32) -> usize
+    requires some { 0 < length text.now }
+    requires begins { is_ascii_digit (slice_index text.now 0) ≡ true }
+    ensures { IsPut result next.new line (length text.now) (number_or_fault (take_while is_ascii_digit text.now)) }
+{
+    match text {
+        [digit, after, ..] if !after.is_ascii_digit() => {
+            let kind = TokenKind::Number(u32::from(*digit - b'0'));
+            let left = text.len();
+            *next = Some(Token { kind, line, left });
+            1
+        }
+        _ => put_long_number(next, text, line),
+    }
+}
+
+fn put_long_number(next: &mut Option<Token>, text: &[u8], line: u32) -> usize
     ensures { IsPut result next.new line (length text.now) (number_or_fault (take_while is_ascii_digit text.now)) }
 {
     let left = text.len();
