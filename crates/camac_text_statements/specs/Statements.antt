@@ -8,6 +8,7 @@ use Rattle.camac_lang.specs.declared.word.CrateCall.{CrateCall}
 use Rattle.camac_lang.specs.declared.word.CrateCall.TheVariants as crate_word
 use Rattle.camac_lang.specs.declared.word.LamCall.{LamCall}
 use Rattle.camac_lang.specs.declared.word.LamCall.TheVariants as lam_word
+use Rattle.camac_tokens.specs.declared.token.Keyword.{Keyword}
 use Rattle.camac_tokens.specs.declared.token.Keyword.TheVariants as word
 use Rattle.camac_tokens.specs.declared.token.Sign.TheVariants as sign
 use Rattle.camac_tokens.specs.declared.token.TokenKind.{TokenKind}
@@ -196,6 +197,14 @@ nested_by room block line (Some (kind.Keyword word.For)) = for_statement room bl
 nested_by room block line (Some (kind.Keyword word.While)) = while_statement room block line
 nested_by room block line (Some (kind.Keyword word.Lock)) = lock_statement room block line
 nested_by room block line k = transfer_by room line k
+
+-- the words that begin what most scripts have most of
+abbrev pub is_frequent : Keyword → Bool
+is_frequent word.Cdreg = true
+is_frequent word.Cfsa = true
+is_frequent word.Cssa = true
+is_frequent word.Put = true
+is_frequent k = false
 
 -- a statement, where so many brackets and braces may be open at once and this is read as a block
 abbrev pub statement_by : ℕ → Reader (List Statement) → ℕ → Option TokenKind → Reader Statement

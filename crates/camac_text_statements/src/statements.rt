@@ -8,7 +8,7 @@ ghost use Rattle.camac_text_cursor.specs.declared.choice.Choice.TheVariants as c
 ghost use Rattle.camac_text_cursor.specs.Reading.{State, Fault, kind_of, left_of, line_of, many, missed};
 ghost use Rattle.camac_tokens.specs.declared.fault.TextCase.TheVariants.{Unexpected};
 ghost use Rattle.camac_tokens.specs.declared.token.TokenKind.TheVariants as kind;
-ghost use Rattle.camac_text_statements.specs.Statements.{nested_by, statement_by, statement_with, is_no_end, block_at};
+ghost use Rattle.camac_text_statements.specs.Statements.{is_frequent, nested_by, statement_by, statement_with, is_no_end, block_at};
 ghost use Rattle.camac_text_cursor.specs.Parser.{state, Gives};
 ghost use Rattle.camac_text_cursor.specs.declared.cursor.Parser.{Parser};
 ghost use Rattle.camac_text_statements.specs.Adding.{Adds};
@@ -137,7 +137,8 @@ fn other_statement(
     room: u32,
     line: u32,
 ) -> Result<Stmt, TextFault>
-    requires { kind_of (state parser.old).rest ≡ Some (kind.Keyword word) }
+    requires next { kind_of (state parser.old).rest ≡ Some (kind.Keyword word) }
+    requires rare { is_frequent word ≡ false }
     ensures { Gives statement_of result parser.new (nested_by room (block_at room) line (Some (kind.Keyword word)) (state parser.old)) }
 {
     match word {
