@@ -17,7 +17,7 @@ pub const TEXT_LIMIT: usize = 1_048_576;
 pub const EVENTS_LIMIT: usize = 16_777_216;
 
 /// How many bytes are asked for at a time.
-const CHUNK: usize = 65_536;
+const CHUNK: usize = 16_384;
 
 /// How many bytes are copied at a time.
 const PIECE: usize = 2_048;

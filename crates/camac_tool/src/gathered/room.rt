@@ -12,7 +12,7 @@ use std::alloc::{AllocError, Global};
 use std::marker::Model;
 
 /// How many bytes there is room for.
-pub const ROOM: usize = 65_536;
+pub const ROOM: usize = 32_768;
 
 /// The bytes that were put into it, in their order.
 #[derive(Drop)]
@@ -29,7 +29,7 @@ impl Model for Room {
 
     ghost view = { λ r. take r.len r.bytes.items };
 
-    ghost invariant = { λ r. (length r.bytes.items ≡ 65536) × (r.len ≤ 65536) };
+    ghost invariant = { λ r. (length r.bytes.items ≡ 32768) × (r.len ≤ 32768) };
 }
 
 impl Room {

@@ -7,7 +7,7 @@ abbrev pub invariant-loop-chunk : goal.invariant-loop-chunk
 invariant-loop-chunk g l =
     Consumes (g.R.Read.remaining (inner_of l.initial.reader)) (g.R.Read.remaining (inner_of l.reader)) l.bytes.items
     × (length l.bytes.items ≤ l.limit + 1)
-    × (length l.chunk ≡ 65536)
+    × (length l.chunk ≡ 16384)
     × (has_failed l.reader ≡ has_failed l.initial.reader)
 
 abbrev pub decreases-loop-chunk : goal.decreases-loop-chunk
