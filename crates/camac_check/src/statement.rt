@@ -68,22 +68,23 @@ pub fn accept_next(
     ensures rows { OnOk result (rows.new ≡ with_rows rows.old (statement_rows (by_code context.now) around.now (statement_of statement.now) known.old)) }
 {
     let place = Place { context, around };
+    if is_simple(statement) {
+        return accept_simple(alloc, &place, statement, known, rows);
+    }
+    Ok(accept_outer(alloc, &place, statement, known, rows)?)
+}
+
+// Whether a statement holds no others.
+fn is_simple(statement: &Stmt) -> bool
+    ensures { result ≡ is_simple (statement_of statement.now) }
+{
     match statement {
-        Stmt::Assign(_)
-        | Stmt::SetRegister(_)
-        | Stmt::Single(_)
-        | Stmt::Scan(_)
-        | Stmt::QStop { .. }
-        | Stmt::QRepeat { .. }
-        | Stmt::Put(_)
-        | Stmt::CrateCall(_)
-        | Stmt::LamCall(_)
-        | Stmt::Call(_) => accept_simple(alloc, &place, statement, known, rows),
         Stmt::If { .. }
         | Stmt::IfElse { .. }
         | Stmt::For { .. }
         | Stmt::While { .. }
-        | Stmt::Lock { .. } => Ok(accept_outer(alloc, &place, statement, known, rows)?),
+        | Stmt::Lock { .. } => false,
+        _ => true,
     }
 }
 
@@ -100,16 +101,13 @@ fn accept_simple(
     ensures found { Gives (verdict known.new) result (if_reached unreached known.old (accept_statement (by_code place.now.context.now) place.now.around.now (statement_of statement.now))) }
     ensures rows { OnOk result (rows.new ≡ with_rows rows.old (statement_rows (by_code place.now.context.now) place.now.around.now (statement_of statement.now) known.old)) }
 {
-    match known {
-        None => pass_over(alloc, place.context, statement, rows),
-        Some(known) => {
-            if rows.are_kept() {
-                with_its_row(alloc, place, statement, known, rows)
-            } else {
-                by_its_rule(alloc, place, statement, known)
-            }
-        }
+    let Some(known) = known else {
+        return pass_over(alloc, place.context, statement, rows);
+    };
+    if rows.are_kept() {
+        return with_its_row(alloc, place, statement, known, rows);
     }
+    by_its_rule(alloc, place, statement, known)
 }
 
 // Passes over a statement that can't be reached. It stands apart, since this is rare.

@@ -1,6 +1,6 @@
 // Expressions. The parts of each lie in one list, so that a check of long ones takes no memory for each operator.
 
-ghost use Rattle.std.specs.Prelude.{◌≡◌, ◌≤◌, ◌-◌, IfOk, drop, length, take};
+ghost use Rattle.std.specs.Prelude.{◌≡◌, ◌≤◌, ◌-◌, ◌∷◌, [], IfOk, drop, length, take};
 ghost use Rattle.camac_lang.specs.Nodes.{AreWhole, expression_in, listed};
 ghost use Rattle.camac_lang.specs.declared.expression.Node.TheVariants.{Variable};
 
@@ -91,9 +91,7 @@ impl Expr {
     pub fn of_number(n: u32) -> Expr
         ensures { expression_of result ≡ number n }
     {
-        Expr {
-            nodes: Nodes::One([Node::Number(n)]),
-        }
+        Expr::of_node(Node::Number(n))
     }
 
     /// A variable or parameter, by its number. An `Err` is out of memory.
@@ -101,10 +99,18 @@ impl Expr {
     pub fn of_variable(x: usize) -> Result<Expr, AllocError>
         ensures { IfOk result (λ e. expression_of e ≡ variable x) }
     {
-        let node = Node::of_variable(x)?;
-        Ok(Expr {
+        Ok(Expr::of_node(Node::of_variable(x)?))
+    }
+
+    /// The expression of this node, which is all that it has.
+    #[inline(always)]
+    pub fn of_node(node: Node) -> Expr
+        requires { AreWhole (node ∷ []) }
+        ensures { expression_of result ≡ expression_in (node ∷ []) }
+    {
+        Expr {
             nodes: Nodes::One([node]),
-        })
+        }
     }
 
     /// The expression of these nodes, which are all that it has. An `Err` is out of memory.
@@ -114,9 +120,7 @@ impl Expr {
         ensures { IfOk result (λ e. expression_of e ≡ expression_in nodes.now) }
     {
         if let [node] = nodes {
-            return Ok(Expr {
-                nodes: Nodes::One([*node]),
-            });
+            return Ok(Expr::of_node(*node));
         }
         let mut copy = Vec::with_capacity(alloc, nodes.len())?;
         copy.extend_from_slice(nodes)?;

@@ -189,6 +189,12 @@ known wanted find = do
   place ← ask (find name)
   known_at wanted name place
 
+-- the fault where a name of a kind should stand and does not
+unfoldable pub no_name : NameKind → Reader ℕ
+no_name wanted = do
+  name ← name_here
+  undeclared wanted name
+
 abbrev pub used_register : Reader ℕ
 used_register = used named.Register (λ x s. place_of x s.registers)
 

@@ -2,11 +2,11 @@
 
 ghost use Rattle.std.specs.Prelude.{◌≡◌, true, Some, None, Ok, IfSome, IfNone, IsSome, if◌then◌else◌};
 ghost use Rattle.camac_lang.specs.Tests.{is_new};
-ghost use Rattle.camac_tokens.specs.declared.fault.NameKind.TheVariants.{Parameter, Variable};
+ghost use Rattle.camac_tokens.specs.declared.fault.NameKind.TheVariants.{Parameter, Register, Variable};
 ghost use Rattle.camac_tokens.specs.declared.fault.TextCase.TheVariants.{Undeclared};
 ghost use Rattle.camac_text_cursor.specs.Reading.{kind_of, line_of, left_of};
-ghost use Rattle.camac_text_cursor.specs.Readers.{is_name, new_name, added, new_variable, new_parameter, register_at, set_name, declared_as, found_as, found_here, used_register, used_variable, used_lam, used_table, variable_here, procedure_here, called};
-ghost use Rattle.camac_text_cursor.specs.Parser.{state, Gives};
+ghost use Rattle.camac_text_cursor.specs.Readers.{is_name, new_name, added, new_variable, new_parameter, register_at, set_name, declared_as, found_as, found_here, no_name, used_register, used_variable, used_lam, used_table, variable_here, procedure_here, called};
+ghost use Rattle.camac_text_cursor.specs.Parser.{state, FailsWith, Gives};
 
 use crate::choice::Choice;
 use crate::cursor::Parser;
@@ -166,31 +166,53 @@ impl Parser<'_> {
         self.fault(TextCase::Undeclared { wanted, found })
     }
 
-    /// Takes the name of a register, and answers its number; S5 where there is none.
-    #[tactic(auto, unfolding(crate::specs::Readers::used, crate::specs::Readers::name_here))]
-    pub fn used_register(&mut self) -> Result<usize, TextFault>
-        ensures { Gives (λ n. n) result self.new (used_register (state self.old)) }
+    // The fault of a token that should be a name of this kind, and is none.
+    #[inline(never)]
+    #[tactic(auto, unfolding(crate::specs::Readers::no_name, crate::specs::Readers::name_here))]
+    fn no_name(&mut self, wanted: NameKind) -> TextFault
+        ensures { FailsWith result (state self.new).tried (no_name wanted (state self.old)) }
+    {
+        let here: &Self = self;
+        match here.peek() {
+            Some(TokenKind::Name(name)) => here.undeclared(wanted, name),
+            _ => self.unexpected(Choice::Name),
+        }
+    }
+
+    // Takes the name of a register, if one stands next, and answers its number. Else nothing is taken.
+    #[inline(never)]
+    #[tactic(auto, unfolding(crate::specs::Readers::used, crate::specs::Readers::no_name, crate::specs::Readers::name_here))]
+    fn take_register(&mut self) -> Option<usize>
+        ensures some { IfSome result (λ n. used_register (state self.old) ≡ Ok (n, state self.new)) }
+        ensures none { IfNone result ((state self.new ≡ state self.old) × (used_register (state self.old) ≡ no_name Register (state self.old))) }
     {
         let here: &Self = self;
         let Some(TokenKind::Name(name)) = here.peek() else {
-            return Err(self.unexpected(Choice::Name));
+            return None;
         };
-        match place_of(&here.registers, name) {
-            Some(place) => {
-                self.advance();
-                Ok(place)
-            }
-            None => Err(here.undeclared(NameKind::Register, name)),
+        let place = place_of(&here.registers, name)?;
+        self.advance();
+        Some(place)
+    }
+
+    /// Takes the name of a register, and answers its number; S5 where there is none.
+    #[inline(always)]
+    pub fn used_register(&mut self) -> Result<usize, TextFault>
+        ensures { Gives (λ n. n) result self.new (used_register (state self.old)) }
+    {
+        match self.take_register() {
+            Some(place) => Ok(place),
+            None => Err(self.no_name(NameKind::Register)),
         }
     }
 
     /// Takes the name of a variable, if one stands next, and answers its number. Else nothing is taken. It is quick, since it tells no fault.
     #[inline(never)]
-    #[tactic(auto, unfolding(crate::specs::Readers::used, crate::specs::Readers::name_here))]
+    #[tactic(auto, unfolding(crate::specs::Readers::used, crate::specs::Readers::no_name, crate::specs::Readers::name_here))]
     pub fn take_variable(&mut self) -> Option<usize>
         ensures name { IsSome result → is_name (kind_of (state self.old).rest) ≡ true }
         ensures some { IfSome result (λ n. used_variable (state self.old) ≡ Ok (n, state self.new)) }
-        ensures none { IfNone result (state self.new ≡ state self.old) }
+        ensures none { IfNone result ((state self.new ≡ state self.old) × (used_variable (state self.old) ≡ no_name Variable (state self.old))) }
     {
         let here: &Self = self;
         let Some(TokenKind::Name(name)) = here.peek() else {
@@ -202,20 +224,13 @@ impl Parser<'_> {
     }
 
     /// Takes the name of a variable, and answers its number; S5 where there is none.
-    #[tactic(auto, unfolding(crate::specs::Readers::used, crate::specs::Readers::name_here))]
+    #[inline(always)]
     pub fn used_variable(&mut self) -> Result<usize, TextFault>
         ensures { Gives (λ n. n) result self.new (used_variable (state self.old)) }
     {
-        let here: &Self = self;
-        let Some(TokenKind::Name(name)) = here.peek() else {
-            return Err(self.unexpected(Choice::Name));
-        };
-        match place_of(&here.variables, name) {
-            Some(place) => {
-                self.advance();
-                Ok(place)
-            }
-            None => Err(here.undeclared(NameKind::Variable, name)),
+        match self.take_variable() {
+            Some(place) => Ok(place),
+            None => Err(self.no_name(NameKind::Variable)),
         }
     }
 

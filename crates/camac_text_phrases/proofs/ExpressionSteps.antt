@@ -1,19 +1,28 @@
 -- An expression, step by step: its first factor, the factors behind it, and the terms behind these.
 use Rattle.std.proofs.Common.{◌≡◌, ℕ, true, Option, Some, None, Ok, refl}
 use Rattle.camac_lang.specs.declared.expression.Node.{Node}
-use Rattle.camac_lang.specs.Tree.{variable}
+use Rattle.camac_lang.specs.Tree.{number, variable}
 use Rattle.camac_tokens.specs.declared.token.TokenKind.{TokenKind}
 use Rattle.camac_tokens.specs.declared.token.TokenKind.TheVariants as kind
 use Rattle.camac_text_cursor.specs.Tried.{Tried}
 use Rattle.camac_tokens.specs.declared.fault.TextFault.{TextFault}
 use Rattle.camac_text_cursor.specs.declared.choice.Choice.TheVariants as choice
-use Rattle.camac_text_cursor.specs.Reading.{State, kind_of, until}
-use Rattle.camac_text_cursor.specs.Readers.{is_name, used_variable}
+use Rattle.camac_text_cursor.specs.Reading.{State, kind_of, past, until}
+use Rattle.camac_text_cursor.specs.Readers.{any_number, is_name, number_here, used_variable}
 use Rattle.camac_text_cursor.specs.Parser.{state, FailsWith}
 use Rattle.camac_text_cursor.specs.declared.cursor.Parser.{Parser}
 use Rattle.camac_text_cursor.proofs.Loops.{then_fails}
 use Rattle.camac_text_phrases.specs.Expressions.{Counted, counted, bracketed, expression_at, factor_by, factor_with, is_product_sign, is_sum_sign, product_turn, product_with, sum_turn, sum_with}
 use Rattle.camac_text_phrases.specs.Views.{Leaf}
+
+-- a number as the first factor
+number_next : (n : ℕ) (s : State) → kind_of s.rest ≡ Some (kind.Number n) → any_number s ≡ Ok (n, past s)
+unfolding any_number number_here
+number_next n s is = rw is refl
+
+pub number_taken : (room so_far n : ℕ) (s : State) → kind_of s.rest ≡ Some (kind.Number n) → factor_with (bracketed room) so_far s ≡ Ok (counted (number n) so_far, past s)
+unfolding factor_with
+number_taken room so_far n s is = rw is (rw (number_next n s is) refl)
 
 -- a variable as the first factor
 pub variable_taken : (room so_far n : ℕ) (s t : State) → is_name (kind_of s.rest) ≡ true → used_variable s ≡ Ok (n, t) → factor_with (bracketed room) so_far s ≡ Ok (counted (variable n) so_far, t)

@@ -1,13 +1,14 @@
 // Expressions.
 
-ghost use Rattle.std.specs.Prelude.{◌≡◌, ℕ, Ok, ◌≤◌, ◌-◌, suc, IfOk, length};
+ghost use Rattle.std.specs.Prelude.{◌≡◌, ℕ, Ok, ◌≤◌, ◌-◌, false, suc, IfOk, length};
 ghost use Rattle.camac_lang.specs.Tree.{Expression};
 ghost use Rattle.camac_lang.specs.View.{expression_of};
+ghost use Rattle.camac_text_cursor.specs.Readers.{is_number};
 ghost use Rattle.camac_text_cursor.specs.Reading.{State, kind_of, until};
 ghost use Rattle.camac_text_cursor.specs.declared.choice.Choice.TheVariants as choice;
 ghost use Rattle.camac_text_phrases.specs.Expressions.{counted, operator, divisor, factor_with, brackets_with, is_product_sign, product_turn, product_with, is_sum_sign, sum_turn, sum_with, bracketed, expression_at};
 ghost use Rattle.camac_text_cursor.specs.Parser.{state, Gives};
-ghost use Rattle.camac_text_phrases.specs.Views.{Continues, Leaf, Puts};
+ghost use Rattle.camac_text_phrases.specs.Views.{Continues, Leaf, Puts, Tries};
 
 use camac_lang::{Divisor, Expr, Node, limits};
 use camac_text_cursor::{Choice, Parser};
@@ -19,42 +20,55 @@ use std::alloc::AllocError;
 pub fn expression(parser: &mut Parser<'_>, room: u32) -> Result<Expr, TextFault>
     ensures { Gives expression_of result parser.new (expression_at room (state parser.old)) }
 {
-    match leaf(parser)? {
+    match quick_leaf(parser)? {
         Some(node) => {
             if is_product_sign(parser) || is_sum_sign(parser) {
                 return long_expression(parser, room, Some(node));
             }
             parser.miss(Choice::Product);
             parser.miss(Choice::Sum);
-            Ok(Expr::of_nodes(parser.alloc(), &[node])?)
+            Ok(Expr::of_node(node))
         }
-        None => long_expression(parser, room, None),
+        None => other_expression(parser, room),
     }
 }
 
-// A number or a variable, if one is next; else nothing is taken. Most expressions are no more than that.
+// A number or a variable, if one is next; else nothing is taken. Most expressions are no more than that. It is quick, since it tells no fault.
 #[inline(always)]
-#[tactic(auto, unfolding(crate::specs::Expressions::factor_with))]
+fn quick_leaf(parser: &mut Parser<'_>) -> Result<Option<Node>, AllocError>
+    ensures { (room so_far : ℕ) → IfOk result (λ first. Tries room so_far (state parser.old) first parser.new) }
+{
+    match parser.peek() {
+        Some(TokenKind::Number(number)) => {
+            let number = *number;
+            parser.advance();
+            Ok(Some(Node::Number(number)))
+        }
+        _ => match parser.take_variable() {
+            Some(place) => Ok(Some(Node::of_variable(place)?)),
+            None => Ok(None),
+        },
+    }
+}
+
+// The same. A name that is no variable is refused.
+#[inline(always)]
 fn leaf(parser: &mut Parser<'_>) -> Result<Option<Node>, TextFault>
     ensures { (room so_far : ℕ) → Leaf room so_far (state parser.old) result parser.new }
 {
-    match parser.take_variable() {
-        Some(place) => Ok(Some(Node::of_variable(place)?)),
-        None => any_leaf(parser),
+    match quick_leaf(parser)? {
+        Some(node) => Ok(Some(node)),
+        None => other_leaf(parser),
     }
 }
 
-// The same. A variable is read more slowly, since its fault has to be told.
 #[inline(never)]
 #[tactic(auto, unfolding(crate::specs::Expressions::factor_with, crate::specs::Expressions::brackets_with))]
-fn any_leaf(parser: &mut Parser<'_>) -> Result<Option<Node>, TextFault>
+fn other_leaf(parser: &mut Parser<'_>) -> Result<Option<Node>, TextFault>
+    requires { is_number (kind_of (state parser.old).rest) ≡ false }
     ensures { (room so_far : ℕ) → Leaf room so_far (state parser.old) result parser.new }
 {
     match parser.peek() {
-        Some(TokenKind::Number(_)) => {
-            let number = parser.any_number()?;
-            Ok(Some(Node::Number(number)))
-        }
         Some(TokenKind::Name(_)) => {
             let place = parser.used_variable()?;
             Ok(Some(Node::of_variable(place)?))
@@ -65,6 +79,16 @@ fn any_leaf(parser: &mut Parser<'_>) -> Result<Option<Node>, TextFault>
             Ok(None)
         }
     }
+}
+
+// An expression that does not begin with a number.
+#[inline(never)]
+fn other_expression(parser: &mut Parser<'_>, room: u32) -> Result<Expr, TextFault>
+    requires { is_number (kind_of (state parser.old).rest) ≡ false }
+    ensures { Gives expression_of result parser.new (expression_at room (state parser.old)) }
+{
+    let first = other_leaf(parser)?;
+    long_expression(parser, room, first)
 }
 
 // An expression that goes on behind its first number or variable, which is read already, or that begins with a bracket.

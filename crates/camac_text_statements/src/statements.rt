@@ -88,15 +88,6 @@ fn statement(parser: &mut Parser<'_>, room: u32, body: &mut Vec<Stmt>) -> Result
     }
 }
 
-/// Puts a statement behind others, if it was read.
-fn put(body: &mut Vec<Stmt>, read: Result<Stmt, TextFault>) -> Result<(), TextFault>
-    ensures { (after : Parser) (whole : Result (Statement × State) Fault) → Gives statement_of read after whole → Adds body.old.items body.new.items result after whole }
-{
-    let statement = read?;
-    body.push(statement)?;
-    Ok(())
-}
-
 /// The fault of a token that begins no statement.
 fn no_statement(parser: &mut Parser<'_>) -> TextFault
     requires statement { takes choice.Statement (kind_of (state parser.old).rest) ≡ false }
@@ -125,8 +116,27 @@ fn keyword_statement(
         Keyword::Cfsa => single_action(parser, WordSize::Full, room, line, body),
         Keyword::Cssa => single_action(parser, WordSize::Short, room, line, body),
         Keyword::Put => put_action(parser, room, line, body),
-        _ => put(body, other_statement(parser, word, room, line)),
+        _ => rare_statement(parser, word, room, line, body),
     }
+}
+
+/// The same, but none of those that most scripts have most of. It stands apart, so that these make no room for its statement.
+#[inline(never)]
+#[cycle(statement)]
+fn rare_statement(
+    parser: &mut Parser<'_>,
+    word: Keyword,
+    room: u32,
+    line: u32,
+    body: &mut Vec<Stmt>,
+) -> Result<(), TextFault>
+    requires next { kind_of (state parser.old).rest ≡ Some (kind.Keyword word) }
+    requires rare { is_frequent word ≡ false }
+    ensures { Adds body.old.items body.new.items result parser.new (nested_by room (block_at room) line (Some (kind.Keyword word)) (state parser.old)) }
+{
+    let statement = other_statement(parser, word, room, line)?;
+    body.push(statement)?;
+    Ok(())
 }
 
 /// The statement that begins with this keyword, which stands next, but none of those that most scripts have most of.

@@ -1,11 +1,7 @@
 use Rattle.std.proofs.Common.{rules, refl}
 use Rattle.camac_lang.specs.Nodes.{expression_in}
 use Rattle.camac_text_phrases.specs.Expressions.{factor_with}
-use Rattle.camac_text_phrases.proofs.expressions.any_leaf.Goals as goal
-
-pub returns-in_ok-number-in-Some-Number : goal.returns-in_ok-number-in-Some-Number
-unfolding factor_with expression_in
-returns-in_ok-number-in-Some-Number c room so_far = (refl, search rules)
+use Rattle.camac_text_phrases.proofs.expressions.other_leaf.Goals as goal
 
 pub returns-in_ok-of_variable-in-Some-Name : goal.returns-in_ok-of_variable-in-Some-Name
 unfolding factor_with expression_in
