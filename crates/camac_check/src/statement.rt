@@ -56,6 +56,7 @@ pub fn accept_block(
 
 /// Checks a statement, if it can be reached, and puts its rows. What was known before it is changed in place.
 #[cycle(statements)]
+#[inline(always)]
 pub fn accept_next(
     alloc: Global,
     context: &Context,
