@@ -1,16 +1,14 @@
 // Blocks and statements.
 
-ghost use Rattle.std.specs.Prelude.{◌≡◌, Result, Some, true, false, map, suc};
-ghost use Rattle.camac_lang.specs.Tree.{Statement};
+ghost use Rattle.std.specs.Prelude.{◌≡◌, Some, true, false, map, suc};
 ghost use Rattle.camac_lang.specs.View.{statement_of};
 ghost use Rattle.camac_text_cursor.specs.Choice.{takes};
 ghost use Rattle.camac_text_cursor.specs.declared.choice.Choice.TheVariants as choice;
-ghost use Rattle.camac_text_cursor.specs.Reading.{State, Fault, kind_of, left_of, line_of, many, missed};
+ghost use Rattle.camac_text_cursor.specs.Reading.{kind_of, left_of, line_of, many, missed};
 ghost use Rattle.camac_tokens.specs.declared.fault.TextCase.TheVariants.{Unexpected};
 ghost use Rattle.camac_tokens.specs.declared.token.TokenKind.TheVariants as kind;
 ghost use Rattle.camac_text_statements.specs.Statements.{is_frequent, nested_by, statement_by, statement_with, is_no_end, block_at};
 ghost use Rattle.camac_text_cursor.specs.Parser.{state, Gives};
-ghost use Rattle.camac_text_cursor.specs.declared.cursor.Parser.{Parser};
 ghost use Rattle.camac_text_statements.specs.Adding.{Adds};
 
 use crate::actions::{assignment, put_action, register_setting, single_action};
