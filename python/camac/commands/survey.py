@@ -1,0 +1,107 @@
+"""survey: asks the crates what they accept, and compares that with the plan."""
+import argparse
+import hashlib
+import os
+import re
+import sys
+from typing import Any, List, Optional
+
+from camac import drivers
+from camac.drive import ProgramFault
+from camac.commands.options import add_overwrite
+from camac.commands.running import DONE, FAULT, REFUSED
+from camac.functions import writes
+from camac.output import output, say
+from camac.subcommands import plan as read_plan
+from camac.surveys import FUNCTIONS, Survey, survey
+from camac.surveys.asking import Asked, write
+from camac.surveys.summary import refuse_foreign, summary
+from camac.surveys.texts import ends, table, told_before
+from camac.surveys.wiring import wires
+from camac.texts import plan_text
+
+ABOUT = """\
+All that is sent is in scripts that the checker has accepted, and nothing of it writes to a module: F8 and F27 to A0 to A15 of each station with a
+module, F0 and F1 where the plan declares them. --only and --also choose among F0 to F15 and F24 to F31; but for F8 and F27 a function goes only
+where it is declared.
+
+Status: 0 plan and crates agree; 1 something differs, or the plan is refused; 2 usage; 3 a file or the program failed."""
+
+
+def add_to(commands: Any) -> None:
+    raw = argparse.RawDescriptionHelpFormatter
+    it = commands.add_parser("survey", prog="camac-survey", help="Asks the crates what they accept, and compares that with the plan", epilog=ABOUT, formatter_class=raw)
+    it.add_argument("plan", metavar="PLAN", help="a plan: a TOML file, or @sample, the built-in plan")
+    it.add_argument("--driver", required=True, metavar="DRIVER", help=drivers.FORMS)
+    it.add_argument("--only", metavar="FUNCTIONS", help="sends these functions alone, as F8,F27")
+    it.add_argument("--also", metavar="FUNCTIONS", help="sends these, too, as F2,F10: they change what is in a module")
+    it.add_argument("--empty", action="store_true", help="sends F8 and F27 to the stations that the plan leaves empty, too")
+    it.add_argument("--wiring", action="store_true", help="raises each look-at-me by F25, or asks you to do it, and compares the bits of graded-L that come")
+    it.add_argument("--keep", metavar="FOLDER", help="writes each plan, script and its answers there, which camac run plays again")
+    it.add_argument("-o", "--out", metavar="JSON", help="a file of what was found, for the record of a run and for a report")
+    add_overwrite(it)
+    it.set_defaults(do=do, its=it)
+
+
+def do(args: argparse.Namespace) -> int:
+    functions = _functions(args)
+    plan = read_plan(args.plan)
+    if args.keep:
+        _make(args.keep)
+    if args.out and not args.overwrite:
+        refuse_foreign(args.out)
+    branch = drivers.driver(args.driver, args.plan)
+    _print(told_before(plan, functions, args.empty))
+    its = survey(args.plan, branch, functions=functions, has_empty=args.empty, tell=_tell)
+    if args.wiring:
+        its = its._replace(wires=tuple(wires(args.plan, branch, _by_hand if sys.stdin and sys.stdin.isatty() else None)))
+    _print([*table(its), *ends(its)])
+    for asked in its.scripts() if args.keep else ():
+        _keep(args.keep, asked)
+    if args.out:
+        sha256 = hashlib.sha256(plan_text(args.plan)).hexdigest()
+        with output(args.out) as out:
+            out.write(summary(its, sha256).text())
+    return REFUSED if its.differences() else DONE
+
+
+def _print(lines: List[str]) -> None:
+    say("".join(f"{it}\n" for it in lines))
+
+
+def _tell(line: str) -> None:
+    print(f"camac: {line}", file=sys.stderr)
+
+
+def _by_hand(what: str) -> bool:
+    """Asks the user, who may decline."""
+    print(f"{what}, then Enter; s and Enter leaves it out: ", end="", file=sys.stderr, flush=True)
+    return sys.stdin.readline().strip().lower() != "s"
+
+
+def _functions(args: argparse.Namespace) -> List[int]:
+    only, also = (_read(args, text) for text in (args.only, args.also))
+    return sorted({*(FUNCTIONS if only is None else only), *(also or ())})
+
+
+def _read(args: argparse.Namespace, text: Optional[str]) -> Optional[List[int]]:
+    """The functions of an option; ends with status 2 if they are not understood, or write."""
+    if text is None:
+        return None
+    words = text.split(",")
+    numbers = [int(it[1:]) for it in words if re.fullmatch("F[0-9]{1,2}", it)]
+    if len(numbers) < len(words) or any(it > 31 or writes(it) for it in numbers):
+        args.its.error(f"functions are F0 to F15 and F24 to F31, as F8,F27, not {text!r}; F16 to F23 write, and a survey writes nothing")
+    return numbers
+
+
+def _make(folder: str) -> None:
+    os.makedirs(folder, exist_ok=True)
+    if os.listdir(folder):
+        raise ProgramFault(f"{folder} is not empty", FAULT)
+
+
+def _keep(folder: str, asked: Asked) -> None:
+    write(folder, asked.script)
+    with output(os.path.join(folder, f"{asked.script.name}.answers")) as out:
+        out.write(asked.answers())
