@@ -5,7 +5,7 @@ _camac_survey() {
   COMPREPLY=()
   case $word in
   -*)
-    mapfile -t COMPREPLY < <(compgen -W '--also --driver --empty --help --keep --only --out --overwrite --wiring -h -o' -- "$word")
+    mapfile -t COMPREPLY < <(compgen -W '--also --driver --driver-test --empty --help --keep --only --out --overwrite --wiring -h -o' -- "$word")
     return
     ;;
   esac

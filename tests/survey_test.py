@@ -12,6 +12,7 @@ from support.live import STRAIGHT_LINE, TOP, Case, run_tests
 from support.program import called
 import camac
 from camac.mock import Adc, Declared, MockBranch, Module, Recorder, Register, Reply, Scaler
+from camac.surveys.driver_test import Kept, test_driver
 from camac.surveys.wiring import wires
 
 PLAN = """\
@@ -291,6 +292,112 @@ class Command(Case):
         self.assertEqual(camac.read_record(self.room / "live.json").survey, record.survey)
         self.write("s.json", "{}")
         self.assertEqual(self.package("report", "@sample", "straight.script", "answers", "-o", "r.html", "--survey", "s.json")[::2], (3, "camac: s.json is no survey: camac-survey -o makes one\n"))
+
+
+class Wrong(MockBranch):
+    """A branch with one fault of a driver, by its name."""
+
+    fault = ""
+
+    def cycle(self, c, n, a, f, data):
+        its = super().cycle(c, n, a, f, data)
+        if (c, n) not in self.modules and n < 28 and self.fault == f"X of F{f}":
+            return its._replace(x=1)
+        if self.fault == "stuck" and (n, f) == (6, 0):
+            return its._replace(word=its.word & ~8)
+        if self.fault == "other way" and (n, f) == (6, 0):
+            return its._replace(word=int(f"{its.word:08b}"[::-1], 2))
+        if self.fault == "deaf" and n == 6:
+            return its._replace(x=0)
+        if self.fault == "dead" and n == 28:
+            raise OSError("no answer to Z")
+        return its._replace(wait=1) if self.fault == "lockout" and c in self.locked else its
+
+
+class DriverTest(Case):
+    """camac-survey --driver-test: what a driver does wrong is found under the name of its rule, and nothing of a right one."""
+
+    def found(self, fault="", plan=PLAN, register=(1, 6, 0), branch=None):
+        file = self.write("bench.toml", plan)
+        self.module = Register(width=8)
+        self.module.word = 0x5A
+        branch = branch or Wrong.of_plan(file, {(1, 5): Adc(), (1, 6): self.module})
+        branch.fault = fault
+        self.branch = branch
+        found, self.asked = test_driver(file, branch, register)
+        return {(it.rule, it.text) for it in found if it.kept is Kept.BREAKS}, found
+
+    def test_right_driver(self):
+        broken, found = self.found()
+        self.assertEqual(broken, set())
+        texts = [it.text for it in found]
+        self.assertIn("16 words came back from the register: each of its 8 bits alone, and all others", texts)
+        self.assertEqual((self.module.word, self.branch.locked, self.branch.inhibited, self.branch.silent), (0x5A, set(), set(), set()))
+        self.assertRegex(" ".join(texts), r"microseconds of a cycle: \d+\.\d \(50 %\), \d+\.\d \(99 %\), \d+\.\d \(most\)")
+        self.assertRegex(" ".join(texts), "waits of at most [0-2] cycles in 1,000; the plan permits 2")
+
+    def test_what_is_sent(self):
+        """F16 at the register alone, each bit alone and all others, and then what was there; each script is accepted."""
+        self.found()
+        sent = [it.request for asked in self.asked for it in asked.made]
+        written = [it for it in sent if " out " in it]
+        wanted = [word for bit in range(8) for word in (1 << bit, 255 - (1 << bit))]
+        self.assertEqual(written, [f"cycle 1 6 0 16 out {word:06x}" for word in [*wanted, 0x5A]])
+        others = {it for it in sent if " out " not in it}
+        controller = {f"cycle 1 30 {a} {f} none" for a in (9, 10) for f in (24, 26, 27)} | {"cycle 1 28 8 26 none", "cycle 1 28 9 26 none"}
+        self.assertEqual(others, {"cycle 1 6 0 0 in", "cycle 1 1 0 0 in", "cycle 1 1 0 8 none", "lock 1", "unlock 1"} | controller)
+        for asked in self.asked:
+            self.assertEqual(called("check", self.write("p", asked.script.plan), self.write("s", asked.script.text))[0], 0)
+
+    def test_each_fault(self):
+        for fault, rule, said in (
+            ("stuck", "The operation", "8 of 16 words came back wrong, in the bits 3: 0000fe came back as 0000f6"),
+            ("other way", "The operation", "16 of 16 words came back wrong, in the bits 0, 1, 2, 3, 4, 5, 6, 7: 000001 came back as 000080"),
+            ("X of F0", "The answer", "X = 1, Q = 0 of F0 at station 1, which is empty"),
+            ("X of F8", "The answer", "X = 1, Q = 0 of F8 at station 1, which is empty"),
+            ("deaf", "The answer", "X = 0 of 34 of 34 cycles at the register"),
+            ("lockout", "The operation", "the script `lock` did not come to its end: a wait of 1 cycles, which the plan does not permit"),
+            ("dead", "The operation", "the script `controller` did not come to its end: OSError: no answer to Z"),
+        ):
+            with self.subTest(fault):
+                self.assertEqual(self.found(fault)[0], {(rule, said)})
+                self.assertEqual(self.branch.locked, set())
+
+    def test_not_tried(self):
+        plan = PLAN.replace("waits = 2\n", "")
+        texts = [it.text for it in self.found(plan=plan)[1] if it.kept is Kept.NOT_TRIED]
+        self.assertIn("the lockout: the plan has no waits in crate 1", texts)
+        stations = ", ".join(f'{{ n = {n}, type = "OUTPUT-8" }}' for n in range(1, 24))
+        full = PLAN[: PLAN.index("[[crate]]")] + f"[[crate]]\nnumber = 1\nstation = [ {stations} ]\n"
+        found = self.found(plan=full, branch=Wrong({(1, n): Register(width=8) for n in range(1, 24)}, {}))
+        self.assertEqual(found[0], set())
+        self.assertIn("X and Q of an empty station: crate 1 has none", [it.text for it in found[1]])
+        for place in ((1, 5, 0), (1, 6, 1), (1, 9, 0), (2, 6, 0)):
+            self.assertRaises(camac.UsageFault, self.found, register=place)
+
+    def test_interrupt_in_the_lock(self):
+        branch = MockBranch.of_plan("@sample", {(1, 5): Adc(), (1, 6): Register(width=8)})
+        cycle = branch.cycle
+
+        def interrupted(*at):
+            if branch.locked:
+                raise KeyboardInterrupt
+            return cycle(*at)
+
+        branch.cycle = interrupted
+        self.assertRaises(KeyboardInterrupt, test_driver, "@sample", branch, (1, 6, 0))
+        self.assertEqual(branch.locked, set())
+
+    def test_command(self):
+        status, out, err = self.package("survey", "@sample", "--driver", "mock", "--driver-test", "1,6,0", "--keep", "kept")
+        self.assertEqual((status, err, max(map(len, out.splitlines())) <= 80), (0, "", True))
+        self.assertEqual([it for it in out.splitlines() if it[0] != " "], ["The start", "The operation", "The answer", "One at a time", "Time"])
+        self.assertEqual(len(list((self.room / "kept").glob("*.answers"))), 5)
+        driver = TOP / "examples/live/my_branch.py"
+        self.assertEqual(self.package("survey", "@sample", "--driver", driver, "--driver-test", "1,6,0")[0], 1)
+        for wrong in ("1,6", "8,6,0", "1,24,0", "1,6,16", "1,6,0\n"):
+            self.assertEqual(self.package("survey", "@sample", "--driver", "mock", "--driver-test", wrong)[0], 2)
+        self.assertEqual(self.package("survey", "@sample", "--driver", "mock", "--driver-test", "1,5,0")[::2], (2, "camac: the plan declares no register with F0 and F16 at crate 1 station 5 A0\n"))
 
 
 if __name__ == "__main__":

@@ -4,19 +4,20 @@ import hashlib
 import os
 import re
 import sys
-from typing import Any, List, Optional
+from typing import Any, Iterable, List, Optional, Tuple
 
 from camac import drivers
-from camac.drive import ProgramFault
+from camac.drive import Branch, ProgramFault
 from camac.commands.options import add_overwrite
 from camac.commands.running import DONE, FAULT, REFUSED
 from camac.functions import writes
 from camac.output import output, say
 from camac.subcommands import plan as read_plan
-from camac.surveys import FUNCTIONS, Survey, survey
+from camac.surveys import FUNCTIONS, survey
 from camac.surveys.asking import Asked, write
+from camac.surveys.driver_test import Kept, test_driver
 from camac.surveys.summary import refuse_foreign, summary
-from camac.surveys.texts import ends, table, told_before
+from camac.surveys.texts import ends, findings, table, told_before
 from camac.surveys.wiring import wires
 from camac.texts import plan_text
 
@@ -37,6 +38,8 @@ def add_to(commands: Any) -> None:
     it.add_argument("--also", metavar="FUNCTIONS", help="sends these, too, as F2,F10: they change what is in a module")
     it.add_argument("--empty", action="store_true", help="sends F8 and F27 to the stations that the plan leaves empty, too")
     it.add_argument("--wiring", action="store_true", help="raises each look-at-me by F25, or asks you to do it, and compares the bits of graded-L that come")
+    text = "tests the driver instead, at a register that F16 writes and F0 reads, as 1,6,0; Z and C go to its crate, and clear its modules"
+    it.add_argument("--driver-test", metavar="CRATE,STATION,SUB_ADDRESS", help=text)
     it.add_argument("--keep", metavar="FOLDER", help="writes each plan, script and its answers there, which camac run plays again")
     it.add_argument("-o", "--out", metavar="JSON", help="a file of what was found, for the record of a run and for a report")
     add_overwrite(it)
@@ -44,20 +47,21 @@ def add_to(commands: Any) -> None:
 
 
 def do(args: argparse.Namespace) -> int:
-    functions = _functions(args)
+    functions, register = _functions(args), _register(args)
     plan = read_plan(args.plan)
     if args.keep:
         _make(args.keep)
     if args.out and not args.overwrite:
         refuse_foreign(args.out)
     branch = drivers.driver(args.driver, args.plan)
+    if register:
+        return _test(args, branch, register)
     _print(told_before(plan, functions, args.empty))
     its = survey(args.plan, branch, functions=functions, has_empty=args.empty, tell=_tell)
     if args.wiring:
         its = its._replace(wires=tuple(wires(args.plan, branch, _by_hand if sys.stdin and sys.stdin.isatty() else None)))
     _print([*table(its), *ends(its)])
-    for asked in its.scripts() if args.keep else ():
-        _keep(args.keep, asked)
+    _keep(args.keep, its.scripts())
     if args.out:
         sha256 = hashlib.sha256(plan_text(args.plan)).hexdigest()
         with output(args.out) as out:
@@ -65,7 +69,25 @@ def do(args: argparse.Namespace) -> int:
     return REFUSED if its.differences() else DONE
 
 
-def _print(lines: List[str]) -> None:
+def _test(args: argparse.Namespace, branch: Branch, register: Tuple[int, int, int]) -> int:
+    found, asked = test_driver(args.plan, branch, register)
+    _print(findings(found))
+    _keep(args.keep, asked)
+    return REFUSED if any(it.kept is Kept.BREAKS for it in found) else DONE
+
+
+def _register(args: argparse.Namespace) -> Optional[Tuple[int, int, int]]:
+    """The register of --driver-test; ends with status 2 if it is not understood."""
+    if args.driver_test is None:
+        return None
+    found = re.findall(r"^([1-7]),([1-9]|1[0-9]|2[0-3]),([0-9]|1[0-5])\Z", args.driver_test)
+    if not found or args.out or args.wiring:
+        args.its.error("--driver-test is CRATE,STATION,SUB_ADDRESS, as 1,6,0, without --wiring and -o")
+    crate, station, sub_address = map(int, found[0])
+    return crate, station, sub_address
+
+
+def _print(lines: Iterable[str]) -> None:
     say("".join(f"{it}\n" for it in lines))
 
 
@@ -101,7 +123,11 @@ def _make(folder: str) -> None:
         raise ProgramFault(f"{folder} is not empty", FAULT)
 
 
-def _keep(folder: str, asked: Asked) -> None:
-    write(folder, asked.script)
-    with output(os.path.join(folder, f"{asked.script.name}.answers")) as out:
-        out.write(asked.answers())
+def _keep(folder: Optional[str], asked: Iterable[Asked]) -> None:
+    """Writes scripts and their answers into a folder, if one is named."""
+    if folder is None:
+        return
+    for it in asked:
+        write(folder, it.script)
+        with output(os.path.join(folder, f"{it.script.name}.answers")) as out:
+            out.write(it.answers())

@@ -1,8 +1,10 @@
 """What a survey found, as lines for a terminal of 80 columns."""
+import itertools
 from typing import Iterable, Iterator, List, Sequence
 
 from camac.functions import name, reads
 from camac.surveys import TESTS, Found, Row, Survey
+from camac.surveys.driver_test import RULES, Finding
 from camac.values import Plan
 
 COLUMNS = 80
@@ -10,11 +12,11 @@ HEAD = f"  {'command':<23}{'X':>3}{'Q':>3}  {'bits seen':<11}the plan"
 READ = "A read may take a word out of a memory, or count an address on."
 
 
-def wrapped(text: str, indent: str = "  ") -> List[str]:
-    """A sentence in lines of 80 columns."""
+def wrapped(text: str, indent: str = "  ", more: int = 4) -> List[str]:
+    """A sentence in lines of 80 columns; all but the first begin with so many more blanks."""
     import textwrap
 
-    return textwrap.wrap(text, COLUMNS, initial_indent=indent, subsequent_indent=indent + "  ", break_long_words=False, break_on_hyphens=False)
+    return textwrap.wrap(text, COLUMNS, initial_indent=indent, subsequent_indent=" " * more, break_long_words=False, break_on_hyphens=False)
 
 
 def told_before(plan: Plan, functions: Sequence[int], has_empty: bool) -> List[str]:
@@ -24,7 +26,15 @@ def told_before(plan: Plan, functions: Sequence[int], has_empty: bool) -> List[s
     where = "all 23 stations of each crate" if has_empty else f"the {stations} stations with a module"
     lines = [f"sends {_named(tests)} to A0 to A15 of {where}"] if tests else []
     lines += [f"sends {_named(others)} where the plan declares it"] if others else []
-    return [row for it in lines + ([READ] if any(map(reads, others)) else []) for row in wrapped(it, "")]
+    return [row for it in lines + ([READ] if any(map(reads, others)) else []) for row in wrapped(it, "", 2)]
+
+
+def findings(its: Sequence[Finding]) -> Iterator[str]:
+    """What a test of a driver found, by the rules of docs/LIVE.md."""
+    for rule, found in itertools.groupby(sorted(its, key=lambda it: RULES.index(it.rule)), key=lambda it: it.rule):
+        yield rule
+        for it in found:
+            yield from wrapped(f"{it.kept.value:<11}{it.text}", "  ", 13)
 
 
 def _named(functions: Iterable[int]) -> str:
@@ -51,7 +61,7 @@ def table(its: Survey) -> Iterator[str]:
             yield f" station {station}, {rows[0].type or 'which the plan leaves empty'}"
         yield from map(_row, shown)
     for it in its.wires:
-        yield from wrapped(it.line(), "") if it.is_raised else ()
+        yield from wrapped(it.line(), "", 2) if it.is_raised else ()
 
 
 def ends(its: Survey) -> Iterator[str]:
