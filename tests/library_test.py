@@ -74,12 +74,18 @@ void cam_crate_zinit(const int c);
 void cam_crate_clear(const int c);
 void cam_inhibit_set(const int c);
 void cam_inhibit_clear(const int c);
+void cam_lam_enable(const int c, const int n);
+void cam_lam_clear(const int c, const int n);
+int camc_chk(const int c);
 """
 # which calls of mcstd make a cycle of crate 2, and its answer
-CYCLES_BY_MCSTD = """cam24i_q 2 5 0 0 -> 0 0 123456 0 000000
+CYCLES_BY_MCSTD = """cam_lam_enable 2 2 cam_lam_enable 2 3 cam_lam_enable 2 24 camc_chk 2 there 0
+cam24i_q 2 5 0 0 -> 0 0 123456 0 000000
 cam24i_q 2 5 1 1 -> 1 1 123456 0 000000
 cam24o_q 2 5 1 16 abcdef -> 1 0 000000 0 000000
 camc_q 2 5 1 9 -> 1 1 000000 0 000000
+camc_q 2 5 1 10 -> 1 0 000000 0 000000
+camc_q 2 3 1 10 cam_lam_clear 2 3 -> 1 0 000000 0 000000
 cam_crate_zinit 2 -> 1 1 000000 0 000000
 cam_crate_clear 2 -> 1 1 000000 0 000000
 cam_inhibit_clear 2 -> 1 1 000000 0 000000
@@ -164,6 +170,23 @@ class Headers(Case):
         for name, begin in (("g.c", MCSTD), ("h.cpp", f'extern "C" {{ {MCSTD} }}')):
             self.compile(name, f"{begin}\n#include <camac/camac_mcstd.h>\n{end}")
 
+    def test_pointers_of_other_types(self):
+        """A wrong one never compiles, also where nobody asks for warnings; a type and an X of the driver's own do."""
+        other = ESONE.replace("int *data", "unsigned long *data")
+        without = re.sub("void ctstat.*", "extern int last_x;", other)
+        wide = MCSTD.replace("unsigned int *", "unsigned long *").replace("unsigned int d", "unsigned long d")
+        own, x = "#define CAMAC_ESONE_DATA unsigned long\n", "#define CAMAC_ESONE_X last_x\n"
+        for begin, header, is_right in (
+            (other, "esone", False), (own + other, "esone", True), (own + ESONE, "esone", False), (own + without, "esone", False), (own + x + without, "esone", True),
+            (wide, "mcstd", False), ("#define CAMAC_MCSTD_DATA unsigned long\n" + wide, "mcstd", True),
+        ):
+            for name, compiler in (("a.c", ("gcc", "-std=c99")), ("a.cpp", ("g++", "-std=c++17", "-w", "-fpermissive"))):
+                text = begin if name == "a.c" else f'extern "C" {{\n{begin}\n}}'
+                file = self.write(name, f"{text}\n#include <camac/camac_{header}.h>\n")
+                status = call(*compiler, "-Werror=implicit-function-declaration", "-I", TOP / "include", "-c", file, "-o", self.room / "a.o")[0]
+                if name == "a.c" or is_right:
+                    self.assertEqual(status == 0, is_right, (begin, name))
+
     def test_mcstd(self):
         program = of_c.compiled(self.room, "mcstd", HERE / "mcstd.c")
         self.assertEqual(call(program), (0, CYCLES_BY_MCSTD))
@@ -173,7 +196,7 @@ class Headers(Case):
         code = re.sub(r"/\*.*?\*/", "", text, flags=re.S)
         self.assertEqual([it for it in re.findall(r"#define (\w+)", code) if not it.startswith("CAMAC_")], [])
         self.assertEqual([it for it in re.findall(r"^\w[\w *]*?(\w+)\(", code, re.M) if not re.match("camac_|CAMAC_", it)], [])
-        calls = set(re.findall(r"^(?:CAMAC_CALL|[\w ]+[ *])(camac_\w+)\([^;]*?\);$", code, re.M))
+        calls = set(re.findall(r"^(?:CAMAC_CALL|[\w ]+[ *])(camac_\w+)\([^;{]*?\);$", code, re.M))
         self.assertGreater(len(calls), 15)
         so, archive = of_c.prefix() / "lib/libcamac.so.0", of_c.prefix() / "lib/libcamac.a"
         node = "CAMAC_" + library.version().rpartition(".")[0]

@@ -162,14 +162,15 @@ def find_program(program: Optional[File] = None) -> File:
 def drive(
     plan: File,
     script: File,
-    branch: Branch,
+    branch: Union[Branch, str],
     events: File,
     *,
     program: Optional[File] = None,
     timeout: Optional[float] = None,
     record: "Union[File, Recording, None]" = None,
 ) -> RunEnd:
-    """Plays a script against a branch, and returns how the run ended. `plan` may be "@sample". `events` must not hold bytes. `record` is a file
+    """Plays a script against a branch, and returns how the run ended. `branch` may also be the name of a driver, as "mcstd:libhyt1331.so"
+    (`camac.driver`), and `plan` "@sample". `events` must not hold bytes. `record` is a file
     for the record of the run (`camac.record`), which must not hold bytes either. A `Recording` gives the run a number and a title, too.
 
     `program` is found by `find_program` unless given. `timeout` is how many seconds the program may take for its next line, and for its
@@ -183,8 +184,12 @@ def drive(
     ValueError, with nothing started, for a timeout out of its range."""
     if timeout is not None and not 0 <= timeout <= GREATEST_TIMEOUT:
         raise ValueError(f"a timeout is 0 to {GREATEST_TIMEOUT} seconds, not {timeout}")
+    if isinstance(branch, str):
+        # Drivers need what this module declares, as the record does.
+        from camac.drivers import driver
+
+        branch = driver(branch, plan)
     if record is not None:
-        # The record needs what this module declares.
         from camac.record import Played, recorded
 
         played = Played(plan, script, events, program)

@@ -422,7 +422,7 @@ class Session:
 def play(
     plan: File,
     script: File,
-    branch: Branch,
+    branch: Union[Branch, str],
     events: Optional[File] = None,
     *,
     program: Optional[File] = None,
@@ -435,8 +435,12 @@ def play(
 
     Returns how the run ended, and raises what `camac.drive` raises, with the texts of the program: what the branch raises, Refused,
     ProgramFault. The lockouts that are held then are released by `branch.unlock`, however the run ends."""
+    if isinstance(branch, str):
+        # Drivers need what this module declares, as the record does.
+        from camac.drivers import driver
+
+        branch = driver(branch, plan)
     if record is not None:
-        # The record needs what this module declares.
         from camac.record import Played, recorded
 
         return recorded(record, Played(plan, script, events, IN_PROCESS), branch, lambda watched: play(plan, script, watched, events))

@@ -136,6 +136,8 @@ def survey(
     for functions that write (F16 to F23), and for the rest what `camac.call` raises."""
     if any(not 0 <= it < 32 or writes(it) for it in functions):
         raise ValueError("a survey sends F0 to F15 and F24 to F31: the others write")
+    if not getattr(branch, "tells_x", True) and any(it >= 8 for it in functions):
+        raise ValueError("this driver tells no X of functions that move no data: ask for F0 and F1 alone, or let it read to tell X (mcstd:LIBRARY,x)")
     its = read_plan(plan, program)
     at = now()
     asked = []

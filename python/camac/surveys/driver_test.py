@@ -109,7 +109,7 @@ def _findings(bench: _Bench, words: Sequence[int], asked: Asked) -> Iterator[Fin
         crate = bench.crate.number
         yield Finding(START, Kept.KEEPS, f"Z, C, inhibit and the demand output of crate {crate} were made; inhibit is off, the demand output on")
         tests = [answer.q for command, answer in cycles if (command.sub_address, command.function) in CONTROLLER_TESTS]
-        said = "as they are set" if tests == [1, 0, 0, 1] else ", ".join(map(str, tests))
+        said = "as they are set" if tests == [1, 0, 0, 1] else ", ".join(f"{it:d}" for it in tests)
         yield Finding(START, Kept.TOLD, f"tests of inhibit and demand output answer {said} (not needed)")
 
 
@@ -129,7 +129,7 @@ def _walked(words: Sequence[int], cycles: Sequence[Tuple[Command, Answer]]) -> F
 
 def _of_empty(bench: _Bench, cycles: Sequence[Tuple[Command, Answer]]) -> Iterator[Finding]:
     for command, answer in cycles:
-        said = f"X = {answer.x}, Q = {answer.q} of F{command.function} at station {bench.empty}, which is empty"
+        said = f"X = {answer.x:d}, Q = {answer.q:d} of F{command.function} at station {bench.empty}, which is empty"
         yield Finding(ANSWER, Kept.BREAKS if answer.x or answer.q else Kept.KEEPS, said)
 
 
