@@ -104,6 +104,7 @@ make_package() {
   export SOURCE_DATE_EPOCH
   SOURCE_DATE_EPOCH=$(time_of_sources) && cd "$room/root" && mkdir DEBIAN && debian_files || return
   [ -n "$lacking" ] || debian_library || return
+  write_note "$folder/bin/camac" "$folder/$libraries/libcamac.so.0" >"$folder/share/camac/proof" || return
   debian_control >DEBIAN/control && debian_script py3compile >DEBIAN/postinst && debian_script py3clean >DEBIAN/prerm && chmod 755 DEBIAN/p* &&
     find usr -type f -print0 | LC_ALL=C sort -z | xargs -0 md5sum >DEBIAN/md5sums &&
     find . -exec touch -hd "@$SOURCE_DATE_EPOCH" {} + &&

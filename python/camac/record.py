@@ -20,7 +20,8 @@ from camac.drive import Answer, Branch, File, ProgramFault, UsageFault, add_note
 from camac.events import EventFileFault, read_events
 from camac.output import holds_bytes, output
 from camac.printed import read_services
-from camac.program import output_of, version
+from camac.program import output_of
+from camac.proof import told
 from camac.runs import Inputs, collect, is_event_file
 from camac.subcommands import plan
 from camac.surveys.summary import Summary, parse_summary, read_summary
@@ -191,7 +192,7 @@ def describe(of: Played, number: Optional[int] = None, title: str = "", survey: 
         response = output_of("response", "--", of.plan, of.script, program=of.program).splitlines()
     except UsageFault:
         response = []
-    versions = {"package": native.version_text(native.VERSION), "program": version(of.program), "python": platform.python_version()}
+    versions = {"package": native.version_text(native.VERSION), "program": told(of.program), "python": platform.python_version()}
     events = None if of.events is None else os.fsdecode(of.events)
     return Record(*texts, tuple(verdict), tuple(response), versions, number, title, events=events, survey=surveyed)
 

@@ -4,7 +4,8 @@ from typing import List, Mapping, NamedTuple, Optional
 
 from camac.columns import Naming, ask
 from camac.drive import File, Refused
-from camac.program import knows_command, version
+from camac.program import knows_command
+from camac.proof import told
 from camac.report import sections
 from camac.report.page import page
 from camac.report.refused import refused_page
@@ -49,7 +50,7 @@ def report(
         run.checks.append(_shares_check(bodies))
     if survey is not None:
         run.checks.append(_survey_check(survey, inputs.plan))
-    facts = sections.Facts(inputs, version(program), plan, services, source_lines(inputs.script), bodies, responses, run)
+    facts = sections.Facts(inputs, told(program), plan, services, source_lines(inputs.script), bodies, responses, run)
     parts = [
         sections.tiles(run),
         sections.last_line(run),
@@ -60,7 +61,7 @@ def report(
         sections.run_section(facts),
         sections.histograms(facts),
         sections.services(facts),
-        sections.checks(run),
+        sections.checks(facts),
     ]
     text = page(f"{sections.base_name(inputs.script)}: report", sections.head(facts), parts)
     return Report(text, 0 if run.agrees() and run.is_good() else 1)
