@@ -22,6 +22,7 @@ from random import Random
 
 from support import of_c
 from support.live import LOCKOUT, PROGRAM, STRAIGHT_LINE, TOP, Broken, Case, Interrupted, Listed, run_tests
+from support.program import EVENT_FILE
 import camac
 from camac import Answer, Ending, ProgramFault, Refused, UsageFault, judge, library
 from camac.mock import Adc, Auxiliary, MockBranch, Recorder, Register
@@ -125,6 +126,19 @@ service reg within 50 cycles event 0 words {
 }
 """
 DEMAND, CYCLE = Answer(gl=4), Answer(1, 1, 0x123)
+# `run`, of a refused script too, and `drive`, with no program
+PLAYED = """import sys, camac
+from camac.mock import Recorded
+script, answers = sys.argv[1:]
+print(list(camac.run("@sample", script, answers, "one.events"))[-1].line)
+open("wrong", "w").write("service")
+try:
+    list(camac.run("@sample", "wrong", answers, "one.events"))
+except camac.Refused as why:
+    print(why.code)
+print(camac.drive("@sample", script, Recorded(answers), "two.events").line)
+"""
+PLAYS = "ended events 1\nS2\nended events 1\n"
 
 
 def setUpModule():
@@ -698,8 +712,16 @@ class Package(Case):
         made = (["draw", "costs", "@sample", its], ["draw", "plan", "@sample", its], late, ["report", "@sample", its, event_file])
         for at, words in enumerate(made):
             self.assertEqual(call(*calls, *words, "-o", self.room / f"it{at}.svg", env=env), (0, ""))
-        status, told = call(*calls, "report", "@sample", its, self.write("answers", ""), "-o", self.room / "it.html", env=env)
-        self.assertEqual((status, told), (3, "camac: the program camac is not in PATH, and CAMAC_PROGRAM is not set\n"))
+        straight, answers = EXAMPLES / "straight_line.script", self.write("answers", "0 0 000000 0 000004\n1 1 123fff 2 000000\n")
+        for at, words in enumerate((["report"], ["draw", "run"], ["draw", "words"])):
+            self.assertEqual(call(*calls, *words, "@sample", straight, answers, "-o", self.room / f"of_answers{at}.svg", env=env), (0, ""))
+        self.assertIn("ended events 1", (self.room / "of_answers0.svg").read_text())
+        status, told = call(*calls, "annotate", "@sample", straight, answers, env=env)
+        self.assertEqual((status, told.splitlines()[1:]), (0, ["      2  1 1 123fff 2 000000    cycle 1 5 0 0 in 123fff x1 q1 wait 2", " " * 30 + "ended events 1"]), told)
+        self.assertEqual(call(*calls, "survey", "@sample", "--driver", "mock", env=env), (3, "camac: the library does not list what a plan declares: this needs the program camac\n"))
+        self.assertEqual(call(sys.executable, self.write("run.py", PLAYED), straight, answers, cwd=self.room, env=env), (0, PLAYS))
+        self.assertEqual((self.room / "one.events").read_bytes(), EVENT_FILE)
+        self.assertEqual((self.room / "two.events").read_bytes(), EVENT_FILE)
 
     @unittest.skipUnless(importlib.util.find_spec("pip"), "pip is not here")
     def test_pip(self):

@@ -173,7 +173,7 @@ def drive(
     (`camac.driver`), and `plan` "@sample". `events` must not hold bytes. `record` is a file
     for the record of the run (`camac.record`), which must not hold bytes either. A `Recording` gives the run a number and a title, too.
 
-    `program` is found by `find_program` unless given. `timeout` is how many seconds the program may take for its next line, and for its
+    `program` is found by `find_program` unless given; if there is none, the library plays the run in this process. `timeout` is how many seconds the program may take for its next line, and for its
     end; the time that the branch takes does not count. It is 0 to 2,147,483; without it the program may take as long as it does.
 
     The lockouts that are held when the requests end are released by `branch.unlock`, however the run ends. An interrupt (Ctrl-C) inside
@@ -194,7 +194,15 @@ def drive(
 
         played = Played(plan, script, events, program)
         return recorded(record, played, branch, lambda watched: drive(plan, script, watched, events, program=program, timeout=timeout))
-    with _Program([find_program(program), "drive", "--", plan, script, events], timeout) as started:
+    try:
+        found = find_program(program)
+    except FileNotFoundError:
+        from camac import library
+
+        if not library.is_there():
+            raise
+        return library.play(plan, script, branch, events)
+    with _Program([found, "drive", "--", plan, script, events], timeout) as started:
         run = _Run(started, branch)
         try:
             end = run.serve()

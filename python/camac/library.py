@@ -50,7 +50,7 @@ LONGEST = 16 + 4 * EVENT_WORDS
 FAULTS = {NO_MEMORY: ("fault memory", 3), LONG: ("fault input too long", 3)}
 # The subcommands of the program that the library has too.
 IN_PROCESS = "@library"
-COMMANDS = frozenset(("plan", "check", "explain", "bounds", "costs", "response"))
+COMMANDS = frozenset(("plan", "check", "explain", "bounds", "costs", "response", "run"))
 SPENT_LINE = "refused A4 line 4294967296: too many answers"
 MISUSED = "a number is out of range, or a word names no service"
 CLOSED = "the session is closed"
@@ -151,6 +151,8 @@ def _judged(name: str, *texts: Text) -> Verdict:
 def output_of(command: str, plan: File, *script: File, every: Iterable[str] = ()) -> Verdict:
     """The output of the program when it is called with one of `COMMANDS` and these files. `every` has the words that follow this option of
     `response`, as NAME=CYCLES. Raises as the program fails: ProgramFault, UsageFault."""
+    if command == "run":
+        return _played(plan, *script)
     name = command if script or command == "plan" else f"{command}_plan"
     return judged(name, plan_text(plan), *map(script_text, script), every=every)
 
@@ -159,6 +161,20 @@ def judged(command: str, *texts: Text, every: Iterable[str] = ()) -> Verdict:
     """What the program prints of these texts, as `output_of`."""
     options = [_settings(every), ""] if command == "response" else []
     return _judged(command, *texts, *options)
+
+
+def _played(plan: File, script: File, answers: File, events: File) -> Verdict:
+    """The listing of `camac run`. Where plan and script are accepted, the event file is made anew."""
+    try:
+        with open(answers, "rb") as opened:
+            given = opened.read()
+    except OSError as why:
+        raise file_fault("read", answers, why) from why
+    listing, made = run(plan_text(plan), script_text(script), given)
+    if made:
+        with _writes(events), open(events, "wb") as file:
+            file.write(made)
+    return listing
 
 
 def plan(plan: Text) -> Verdict:

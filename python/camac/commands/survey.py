@@ -12,9 +12,8 @@ from camac.commands.options import add_overwrite
 from camac.commands.running import DONE, FAULT, REFUSED
 from camac.functions import writes
 from camac.output import output, say
-from camac.subcommands import plan as read_plan
 from camac.surveys import FUNCTIONS, survey
-from camac.surveys.asking import Asked, write
+from camac.surveys.asking import Asked, declared_plan, write
 from camac.surveys.driver_test import Kept, test_driver
 from camac.surveys.summary import refuse_foreign, summary
 from camac.surveys.texts import ends, findings, table, told_before
@@ -48,7 +47,7 @@ def add_to(commands: Any) -> None:
 
 def do(args: argparse.Namespace) -> int:
     functions, register = _functions(args), _register(args)
-    plan = read_plan(args.plan)
+    plan = declared_plan(args.plan, None)
     if args.keep:
         _make(args.keep)
     if args.out and not args.overwrite:

@@ -7,8 +7,7 @@ from typing import Callable, Iterator, List, NamedTuple, Optional, Sequence, Set
 
 from camac.drive import Answer, Branch, File
 from camac.functions import writes
-from camac.subcommands import plan as read_plan
-from camac.surveys.asking import Asked, Reach, Script, ask, ranges, service
+from camac.surveys.asking import Asked, Reach, Script, ask, declared_plan, ranges, service
 from camac.surveys.wiring import Wire
 from camac.values import Command, Crate, Declaration, Plan, Station
 
@@ -138,7 +137,7 @@ def survey(
         raise ValueError("a survey sends F0 to F15 and F24 to F31: the others write")
     if not getattr(branch, "tells_x", True) and any(it >= 8 for it in functions):
         raise ValueError("this driver tells no X of functions that move no data: ask for F0 and F1 alone, or let it read to tell X (mcstd:LIBRARY,x)")
-    its = read_plan(plan, program)
+    its = declared_plan(plan, program)
     at = now()
     asked = []
     for number, crate in enumerate(its.crates, 1):

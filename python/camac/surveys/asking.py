@@ -6,13 +6,23 @@ from dataclasses import dataclass
 from typing import Iterable, List, NamedTuple, Optional, Sequence, Tuple
 
 from camac.call import call
-from camac.drive import Answer, Branch, File, add_note
+from camac.drive import Answer, Branch, File, ProgramFault, add_note
 from camac.functions import reads
 from camac.mock import Operation, Recorder
-from camac.values import Command, Ending
+from camac.subcommands import plan as read_plan
+from camac.values import Command, Ending, Plan
 
 # The name of the look-at-me that calls the one service of a script.
 SERVICE = "asked"
+
+
+def declared_plan(plan: File, program: Optional[File]) -> Plan:
+    """The plan with all that its types declare. Raises ProgramFault if the library alone reads it, which does not list that, and for the rest as
+    `camac.plan`."""
+    its = read_plan(plan, program)
+    if any(it.commands and not it.declarations for it in its.types.values()):
+        raise ProgramFault("the library does not list what a plan declares: this needs the program camac", 3)
+    return its
 
 
 class Reach(NamedTuple):

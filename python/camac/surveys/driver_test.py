@@ -3,9 +3,8 @@ import enum
 from typing import Iterator, List, NamedTuple, Optional, Sequence, Tuple
 
 from camac.drive import Answer, Branch, File, UsageFault
-from camac.subcommands import plan as read_plan
 from camac.surveys import STATIONS
-from camac.surveys.asking import Asked, Script, ask, service
+from camac.surveys.asking import Asked, Script, ask, declared_plan, service
 from camac.values import Command, Crate
 
 # How many cycles are timed.
@@ -62,7 +61,7 @@ class _Bench(NamedTuple):
 
 def find_bench(plan: File, register: Tuple[int, int, int], program: Optional[File] = None) -> _Bench:
     """Raises UsageFault if the plan declares no F0 and F16 at crate, station and sub-address of the register."""
-    its, (c, n, a) = read_plan(plan, program), register
+    its, (c, n, a) = declared_plan(plan, program), register
     kind = its.type_at(c, n)
     widths = {it.function: it.width or 24 for it in (kind.declarations if kind else ()) if it.first <= a <= it.last and not it.is_probe}
     if not {READ, WRITE} <= widths.keys():

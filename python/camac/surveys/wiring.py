@@ -2,8 +2,7 @@
 from typing import Callable, Iterator, List, NamedTuple, Optional, Tuple
 
 from camac.drive import Branch, File
-from camac.subcommands import plan as read_plan
-from camac.surveys.asking import SERVICE, Asked, Script, ask, service
+from camac.surveys.asking import SERVICE, Asked, Script, ask, declared_plan, service
 from camac.texts import plan_text
 from camac.values import Crate, Plan, Station
 
@@ -53,7 +52,7 @@ def wires(plan: File, branch: Branch, by_hand: Optional[Ask] = None, program: Op
     is cleared and disabled.
 
     Where the module has no F25, or that raises nothing, `by_hand` is asked to have it raised. Raises what `camac.call` raises."""
-    its, text = read_plan(plan, program), plan_text(plan).decode("utf-8", "replace")
+    its, text = declared_plan(plan, program), plan_text(plan).decode("utf-8", "replace")
     for _, crate, station in its.demands():
         at = _Station(its, crate, station, text)
         wire = at.wire("", fault="its type declares no F8") if at.lam is None else None
