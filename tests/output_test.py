@@ -113,7 +113,7 @@ def table():
     return {name: replaced for name, replaced in re.findall(r"^\| `([^|]*)` \| `[^|]*` \| ([^|]*) \|$", page, re.M)}
 
 
-class Room(Case):
+class Called(Case):
     @classmethod
     def setUpClass(cls):
         """Python keeps what it compiles for all calls, and not in the sources."""
@@ -126,6 +126,17 @@ class Room(Case):
         ran = subprocess.run(words, cwd=self.room, env={**self.env, **more}, capture_output=True, text=True, timeout=60)
         return ran.returncode, ran.stdout, ran.stderr
 
+    def on_small_disk(self, line):
+        """The same of a line of bash in which `small` is a disk of 64 KiB."""
+        apart = ["unshare", "--mount"] + ([] if not os.getuid() else ["--map-root-user"])
+        try:
+            ran = self.ran([*apart, "bash", "-c", f"mkdir small && mount -t tmpfs -o size=64k none small || exit 77\n{line}"])
+        except FileNotFoundError:
+            self.skipTest("no unshare")
+        if ran[0] == 77 or ran[2].startswith("unshare: "):
+            self.skipTest("nothing can be mounted")
+        return ran
+
     def text(self, name):
         return (self.room / name).read_text(errors="surrogateescape")
 
@@ -136,7 +147,7 @@ class Room(Case):
         return stat.S_IMODE((self.room / name).lstat().st_mode)
 
 
-class Written(Room):
+class Written(Called):
     # Of each command what it may replace, and what it puts there, once that is known.
     known = {name: (it.old, it.new) for name, it in COMMANDS.items() if it.old}
 
@@ -272,20 +283,13 @@ class Written(Room):
 
     def test_full_disk(self):
         """A disk that has no room, seen by these commands alone."""
-        apart = ["unshare", "--mount"] + ([] if not os.getuid() else ["--map-root-user"])
-        rows = []
-        line = "mkdir small && mount -t tmpfs -o size=64k none small || exit 77\n"
+        rows, line = [], ""
         for number, (its, _, old, _) in enumerate(self.each()):
             rows.append((its, old))
             file = its.file.replace("OUT", "small/out")
             line += f"printf %s {shlex.quote(old)} >{file}; head -c 65536 /dev/zero >small/rest 2>&-\n"
             line += f"{shlex.join(self.words(its, 'small/out'))} >said{number} 2>&1; echo $? >>said{number}; cat {file} >left{number}; rm small/rest; ls small >names{number}; rm small/*\n"
-        try:
-            ran = self.ran([*apart, "bash", "-c", line])
-        except FileNotFoundError:
-            self.skipTest("no unshare")
-        if ran[0] == 77 or ran[2].startswith("unshare: "):
-            self.skipTest("nothing can be mounted")
+        self.on_small_disk(line)
         for number, (its, old) in enumerate(rows):
             file, said = its.file.replace("OUT", "out"), self.text(f"said{number}")
             with self.subTest(its.words):
@@ -294,6 +298,7 @@ class Written(Room):
 
     def test_event_files(self):
         """`run` replaces an event file alone, and `drive` nothing that holds bytes."""
+        self.assertEqual([table()[it] for it in sorted(OF_PROGRAM)], [NOTHING, "an event file"])
         run, drive = ([PROGRAM, *it.split(), "out"] for it in ("run @sample script answers", "drive @sample script"))
         foreign = unwritten("it is no event file", "out").decode()
         own = unwritten("it holds bytes; a live run needs a file of its own", "out").decode()
@@ -307,16 +312,17 @@ class Written(Room):
                 self.assertEqual((self.ran(words), file.read_bytes()), ((3, "", told), old))
 
 
-class Outputs(Room):
+class Outputs(Called):
     def setUp(self):
         super().setUp()
         data, self.table = event_file(3)
         (self.room / "run.events").write_bytes(data)
 
+    CSV = f'csv() {{ {shlex.quote(sys.executable)} -m camac csv "$@" --overwrite; }}\n'
+
     def shell(self, line):
         """Status, standard output and standard error of a line of bash, in which `csv` makes a table."""
-        text = f'csv() {{ {shlex.quote(sys.executable)} -m camac csv "$@" --overwrite; }}\n{line}'
-        return self.ran(["bash", "-c", text])
+        return self.ran(["bash", "-c", f"{self.CSV}{line}"])
 
     def write_table(self, out, status=0, told=""):
         self.assertEqual(self.shell(f"csv events run.events -o {out}"), (status, "", told))
@@ -427,6 +433,13 @@ class Outputs(Room):
         for out, why in (("folder", "Is a directory"), ("name/", "Is a directory"), ("none/out", "No such file or directory")):
             self.write_table(out, 3, f"camac: {why}: {out}\n")
         self.assertEqual(self.there(), ["folder", "run.events"])
+
+    def test_a_disk_that_has_room_once(self):
+        """The file of two names stays whole, where the new one has room beside it and not in its place."""
+        (self.room / "run.events").write_bytes(event_file(3000)[0])
+        line = f"printf '{NIGHT_BEFORE}' >small/out; ln small/out small/other; csv events run.events -o small/out; status=$?; cat small/*; exit $status"
+        ran = self.on_small_disk(f"{self.CSV}{line}")
+        self.assertEqual(ran, (3, NIGHT_BEFORE * 2, "camac: No space left on device: small/out\n"))
 
     def test_a_reader_that_is_gone(self):
         """The command ends without a word, by the signal by which `cat` ends."""

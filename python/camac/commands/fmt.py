@@ -48,6 +48,7 @@ def _lay_out(file: str, is_check: bool) -> Laid:
     except LayoutFault as fault:
         return Laid(file, REFUSED, f"{file}:{fault.line}: {fault}")
     except BrokenPipeError:
+        # Nobody is there to be told: this ends the process.
         raise
     except OSError as why:
         return Laid(file, FAULT, reason(why))
