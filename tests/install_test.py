@@ -157,8 +157,18 @@ class DebianPackage(Case):
         wanted += " share/doc/camac/copyright share/doc/camac/changelog.gz share/doc/camac/changelog.Debian.gz share/doc/camac/docs/REFUSALS.md"
         wanted += "" if of_c.lacking() else " include/camac/camac.h lib/x86_64-linux-gnu/libcamac.so.0 lib/x86_64-linux-gnu/pkgconfig/camac.pc"
         self.assertEqual([it for it in wanted.split() if not (room / "usr" / it).is_file()], [])
+        said = call("dpkg-deb", "-f", package, "Description")[1]
+        self.assertEqual(said.splitlines()[0], "checker and simulator for CAMAC readout scripts, not proved")
+        self.assertEqual("\n The library for C in this package is not proved.\n" in said, not of_c.lacking())
         if shutil.which("lintian"):
             self.assertEqual(call("lintian", "--allow-root", "--fail-on", "error,warning", package)[:2], (0, ""))
+
+    def test_what_is_proved(self):
+        for program, library, lacking, said, last in (("yes", "no", "", "proved", "not proved"), ("no", "yes", "", "not proved", "proved"), ("yes", "", "gcc", "proved", None)):
+            line = f'source tools/debian.bash; folder={self.folder()} is_proved={program} is_library_proved={library} lacking={lacking} debian_control'
+            told = call("bash", "-c", line, cwd=COPY)[1]
+            self.assertRegex(told, f"(?m)^Description: checker and simulator for CAMAC readout scripts, {said}$")
+            self.assertEqual(re.findall("library for C in this package is (.*)[.]$", told), [last] if last else [])
 
 
 class Beside(Case):
