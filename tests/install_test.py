@@ -17,6 +17,7 @@ import unittest
 
 from support import launcher, of_c
 from support.launcher import call, copy, stand_in, start, toolchain
+from support.needs import has, needed
 from support.program import PROGRAM, TOP
 
 # What ./camac calls, and ./install besides.
@@ -132,7 +133,7 @@ class Lacking(Case):
         self.assertEqual(call(COPY / "install", "--pack", place, env=self.path(*OF_LAUNCHER, *OF_INSTALLER, *OF_ARCHIVES["--pack"]))[::2], (0, ""))
 
 
-@unittest.skipUnless(all(map(shutil.which, OF_ARCHIVES["--deb"])), "no tools of Debian")
+@needed("the tools of Debian", is_here=all(map(shutil.which, OF_ARCHIVES["--deb"])))
 class DebianPackage(Case):
     """It has the library if that is here to be put in."""
 
@@ -160,7 +161,7 @@ class DebianPackage(Case):
         said = call("dpkg-deb", "-f", package, "Description")[1]
         self.assertEqual(said.splitlines()[0], "checker and simulator for CAMAC readout scripts, not proved")
         self.assertEqual("\n The library for C in this package is not proved.\n" in said, not of_c.lacking())
-        if shutil.which("lintian"):
+        if has("lintian"):
             self.assertEqual(call("lintian", "--allow-root", "--fail-on", "error,warning", package)[:2], (0, ""))
 
     def test_what_is_proved(self):
@@ -234,7 +235,8 @@ class Named(Case):
         self.assertEqual(ran.returncode, 1)
 
 
-@unittest.skipIf(of_c.lacking() or not shutil.which("pkg-config"), "no library for C, or no pkg-config")
+@of_c.needed()
+@needed("pkg-config")
 class BlockOfC(Case):
     """The block of README for programs in C, in a shell in which nothing else is set, after ./install into the home folder."""
 

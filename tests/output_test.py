@@ -15,6 +15,7 @@ import tempfile
 import unittest
 
 from support.live import TOP, Case
+from support.needs import needed, skip
 
 NIGHT_BEFORE = "of the night before\n"
 HEAD = "number,gl,cycles,missed,count,word_0\n"
@@ -93,14 +94,14 @@ class Outputs(Case):
         self.assertTrue(stat.S_ISFIFO((self.room / "pipe").stat().st_mode))
         self.assertEqual(self.shell("csv events run.events -o >(cat)| cat"), (0, self.table, ""))
 
-    @unittest.skipIf(os.getuid(), "only root makes a device node")
+    @needed("root", is_here=not os.getuid())
     def test_devices(self):
         for name, minor, status, told in (("null", 3, 0, ""), ("full", 7, 3, "camac: No space left on device: full\n")):
             try:
                 os.mknod(self.room / name, 0o666 | stat.S_IFCHR, os.makedev(1, minor))
                 os.close(os.open(self.room / name, os.O_WRONLY))
             except OSError as why:
-                self.skipTest(f"no device node here: {why}")
+                skip(f"a device node ({why.strerror})")
             self.write_table(name, status, told)
             self.assertTrue(stat.S_ISCHR((self.room / name).stat().st_mode))
         self.assertEqual(self.there(), ["full", "null", "run.events"])
@@ -175,9 +176,9 @@ class Outputs(Case):
         try:
             ran = self.shell(line, apart)
         except FileNotFoundError:
-            self.skipTest("no unshare")
+            skip("util-linux")
         if ran[0] == 77 or ran[2].startswith("unshare: "):
-            self.skipTest("nothing can be mounted")
+            skip("a disk that can be mounted")
         self.assertEqual(ran, (3, NIGHT_BEFORE, "camac: No space left on device: small/out\n"))
 
     def test_a_reader_that_is_gone(self):
