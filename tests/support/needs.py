@@ -5,9 +5,9 @@ import importlib.util
 import shutil
 import unittest
 
-# By their packages, the commands that tests call, and the modules that they import.
+# By their packages, the commands that tests call, and the modules that they import. Where there is neither, the test itself looks for it.
 PACKAGES = {
-    "binutils": "ld ar nm objcopy", "chromium": "chromium", "elpa-eglot": "emacs", "emacs-nox": "emacs", "g++": "c++", "gcc": "gcc cc",
+    "binutils": "ld ar nm objcopy", "chromium": "", "elpa-eglot": "", "emacs-nox": "emacs", "g++": "c++ g++", "gcc": "cc gcc",
     "hdf5-tools": "h5dump", "lintian": "lintian", "mandoc": "mandoc", "mypy": "mypy", "neovim": "nvim", "nodejs": "node", "pkg-config": "pkg-config",
     "poppler-utils": "pdftotext", "python3-h5py": "import h5py", "python3-jsonschema": "import jsonschema", "python3-numpy": "import numpy",
     "python3-pip": "import pip", "util-linux": "unshare", "valgrind": "valgrind", "vim": "vim", "vim-ale": "vim",
