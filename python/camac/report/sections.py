@@ -280,7 +280,7 @@ def histograms(facts: Facts) -> str:
 def services(facts: Facts) -> str:
     """The table of the services of the run: the first ones, and the worst ones."""
     run, total, rows = facts.run, len(facts.run.gl), []
-    worst = heapq.nsmallest(WORST_SERVICES, zip((-it for it in run.no_x), (-it for it in run.cycles), range(total)))
+    worst = heapq.nsmallest(WORST_SERVICES, zip(map(int.__neg__, run.no_x), map(int.__neg__, run.cycles), range(total)))
     chosen = sorted({*(k for _, _, k in worst), *range(min(total, FIRST_SERVICES))})
     for k in chosen:
         service = facts.service(run.gl[k])
