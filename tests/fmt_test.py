@@ -130,7 +130,7 @@ class Command(Case):
         self.assertEqual(self.package("fmt", "-", given=b"var {"), (1, "", "camac: -:1: this `{` is not closed\n"))
 
 
-@unittest.skipIf(of_c.lacking(), of_c.lacking() or "it is here")
+@of_c.needed()
 class RandomScripts(Case):
     """What the checker says of a script, and what a run of it does, stays with its layout and with other names."""
 

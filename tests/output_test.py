@@ -18,6 +18,7 @@ import unittest
 from typing import NamedTuple, Tuple
 
 from support.live import PROGRAM, TOP, Case, run_tests
+from support.needs import needed, skip
 from support.program import ANSWERS, EVENT_FILE, EVENT_FILE_ONE, LISTING, STRAIGHT_LINE, unwritten
 
 NIGHT_BEFORE = "$ of the night before\n"
@@ -132,9 +133,9 @@ class Called(Case):
         try:
             ran = self.ran([*apart, "bash", "-c", f"mkdir small && mount -t tmpfs -o size=64k none small || exit 77\n{line}"])
         except FileNotFoundError:
-            self.skipTest("no unshare")
+            skip("util-linux")
         if ran[0] == 77 or ran[2].startswith("unshare: "):
-            self.skipTest("nothing can be mounted")
+            skip("a disk that can be mounted")
         return ran
 
     def text(self, name):
@@ -233,9 +234,9 @@ class Written(Called):
         words = ["setpriv", "--bounding-set", f"-{right}"]
         try:
             if os.getuid() or self.ran([*words, "true"])[0]:
-                self.skipTest("only root gives a file away, and takes a right from itself")
+                skip("root")
         except FileNotFoundError:
-            self.skipTest("no setpriv, by which root takes a right from itself")
+            skip("util-linux")
         return words
 
     def test_read_only_files(self):
@@ -361,14 +362,14 @@ class Outputs(Called):
         told = "camac: it is no regular file: pipe\n"
         self.assertEqual(self.shell("printf 'var a  var b' >pipe & camac() { python3 -m camac fmt pipe; }; camac; s=$?; wait; exit $s"), (3, "", told))
 
-    @unittest.skipIf(os.getuid(), "only root makes a device node")
+    @needed("root", is_here=not os.getuid())
     def test_devices(self):
         for name, minor, status, told in (("null", 3, 0, ""), ("full", 7, 3, "camac: No space left on device: full\n")):
             try:
                 os.mknod(self.room / name, 0o666 | stat.S_IFCHR, os.makedev(1, minor))
                 os.close(os.open(self.room / name, os.O_WRONLY))
             except OSError as why:
-                self.skipTest(f"no device node here: {why}")
+                skip(f"a device node ({why.strerror})")
             self.write_table(name, status, told)
             self.assertTrue(stat.S_ISCHR((self.room / name).stat().st_mode))
         self.assertEqual(self.there(), ["full", "null", "run.events"])

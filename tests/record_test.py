@@ -223,7 +223,7 @@ class Again(Case):
         end = camac.drive(PLAN, SCRIPT, Recorded(answers), self.room / "again.events", program=PROGRAM)
         self.assertEqual((end.line, self.file("again.events")), ("ended events 200", self.file("run.events")))
 
-    @unittest.skipIf(of_c.lacking(), of_c.lacking())
+    @of_c.needed()
     def test_the_same_file_in_this_process(self):
         os.environ.update(of_c.environment())
         answers = self.recorded(200)
