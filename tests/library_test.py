@@ -8,7 +8,6 @@ It needs gcc and the archive that tests/support/of_c.py names, else all is left 
 import collections
 import concurrent.futures
 import functools
-import importlib.util
 import os
 import re
 import shutil
@@ -16,12 +15,12 @@ import subprocess
 import sys
 import threading
 import time
-import unittest
 import zipfile
 from random import Random
 
 from support import of_c
 from support.live import LOCKOUT, PROGRAM, STRAIGHT_LINE, TOP, Broken, Case, Interrupted, Listed, run_tests
+from support.needs import needed
 from support.program import EVENT_FILE
 import camac
 from camac import Answer, Ending, ProgramFault, Refused, UsageFault, judge, library
@@ -347,7 +346,7 @@ class Calls(Case):
         self.assertEqual(status, 0, told)
         self.assertGreater(int(told), 50)
 
-    @unittest.skipUnless(shutil.which("valgrind"), "valgrind is not here")
+    @needed("valgrind")
     def test_all_is_freed(self):
         words = ["valgrind", "-q", "--leak-check=full", "--show-leak-kinds=all", "--errors-for-leak-kinds=all", "--error-exitcode=9"]
         folder = self.room / "folder"
@@ -723,7 +722,7 @@ class Package(Case):
         self.assertEqual((self.room / "one.events").read_bytes(), EVENT_FILE)
         self.assertEqual((self.room / "two.events").read_bytes(), EVENT_FILE)
 
-    @unittest.skipUnless(importlib.util.find_spec("pip"), "pip is not here")
+    @needed("python3-pip")
     def test_pip(self):
         place = self.room / "place"
         source = self.room / "python"
@@ -751,7 +750,5 @@ class Package(Case):
 
 
 if __name__ == "__main__":
-    if of_c.lacking():
-        print(f"left out: {of_c.lacking()}")
-        sys.exit()
-    run_tests()
+    if of_c.is_here():
+        run_tests()

@@ -4,15 +4,14 @@ else.
 
 usage: tests/mcstd_test.py [-v] [TEST ..]     from any folder; takes some seconds
 
-It is left out if gcc is not installed.
+It needs gcc.
 """
 import collections
 import ctypes
-import shutil
 import subprocess
-import unittest
 
 from support.live import TOP, Case, run_tests
+from support.needs import needed
 import camac
 from camac import library
 from camac.mcstd import Mcstd
@@ -46,7 +45,7 @@ START = "cdlam adc 1 1 5 12\nservice adc within 9 cycles event 0 words { cccz 1 
 EVENTS = 20
 
 
-@unittest.skipUnless(shutil.which("gcc"), "gcc is not here")
+@needed("gcc")
 class OverMcstd(Case):
     def setUp(self):
         super().setUp()

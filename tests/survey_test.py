@@ -247,7 +247,7 @@ class Command(Case):
         self.assertEqual(self.package("survey", "@sample", "--driver", "mock", "--keep", "kept")[::2], (3, "camac: kept is not empty\n"))
         self.assertEqual(self.package("survey", "@sample", "--driver", "mock", "-o", "s.json")[0], 0)
         self.write("mine", "text")
-        self.assertEqual(self.package("survey", "@sample", "--driver", "mock", "-o", "mine")[::2], (3, "camac: mine is no survey: camac-survey -o makes one\n"))
+        self.assertEqual(self.package("survey", "@sample", "--driver", "mock", "-o", "mine")[::2], (3, "camac: another command made it; --overwrite replaces it: mine\n"))
 
     def test_words(self):
         for words in (["--only", "F16"], ["--also", "F0,23"], ["--also", "8"], ["--only", ""]):

@@ -11,9 +11,9 @@ from camac.drive import Branch, ProgramFault
 from camac.commands.options import add_overwrite
 from camac.commands.running import DONE, FAULT, REFUSED
 from camac.functions import writes
-from camac.output import output, say
+from camac.output import anything, nothing, output, refuse_loss, say
 from camac.surveys import FUNCTIONS, survey
-from camac.surveys.asking import Asked, declared_plan, write
+from camac.surveys.asking import Asked, declared_plan
 from camac.surveys.driver_test import Kept, test_driver
 from camac.surveys.summary import refuse_foreign, summary
 from camac.surveys.texts import ends, findings, table, told_before
@@ -50,8 +50,9 @@ def do(args: argparse.Namespace) -> int:
     plan = declared_plan(args.plan, None)
     if args.keep:
         _make(args.keep)
-    if args.out and not args.overwrite:
-        refuse_foreign(args.out)
+    rule = anything if args.overwrite else refuse_foreign
+    if args.out:
+        refuse_loss(args.out, rule)
     branch = drivers.driver(args.driver, args.plan)
     if register:
         return _test(args, branch, register)
@@ -63,7 +64,7 @@ def do(args: argparse.Namespace) -> int:
     _keep(args.keep, its.scripts())
     if args.out:
         sha256 = hashlib.sha256(plan_text(args.plan)).hexdigest()
-        with output(args.out) as out:
+        with output(args.out, rule) as out:
             out.write(summary(its, sha256).text())
     return REFUSED if its.differences() else DONE
 
@@ -127,6 +128,6 @@ def _keep(folder: Optional[str], asked: Iterable[Asked]) -> None:
     if folder is None:
         return
     for it in asked:
-        write(folder, it.script)
-        with output(os.path.join(folder, f"{it.script.name}.answers")) as out:
-            out.write(it.answers())
+        for end, text in (("toml", it.script.plan), ("script", it.script.text), ("answers", it.answers())):
+            with output(os.path.join(folder, f"{it.script.name}.{end}"), nothing) as out:
+                out.write(text)

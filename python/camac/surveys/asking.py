@@ -114,7 +114,7 @@ def ask(script: Script, branch: Branch, program: Optional[File] = None, timeout:
     Raises what `camac.call` raises."""
     watched = _Watched(branch)
     with tempfile.TemporaryDirectory(prefix="camac-") as room:
-        plan, text = write(room, script)
+        plan, text = _write(room, script)
         try:
             end = call(plan, text, SERVICE, watched, program=program, timeout=timeout)
             fault = "" if end.how is Ending.ENDED else f"a wait of {end.wait} cycles, which the plan does not permit"
@@ -125,9 +125,9 @@ def ask(script: Script, branch: Branch, program: Optional[File] = None, timeout:
     return Asked(script, watched.operations, watched.seconds, fault)
 
 
-def write(folder: str, script: Script) -> Tuple[str, str]:
+def _write(folder: str, script: Script) -> Tuple[str, str]:
     """Writes plan and script into a folder, and returns their names."""
-    names = os.path.join(folder, f"{script.name}.toml"), os.path.join(folder, f"{script.name}.script")
+    names = os.path.join(folder, "plan.toml"), os.path.join(folder, "asked.script")
     for name, text in zip(names, (script.plan, script.text)):
         with open(name, "w", encoding="utf-8", newline="\n") as file:
             file.write(text)

@@ -1,4 +1,5 @@
 """The file of a survey: JSON that a record of a run takes in, and a report shows."""
+import errno
 import json
 import os
 from typing import Any, Dict, List, NamedTuple
@@ -51,9 +52,12 @@ def read_summary(file: File) -> Summary:
 
 
 def refuse_foreign(path: str) -> None:
-    """Raises ValueError for a file that holds bytes, and is no survey."""
+    """The rule that a file holds no bytes, or is a survey."""
     if holds_bytes(path):
-        read_summary(path)
+        try:
+            read_summary(path)
+        except ValueError:
+            raise FileExistsError(errno.EEXIST, "another command made it; --overwrite replaces it", path) from None
 
 
 def parse_summary(fields: Any) -> Summary:
