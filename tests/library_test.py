@@ -136,8 +136,12 @@ try:
 except camac.Refused as why:
     print(why.code)
 print(camac.drive("@sample", script, Recorded(answers), "two.events").line)
+try:
+    list(camac.run("@sample", script, answers, "wrong"))
+except camac.ProgramFault as why:
+    print(why, open("wrong").read())
 """
-PLAYS = "ended events 1\nS2\nended events 1\n"
+PLAYS = "ended events 1\nS2\nended events 1\nfault write\n  wrong: it is no event file service\n"
 
 
 def setUpModule():

@@ -6,9 +6,12 @@ usage: tests/survey_test.py [-v] [TEST ..]     from any folder; takes about ten 
 """
 import json
 import os
+import pty
 import re
+import subprocess
+import sys
 
-from support.live import STRAIGHT_LINE, TOP, Case, run_tests
+from support.live import PROGRAM, STRAIGHT_LINE, TOP, Case, run_tests
 from support.program import called
 import camac
 from camac.mock import Adc, Declared, MockBranch, Module, Recorder, Register, Reply, Scaler
@@ -237,7 +240,7 @@ class Command(Case):
 
     def test_mock(self):
         status, out, err = self.package("survey", "@sample", "--driver", "mock", "-o", "s.json", "--keep", "kept")
-        self.assertEqual((status, err), (0, "camac: crate 1, 1 of 1: 81 commands\n"))
+        self.assertEqual((status, err), (0, ""))
         self.assertIn("  F0  A0 to A11            1  1  12 of 12   agrees\n", out)
         self.assertRegex(out, r"\nsurveyed at \S+: sent 81, agree 19, differ 0, not declared 0\n$")
         self.assertLessEqual(max(map(len, out.splitlines())), 80)
@@ -248,6 +251,15 @@ class Command(Case):
         self.assertEqual(self.package("survey", "@sample", "--driver", "mock", "-o", "s.json")[0], 0)
         self.write("mine", "text")
         self.assertEqual(self.package("survey", "@sample", "--driver", "mock", "-o", "mine")[::2], (3, "camac: another command made it; --overwrite replaces it: mine\n"))
+
+    def test_progress(self):
+        """At a terminal."""
+        ours, its = pty.openpty()
+        self.addCleanup(os.close, ours)
+        words = [sys.executable, "-m", "camac", "survey", "@sample", "--driver", "mock"]
+        done = subprocess.run(words, stdout=subprocess.DEVNULL, stderr=its, timeout=60, env={**os.environ, "PYTHONPATH": str(TOP / "python"), "CAMAC_PROGRAM": PROGRAM})
+        os.close(its)
+        self.assertEqual((done.returncode, os.read(ours, 1000)), (0, b"camac: crate 1, 1 of 1: 81 commands\r\n"))
 
     def test_words(self):
         for words in (["--only", "F16"], ["--also", "F0,23"], ["--also", "8"], ["--only", ""]):

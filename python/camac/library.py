@@ -13,7 +13,7 @@ from typing import TYPE_CHECKING, Any, Callable, Iterable, Iterator, List, Mappi
 
 from camac import native
 from camac.drive import Answer, Branch, File, Lockouts, ProgramFault, Refused, UsageFault, file_fault
-from camac.events import NEW_FILE
+from camac.events import FORMS, HEADER, NEW_FILE
 from camac.values import Ending, RunEnd
 from camac.native import (
     BUSY,
@@ -37,6 +37,7 @@ from camac.native import (
     Want,
     is_there as is_there,
 )
+from camac.output import holds_bytes
 from camac.texts import plan_text, script_text
 
 if TYPE_CHECKING:
@@ -164,7 +165,7 @@ def judged(command: str, *texts: Text, every: Iterable[str] = ()) -> Verdict:
 
 
 def _played(plan: File, script: File, answers: File, events: File) -> Verdict:
-    """The listing of `camac run`. Where plan and script are accepted, the event file is made anew."""
+    """The listing of `camac run`. If plan and script are accepted, the event file takes the place of an old one, or of no bytes."""
     try:
         with open(answers, "rb") as opened:
             given = opened.read()
@@ -172,8 +173,13 @@ def _played(plan: File, script: File, answers: File, events: File) -> Verdict:
         raise file_fault("read", answers, why) from why
     listing, made = run(plan_text(plan), script_text(script), given)
     if made:
-        with _writes(events), open(events, "wb") as file:
-            file.write(made)
+        with _writes(events):
+            if holds_bytes(events):
+                with open(events, "rb") as old:
+                    if old.read(HEADER) not in FORMS:
+                        raise file_fault("write", events, "it is no event file")
+            with open(events, "wb") as file:
+                file.write(made)
     return listing
 
 

@@ -92,7 +92,9 @@ def _print(lines: Iterable[str]) -> None:
 
 
 def _tell(line: str) -> None:
-    print(f"camac: {line}", file=sys.stderr)
+    """Shows how far it is to somebody who waits at a terminal."""
+    if sys.stderr.isatty():
+        print(f"camac: {line}", file=sys.stderr)
 
 
 def _by_hand(what: str) -> bool:
