@@ -2,7 +2,7 @@
 """Tries the survey of crates (camac-survey): faults of mock crates, each alone and all together, are found, and nothing on right ones; what is
 sent is judged by the program, and is no more than the page says; it can be interrupted.
 
-usage: tests/survey_test.py [-v] [TEST ..]     from any folder; takes about ten seconds
+usage: tests/survey_test.py [-v] [TEST ..]     from any folder; takes half a minute
 """
 import json
 import os
@@ -85,6 +85,15 @@ def other(**changed):
     return its
 
 
+TESTED = """\
+from camac.mock import Adc, MockBranch, Register, Reply, Scaler
+class Tested(Adc):
+    def cycle(self, a, f, data):
+        return self.trigger() or Reply() if f == 25 else super().cycle(a, f, data)
+modules = {(1, 5): Tested(), (1, 6): Register(width=8), (1, 7): Tested(), (4, 2): Scaler(), (4, 23): Register(width=8)}
+def branch(plan):
+    return MockBranch.of_plan(plan, modules)
+"""
 # By a fault of the crates the modules, and the beginnings of all sentences that the survey says.
 FAULTS = {
     "missing": (other(s423=None), ["crate 4 station 23 (OUTPUT-8): nothing answers"]),
@@ -195,18 +204,33 @@ class Surveys(Case):
         """F25 raises a look-at-me, or somebody does; bits that differ are exchanged, or one is missing; one is up before."""
         found = list(wires(self.plan, self.branch(right())))
         self.assertEqual([((it.crate, it.station), it.how, it.bits, it.differs()) for it in found[:2]], [((1, 5), "F25", (3,), False), ((1, 7), "F25", (4,), False)])
-        self.assertEqual((found[2].is_raised, found[2].fault), (False, "F25 is not declared, and nobody raised the look-at-me by hand"))
+        self.assertEqual((found[2].is_raised, found[2].fault), (False, "F25 was not sent, and nobody raised the look-at-me by hand"))
         modules = right()
         modules[4, 2].trigger()
         branch = self.branch(modules, {(1, 5): 4, (1, 7): 3})
-        by_hand = lambda what: self.assertEqual(what, "raise the look-at-me of crate 4 station 2 (SCALER-12)") or modules[4, 2].trigger() or True
-        found = list(wires(self.plan, branch, by_hand))
+        asked = []
+
+        def agree(what):
+            asked.append(what)
+            if what.startswith("raise"):
+                modules[4, 2].trigger()
+            return True
+
+        found = list(wires(self.plan, branch, agree))
+        f25 = "Enter sends F25 A0 to crate 1 station {} (ADC-12), to raise its look-at-me"
+        self.assertEqual(asked, [f25.format(5), f25.format(7), "raise the look-at-me of crate 4 station 2 (SCALER-12), then Enter"])
         self.assertEqual([(it.bits, it.differs()) for it in found], [((4,), True), ((3,), True), ((9,), False)])
         self.assertEqual(found[0].line(), "crate 1 station 5 (ADC-12): F25: bit 4, and the plan has bit 3")
         del branch.gl[1, 5]
         self.assertEqual(next(wires(self.plan, branch)).line(), "crate 1 station 5 (ADC-12): F25: no bit, and the plan has bit 3")
         self.assertFalse(any(it.lam for it in modules.values()), "a look-at-me stayed")
         self.assertEqual(branch.locked, set())
+        recorder = Recorder(self.branch(right()))
+        found = list(wires(self.plan, recorder, lambda what: False))
+        self.assertEqual([it.fault for it in found], ["F25 was not sent, and nobody raised the look-at-me by hand"] * 3)
+        sent = [it.request for it in recorder.operations]
+        self.assertEqual([it for it in sent if it.endswith(" 25 none")], [])
+        self.assertEqual([it for it in sent if it.startswith("cycle 1 5 12 ")], [f"cycle 1 5 12 {f} none" for f in (26, 10, 10, 24)])
         its = self.survey(right())
         its = its._replace(wires=tuple(wires(self.plan, self.branch(modules, {(1, 5): 4, (1, 7): 3}))))
         self.expect(its.differences(), ["crate 1 station 5 (ADC-12): F25: bit 4", "crate 1 station 7 (ADC-12): F25: bit 3"])
@@ -251,6 +275,17 @@ class Command(Case):
         self.assertEqual(self.package("survey", "@sample", "--driver", "mock", "-o", "s.json")[0], 0)
         self.write("mine", "text")
         self.assertEqual(self.package("survey", "@sample", "--driver", "mock", "-o", "mine")[::2], (3, "camac: another command made it; --overwrite replaces it: mine\n"))
+
+    def test_wiring(self):
+        self.write("bench.toml", PLAN)
+        self.write("d.py", TESTED)
+        words = ["survey", "bench.toml", "--driver", "d.py", "--wiring"]
+        status, out, err = self.package(*words, given=b"\ns\n\n")
+        self.assertEqual((status, err.count("(s leaves it out): ")), (0, 4))
+        self.assertIn("crate 1 station 5 (ADC-12): F25: bit 3, as in the plan\n", out)
+        self.assertIn("  crate 1 station 7 (ADC-12): its bit: by hand raised no look-at-me (Q = 0 of F8)\n", " ".join(out.split("\n    ")) + "\n")
+        status, out, err = self.package(*words)
+        self.assertEqual((status, out.count("F25 was not sent, and nobody")), (0, 3))
 
     def test_progress(self):
         """At a terminal."""

@@ -36,7 +36,7 @@ def add_to(commands: Any) -> None:
     it.add_argument("--only", metavar="FUNCTIONS", help="sends these functions alone, as F8,F27")
     it.add_argument("--also", metavar="FUNCTIONS", help="sends these, too, as F2,F10: they change what is in a module")
     it.add_argument("--empty", action="store_true", help="sends F8 and F27 to the stations that the plan leaves empty, too")
-    it.add_argument("--wiring", action="store_true", help="raises each look-at-me by F25, or asks you to do it, and compares the bits of graded-L that come")
+    it.add_argument("--wiring", action="store_true", help="has each look-at-me raised, by F25 or by you, and compares the bits of graded-L that come; it asks before each")
     text = "tests the driver instead, at a register that F16 writes and F0 reads, as 1,6,0; Z and C go to its crate, and clear its modules"
     it.add_argument("--driver-test", metavar="CRATE,STATION,SUB_ADDRESS", help=text)
     it.add_argument("--keep", metavar="FOLDER", help="writes each plan, script and its answers there, which camac run plays again")
@@ -59,7 +59,7 @@ def do(args: argparse.Namespace) -> int:
     _print(told_before(plan, functions, args.empty))
     its = survey(args.plan, branch, functions=functions, has_empty=args.empty, tell=_tell)
     if args.wiring:
-        its = its._replace(wires=tuple(wires(args.plan, branch, _by_hand if sys.stdin and sys.stdin.isatty() else None)))
+        its = its._replace(wires=tuple(wires(args.plan, branch, _agrees)))
     _print([*table(its), *ends(its)])
     _keep(args.keep, its.scripts())
     if args.out:
@@ -97,10 +97,11 @@ def _tell(line: str) -> None:
         print(f"camac: {line}", file=sys.stderr)
 
 
-def _by_hand(what: str) -> bool:
-    """Asks the user, who may decline."""
-    print(f"{what}, then Enter; s and Enter leaves it out: ", end="", file=sys.stderr, flush=True)
-    return sys.stdin.readline().strip().lower() != "s"
+def _agrees(what: str) -> bool:
+    """Asks the user, who may decline; the end of the input declines, too."""
+    print(f"{what} (s leaves it out): ", end="", file=sys.stderr, flush=True)
+    line = sys.stdin.readline() if sys.stdin else ""
+    return bool(line) and line.strip().lower() != "s"
 
 
 def _functions(args: argparse.Namespace) -> List[int]:

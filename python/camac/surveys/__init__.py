@@ -3,9 +3,10 @@ and none of it writes to a module."""
 import datetime
 import enum
 import itertools
-from typing import Callable, Iterator, List, NamedTuple, Optional, Sequence, Set, Tuple
+from typing import Callable, Iterator, List, NamedTuple, Optional, Sequence, Set, Tuple, Union
 
 from camac.drive import Answer, Branch, File
+from camac.drivers import driver
 from camac.functions import writes
 from camac.surveys.asking import Asked, Reach, Script, ask, declared_plan, ranges, service
 from camac.surveys.wiring import Wire
@@ -118,7 +119,7 @@ class Survey(NamedTuple):
 
 def survey(
     plan: File,
-    branch: Branch,
+    branch: Union[Branch, str],
     *,
     functions: Sequence[int] = FUNCTIONS,
     has_empty: bool = False,
@@ -126,7 +127,8 @@ def survey(
     timeout: Optional[float] = None,
     tell: Optional[Callable[[str], None]] = None,
 ) -> Survey:
-    """Asks the modules of a plan by checked scripts, and compares their answers with the plan. `plan` may be "@sample".
+    """Asks the modules of a plan by checked scripts, and compares their answers with the plan. `plan` may be "@sample", and `branch` the name of a
+    driver (`camac.driver`).
 
     Of `functions`, F8 and F27 go to all sub-addresses of each station, every other one to those where the plan declares it. Where `has_empty`, F8 and
     F27 also go to the stations that the plan leaves empty. `tell` is called with a line before each script.
@@ -135,6 +137,7 @@ def survey(
     for functions that write (F16 to F23), and for the rest what `camac.call` raises."""
     if any(not 0 <= it < 32 or writes(it) for it in functions):
         raise ValueError("a survey sends F0 to F15 and F24 to F31: the others write")
+    branch = driver(branch, plan) if isinstance(branch, str) else branch
     if not getattr(branch, "tells_x", True) and any(it >= 8 for it in functions):
         raise ValueError("this driver tells no X of functions that move no data: ask for F0 and F1 alone, or let it read to tell X (mcstd:LIBRARY,x)")
     its = declared_plan(plan, program)

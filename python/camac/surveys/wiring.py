@@ -9,8 +9,8 @@ from camac.values import Crate, Plan, Station
 # How often F8 is sent until the look-at-me is there.
 POLLS = 1000
 CONTROLLER = 30
-# What is said to raise a look-at-me by hand, and whether somebody did.
-Ask = Callable[[str], bool]
+# What is about to be sent, or to be done by hand, and whether somebody agrees, or did it.
+Agree = Callable[[str], bool]
 
 
 class Wire(NamedTuple):
@@ -46,27 +46,29 @@ class Wire(NamedTuple):
         return f"crate {self.crate} station {self.station} ({self.type}): {said}"
 
 
-def wires(plan: File, branch: Branch, by_hand: Optional[Ask] = None, program: Optional[File] = None, timeout: Optional[float] = None) -> Iterator[Wire]:
+def wires(plan: File, branch: Branch, agree: Optional[Agree] = None, program: Optional[File] = None, timeout: Optional[float] = None) -> Iterator[Wire]:
     """Raises the look-at-me of each station that has a bit in the plan, one after another, and yields which bits came. It sends F26, F10 and F24 to
     the address of the look-at-me, F25 and F8, as far as the plan declares them, and takes the inhibit of the crate away. At the end the look-at-me
     is cleared and disabled.
 
-    Where the module has no F25, or that raises nothing, `by_hand` is asked to have it raised. Raises what `camac.call` raises."""
+    `agree` is asked before each F25, which may also start something. Where the plan declares none, or it raises nothing, `agree` is asked to have the
+    look-at-me raised by hand. Without it all F25 are sent, and nothing is done by hand. Raises what `camac.call` raises."""
     its, text = declared_plan(plan, program), plan_text(plan).decode("utf-8", "replace")
     for _, crate, station in its.demands():
         at = _Station(its, crate, station, text)
         wire = at.wire("", fault="its type declares no F8") if at.lam is None else None
-        if wire is None and at.execute is not None:
+        if wire is None and at.execute is not None and (agree is None or agree(f"Enter sends F25 A{at.execute} to {at.place()}, to raise its look-at-me")):
             wire = _try(at, "F25", None, branch, program, timeout)
-        if by_hand and (wire is None or not (wire.is_raised or wire.fault)):
-            wire = _try(at, "by hand", by_hand, branch, program, timeout) or wire
-        yield wire or at.wire("", fault="F25 is not declared, and nobody raised the look-at-me by hand")
+        if agree and (wire is None or not (wire.is_raised or wire.fault)):
+            wire = _try(at, "by hand", agree, branch, program, timeout) or wire
+        yield wire or at.wire("", fault="F25 was not sent, and nobody raised the look-at-me by hand")
 
 
-def _try(at: "_Station", how: str, by_hand: Optional[Ask], branch: Branch, program: Optional[File], timeout: Optional[float]) -> Optional[Wire]:
+def _try(at: "_Station", how: str, by_hand: Optional[Agree], branch: Branch, program: Optional[File], timeout: Optional[float]) -> Optional[Wire]:
     """Raises a look-at-me, and sees what comes; None if nobody raised it."""
     begun = ask(at.ready(by_hand is None), branch, program, timeout)
-    if not begun.fault and by_hand and not by_hand(f"raise the look-at-me of {at.place()}"):
+    if not begun.fault and by_hand and not by_hand(f"raise the look-at-me of {at.place()}, then Enter"):
+        ask(at.look(0), branch, program, timeout)
         return None
     seen = begun if begun.fault else ask(at.look(), branch, program, timeout)
     if seen.fault:
@@ -99,10 +101,10 @@ class _Station:
         more = [f"cdreg r 1 {self.crate.number} {self.station.number} {self.execute}", "cfsa 25 r"] if is_executed else []
         return self._script("ready", body + more, len(body) + 1)
 
-    def look(self) -> Script:
-        """Waits for the look-at-me, reads the pattern, and clears and disables it."""
-        body = [f"k = {POLLS}", f"while k > 0 and not q turns {POLLS} by k {{ ctlm {SERVICE}  k = k - 1 }}", "cfsa 0 r -> v"]
-        return self._script("look", body + self._of_lam((10, f"cclc {SERVICE}"), (24, f"cclm {SERVICE} off")), POLLS + 3)
+    def look(self, polls: int = POLLS) -> Script:
+        """Waits for the look-at-me so long, reads the pattern, and clears and disables it."""
+        body = [f"k = {polls}", f"while k > 0 and not q turns {polls} by k {{ ctlm {SERVICE}  k = k - 1 }}", "cfsa 0 r -> v"]
+        return self._script("look", body + self._of_lam((10, f"cclc {SERVICE}"), (24, f"cclm {SERVICE} off")), polls + 3)
 
     def _of_lam(self, *forms: Tuple[int, str]) -> List[str]:
         return [statement for f, statement in forms if (f, self.lam) in self.declared]
