@@ -22,6 +22,7 @@ from camac.output import holds_bytes, output
 from camac.printed import read_services
 from camac.program import output_of, version
 from camac.runs import Inputs, collect, is_event_file
+from camac.signals import Signals, signal_of
 from camac.subcommands import plan
 from camac.texts import plan_text, script_text
 from camac.values import RunEnd, Service
@@ -213,20 +214,27 @@ def recorded(asked: Union[File, Recording], of: Played, branch: Branch, play: Ca
     record = dataclasses.replace(describe(of, None if its.number is None else operator.index(its.number), its.title), begin=now())
     writer = _Writer(its.file, record, of)
     watched = _Watched(branch, {it.gl for it in record.list_services()}, writer)
-    writer.write()
-    try:
-        end = play(watched)
-    except BaseException as error:
+    with Signals() as signals:
+        writer.write()
         try:
-            writer.finish(watched, FAILED, f"{type(error).__name__}: {one_line(error)}")
+            end = signals.heed(lambda: play(watched))
+        except BaseException as error:
+            try:
+                writer.finish(watched, FAILED, _why(error))
+            except ProgramFault as fault:
+                add_note(error, f"and the record: {one_line(fault)}")
+            raise
+        try:
+            writer.finish(watched, end.how.value, end.line)
         except ProgramFault as fault:
-            add_note(error, f"and the record: {one_line(fault)}")
-        raise
-    try:
-        writer.finish(watched, end.how.value, end.line)
-    except ProgramFault as fault:
-        raise ProgramFault(fault.text, fault.status, end) from None
-    return end
+            raise ProgramFault(fault.text, fault.status, end) from None
+        return end
+
+
+def _why(error: BaseException) -> str:
+    """What a record says of a run that failed."""
+    number = signal_of(error)
+    return f"ended by {number.name}" if number else f"{type(error).__name__}: {one_line(error)}"
 
 
 def refuse_foreign(file: File) -> None:
