@@ -21,6 +21,7 @@ from camac.events import EventFileFault, read_events
 from camac.output import holds_bytes, output
 from camac.printed import read_services
 from camac.program import output_of, version
+from camac.regular import read_regular
 from camac.runs import Inputs, collect, is_event_file
 from camac.signals import Signals, signal_of
 from camac.subcommands import plan
@@ -28,6 +29,8 @@ from camac.texts import plan_text, script_text
 from camac.values import RunEnd, Service
 
 FORM = "camac record 1"
+# A longer file is no record: plan, script and verdict are some megabytes at most.
+MOST_BYTES = 1 << 26
 # The seconds between two writings of a record while a run goes on.
 REFRESH = 5.0
 FAILED = "failed"
@@ -143,8 +146,7 @@ class Record:
 
 def read_record(file: File) -> Record:
     """Reads a record. Raises OSError if the file cannot be read, and ValueError, with its name, if it is none."""
-    with open(file, "rb") as opened:
-        data = opened.read()
+    data = read_regular(file, MOST_BYTES)
     try:
         return parse_record(data)
     except (ValueError, KeyError, TypeError, AttributeError, RecursionError) as why:
