@@ -20,6 +20,7 @@ import sys
 import threading
 import time
 import unittest
+import unittest.mock
 
 from support.live import PROGRAM, TOP, Case, run_tests
 from support import laboratory
@@ -357,6 +358,20 @@ class Served(ServedCase):
         path = self.room / "run.json"
         new = self.write("new.json", dataclasses.replace(camac.read_record(path), **values).text())
         os.replace(new, path)
+
+    def test_a_look_that_fails(self):
+        """Whatever it is, it is shown until the next look."""
+        watch, server = self.start()
+        with unittest.mock.patch.object(watch.follower, "poll", side_effect=MemoryError):
+            self.assertIn("the events: MemoryError()", self.state(watch, server)["notes"])
+        self.assertIn(">follows<", self.state(watch, server)["notes"])
+
+    def test_files_that_can_be_read_once(self):
+        os.mkfifo(self.room / "pipe")
+        status, _, errors = self.package("watch", "run.events", "--words", "pipe")
+        self.assertEqual((status, errors.splitlines()[-1].partition(": error: ")[2]), (2, "pipe is no file, and cannot be an input here: it is read more than once"))
+        status, _, errors = self.package("watch", "run.events", "--record", "pipe")
+        self.assertEqual((status, errors), (3, "camac: this is no file: pipe\n"))
 
     def test_command(self):
         command = [sys.executable, "-m", "camac", "watch", self.file, "--port", "0"]

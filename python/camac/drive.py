@@ -220,7 +220,7 @@ class Lockouts:
 
     def unlock(self, crate: int) -> None:
         """Releases a lockout. If that fails, it is still held. Signals wait until it is known."""
-        self.signals.hold(lambda: self._unlock(crate))
+        self.signals.hold(self._unlock, crate)
 
     def _unlock(self, crate: int) -> None:
         self.branch.unlock(crate)

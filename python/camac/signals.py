@@ -68,15 +68,16 @@ class Signals:
         self._deliver(sys._getframe())
         return call()
 
-    def hold(self, call: Callable[[], None]) -> None:
+    def hold(self, call: Callable[[int], None], given: int) -> None:
         """Calls, and has signals wait until that is done."""
         try:
-            self._hold(call)
+            self._hold(call, given)
         finally:
-            self._deliver(sys._getframe())
+            if self.waiting:
+                self._deliver(sys._getframe())
 
-    def _hold(self, call: Callable[[], None]) -> None:
-        call()
+    def _hold(self, call: Callable[[int], None], given: int) -> None:
+        call(given)
 
     def _come(self, number: int, frame: Optional[FrameType]) -> None:
         self.waiting.add(number)
@@ -84,7 +85,7 @@ class Signals:
 
     def _deliver(self, frame: Optional[FrameType]) -> None:
         """Has the signals that wait heeded, if they are to be in this frame."""
-        if self.waiting and self._is_heeded(frame):
+        if self._is_heeded(frame):
             for number in [*self.waiting]:
                 self.waiting.discard(number)
                 if not callable(self.before[number]):

@@ -7,10 +7,10 @@ import threading
 import time
 from typing import Any, Dict, List, NamedTuple, Optional, Tuple
 
-from camac.drive import DriveFault, File, one_line
+from camac.drive import File, one_line
 from camac.events import Event
 from camac.export import About, Given, learn
-from camac.follow import STEP, Counts, Follower
+from camac.follow import STEP, Counts, Follower, State
 from camac.pictures.bounds import draw_seen
 from camac.pictures.spectra import BOTH, channel_groups, seen_groups
 from camac.pictures.svg import Canvas, escape, number, share, ticks
@@ -84,15 +84,19 @@ class Watch:
         return its.st_ino, its.st_mtime_ns, its.st_size
 
     def poll(self) -> bool:
-        """Looks at the files. Returns whether there may be more events at once."""
+        """Looks at the files. Returns whether there may be more events at once. Whatever fails is shown, and tried again at the next look."""
         with self.lock:
-            if self.given.record is not None:
-                try:
+            try:
+                if self.given.record is not None:
                     self.read_record(self.given.record)
-                    self.refused = ""
-                except (DriveFault, ValueError, OSError) as why:
-                    self.refused = f"the record: {one_line(why)}"
-            return self.follower.poll()
+                self.refused = ""
+            except Exception as why:
+                self.refused = f"the record: {one_line(why) or why!r}"
+            try:
+                return self.follower.poll()
+            except Exception as why:
+                self.follower.state = State(f"the events: {one_line(why) or why!r}", True)
+                return False
 
     def read_record(self, file: File) -> None:
         """Reads the record if it was written again, and until it is right; if it is that of another plan or script, all is counted again. Raises as
