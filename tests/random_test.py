@@ -4,15 +4,13 @@ server then answers what is right, and the page shows what is right.
 
 usage: tests/random_test.py [-v] [TEST ..]     from any folder, over a built program; takes half a minute
 
-The seed is that of the day, or what the environment variable CAMAC_SEED names. It is printed, so that a failure can be repeated.
+The seed is that of the day, or what the environment variable SEED names. It is printed, so that a failure can be repeated.
 """
 import datetime
 import faulthandler
 import json
 import os
-import pathlib
 import random
-import shutil
 import sys
 import time
 
@@ -24,7 +22,7 @@ from camac.events import NEW_FILE, Event, record
 from camac.export import Given
 from camac.watch import Watch
 
-SEED = int(os.environ.get("CAMAC_SEED") or datetime.date.today().strftime("%Y%m%d"))
+SEED = os.environ.get("SEED") or datetime.date.today().strftime("%Y%m%d")
 COUNT = 1_000
 # The seconds in which a right message is answered, and those after which a test that hangs is ended, with the place where it does.
 PATIENCE, LONGEST = 10, 300
@@ -35,7 +33,7 @@ SURPLUS = 2_000
 class Seeded(Case):
     def setUp(self):
         super().setUp()
-        print(f"CAMAC_SEED={SEED} {sys.argv[0]} {self.id().partition('.')[2]}", file=sys.stderr)
+        print(f"SEED={SEED} {sys.argv[0]} {self.id().partition('.')[2]}", file=sys.stderr)
         self.random = random.Random(f"{SEED} {self.id()}")
         faulthandler.dump_traceback_later(LONGEST, exit=True)
         self.addCleanup(faulthandler.cancel_dump_traceback_later)

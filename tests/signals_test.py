@@ -23,7 +23,7 @@ import camac
 from camac import Answer
 
 ENDS = (signal.SIGINT, signal.SIGTERM, signal.SIGHUP)
-WAYS = ("drive",) if of_c.lacking() else ("drive", "play")
+WAYS = ("drive", "play") if of_c.is_here() else ("drive",)
 # In LOCKOUT: demand, lock, four cycles, unlock, demand. The event is there once the lockout is released.
 LOCK, UNLOCK, LAST = 2, 7, 8
 # Runs whose branch sends signals to its own process: the first in the request of a number, each further one where a lockout is released. If there
@@ -83,7 +83,7 @@ class Ends(Case):
         words = [sys.executable, "-c", PROGRAM_TEXT, TOP / "python", json.dumps(cases), self.write("script", LOCKOUT)]
         # What runs in the background of a shell ignores this signal, and so do its children.
         how = {"preexec_fn": lambda: signal.signal(signal.SIGINT, signal.default_int_handler), "start_new_session": True, "cwd": self.room}
-        environment = {**os.environ, "CAMAC_PROGRAM": PROGRAM, **({} if of_c.lacking() else of_c.environment())}
+        environment = {**os.environ, "CAMAC_PROGRAM": PROGRAM, **(of_c.environment() if of_c.is_here() else {})}
         return subprocess.Popen(words, env=environment, stdout=subprocess.PIPE, stderr=subprocess.STDOUT, text=True, **how)
 
     def expect(self, room, said, status, numbers, place):
@@ -140,7 +140,7 @@ class Handlers(Case):
     def setUp(self):
         super().setUp()
         self.write("script", LOCKOUT)
-        if not of_c.lacking():
+        if of_c.is_here():
             os.environ.update(of_c.environment())
         for number in ENDS:
             self.addCleanup(signal.signal, number, signal.getsignal(number))
