@@ -100,7 +100,7 @@ class Ends(Case):
         for number in range(len(cases)):
             (self.room / str(number)).mkdir()
         with self.start(*cases) as started:
-            out, _ = started.communicate(timeout=PATIENCE)
+            out, _ = started.communicate(timeout=5 * PATIENCE)
         for at, (status, (way, number, times, place)) in enumerate(zip(out.splitlines(), cases, strict=True)):
             with self.subTest(way=way, signal=number.name, times=times, place=place):
                 room = self.room / str(at)
@@ -229,9 +229,9 @@ class Handlers(Case):
         """A signal waits while the record is written."""
         from camac import record
 
-        def write(file, its, write=record._write):
+        def write(*given, write=record._write):
             os.kill(os.getpid(), signal.SIGTERM)
-            write(file, its)
+            write(*given)
 
         for way, _ in self.each():
             (self.room / "run.json").unlink(missing_ok=True)
