@@ -145,7 +145,7 @@ class Record:
 
 
 def read_record(file: File) -> Record:
-    """Reads a record. Raises OSError if the file cannot be read, and ValueError, with its name, if it is none."""
+    """Reads a record, a regular file. Raises OSError if it cannot be read, and ValueError, with its name, if it is none."""
     data = read_regular(file, MOST_BYTES)
     try:
         return parse_record(data)
