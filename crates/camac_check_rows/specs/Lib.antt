@@ -1,3 +1,4 @@
+pub mod Makes
 pub mod Statements
 pub mod Weights
 pub mod Rows

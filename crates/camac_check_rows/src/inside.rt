@@ -91,6 +91,7 @@ fn inside_row(row: &Row, weight: Weight) -> Row
         },
         share: weighed(weight, row.share),
         detail: row.detail,
+        makes: row.makes,
     }
 }
 

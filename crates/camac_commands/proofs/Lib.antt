@@ -1,0 +1,7 @@
+pub mod Listed
+pub mod Walk
+pub mod Actions
+pub mod Arguments
+pub mod Loops
+pub mod Statements
+pub mod Services
