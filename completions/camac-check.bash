@@ -9,7 +9,7 @@ _camac_check() {
   fi
   case $word in
   -*)
-    mapfile -t COMPREPLY < <(compgen -W '--help --format --json --keeps --strict --write -h' -- "$word")
+    mapfile -t COMPREPLY < <(compgen -W '--help --format --json --keeps --strict --version --write -h' -- "$word")
     return
     ;;
   esac

@@ -1,6 +1,7 @@
 # Completion of camac-check for fish.
 
 complete -c camac-check -s h -l help -d 'Print help'
+complete -c camac-check -l version -d 'whether what judges is proved'
 complete -c camac-check -l format -x -a 'text json github sarif' -d 'what is printed'
 complete -c camac-check -l json -d '--format json'
 complete -c camac-check -l strict -d 'a warning is status 1, too'

@@ -230,7 +230,7 @@ class Documents(Room):
         """Makes a new folder with the program and the examples."""
         super().setUp()
         (self.room / "camac").symlink_to(PROGRAM)
-        for name in ("camac-check", "camac-fmt"):
+        for name in ("camac-check", "camac-fmt", "camac-survey"):
             shutil.copy(TOP / "python/camac-report", self.room / name)
         shutil.copytree(TOP / "examples", self.room / "examples")
 

@@ -6,6 +6,7 @@ usage: tests/install_test.py [-v] [TEST ..]     from any folder; takes half a mi
 Nothing is built: the program is crates/camac/out/camac, or what the environment variable CAMAC_PROGRAM names. It is in a copy of the
 repository where a build keeps it.
 """
+import hashlib
 import os
 import pathlib
 import re
@@ -133,6 +134,38 @@ class Lacking(Case):
         self.assertEqual(call(COPY / "install", "--pack", place, env=self.path(*OF_LAUNCHER, *OF_INSTALLER, *OF_ARCHIVES["--pack"]))[::2], (0, ""))
 
 
+class Proof(Case):
+    """What is installed says whether it is proved, as long as it is what was installed."""
+
+    def told(self, place, **env):
+        """What the installed camac-check says of what judges."""
+        bare = {"PATH": "/usr/bin:/bin", "PYTHONDONTWRITEBYTECODE": "1", **env}
+        status, out, err = call(place / "bin/camac-check", "--version", env=bare)
+        self.assertEqual((status, err), (0, ""))
+        return out.splitlines()
+
+    def test_note(self):
+        place = self.folder()
+        self.assertEqual(call(COPY / "install", place)[::2], (0, ""))
+        program, library, note = place / "bin/camac", place / "lib/libcamac.so.0", place / "share/camac/proof"
+        texts = call("bash", "-c", 'top=$1; source "$top/tools/program.bash"; cd "$top" && texts_of crates/*/{src,specs,proofs}', "bash", COPY)[1].strip()
+        kit = call("rt", "version")[1].splitlines()[-1]
+        sums = [hashlib.sha256(it.read_bytes()).hexdigest() for it in (program, library) if it.exists()]
+        wanted = [f"sources {texts}", f"kit {kit}", *(f"{kind} {it} not proved" for kind, it in zip(("program", "library"), sums))]
+        self.assertEqual(note.read_text().splitlines(), wanted)
+        known = [f"sources {texts}", f"kit {kit}"]
+        if not of_c.lacking():
+            self.assertEqual(self.told(place), ["camac 0.2.0, not proved", str(library), *known])
+        program_only = {"CAMAC_PROGRAM": str(program)}
+        self.assertEqual(self.told(place, **program_only), ["camac 0.2.0, not proved", str(program), *known])
+        note.write_text(note.read_text().replace(f"{sums[0]} not proved", f"{sums[0]} proved"))
+        self.assertEqual(self.told(place, **program_only)[0], "camac 0.2.0, proved")
+        program.write_bytes(program.read_bytes() + b"\n")
+        self.assertEqual(self.told(place, **program_only), ["camac 0.2.0, not known to be proved", str(program), "sources -", "kit -"])
+        note.unlink()
+        self.assertEqual(self.told(place, **program_only)[0], "camac 0.2.0, not known to be proved")
+
+
 @needed("the tools of Debian", is_here=all(map(shutil.which, OF_ARCHIVES["--deb"])))
 class DebianPackage(Case):
     """It has the library if that is here to be put in."""
@@ -142,9 +175,9 @@ class DebianPackage(Case):
         env = {**(tools if of_c.lacking() else os.environ), "SOURCE_DATE_EPOCH": "1795737600", "TMPDIR": str(place)}
         line = f'umask {umask} && "$0" --deb "$1"'
         status, out, _ = call("bash", "-c", line, COPY / "install", place, env=env)
-        self.assertEqual((status, out.splitlines()[0]), (0, f"{place}/camac_0.2.0-0camac1_amd64.deb"))
-        self.assertEqual([it.name for it in place.iterdir()], ["camac_0.2.0-0camac1_amd64.deb"])
-        return place / "camac_0.2.0-0camac1_amd64.deb"
+        self.assertEqual((status, out.splitlines()[0]), (0, f"{place}/camac_0.2.0-0camac1~unproved_amd64.deb"))
+        self.assertEqual([it.name for it in place.iterdir()], ["camac_0.2.0-0camac1~unproved_amd64.deb"])
+        return place / "camac_0.2.0-0camac1~unproved_amd64.deb"
 
     def test_package(self):
         place, room = self.folder(), self.folder()
@@ -154,7 +187,10 @@ class DebianPackage(Case):
         self.assertEqual({tuple(it[1:5:2] + [it[4]]) for it in rows}, {("root/root", "2026-11-27", "00:00")})
         call("dpkg-deb", "-x", package, room)
         self.assertEqual(call(room / "usr/bin/camac", "--version"), (0, "camac 0.2.0\n", ""))
-        wanted = "bin/camac-report bin/camac-fmt bin/camac-lsp share/man/man1/camac-lsp.1.gz share/camac/camac.vsix lib/python3/dist-packages/camac/__init__.py share/man/man1/camac.1.gz share/man/man5/camac-plan.5.gz"
+        program = room / "usr/bin/camac"
+        told = call(room / "usr/bin/camac-check", "--version", env={"PATH": "/usr/bin:/bin", "CAMAC_PROGRAM": str(program), "PYTHONPATH": str(room / "usr/lib/python3/dist-packages")})
+        self.assertEqual(told[1].splitlines()[:2], ["camac 0.2.0, not proved", str(program)], told)
+        wanted = "share/camac/proof bin/camac-report bin/camac-fmt bin/camac-lsp share/man/man1/camac-lsp.1.gz share/camac/camac.vsix lib/python3/dist-packages/camac/__init__.py share/man/man1/camac.1.gz share/man/man5/camac-plan.5.gz"
         wanted += " share/doc/camac/copyright share/doc/camac/changelog.gz share/doc/camac/changelog.Debian.gz share/doc/camac/docs/REFUSALS.md"
         wanted += "" if of_c.lacking() else " include/camac/camac.h lib/x86_64-linux-gnu/libcamac.so.0 lib/x86_64-linux-gnu/pkgconfig/camac.pc"
         self.assertEqual([it for it in wanted.split() if not (room / "usr" / it).is_file()], [])

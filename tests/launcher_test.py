@@ -371,6 +371,7 @@ class Install(Case):
         wanted += " share/fish/vendor_completions.d/camac-report.fish share/doc/camac/README.md share/doc/camac/docs/REFUSALS.md"
         wanted += " bin/camac-check share/man/man1/camac-check.1 share/bash-completion/completions/camac-check share/zsh/site-functions/_camac-check"
         wanted += " share/fish/vendor_completions.d/camac-check.fish bin/camac-fmt bin/camac-lsp share/man/man1/camac-fmt.1 share/man/man1/camac-lsp.1"
+        wanted += " bin/camac-survey share/man/man1/camac-survey.1 share/bash-completion/completions/camac-survey share/camac/proof"
         wanted += " share/nvim/site/plugin/camac_lsp.lua share/camac/camac.vsix share/org.kde.syntax-highlighting/syntax/camac.xml"
         wanted += " share/doc/camac/examples/tutorial/crate.toml share/doc/camac/tests/pictures/plan.svg"
         wanted += "" if self.lacking else f" {self.of_c}"
@@ -437,7 +438,7 @@ class Install(Case):
     def test_pack(self):
         place, elsewhere = self.folder(), self.folder()
         status, out, err = call(COPY / "install", "--pack", place)
-        packed = place / "camac-0.2.0-x86_64.tar.gz"
+        packed = place / "camac-0.2.0-x86_64-unproved.tar.gz"
         self.assertEqual((status, out.splitlines()[0], err), (0, str(packed), ""))
         self.assertEqual([*place.iterdir()], [packed])
         call(COPY / "install", "--pack", cwd=elsewhere)

@@ -21,6 +21,7 @@ from random import Random
 from support import of_c
 from support.live import LOCKOUT, PROGRAM, STRAIGHT_LINE, TOP, Broken, Case, Interrupted, Listed, run_tests
 from support.needs import needed
+from support.program import EVENT_FILE
 import camac
 from camac import Answer, Ending, ProgramFault, Refused, UsageFault, judge, library
 from camac.mock import Adc, Auxiliary, MockBranch, Recorder, Register
@@ -73,12 +74,18 @@ void cam_crate_zinit(const int c);
 void cam_crate_clear(const int c);
 void cam_inhibit_set(const int c);
 void cam_inhibit_clear(const int c);
+void cam_lam_enable(const int c, const int n);
+void cam_lam_clear(const int c, const int n);
+int camc_chk(const int c);
 """
 # which calls of mcstd make a cycle of crate 2, and its answer
-CYCLES_BY_MCSTD = """cam24i_q 2 5 0 0 -> 0 0 123456 0 000000
+CYCLES_BY_MCSTD = """cam_lam_enable 2 2 cam_lam_enable 2 3 cam_lam_enable 2 24 camc_chk 2 there 0
+cam24i_q 2 5 0 0 -> 0 0 123456 0 000000
 cam24i_q 2 5 1 1 -> 1 1 123456 0 000000
 cam24o_q 2 5 1 16 abcdef -> 1 0 000000 0 000000
 camc_q 2 5 1 9 -> 1 1 000000 0 000000
+camc_q 2 5 1 10 -> 1 0 000000 0 000000
+camc_q 2 3 1 10 cam_lam_clear 2 3 -> 1 0 000000 0 000000
 cam_crate_zinit 2 -> 1 1 000000 0 000000
 cam_crate_clear 2 -> 1 1 000000 0 000000
 cam_inhibit_clear 2 -> 1 1 000000 0 000000
@@ -118,6 +125,23 @@ service reg within 50 cycles event 0 words {
 }
 """
 DEMAND, CYCLE = Answer(gl=4), Answer(1, 1, 0x123)
+# `run`, of a refused script too, and `drive`, with no program
+PLAYED = """import sys, camac
+from camac.mock import Recorded
+script, answers = sys.argv[1:]
+print(list(camac.run("@sample", script, answers, "one.events"))[-1].line)
+open("wrong", "w").write("service")
+try:
+    list(camac.run("@sample", "wrong", answers, "one.events"))
+except camac.Refused as why:
+    print(why.code)
+print(camac.drive("@sample", script, Recorded(answers), "two.events").line)
+try:
+    list(camac.run("@sample", script, answers, "wrong"))
+except camac.ProgramFault as why:
+    print(why, open("wrong").read())
+"""
+PLAYS = "ended events 1\nS2\nended events 1\nfault write\n  wrong: it is no event file service\n"
 
 
 def setUpModule():
@@ -163,6 +187,23 @@ class Headers(Case):
         for name, begin in (("g.c", MCSTD), ("h.cpp", f'extern "C" {{ {MCSTD} }}')):
             self.compile(name, f"{begin}\n#include <camac/camac_mcstd.h>\n{end}")
 
+    def test_pointers_of_other_types(self):
+        """A wrong one never compiles, also where nobody asks for warnings; a type and an X of the driver's own do."""
+        other = ESONE.replace("int *data", "unsigned long *data")
+        without = re.sub("void ctstat.*", "extern int last_x;", other)
+        wide = MCSTD.replace("unsigned int *", "unsigned long *").replace("unsigned int d", "unsigned long d")
+        own, x = "#define CAMAC_ESONE_DATA unsigned long\n", "#define CAMAC_ESONE_X last_x\n"
+        for begin, header, is_right in (
+            (other, "esone", False), (own + other, "esone", True), (own + ESONE, "esone", False), (own + without, "esone", False), (own + x + without, "esone", True),
+            (wide, "mcstd", False), ("#define CAMAC_MCSTD_DATA unsigned long\n" + wide, "mcstd", True),
+        ):
+            for name, compiler in (("a.c", ("gcc", "-std=c99")), ("a.cpp", ("g++", "-std=c++17", "-w", "-fpermissive"))):
+                text = begin if name == "a.c" else f'extern "C" {{\n{begin}\n}}'
+                file = self.write(name, f"{text}\n#include <camac/camac_{header}.h>\n")
+                status = call(*compiler, "-Werror=implicit-function-declaration", "-I", TOP / "include", "-c", file, "-o", self.room / "a.o")[0]
+                if name == "a.c" or is_right:
+                    self.assertEqual(status == 0, is_right, (begin, name))
+
     def test_mcstd(self):
         program = of_c.compiled(self.room, "mcstd", HERE / "mcstd.c")
         self.assertEqual(call(program), (0, CYCLES_BY_MCSTD))
@@ -172,7 +213,7 @@ class Headers(Case):
         code = re.sub(r"/\*.*?\*/", "", text, flags=re.S)
         self.assertEqual([it for it in re.findall(r"#define (\w+)", code) if not it.startswith("CAMAC_")], [])
         self.assertEqual([it for it in re.findall(r"^\w[\w *]*?(\w+)\(", code, re.M) if not re.match("camac_|CAMAC_", it)], [])
-        calls = set(re.findall(r"^(?:CAMAC_CALL|[\w ]+[ *])(camac_\w+)\([^;]*?\);$", code, re.M))
+        calls = set(re.findall(r"^(?:CAMAC_CALL|[\w ]+[ *])(camac_\w+)\([^;{]*?\);$", code, re.M))
         self.assertGreater(len(calls), 15)
         so, archive = of_c.prefix() / "lib/libcamac.so.0", of_c.prefix() / "lib/libcamac.a"
         node = "CAMAC_" + library.version().rpartition(".")[0]
@@ -674,8 +715,16 @@ class Package(Case):
         made = (["draw", "costs", "@sample", its], ["draw", "plan", "@sample", its], late, ["report", "@sample", its, event_file])
         for at, words in enumerate(made):
             self.assertEqual(call(*calls, *words, "-o", self.room / f"it{at}.svg", env=env), (0, ""))
-        status, told = call(*calls, "report", "@sample", its, self.write("answers", ""), "-o", self.room / "it.html", env=env)
-        self.assertEqual((status, told), (3, "camac: the program camac is not in PATH, and CAMAC_PROGRAM is not set\n"))
+        straight, answers = EXAMPLES / "straight_line.script", self.write("answers", "0 0 000000 0 000004\n1 1 123fff 2 000000\n")
+        for at, words in enumerate((["report"], ["draw", "run"], ["draw", "words"])):
+            self.assertEqual(call(*calls, *words, "@sample", straight, answers, "-o", self.room / f"of_answers{at}.svg", env=env), (0, ""))
+        self.assertIn("ended events 1", (self.room / "of_answers0.svg").read_text())
+        status, told = call(*calls, "annotate", "@sample", straight, answers, env=env)
+        self.assertEqual((status, told.splitlines()[1:]), (0, ["      2  1 1 123fff 2 000000    cycle 1 5 0 0 in 123fff x1 q1 wait 2", " " * 30 + "ended events 1"]), told)
+        self.assertEqual(call(*calls, "survey", "@sample", "--driver", "mock", env=env), (3, "camac: the library does not list what a plan declares: this needs the program camac\n"))
+        self.assertEqual(call(sys.executable, self.write("run.py", PLAYED), straight, answers, cwd=self.room, env=env), (0, PLAYS))
+        self.assertEqual((self.room / "one.events").read_bytes(), EVENT_FILE)
+        self.assertEqual((self.room / "two.events").read_bytes(), EVENT_FILE)
 
     @needed("python3-pip")
     def test_pip(self):

@@ -12,7 +12,7 @@ import sys
 from support.live import LOCKOUT, OPENING, PATIENCE, PROGRAM, STRAIGHT_LINE, TOP, Broken, Case, Listed, Pipes, run_tests, script
 import camac
 from camac import Answer, Ending, RunEnd
-from camac.mock import Adc, Auxiliary, MockBranch, Recorder, Register
+from camac.mock import Adc, Auxiliary, Faulty, MockBranch, Recorder, Register
 
 LONG = OPENING.format(30_000, 0) + "for i = 1 to 9999 { cclc adc }\n}\n"
 DEMAND = "0 0 000000 0 000004"
@@ -460,6 +460,65 @@ class Calls(Case):
         self.assertEqual(branch.demand().gl, 4)
         branch.cycle(1, 28, 8, 26, None)
         self.assertEqual((branch.inhibited, branch.silent, branch.demand().gl), ({1}, {1}, 0))
+
+
+class Faults(Case):
+    """`camac.mock.Faulty`: each fault alone does what it says to what a branch answers, and is counted."""
+
+    ANSWER = Answer(1, 1, 0x00FF00, 1)
+
+    def answers(self, count=1000, at=(1, 5, 0, 0, None), **how):
+        """What comes of so many cycles and demands, and the branch."""
+        branch = Faulty(Listed(*[self.ANSWER] * count, *[Answer(gl=4)] * count), **how)
+        return [branch.cycle(*at) for _ in range(count)], [branch.demand() for _ in range(count)], branch
+
+    def test_without_a_fault(self):
+        cycles, demands, branch = self.answers()
+        self.assertEqual((set(cycles), set(demands), set(branch.counts.values())), ({self.ANSWER}, {Answer(gl=4)}, {0}))
+
+    def test_each_fault(self):
+        for how, wanted in (
+            ({"no_x": 0.5}, Answer(wait=1)),
+            ({"no_q": 0.5}, self.ANSWER._replace(q=0)),
+            ({"long_wait": 0.5}, self.ANSWER._replace(wait=15)),
+        ):
+            cycles, demands, branch = self.answers(**how)
+            self.assertEqual((set(cycles), set(demands)), ({self.ANSWER, wanted}, {Answer(gl=4)}))
+            self.assertEqual(cycles.count(wanted), branch.counts[[*how][0]])
+            self.assertTrue(400 < cycles.count(wanted) < 600)
+            self.assertEqual(self.answers(**how)[0], cycles)
+            self.assertNotEqual(self.answers(**how, seed=2)[0], cycles)
+
+    def test_bits(self):
+        self.assertEqual({it.word for it in self.answers(stuck_1=0x800001, stuck_0=0x00F000)[0]}, {0x800F01})
+        words = [it.word ^ 0x00FF00 for it in self.answers(flip=0.5)[0]]
+        self.assertEqual({it for it in words}, {0, *(1 << bit for bit in range(24))})
+        self.assertEqual({it.word for it in self.answers(at=(1, 5, 0, 9, None), stuck_1=1, flip=1)[0]}, {0x00FF00})
+
+    def test_ghosts(self):
+        cycles, demands, branch = self.answers(ghost=0.5, ghost_gl=0x101)
+        self.assertEqual((set(cycles), set(demands)), ({self.ANSWER}, {Answer(gl=4), Answer(gl=0x105)}))
+        self.assertEqual(demands.count(Answer(gl=0x105)), branch.counts["ghost"])
+        self.assertIsNone(Faulty(Listed(None), ghost=1, ghost_gl=1).demand())
+
+    def test_silence(self):
+        listed = Listed(*[self.ANSWER] * 5)
+        branch = Faulty(listed, silent_after=3)
+        self.assertEqual([branch.demand(), branch.cycle(1, 5, 0, 0, None), branch.lock(1)], [self.ANSWER] * 3)
+        for call in (branch.demand, lambda: branch.cycle(1, 5, 0, 0, None), lambda: branch.lock(1)):
+            self.assertRaises(TimeoutError, call)
+        branch.unlock(1)
+        self.assertEqual([it[0] for it in listed.asked], ["demand", "cycle", "lock", "unlock"])
+
+    def test_controller(self):
+        """Its commands lose nothing but time: camac knows their answers itself."""
+        self.assertEqual(set(self.answers(at=(1, 30, 9, 27, None), no_x=1, no_q=1, stuck_1=1)[0]), {self.ANSWER})
+
+    def test_silence_in_a_lock(self):
+        """The lockout is released, and the events before are there."""
+        branch = MockBranch.of_plan("@sample", {(1, 5): Adc(), (1, 6): Register()}, triggers=[[(1, 5)]] * 9)
+        self.assertRaises(TimeoutError, camac.drive, "@sample", TOP / "examples/lockout.script", Faulty(branch, silent_after=9), self.room / "e")
+        self.assertEqual((len(list(camac.read_events(self.room / "e"))), branch.locked), (1, set()))
 
 
 if __name__ == "__main__":

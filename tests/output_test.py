@@ -92,6 +92,7 @@ COMMANDS = {
     "camac-fmt": Command(("fmt", "OUT"), old="var a  var b", new="var a\nvar b\n"),
     "camac-report -o": Command(("report", "@sample", "script", "answers", "-o", "OUT")),
     "camac-report --record": Command(("report", "@sample", "script", "answers", "-o", "page.html", "--record", "OUT")),
+    "camac-survey -o": Command(("survey", "@sample", "--driver", "mock", "-o", "OUT")),
     "python3 -m camac draw -o": Command(("draw", "plan", "@sample", "-o", "OUT")),
     "python3 -m camac simulate -o": Command((*SIMULATE, "-o", "OUT")),
     "python3 -m camac simulate --events": Command((*SIMULATE, "--events", "OUT")),
@@ -171,14 +172,14 @@ class Written(Called):
             if name not in self.known:
                 self.assertEqual(self.ran(self.words(its, "fresh"))[::2], (0, ""), name)
                 new, made = (read(its.file.replace("OUT", "fresh")) for read in (self.timeless, self.text))
-                self.known[name] = "" if replaced == NOTHING else made if "record" in name else made[:56] + NIGHT_BEFORE, new
+                self.known[name] = "" if replaced == NOTHING else made if "record" in name or "survey" in name else made[:56] + NIGHT_BEFORE, new
             yield its, REASONS.get(replaced, FOREIGN), *self.known[name]
             for it in {*self.room.iterdir()} - {self.room / name for name in ("script", "answers", "run.events")}:
                 shutil.rmtree(it) if it.is_dir() and not it.is_symlink() else it.unlink()
 
     def timeless(self, file):
-        """A text without the times that a record has."""
-        return re.sub(r'"(begin|end|told|demands|services)": ("[^"]*"|[0-9.]+)', "", self.text(file))
+        """A text without the times that a record and a survey have."""
+        return re.sub(r'"(at|begin|end|told|demands|services)": ("[^"]*"|[0-9.]+)', "", self.text(file))
 
     def refuse(self, words, file, reason):
         """A command ends with status 3, the name and the reason, and leaves no other file."""

@@ -334,7 +334,7 @@ class Pages(unittest.TestCase):
         return re.findall(r"^  (?:-(\w)(?: [A-Z]+)?, )?--(\w+)", told, re.M)
 
     def test_manual_pages(self):
-        for command, count in (("check", 6), ("fmt", 2), ("lsp", 1), ("report", 7)):
+        for command, count in (("check", 7), ("fmt", 2), ("lsp", 1), ("report", 8), ("survey", 10)):
             page = (TOP / f"man/camac-{command}.1").read_text()
             self.assertEqual(len(self.options(command)), count)
             for short, long in self.options(command):
@@ -342,10 +342,10 @@ class Pages(unittest.TestCase):
             self.assertEqual(re.search(r"\.Os .*", page)[0], re.search(r"\.Os .*", (TOP / "man/camac.1").read_text())[0])
 
     def test_completions(self):
-        for command in ("check", "fmt", "lsp", "report"):
+        for command in ("check", "fmt", "lsp", "report", "survey"):
             for name in (f"camac-{command}.bash", f"_camac-{command}", f"camac-{command}.fish"):
                 text = (TOP / "completions" / name).read_text()
-                self.assertEqual("@sample" in text, command in ("check", "report"))
+                self.assertEqual("@sample" in text, command in ("check", "report", "survey"))
                 for short, long in self.options(command):
                     self.assertRegex(text, rf"-{short}\b|-s {short}\b")
                     self.assertRegex(text, rf"--{long}\b|-l {long}\b")
@@ -356,12 +356,13 @@ class Pages(unittest.TestCase):
             done = subprocess.run(["bash", "-c", line, TOP / f"completions/camac-{command}.bash", *words], stdout=subprocess.PIPE, cwd=TOP / "examples")
             return done.stdout.decode().split()
 
-        for command in ("check", "report"):
+        for command in ("check", "report", "survey"):
             self.assertEqual(offered(command, "@"), ["@sample"])
             self.assertEqual(offered(command, "sample_p"), ["sample_plan.toml"])
             self.assertEqual(offered(command, "@sample", "stra"), ["straight_line.script"])
             self.assertEqual(offered(command, "@sample", "@"), [])
-        self.assertEqual(offered("report", "@sample", "-"), ["--every", "--help", "--out", "--overwrite", "--pair", "--record", "--words", "-h", "-o"])
+        self.assertEqual(offered("report", "@sample", "-"), ["--every", "--help", "--out", "--overwrite", "--pair", "--record", "--survey", "--words", "-h", "-o"])
+        self.assertEqual(offered("survey", "@sample", "--driver", "m"), ["mock", "modules"])
         self.assertEqual(offered("check", "@sample", "--f"), ["--format"])
         self.assertEqual(offered("check", "--format", "g"), ["github"])
         self.assertEqual(offered("check", "--write", "--format", "json", "@"), ["@sample"])

@@ -13,10 +13,6 @@ maintainer() {
   echo "${DEBFULLNAME:-The camac authors} <${DEBEMAIL:-camac@camac.invalid}>"
 }
 
-proved_or_not() {
-  if [ "$1" = yes ]; then echo proved; else echo 'not proved'; fi
-}
-
 debian_control() {
   local bytes size=0
   while read -r bytes; do size=$((size + (bytes + 1023) / 1024)); done < <(find "$folder" -type f -printf '%s\n')
@@ -109,6 +105,7 @@ make_package() {
   export SOURCE_DATE_EPOCH
   SOURCE_DATE_EPOCH=$(time_of_sources) && cd "$room/root" && mkdir DEBIAN && debian_files || return
   [ -n "$lacking" ] || debian_library || return
+  write_note "$folder/bin/camac" "$folder/$libraries/libcamac.so.0" >"$folder/share/camac/proof" || return
   debian_control >DEBIAN/control && debian_script py3compile >DEBIAN/postinst && debian_script py3clean >DEBIAN/prerm && chmod 755 DEBIAN/p* &&
     find usr -type f -print0 | LC_ALL=C sort -z | xargs -0 md5sum >DEBIAN/md5sums &&
     find . -exec touch -hd "@$SOURCE_DATE_EPOCH" {} + &&

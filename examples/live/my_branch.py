@@ -35,3 +35,6 @@ class MyBranch:
 
     def unlock(self, c):
         hardware.release_lockout(c)                             # CALL
+
+
+branch = MyBranch                                               # of camac-survey --driver examples/live/my_branch.py

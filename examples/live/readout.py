@@ -1,11 +1,14 @@
-"""A start and a readout by the driver of my_branch.py. The record of the readout goes into EVENTS.json.
-
-usage: readout.py PLAN START_SCRIPT SERVICE SCRIPT EVENTS [PATIENCE]"""
-import sys
+"""A start and a readout by the driver of my_branch.py, or by the one that --driver names. The record of the readout goes into EVENTS.json."""
+import argparse
 import camac
 from my_branch import MyBranch
 
-plan, start, service, script, events, *patience = sys.argv[1:]
-branch = MyBranch(plan, float(patience[0]) if patience else None)
-print("start:", camac.call(plan, start, service, branch).line)
-print("readout:", camac.drive(plan, script, branch, events, record=f"{events}.json").line)
+words = argparse.ArgumentParser(description=__doc__)
+for name in ("plan", "start_script", "service", "script", "events"):
+    words.add_argument(name, metavar=name.upper())
+words.add_argument("--driver", help="as mcstd:libhyt1331.so; see docs/LIVE.md")
+words.add_argument("--patience", type=float, help="how many seconds to wait for a demand")
+its = words.parse_args()
+branch = camac.driver(its.driver, its.plan, its.patience) if its.driver else MyBranch(its.plan, its.patience)
+print("start:", camac.call(its.plan, its.start_script, its.service, branch).line)
+print("readout:", camac.drive(its.plan, its.script, branch, its.events, record=f"{its.events}.json").line)

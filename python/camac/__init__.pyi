@@ -2,6 +2,7 @@ from camac.arrays import EventArrays, event_arrays
 from camac.call import call
 from camac.drive import Answer, Branch, DriveFault, ProgramFault, ProtocolFault, Refused, TimeFault, UsageFault
 from camac.drive import drive, find_program
+from camac.drivers import driver
 from camac.events import Event, EventFileFault, Whole, read_events, whole, whole_size
 from camac.library import play
 from camac.loops.proposals import Proposal, Proposals
@@ -9,6 +10,7 @@ from camac.loops.search import propose
 from camac.printed import parse_listing
 from camac.record import Record, Recording, read_record
 from camac.subcommands import bounds, check, costs, plan, response, run
+from camac.surveys import Survey, survey
 from camac.values import Body, Command, Cost, Crate, Cycle, Declaration, Demand, Ending, Heading, Lock, ModuleType, Move, Plan, Response, Row, RunEnd, Service, Station, Unlock
 from camac.warn import Warned, warnings
 from camac.word_file import WordsFault, read_words
@@ -18,7 +20,8 @@ from camac.words import Column, Field, Words
 __all__ = [
     "Answer", "Body", "Branch", "Column", "Command", "Cost", "Crate", "Cycle", "Declaration", "Demand", "DriveFault", "Ending", "Event",
     "EventArrays", "EventFileFault", "Field", "Heading", "Lock", "ModuleType", "Move", "Plan", "ProgramFault", "Proposal", "Proposals",
-    "ProtocolFault", "Record", "Recording", "Refused", "Response", "Row", "RunEnd", "Service", "Station", "TimeFault", "Unlock", "UsageFault",
-    "Warned", "Whole", "Words", "WordsFault", "bounds", "call", "check", "costs", "drive", "event_arrays", "find_program", "parse_listing", "plan",
-    "play", "propose", "read_events", "read_record", "read_words", "response", "run", "warnings", "whole", "whole_size", "words_of_script",
+    "ProtocolFault", "Record", "Recording", "Refused", "Response", "Row", "RunEnd", "Service", "Station", "Survey", "TimeFault", "Unlock",
+    "UsageFault", "Warned", "Whole", "Words", "WordsFault", "bounds", "call", "check", "costs", "drive", "driver", "event_arrays", "find_program",
+    "parse_listing", "plan", "play", "propose", "read_events", "read_record", "read_words", "response", "run", "survey", "warnings", "whole", "whole_size",
+    "words_of_script",
 ]

@@ -1,4 +1,4 @@
-"""The commands of the package: python3 -m camac check, fmt, lsp, diff, draw, report, annotate, csv, simulate, export, watch."""
+"""The commands of the package: python3 -m camac check, fmt, lsp, diff, draw, report, annotate, csv, survey, simulate, export, watch."""
 import argparse
 import contextlib
 import errno
@@ -10,7 +10,7 @@ from camac import pictures, tables
 from camac.annotate import FIRST_LINE, annotate
 from camac.columns import Naming, ask
 from camac.commands import check as check_command
-from camac.commands import diff, export, fmt, lsp, simulate, watch
+from camac.commands import diff, export, fmt, lsp, simulate, survey, watch
 from camac.commands.options import add_every, add_overwrite, add_words, naming, read_every
 from camac.commands.running import DONE, FAULT, REFUSED, STATUS, refuse_pipes
 from camac.commands.running import main as run_command
@@ -152,12 +152,12 @@ def make_report(args: argparse.Namespace) -> int:
     inputs = Inputs(args.plan, args.script, args.source)
     if args.record:
         refuse_loss(args.record, anything if args.overwrite else refuse_foreign)
-    made = report(inputs, every=args.every, naming=naming(args))
+    made = report(inputs, every=args.every, naming=naming(args), survey=args.survey)
     write_made(args.out, made.text, args.overwrite)
     if args.record:
         # If plan or script is refused, the page says so.
         with contextlib.suppress(Refused):
-            write_played(args.record, inputs, args.overwrite)
+            write_played(args.record, inputs, args.overwrite, args.survey)
     return made.status
 
 
@@ -216,6 +216,7 @@ def parser() -> argparse.ArgumentParser:
     it.add_argument("-o", "--out", metavar="CSV", help="the file to write; else standard output")
     add_overwrite(it)
     it.set_defaults(do=make_csv)
+    survey.add_to(commands)
     simulate.add_to(commands)
     export.add_to(commands)
     watch.add_to(commands)
@@ -244,6 +245,7 @@ def _add_report(commands: Any) -> None:
     it.add_argument("source", metavar="ANSWERS|EVENTS", help="the answers of the run, or its event file")
     it.add_argument("-o", "--out", required=True, metavar="HTML", help="the file to write")
     it.add_argument("--record", metavar="JSON", help="writes the record of the run, too; a file of another kind stays as it is")
+    it.add_argument("--survey", metavar="JSON", help="what camac-survey found: the page says it, and the record has it")
     add_every(it)
     add_words(it)
     add_overwrite(it)
@@ -286,6 +288,10 @@ def fmt_command() -> int:
 
 def lsp_command() -> int:
     return main(["lsp", *sys.argv[1:]])
+
+
+def survey_command() -> int:
+    return main(["survey", *sys.argv[1:]])
 
 
 if __name__ == "__main__":

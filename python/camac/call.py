@@ -1,13 +1,14 @@
 """One call of one service: the start of a cold crate, or a stop, by a checked script of its own."""
-from typing import Optional
+from typing import Optional, Union
 
 from camac.drive import Answer, Branch, File, drive
+from camac.drivers import driver
 from camac.subcommands import check
 from camac.values import RunEnd
 
 
 def call(
-    plan: File, script: File, service: str, branch: Branch, *, events: Optional[File] = None, program: Optional[File] = None, timeout: Optional[float] = None
+    plan: File, script: File, service: str, branch: Union[Branch, str], *, events: Optional[File] = None, program: Optional[File] = None, timeout: Optional[float] = None
 ) -> RunEnd:
     """Has the branch make what one service of a script asks for, once, and returns how that ended: ENDED with one event, or OVERRUN.
 
@@ -19,7 +20,7 @@ def call(
     bits = {it.name: it.gl for it in check(plan, script, program)}
     if service not in bits:
         raise ValueError(f"the script has no service {service!r}, but {', '.join(bits) or 'none'}")
-    once = _Once(branch, bits[service])
+    once = _Once(driver(branch, plan) if isinstance(branch, str) else branch, bits[service])
     if events is not None:
         return drive(plan, script, once, events, program=program, timeout=timeout)
     import tempfile

@@ -162,17 +162,18 @@ def find_program(program: Optional[File] = None) -> File:
 def drive(
     plan: File,
     script: File,
-    branch: Branch,
+    branch: Union[Branch, str],
     events: File,
     *,
     program: Optional[File] = None,
     timeout: Optional[float] = None,
     record: "Union[File, Recording, None]" = None,
 ) -> RunEnd:
-    """Plays a script against a branch, and returns how the run ended. `plan` may be "@sample". `events` must not hold bytes. `record` is a file
+    """Plays a script against a branch, and returns how the run ended. `branch` may also be the name of a driver, as "mcstd:libhyt1331.so"
+    (`camac.driver`), and `plan` "@sample". `events` must not hold bytes. `record` is a file
     for the record of the run (`camac.record`), which must not hold bytes either. A `Recording` gives the run a number and a title, too.
 
-    `program` is found by `find_program` unless given. `timeout` is how many seconds the program may take for its next line, and for its
+    `program` is found by `find_program` unless given; if there is none, the library plays the run in this process. `timeout` is how many seconds the program may take for its next line, and for its
     end; the time that the branch takes does not count. It is 0 to 2,147,483; without it the program may take as long as it does.
 
     The lockouts that are held when the requests end are released by `branch.unlock`, however the run ends. An interrupt (Ctrl-C) inside
@@ -183,13 +184,25 @@ def drive(
     ValueError, with nothing started, for a timeout out of its range."""
     if timeout is not None and not 0 <= timeout <= GREATEST_TIMEOUT:
         raise ValueError(f"a timeout is 0 to {GREATEST_TIMEOUT} seconds, not {timeout}")
+    if isinstance(branch, str):
+        # Drivers need what this module declares, as the record does.
+        from camac.drivers import driver
+
+        branch = driver(branch, plan)
     if record is not None:
-        # The record needs what this module declares.
         from camac.record import Played, recorded
 
         played = Played(plan, script, events, program)
         return recorded(record, played, branch, lambda watched: drive(plan, script, watched, events, program=program, timeout=timeout))
-    with _Program([find_program(program), "drive", "--", plan, script, events], timeout) as started:
+    try:
+        found = find_program(program)
+    except FileNotFoundError:
+        from camac import library
+
+        if not library.is_there():
+            raise
+        return library.play(plan, script, branch, events)
+    with _Program([found, "drive", "--", plan, script, events], timeout) as started:
         run = _Run(started, branch)
         try:
             end = run.serve()

@@ -13,7 +13,7 @@ from typing import TYPE_CHECKING, Any, Callable, Iterable, Iterator, List, Mappi
 
 from camac import native
 from camac.drive import Answer, Branch, File, Lockouts, ProgramFault, Refused, UsageFault, file_fault
-from camac.events import NEW_FILE
+from camac.events import FORMS, HEADER, NEW_FILE
 from camac.values import Ending, RunEnd
 from camac.native import (
     BUSY,
@@ -37,6 +37,7 @@ from camac.native import (
     Want,
     is_there as is_there,
 )
+from camac.output import holds_bytes
 from camac.texts import plan_text, script_text
 
 if TYPE_CHECKING:
@@ -50,7 +51,7 @@ LONGEST = 16 + 4 * EVENT_WORDS
 FAULTS = {NO_MEMORY: ("fault memory", 3), LONG: ("fault input too long", 3)}
 # The subcommands of the program that the library has too.
 IN_PROCESS = "@library"
-COMMANDS = frozenset(("plan", "check", "explain", "bounds", "costs", "response"))
+COMMANDS = frozenset(("plan", "check", "explain", "bounds", "costs", "response", "run"))
 SPENT_LINE = "refused A4 line 4294967296: too many answers"
 MISUSED = "a number is out of range, or a word names no service"
 CLOSED = "the session is closed"
@@ -151,6 +152,8 @@ def _judged(name: str, *texts: Text) -> Verdict:
 def output_of(command: str, plan: File, *script: File, every: Iterable[str] = ()) -> Verdict:
     """The output of the program when it is called with one of `COMMANDS` and these files. `every` has the words that follow this option of
     `response`, as NAME=CYCLES. Raises as the program fails: ProgramFault, UsageFault."""
+    if command == "run":
+        return _played(plan, *script)
     name = command if script or command == "plan" else f"{command}_plan"
     return judged(name, plan_text(plan), *map(script_text, script), every=every)
 
@@ -159,6 +162,25 @@ def judged(command: str, *texts: Text, every: Iterable[str] = ()) -> Verdict:
     """What the program prints of these texts, as `output_of`."""
     options = [_settings(every), ""] if command == "response" else []
     return _judged(command, *texts, *options)
+
+
+def _played(plan: File, script: File, answers: File, events: File) -> Verdict:
+    """The listing of `camac run`. If plan and script are accepted, the event file takes the place of an old one, or of no bytes."""
+    try:
+        with open(answers, "rb") as opened:
+            given = opened.read()
+    except OSError as why:
+        raise file_fault("read", answers, why) from why
+    listing, made = run(plan_text(plan), script_text(script), given)
+    if made:
+        with _writes(events):
+            if holds_bytes(events):
+                with open(events, "rb") as old:
+                    if old.read(HEADER) not in FORMS:
+                        raise file_fault("write", events, "it is no event file")
+            with open(events, "wb") as file:
+                file.write(made)
+    return listing
 
 
 def plan(plan: Text) -> Verdict:
@@ -422,7 +444,7 @@ class Session:
 def play(
     plan: File,
     script: File,
-    branch: Branch,
+    branch: Union[Branch, str],
     events: Optional[File] = None,
     *,
     program: Optional[File] = None,
@@ -435,8 +457,12 @@ def play(
 
     Returns how the run ended, and raises what `camac.drive` raises, with the texts of the program: what the branch raises, Refused,
     ProgramFault. The lockouts that are held then are released by `branch.unlock`, however the run ends."""
+    if isinstance(branch, str):
+        # Drivers need what this module declares, as the record does.
+        from camac.drivers import driver
+
+        branch = driver(branch, plan)
     if record is not None:
-        # The record needs what this module declares.
         from camac.record import Played, recorded
 
         return recorded(record, Played(plan, script, events, IN_PROCESS), branch, lambda watched: play(plan, script, watched, events))

@@ -13,8 +13,8 @@ A module is a class with one method. This one holds a word: F16 writes it, F0 re
                 return Reply()
             return super().cycle(a, f, data)     # the commands of the look-at-me, and X = 0 for all others
 
-`MockBranch` is a branch for `camac.drive`; `Recorder` keeps what any branch was asked and what it answered, and `Recorded` gives such answers
-again. All that is random comes from a seed, so that two runs are alike."""
+`MockBranch` is a branch for `camac.drive`; `Faulty` adds faults to any branch, `Recorder` keeps what it was asked and what it answered, and
+`Recorded` gives such answers again. All that is random comes from a seed, so that two runs are alike."""
 import dataclasses
 import functools
 import os
@@ -377,6 +377,77 @@ def _put(crate: int, crates: Set[int], is_in: bool) -> None:
         crates.add(crate)
     else:
         crates.discard(crate)
+
+
+class Faulty:
+    """Another branch with faults, which come at random from a seed. `counts` has how often each came. Shares are 0 to 1, of cycles at modules or of
+    demands; without a share, or with 0, a fault never comes.
+
+    no_x, no_q         the share of replies that lose X (and with it Q and the word), or Q alone
+    flip               the share of words read in which one bit is wrong
+    stuck_1, stuck_0   bits that are 1, or 0, in each word read
+    ghost, ghost_gl    the share of demands with look-at-mes that no module raised, and their bits of the pattern
+    long_wait          the share of cycles before which auxiliary controllers take 15
+    silent_after       so many operations are answered; then each one raises TimeoutError, as a controller that does not answer"""
+
+    def __init__(
+        self,
+        branch: Branch,
+        *,
+        seed: int = 1,
+        no_x: float = 0.0,
+        no_q: float = 0.0,
+        flip: float = 0.0,
+        stuck_1: int = 0,
+        stuck_0: int = 0,
+        ghost: float = 0.0,
+        ghost_gl: int = 0,
+        long_wait: float = 0.0,
+        silent_after: Optional[int] = None,
+    ) -> None:
+        self.branch, self.random, self.unlock = branch, random.Random(seed), branch.unlock
+        self.shares = {"no_x": no_x, "no_q": no_q, "flip": flip, "ghost": ghost, "long_wait": long_wait}
+        self.stuck_1, self.stuck_0, self.ghost_gl, self.left = stuck_1, stuck_0, ghost_gl, silent_after
+        self.counts = dict.fromkeys(self.shares, 0)
+
+    def comes(self, fault: str) -> bool:
+        """Whether a fault comes now, which is counted."""
+        share = self.shares[fault]
+        found = share > 0 and self.random.random() < share
+        self.counts[fault] += found
+        return found
+
+    def answers(self) -> None:
+        """Raises TimeoutError if the controller is silent."""
+        if self.left is not None:
+            self.left -= 1
+            if self.left < 0:
+                raise TimeoutError("the controller does not answer")
+
+    def demand(self) -> Optional[Answer]:
+        self.answers()
+        answer = self.branch.demand()
+        return answer._replace(gl=answer.gl | self.ghost_gl) if answer and self.comes("ghost") else answer
+
+    def cycle(self, c: int, n: int, a: int, f: int, data: Optional[int]) -> Answer:
+        self.answers()
+        its = self.branch.cycle(c, n, a, f, data)
+        if self.comes("long_wait"):
+            its = its._replace(wait=15)
+        if n in CONTROLLER:
+            return its
+        if self.comes("no_x"):
+            return its._replace(x=0, q=0, word=0)
+        if self.comes("no_q"):
+            its = its._replace(q=0)
+        if f >= 8:
+            return its
+        wrong = 1 << self.random.randrange(24) if self.comes("flip") else 0
+        return its._replace(word=(its.word | self.stuck_1) & ~self.stuck_0 ^ wrong)
+
+    def lock(self, c: int) -> Answer:
+        self.answers()
+        return self.branch.lock(c)
 
 
 @dataclasses.dataclass(frozen=True)

@@ -144,6 +144,15 @@ def find_library() -> str:
     return NAME
 
 
+def loaded() -> str:
+    """The file of the library that `load` has loaded, also where the system found it."""
+    load()
+    with open("/proc/self/maps", encoding="utf-8", errors="surrogateescape") as lines:
+        places = [line.rstrip("\n").partition("/") for line in lines]
+    its = find_library()
+    return its if os.path.isabs(its) else next((f"/{place}" for _, _, place in places if os.path.basename(place) == os.path.basename(its)), its)
+
+
 def version_text(number: int) -> str:
     """The number of a version, as 200, in the form 0.2.0."""
     return f"{number // 10_000}.{number // 100 % 100}.{number % 100}"

@@ -22,7 +22,7 @@ def quickest() -> Optional[File]:
     return None if os.environ.get("CAMAC_PROGRAM") or not library.is_there() else IN_PROCESS
 
 
-def _find(command: str, program: Optional[File]) -> str:
+def find(command: str, program: Optional[File]) -> str:
     """The program that answers a command, or `IN_PROCESS`. Raises FileNotFoundError if there is none of both."""
     try:
         return os.fsdecode(find_program(program))
@@ -49,7 +49,7 @@ def output_of(*words: File, program: Optional[File] = None) -> str:
 
     Raises Refused if it refuses (status 1), UsageFault if it does not understand the words (status 2), ProgramFault at every other
     status, and OSError if it cannot be started."""
-    found = _find(os.fsdecode(words[0]), program)
+    found = find(os.fsdecode(words[0]), program)
     if found == IN_PROCESS:
         verdict = _of_library(*words)
         _judge(0 if verdict.accepted else REFUSED, verdict.text, "")
@@ -67,7 +67,7 @@ def lines_of(*words: File, program: Optional[File] = None) -> Iterator[str]:
     says it. The program is ended with the generator.
 
     Raises UsageFault, ProgramFault and OSError as `output_of`, behind the last line."""
-    found = _find(os.fsdecode(words[0]), program)
+    found = find(os.fsdecode(words[0]), program)
     if found == IN_PROCESS:
         yield from _of_library(*words).text.splitlines()
         return
@@ -104,7 +104,7 @@ def _judge(status: int, printed: str, errors: str) -> None:
 
 def version(program: Optional[File] = None) -> str:
     """The version, as the program prints it: "camac 0.2.0"."""
-    if _find("check", program) == IN_PROCESS:
+    if find("check", program) == IN_PROCESS:
         return f"camac {library.version()}"
     return output_of("--version", program=program).rstrip("\n")
 
@@ -114,7 +114,7 @@ def verdict(command: str, plan: File, script: bytes, program: Optional[File] = N
     with line and column what is known there.
 
     Raises ProgramFault and OSError as `output_of`."""
-    if _find(command, program) == IN_PROCESS:
+    if find(command, program) == IN_PROCESS:
         return library.explain_at(plan_text(plan), script, *at) if at else library.judged(command, plan_text(plan), script)
     import tempfile
 
@@ -144,13 +144,13 @@ def _help(program: str, words: Tuple[str, ...]) -> str:
 
 def knows_command(command: str, program: Optional[File] = None) -> bool:
     """Whether the program has this subcommand. Its help is asked once."""
-    found = _find(command, program)
+    found = find(command, program)
     return command in library.COMMANDS if found == IN_PROCESS else f"\n  {command} " in _help(found, ("--help",))
 
 
 def knows_option(command: str, option: str, program: Optional[File] = None) -> bool:
     """Whether a subcommand of the program has this option. Its help is asked once."""
-    found = _find(command, program)
+    found = find(command, program)
     return found != IN_PROCESS and option in _help(found, ("help", command)).split()
 
 

@@ -20,9 +20,11 @@ from camac.drive import Answer, Branch, File, ProgramFault, UsageFault, add_note
 from camac.events import EventFileFault, read_events
 from camac.output import Rule, anything, holds_bytes, output
 from camac.printed import read_services
-from camac.program import output_of, version
+from camac.program import output_of
+from camac.proof import told
 from camac.runs import Inputs, collect, is_event_file
 from camac.subcommands import plan
+from camac.surveys.summary import Summary, parse_summary, read_summary
 from camac.texts import plan_text, script_text
 from camac.values import RunEnd, Service
 
@@ -35,11 +37,13 @@ OWN_FILE = "it holds bytes; a run needs a record of its own"
 
 @dataclass(frozen=True)
 class Recording:
-    """Where the record of a run is to be written, and what its caller says of the run. Raises TypeError if that is no whole number, or no text."""
+    """Where the record of a run is to be written, and what its caller says of the run; `survey` is a file that camac-survey made. Raises TypeError
+    if the number is no whole one, or the title no text."""
 
     file: File
     number: Optional[int] = None
     title: str = ""
+    survey: Optional[File] = None
 
     def __post_init__(self) -> None:
         if not isinstance(self.title, str):
@@ -99,7 +103,8 @@ class Record:
     how, line           how it ended: the word and the last line of the program; "failed" and what failed if none came
     events, size        the name of the event file, and its bytes at the end
     counts              of each service by its name how many events there are; None while the run goes on, and where the file cannot be read again
-    demands, services   the seconds measured in demands and in services: live and dead time; None of a run that was not measured"""
+    demands, services   the seconds measured in demands and in services: live and dead time; None of a run that was not measured
+    survey              what the last survey of the crates had found; None if no survey was named"""
 
     plan: Source
     script: Source
@@ -118,6 +123,7 @@ class Record:
     counts: Optional[Dict[str, int]] = None
     demands: Optional[float] = None
     services: Optional[float] = None
+    survey: Optional[Summary] = None
 
     def list_services(self) -> List[Service]:
         """The services of the script with their bounds."""
@@ -136,6 +142,7 @@ class Record:
             "plan": self.plan.value(),
             "script": self.script.value(),
             "versions": self.versions,
+            "survey": self.survey.fields() if self.survey else None,
         }
         return json.dumps(fields, indent=1) + "\n"
 
@@ -170,22 +177,24 @@ def parse_record(data: bytes) -> Record:
         demands=measured.get("demands"),
         services=measured.get("services"),
         versions=fields["versions"],
+        survey=parse_summary(fields["survey"]) if fields.get("survey") else None,
     )
 
 
-def describe(of: Played, number: Optional[int] = None, title: str = "") -> Record:
+def describe(of: Played, number: Optional[int] = None, title: str = "", survey: Optional[File] = None) -> Record:
     """The record of a run that has not begun.
 
-    Raises Refused if plan or script is refused, and ProgramFault and OSError as `camac.check`."""
+    Raises Refused if plan or script is refused, ProgramFault and OSError as `camac.check`, and what `read_summary` raises."""
+    surveyed = None if survey is None else read_summary(survey)
     texts = Source(os.fsdecode(of.plan), plan_text(of.plan)), Source(os.fsdecode(of.script), script_text(of.script))
     verdict = output_of("check", "--", of.plan, of.script, program=of.program).splitlines()
     try:
         response = output_of("response", "--", of.plan, of.script, program=of.program).splitlines()
     except UsageFault:
         response = []
-    versions = {"package": native.version_text(native.VERSION), "program": version(of.program), "python": platform.python_version()}
+    versions = {"package": native.version_text(native.VERSION), "program": told(of.program), "python": platform.python_version()}
     events = None if of.events is None else os.fsdecode(of.events)
-    return Record(*texts, tuple(verdict), tuple(response), versions, number, title, events=events)
+    return Record(*texts, tuple(verdict), tuple(response), versions, number, title, events=events, survey=surveyed)
 
 
 def now() -> str:
@@ -208,7 +217,7 @@ def recorded(asked: Union[File, Recording], of: Played, branch: Branch, play: Ca
 
     Raises what `describe` and the run raise, and ProgramFault if the record cannot be written; a file that holds bytes is none."""
     its = asked if isinstance(asked, Recording) else Recording(asked)
-    record = dataclasses.replace(describe(of, None if its.number is None else operator.index(its.number), its.title), begin=now())
+    record = dataclasses.replace(describe(of, None if its.number is None else operator.index(its.number), its.title, its.survey), begin=now())
     writer = _Writer(its.file, record, of)
     watched = _Watched(branch, {it.gl for it in record.list_services()}, writer)
     writer.write()
@@ -238,11 +247,11 @@ def refuse_foreign(file: File) -> None:
             raise file_fault("write", file, OWN_FILE)
 
 
-def write_played(file: File, inputs: Inputs, may_replace: bool = False) -> None:
+def write_played(file: File, inputs: Inputs, may_replace: bool = False, survey: Optional[File] = None) -> None:
     """Writes the record of a run that is played or read for it: nothing of it is timed. Raises as `describe`, and as `refuse_foreign` unless it
     `may_replace` a file."""
     events = inputs.source if is_event_file(inputs.source) else None
-    record = describe(Played(inputs.plan, inputs.script, events, None))
+    record = describe(Played(inputs.plan, inputs.script, events, None), survey=survey)
     run = collect(inputs, plan(inputs.plan), record.list_services())
     counts = collections.Counter(run.gl)
     size = None if events is None else os.path.getsize(events)

@@ -16,6 +16,7 @@ def add_to(commands: Any) -> None:
 
 
 def _fill(it: argparse.ArgumentParser) -> None:
+    it.add_argument("--version", action=_Version, nargs=0, help="prints the version, whether it is proved, and of which sources and kit it is")
     it.add_argument("plan", metavar="PLAN", help="a plan: a TOML file, or @sample, the built-in plan")
     it.add_argument("scripts", nargs="+", metavar="SCRIPT", help="scripts")
     it.add_argument("--format", choices=judge.FORMATS, default="text", metavar="FORMAT", help="text: lines FILE:LINE: TEXT; json; github: annotations; sarif: SARIF 2.1.0")
@@ -25,6 +26,14 @@ def _fill(it: argparse.ArgumentParser) -> None:
     write = "first puts the least accepted headings into each script, with --keeps what loops have to keep, too"
     it.add_argument("--write", action="store_true", help=write)
     it.set_defaults(do=do, out=None)
+
+
+class _Version(argparse.Action):
+    def __call__(self, its: argparse.ArgumentParser, *_: Any) -> None:
+        from camac.proof import lines
+
+        print(lines(quickest()), end="")
+        its.exit()
 
 
 def do(args: argparse.Namespace) -> int:

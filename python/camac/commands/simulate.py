@@ -1,11 +1,10 @@
 """simulate: what is lost at a rate of triggers, and how long look-at-mes wait."""
 import argparse
-import runpy
-import traceback
 from typing import Any, Dict, Iterator, List, Mapping, Optional, Sequence
 
 from camac.commands.options import add_every, add_overwrite, read_every
 from camac.drive import UsageFault
+from camac.drivers import run_python
 from camac.mock import Module, Place
 from camac.output import say, write_made
 from camac.pictures import draw_rates
@@ -85,13 +84,7 @@ def _modules(file: Optional[str]) -> Optional[Mapping[Place, Module]]:
     """The modules of a file of the user's. They are made again each time."""
     if file is None:
         return None
-    try:
-        found = runpy.run_path(file).get("modules")
-    except OSError:
-        raise
-    except Exception as why:
-        lines = [it.lineno for it in traceback.extract_tb(why.__traceback__) if it.filename == file]
-        raise UsageFault(f"{file}{f':{lines[-1]}' if lines else ''}: {type(why).__name__}: {why}", 2) from why
+    found = run_python(file).get("modules")
     if not isinstance(found, dict) or not all(isinstance(it, Module) for it in found.values()):
         raise UsageFault(f"{file} has no dictionary `modules` of modules by (crate, station)", 2)
     return found

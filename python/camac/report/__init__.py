@@ -1,15 +1,18 @@
 """The report: one page of HTML with all that is known of a run. It fetches nothing, and opens from a file."""
+import hashlib
 from typing import List, Mapping, NamedTuple, Optional
 
 from camac.columns import Naming, ask
 from camac.drive import File, Refused
-from camac.program import knows_command, version
+from camac.program import knows_command
+from camac.proof import told
 from camac.report import sections
 from camac.report.page import page
 from camac.report.refused import refused_page
 from camac.runs import Check, Inputs, collect
 from camac.subcommands import check, costs, plan as read_plan, response
-from camac.texts import source_lines
+from camac.surveys.summary import read_summary
+from camac.texts import plan_text, source_lines
 from camac.values import Body
 
 __all__ = ["Report", "report"]
@@ -24,13 +27,17 @@ class Report(NamedTuple):
 
 
 def report(
-    inputs: Inputs, program: Optional[File] = None, every: Optional[Mapping[str, int]] = None, naming: Naming = Naming()
+    inputs: Inputs,
+    program: Optional[File] = None,
+    every: Optional[Mapping[str, int]] = None,
+    naming: Naming = Naming(),
+    survey: Optional[File] = None,
 ) -> Report:
     """Makes the page of a run, or of the refusal of plan or script. `every` are the rates of modules, as `camac.response` takes them; `naming`
-    says what the words of events are.
+    says what the words of events are, and `survey` is a file that camac-survey made.
 
-    Raises OSError if a file cannot be read, UsageFault if a rate is none of a service or a name none of a word, WordsFault, and
-    ProgramFault as `camac.run`."""
+    Raises OSError if a file cannot be read, UsageFault if a rate is none of a service or a name none of a word, WordsFault,
+    ValueError if the file is no survey, and ProgramFault as `camac.run`."""
     try:
         plan = read_plan(inputs.plan, program)
         services = check(inputs.plan, inputs.script, program)
@@ -41,7 +48,9 @@ def report(
     bodies = costs(inputs.plan, inputs.script, program) if knows_command("costs", program) else None
     if bodies is not None:
         run.checks.append(_shares_check(bodies))
-    facts = sections.Facts(inputs, version(program), plan, services, source_lines(inputs.script), bodies, responses, run)
+    if survey is not None:
+        run.checks.append(_survey_check(survey, inputs.plan))
+    facts = sections.Facts(inputs, told(program), plan, services, source_lines(inputs.script), bodies, responses, run)
     parts = [
         sections.tiles(run),
         sections.last_line(run),
@@ -52,10 +61,16 @@ def report(
         sections.run_section(facts),
         sections.histograms(facts),
         sections.services(facts),
-        sections.checks(run),
+        sections.checks(facts),
     ]
     text = page(f"{sections.base_name(inputs.script)}: report", sections.head(facts), parts)
     return Report(text, 0 if run.agrees() and run.is_good() else 1)
+
+
+def _survey_check(file: File, of_plan: File) -> Check:
+    """Whether the crates were found as the plan says."""
+    its, sha256 = read_summary(file), hashlib.sha256(plan_text(of_plan)).hexdigest()
+    return Check(f"crates and plan: {'; '.join([its.line(sha256), *its.differences])}", its.is_good(sha256))
 
 
 def _shares_check(bodies: List[Body]) -> Check:

@@ -297,11 +297,11 @@ def services(facts: Facts) -> str:
     return "".join(out)
 
 
-def checks(run: Run) -> str:
+def checks(facts: Facts) -> str:
     verdicts = {True: '<td class="t good">agrees</td>', False: '<td class="t bad">DIFFERS</td>'}
-    rows = "".join(f'<tr>{verdicts[it.agrees]}<td class="t">{escape(it.text)}</td></tr>' for it in run.checks)
+    rows = "".join(f'<tr>{verdicts[it.agrees]}<td class="t">{escape(it.text)}</td></tr>' for it in facts.run.checks)
     return (
         f'<h2 id="checks">Checks of this page</h2><table class="checks"><tbody>{rows}</tbody></table><p class="mute">The bounds hold for '
-        "every list of answers, as long as auxiliary controllers keep to the waits of the plan and the program is the proved one. What was "
-        "seen is of this run alone.</p>"
+        "every list of answers, as long as auxiliary controllers keep to the waits of the plan and the program is the proved one; "
+        f"this was {escape(facts.version)}. What was seen is of this run alone.</p>"
     )
