@@ -7,10 +7,11 @@ import json
 import os
 import pathlib
 import signal
+import time
 import unittest
 from unittest import mock
 
-from support.live import PATIENCE, TOP, Broken, Case, Interrupted, Listed
+from support.live import PATIENCE, TOP, Broken, Case, Listed
 import camac
 from camac import Answer, Ending, RunEnd
 from camac.mock import Adc, Auxiliary, Memory, MockBranch, Module, Register, Reply, Scaler
@@ -206,36 +207,19 @@ class Client(Case):
         self.assertEqual(raised.exception.args, (2,))
         self.assertEqual(branch.asked[3:], [("unlock", 2), ("unlock", 1)])
 
-    def test_an_interrupt_while_lockouts_are_released(self):
-        """Ctrl-C in a cycle, and again in an `unlock` that it calls for: each lockout is released, and the first interrupt is raised."""
-        first = KeyboardInterrupt("first")
-        for interrupts, wanted in (((1,), [2, 2, 1]), ((2,), [2, 1, 1]), ((1, 3), [2, 2, 1, 1]), ((1, 2, 3, 4), [2, 2, 1, 1])):
-            branch = Listed(Answer(gl=4), Answer(), Answer(), first)
-            asked = []
-
-            def unlock(crate):
-                asked.append(crate)
-                if len(asked) in interrupts:
-                    raise KeyboardInterrupt
-
-            branch.unlock = unlock
-            with self.subTest(interrupts), self.assertRaises(KeyboardInterrupt) as raised:
-                self.drive(branch, "demand", "lock 1", "lock 2", "cycle 2 1 0 0 in", at_end="short events 0")
-            self.assertEqual((raised.exception, asked), (first, wanted))
-
-    def test_an_interrupt_inside_an_unlock_of_the_script(self):
-        """It may not have been released, so it is released again."""
-        branch = Interrupted(*[Answer(gl=4)] * 4)
-        with self.assertRaises(KeyboardInterrupt):
-            self.drive(branch, "demand", "lock 1", "lock 2", "unlock 2", "demand", at_end="ended events 1")
-        self.assertEqual([it[1] for it in branch.asked if it[0] == "unlock"], [2, 2, 1])
-
     def test_an_interrupt_inside_a_lock(self):
         """It may have been taken, so it is released."""
         branch = Listed(Answer(gl=4), KeyboardInterrupt())
         with self.assertRaises(KeyboardInterrupt):
             self.drive(branch, "demand", "lock 1", at_end="short events 0")
         self.assertEqual(branch.asked, [("demand",), ("lock", 1), ("unlock", 1)])
+
+    def test_a_program_that_does_not_end_after_a_failure(self):
+        """It is killed after some time, however long it may take for a line."""
+        began = time.monotonic()
+        with mock.patch("camac.drive.PATIENCE", 0.2), self.assertRaises(Broken):
+            self.drive(Listed(Broken()), "demand", at_end="short events 0", sleep=PATIENCE)
+        self.assertLess(time.monotonic() - began, PATIENCE / 2)
 
     def test_nothing_is_left_open(self):
         before = os.listdir("/proc/self/fd")

@@ -19,7 +19,7 @@ import zipfile
 from random import Random
 
 from support import of_c
-from support.live import LOCKOUT, PROGRAM, STRAIGHT_LINE, TOP, Broken, Case, Interrupted, Listed, run_tests
+from support.live import LOCKOUT, PROGRAM, STRAIGHT_LINE, TOP, Broken, Case, Listed, run_tests
 from support.needs import needed
 from support.program import EVENT_FILE
 import camac
@@ -594,13 +594,6 @@ class Python(Case):
                 # a lockout that failed is not held; one that was interrupted may be
                 is_held = count > 1 or isinstance(error, KeyboardInterrupt)
                 self.assertEqual(self.branch_asked.asked.count(("unlock", 1)), int(is_held))
-
-    def test_an_interrupt_inside_an_unlock(self):
-        """Ctrl-C where the script releases the lockout: it is released again."""
-        branch = Interrupted(DEMAND, Answer(), *[CYCLE] * 4)
-        with self.assertRaises(KeyboardInterrupt):
-            camac.play("@sample", self.write("its.script", LOCKOUT), branch)
-        self.assertEqual([it for it in branch.asked if it[0] == "unlock"], [("unlock", 1)] * 2)
 
     def test_sessions(self):
         with library.Session(self.sample(), STRAIGHT_LINE) as session:

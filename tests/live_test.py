@@ -4,6 +4,7 @@
 usage: tests/live_test.py [-v] [TEST ..]     from any folder; takes about half a minute
 """
 import contextlib
+import itertools
 import os
 import signal
 import subprocess
@@ -22,30 +23,6 @@ HEADER = b"CAMACEV2"
 EVENT_FILE = bytes.fromhex("43414d4143455632 ca4d 0003 00000001 00000003 0000 0001 00000fff")
 HOLDS_BYTES = b"fault write\n  night: it holds bytes; a live run needs a file of its own\n"
 CLOSED = b"fault read\n  @in: it is closed, or a folder\n"
-# A driver that waits for ever in a cycle of its second service.
-INTERRUPTED = """import sys, time
-sys.path.insert(0, sys.argv[1])
-sys.dont_write_bytecode = True
-import camac
-class Branch:
-    cycles = 0
-    def demand(self):
-        return camac.Answer(gl=4)
-    def cycle(self, c, n, a, f, data):
-        self.cycles += 1
-        if self.cycles == 6:
-            print("waiting", flush=True)
-            time.sleep(600)
-        return camac.Answer(1, 1)
-    def lock(self, c):
-        return camac.Answer()
-    def unlock(self, c):
-        print("unlock", c, flush=True)
-try:
-    camac.drive("@sample", sys.argv[3], Branch(), "run.events", program=sys.argv[2])
-except KeyboardInterrupt:
-    print("interrupted")
-"""
 
 
 def requested(line):
@@ -278,19 +255,6 @@ class Driver(Case):
         self.assertEqual(self.drive(LOCKOUT, branch).line, "overrun 1 wait 3 events 0")
         self.assertEqual(branch.asked, [("demand",), ("lock", 1), ("unlock", 1)])
 
-    def test_ctrl_c(self):
-        """A signal of the terminal, which each program of the foreground gets: the driver alone does, and ends the run."""
-        path = self.write("script", LOCKOUT)
-        words = [sys.executable, "-c", INTERRUPTED, TOP / "python", PROGRAM, path]
-        # Who is started in the background of a script ignores this signal, and so do its children.
-        heeds = {"preexec_fn": lambda: signal.signal(signal.SIGINT, signal.SIG_DFL)}
-        with subprocess.Popen(words, cwd=self.room, start_new_session=True, stdout=subprocess.PIPE, stderr=subprocess.PIPE, **heeds) as driver:
-            self.assertEqual([driver.stdout.readline() for _ in range(2)], [b"unlock 1\n", b"waiting\n"])
-            os.killpg(driver.pid, signal.SIGINT)
-            output, errors = driver.communicate(timeout=PATIENCE)
-        self.assertEqual((output, errors), (b"unlock 1\ninterrupted\n", b""))
-        self.assertEqual([event.words for event in self.events()], [()])
-
     def test_a_disk_that_is_full(self):
         path = self.write("script", STRAIGHT_LINE)
         with self.assertRaises(camac.ProgramFault) as raised:
@@ -299,20 +263,21 @@ class Driver(Case):
 
 
 class ShellDriver(Case):
-    """The driver in the shell (examples/live/driver.sh), interrupted by a terminal at each request: it and the program get the signal."""
+    """The driver in the shell (examples/live/driver.sh), ended by a signal at each request, and again while it releases: it and the program get it."""
 
-    def test_ctrl_c(self):
+    def test_signals_at_each_request(self):
         driver = (TOP / "examples/live/driver.sh").read_text()
-        loop = "while read -r request; do\n"
-        self.assertEqual(driver.count(loop), 1)
+        loop, release = "while read -r request; do\n", "do echo"
+        self.assertEqual((driver.count(loop), driver.count(release)), (1, 1))
         self.write("script", LOCKOUT)
         # Who is started in the background of a script ignores this signal, and so do its children.
         how = {"preexec_fn": lambda: signal.signal(signal.SIGINT, signal.SIG_DFL), "start_new_session": True, "cwd": self.room}
         line = '"$camac" drive @sample script e <answers | sh driver.sh >answers'
-        for count in range(1, 10):
-            with self.subTest(request=count):
+        for name, count in itertools.product(("INT", "TERM", "HUP"), range(1, 10)):
+            with self.subTest(signal=name, request=count):
                 (self.room / "e").unlink(missing_ok=True)
-                self.write("driver.sh", driver.replace(loop, f"{loop}  count=$((count + 1))\n  [ $count != {count} ] || kill -INT 0\n"))
+                ends = driver.replace(loop, f"{loop}  count=$((count + 1))\n  [ $count != {count} ] || kill -{name} 0\n")
+                self.write("driver.sh", ends.replace(release, f"do kill -{name} $$; kill -{name} $$; echo"))
                 words = ["bash", "-c", f"rm -f answers; mkfifo answers; {line}"]
                 env = {**os.environ, "camac": PROGRAM}
                 with subprocess.Popen(words, env=env, stdout=subprocess.PIPE, stderr=subprocess.PIPE, **how) as shell:

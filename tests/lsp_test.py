@@ -136,6 +136,17 @@ class Messages(Served):
                 self.assertEqual(self.client.result(None)["code"], PARSE_ERROR)
                 self.assertEqual(self.client.ask("nothing")["code"], METHOD_NOT_FOUND)
 
+    def test_messages_that_fail(self):
+        """What fails in the thread that reads is logged, and the next message is answered."""
+        for params in ({}, {"params": None}, {"params": 5}, {"params": []}, {"params": {"id": {}}}):
+            with self.subTest(params=params):
+                before = len(self.client.logged)
+                self.client.send(method="$/cancelRequest", **params)
+                self.client.until(lambda: len(self.client.logged) > before)
+                self.assertEqual(self.client.ask("nothing")["code"], METHOD_NOT_FOUND)
+        self.client.send(id=1_000, method=5)
+        self.assertEqual(self.client.result(1_000)["code"], INVALID_REQUEST)
+
     def test_cancelled_requests(self):
         """A request that waits is answered as cancelled; a later one is not, even of the same number."""
         uri = self.open(SCRIPT * 2)
@@ -231,6 +242,24 @@ class Plans(Served):
         self.write("none.toml", PLAN)
         self.client.tell("textDocument/didSave", textDocument={"uri": uri})
         self.client.until(lambda: not self.client.diagnostics[uri][1])
+
+    def test_plan_that_is_no_file(self):
+        """A pipe is not waited for, beside a script or named by it; and no name stops the server."""
+        os.mkfifo(self.room / "x.toml")
+        self.assertEqual(self.shown(self.open(SCRIPT)), [])
+        for name, why in (("x.toml", "this is no file"), (".", "this is no file"), ("/dev/zero", "this is no file"), ("a\0b", "this is no file"), ("\ud800", "this is no file")):
+            (it,) = self.client.found(self.open(f"# plan: {name}\n" + SCRIPT))
+            self.assertIn(f"cannot be read: {why}", it["message"], name)
+
+    def test_text_that_is_none(self):
+        """It is refused, and other texts are judged."""
+        uri = (self.room / "wrong.script").as_uri()
+        for text in (5, None, {}):
+            self.client.tell("textDocument/didOpen", textDocument={"uri": uri, "languageId": "camac", "version": 1, "text": text})
+            self.assertEqual(self.client.at("hover", uri, 0, 0)["code"], INVALID_PARAMS)
+        self.client.tell("textDocument/didOpen", textDocument={"uri": "file:///a%00b/c.script", "languageId": "camac", "version": 1, "text": SCRIPT})
+        self.assertEqual(self.client.found("file:///a%00b/c.script", 1), [])
+        self.assertEqual(self.shown(self.open(SCRIPT)), [])
 
     def test_plan_that_is_open(self):
         """What is not saved counts, and scripts are judged again."""

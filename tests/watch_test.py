@@ -13,11 +13,13 @@ import os
 import re
 import signal
 import shutil
+import socket
 import statistics
 import subprocess
 import sys
 import threading
 import time
+import unittest.mock
 
 from support.live import PROGRAM, TOP, Case, run_tests
 from support import laboratory
@@ -175,6 +177,35 @@ class Following(Case):
         self.poll()
         self.assertEqual(self.follower.state, ("follows", False))
 
+    def test_wrong_bytes_and_then_the_right_ones(self):
+        """A copy that writes into the file itself, holes first: all is shown once it is right, even where its time and its length are the same."""
+        its = events(60)
+        data = NEW_FILE + b"".join(map(record, its))
+        for hole in (0, 8, 1000, len(data) - 200):
+            self.setUp()
+            self.add(data[:hole] + b"\xff" * 200 + data[hole + 200 :])
+            self.poll()
+            self.assertTrue(self.follower.state.is_bad)
+            self.assertIn("refused V", self.follower.state.text)
+            before = self.file.stat()
+            with open(self.file, "r+b") as out:
+                out.write(data)
+            os.utime(self.file, ns=(before.st_atime_ns, before.st_mtime_ns))
+            self.poll()
+            self.check(its)
+            self.assertEqual((self.follower.state, self.follower.restarts), (("follows", False), []))
+
+    def test_a_wrong_end_that_is_cut_off(self):
+        its = events(20)
+        data = NEW_FILE + b"".join(map(record, its))
+        self.add(data + bytes(16))
+        self.poll()
+        self.assertTrue(self.follower.state.is_bad)
+        os.truncate(self.file, len(data))
+        self.poll()
+        self.check(its)
+        self.assertEqual(self.follower.state, ("follows", False))
+
     def test_no_file(self):
         """A folder and a pipe are no files, and nothing is waited for."""
         for make in (os.mkdir, os.mkfifo):
@@ -241,10 +272,19 @@ class Served(ServedCase):
             self.assertEqual(self.ask(server, host=host or " ")[0], 403, host)
         for path in ("/x", "/state?a", "/../state", "/run.events", "http://127.0.0.1/state"):
             self.assertEqual(self.ask(server, path=path)[0], 404, path)
-        for method in ("POST", "PUT", "HEAD", "DELETE", "OPTIONS"):
+        for method in ("POST", "PUT", "DELETE", "OPTIONS"):
             self.assertEqual(self.ask(server, method)[0], 501, method)
         status, _, headers = self.ask(server)
         self.assertEqual((headers["Cache-Control"], headers["X-Frame-Options"], headers["Server"]), ("no-store", "DENY", "camac "))
+
+    def test_head(self):
+        """The headers of the page, and no byte behind them."""
+        _, server = self.start()
+        size = len(self.ask(server)[1].encode())
+        for path, host, wanted in (("/", "localhost", f"200 OK.*Content-Length: {size}"), ("/x", "localhost", "404 "), ("/", "evil", "403 ")):
+            with socket.create_connection(server.server_address) as connection, connection.makefile("rb") as answer:
+                connection.sendall(f"HEAD {path} HTTP/1.0\r\nHost: {host}:{server.server_address[1]}\r\n\r\n".encode())
+                self.assertRegex(answer.read().decode(), rf"(?s)^HTTP/1.0 {wanted}.*Referrer-Policy: no-referrer\r\n\r\n$")
 
     def test_numbers(self):
         """The numbers of the page beside sums over `camac events`."""
@@ -288,11 +328,26 @@ class Served(ServedCase):
         self.change(script=dataclasses.replace(written.script, data=written.script.data + b"# another\n"))
         self.assertIn("the record: ", self.state(watch, server)["notes"])
         watch.given = watch.given._replace(words=None)
+        self.assertNotIn("the record: ", self.state(watch, server)["notes"])
         self.change(script=written.script)
         self.change(end=None, how=None, line=None, demands=None, services=None)
         parts = self.state(watch, server)
         self.assertIn("run in progress since", parts["notes"])
         self.assertNotIn("measured", parts["tiles"])
+
+    def test_a_record_that_is_refused_once(self):
+        """It is read again until it is right, even where its time and its length are the same."""
+        path, self.file = self.room / "run.json", self.room / "new.events"
+        camac.drive(*self.bench_files().values(), camac.mock.MockBranch({}, {}, [[]]), self.file, record=path)
+        right, times = path.read_bytes(), (path.stat().st_atime_ns, path.stat().st_mtime_ns)
+        watch, server = self.start(record=path)
+        for data in (b"", bytes(len(right)), right):
+            with open(path, "r+b") as out:
+                out.write(data)
+                out.truncate()
+            os.utime(path, ns=times)
+            notes = self.state(watch, server)["notes"]
+            (self.assertNotIn if data == right else self.assertIn)("the record: ", notes)
 
     def state(self, watch, server):
         watch.poll()
@@ -303,6 +358,20 @@ class Served(ServedCase):
         path = self.room / "run.json"
         new = self.write("new.json", dataclasses.replace(camac.read_record(path), **values).text())
         os.replace(new, path)
+
+    def test_a_look_that_fails(self):
+        """Whatever it is, it is shown until the next look."""
+        watch, server = self.start()
+        with unittest.mock.patch.object(watch.follower, "poll", side_effect=MemoryError):
+            self.assertIn("the events: MemoryError()", self.state(watch, server)["notes"])
+        self.assertIn(">follows<", self.state(watch, server)["notes"])
+
+    def test_files_that_can_be_read_once(self):
+        os.mkfifo(self.room / "pipe")
+        status, _, errors = self.package("watch", "run.events", "--words", "pipe")
+        self.assertEqual((status, errors.splitlines()[-1].partition(": error: ")[2]), (2, "pipe is no file, and cannot be an input here: it is read more than once"))
+        status, _, errors = self.package("watch", "run.events", "--record", "pipe")
+        self.assertEqual((status, errors), (3, "camac: this is no file: pipe\n"))
 
     def test_command(self):
         command = [sys.executable, "-m", "camac", "watch", self.file, "--port", "0"]

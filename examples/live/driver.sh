@@ -1,8 +1,9 @@
 # A driver in the shell for examples/straight_line.script: it serves two demands. Lines marked CALL stand for what you do with your crates.
 demands=2
 held=
-# However the driver ends, by Ctrl-C too, it releases what it holds.
-trap 'for crate in $held; do echo "lockout of crate $crate released" >&2; done' EXIT      # CALL
+# However the driver ends, by a signal too, it releases what it holds, and no further signal comes into that.
+trap 'trap "" INT TERM HUP
+for crate in $held; do echo "lockout of crate $crate released" >&2; done' EXIT            # CALL
 trap 'exit 1' INT TERM HUP
 while read -r request; do
   case $request in

@@ -16,7 +16,7 @@ def call(
     crates may be as they are after power came: demand outputs disabled, look-at-mes too. `events` is a file for the event, which must not
     hold bytes; if it is not given, the event is dropped.
 
-    Raises ValueError if the script has no service of this name, and for the rest what `drive` raises."""
+    Signals are taken as by `drive`. Raises ValueError if the script has no service of this name, and for the rest what `drive` raises."""
     bits = {it.name: it.gl for it in check(plan, script, program)}
     if service not in bits:
         raise ValueError(f"the script has no service {service!r}, but {', '.join(bits) or 'none'}")

@@ -8,6 +8,7 @@ import select
 from typing import TYPE_CHECKING, List, NamedTuple, NoReturn, Optional, Protocol, Union
 
 from camac.printed import REFUSAL, read_end, read_request
+from camac.signals import Signals
 from camac.values import Ending, Refusal, Request, RunEnd
 
 if TYPE_CHECKING:
@@ -20,7 +21,7 @@ GREATEST_LINE = 4096
 GREATEST = {"x": 1, "q": 1, "word": 0xFF_FFFF, "wait": 15, "gl": 0xFF_FFFF}
 # The most seconds that a wait of the system takes.
 GREATEST_TIMEOUT = 2_147_483
-# After a failure the program has this many seconds for its end, before it is killed.
+# After a failure the program has so many seconds at most for its end, before it is killed.
 PATIENCE = 60.0
 LINE = "%d %d %06x %x %06x"
 BYTES = LINE.encode() + b"\n"
@@ -176,8 +177,10 @@ def drive(
     `program` is found by `find_program` unless given; if there is none, the library plays the run in this process. `timeout` is how many seconds the program may take for its next line, and for its
     end; the time that the branch takes does not count. It is 0 to 2,147,483; without it the program may take as long as it does.
 
-    The lockouts that are held when the requests end are released by `branch.unlock`, however the run ends. An interrupt (Ctrl-C) inside
-    `branch.lock` may come after the lockout was taken, so this one is released too. After one inside `branch.unlock` it is called again.
+    The lockouts that are held when the requests end are released by `branch.unlock`, however the run ends. So they are after Ctrl-C
+    (KeyboardInterrupt), and after SIGTERM and SIGHUP, which raise SystemExit here. A signal inside `branch.lock` may come after the lockout was
+    taken, so this one is released too. One inside `branch.unlock` waits until that is done. In a thread that is not the main one Python lets no
+    function see to signals: there they do what they did before.
 
     Raises what the branch raises. The run ends first: the events of all services that ended are in the file. Raises Refused,
     UsageFault, ProgramFault, ProtocolFault or TimeFault, all of them DriveFault, OSError if the program cannot be started, and
@@ -202,25 +205,25 @@ def drive(
         if not library.is_there():
             raise
         return library.play(plan, script, branch, events)
-    with _Program([found, "drive", "--", plan, script, events], timeout) as started:
-        run = _Run(started, branch)
+    with Signals() as signals, _Program([found, "drive", "--", plan, script, events], timeout) as started:
+        run = _Run(started, branch, signals)
         try:
-            end = run.serve()
+            end = signals.heed(run.serve)
             run.lockouts.release()
         except BaseException as error:
             run.abandon(error)
-        return started.end(end)
+        return signals.heed(lambda: started.end(end))
 
 
 class Lockouts:
     """The lockouts that a branch holds in a run."""
 
-    def __init__(self, branch: Branch) -> None:
-        self.branch = branch
+    def __init__(self, branch: Branch, signals: Signals) -> None:
+        self.branch, self.signals = branch, signals
         self.held: List[int] = []
 
     def lock(self, crate: int) -> Answer:
-        """Takes a lockout. If that fails it is not held; if it was interrupted it may be."""
+        """Takes a lockout. If that fails it is not held; if a signal came into it it may be."""
         self.held.append(crate)
         try:
             return self.branch.lock(crate)
@@ -229,26 +232,22 @@ class Lockouts:
             raise
 
     def unlock(self, crate: int) -> None:
-        """Releases a lockout. If that fails, it is still held."""
+        """Releases a lockout. If that fails, it is still held. Signals wait until it is known."""
+        self.signals.hold(self._unlock, crate)
+
+    def _unlock(self, crate: int) -> None:
         self.branch.unlock(crate)
         if crate in self.held:
             self.held.remove(crate)
 
     def release(self) -> None:
-        """Releases all that is held, the last first. Each is tried, and once more where an interrupt (Ctrl-C) came into it; the first
-        failure is raised."""
+        """Releases all that is held, the last first, where signals wait. Each is tried; the first failure is raised."""
         failure: Optional[BaseException] = None
-        interrupted: Optional[int] = None
         while self.held:
-            crate = self.held[-1]
             try:
-                self.branch.unlock(crate)
+                self.branch.unlock(self.held.pop())
             except BaseException as error:
                 failure = failure or error
-                if isinstance(error, KeyboardInterrupt) and crate != interrupted:
-                    interrupted = crate
-                    continue
-            self.held.pop()
         if failure:
             raise failure
 
@@ -263,8 +262,8 @@ class Lockouts:
 class _Run:
     """A run in progress: the program, the branch, and the crates whose lockout is held."""
 
-    def __init__(self, program: "_Program", branch: Branch) -> None:
-        self.program, self.branch, self.lockouts = program, branch, Lockouts(branch)
+    def __init__(self, program: "_Program", branch: Branch, signals: Signals) -> None:
+        self.program, self.branch, self.lockouts = program, branch, Lockouts(branch, signals)
         self.is_open = True
 
     def serve(self) -> Optional[RunEnd]:
@@ -371,7 +370,7 @@ class _Program:
     def skip_to_end(self) -> Optional[RunEnd]:
         """Ends the input, reads all output, and returns the end by its last line. The program has some time for that."""
         self.end_input()
-        self.timeout = PATIENCE if self.timeout is None else self.timeout
+        self.timeout = PATIENCE if self.timeout is None else min(self.timeout, PATIENCE)
         end = None
         while (line := self.read_line()) is not None:
             end = read_end(_text(line))

@@ -1,13 +1,14 @@
 """An event file that grows: its whole records are taken as they come, and counted in a memory that does not grow with them."""
 import collections
+import errno
 import os
-import stat
 import time
 from typing import Callable, Deque, Dict, List, NamedTuple, Optional, Sequence, Tuple
 
 from camac.drive import File
 from camac.events import FORMS, HEADER, Event, EventFileFault, Form, read_further, record_size
 from camac.histograms import Spectrum
+from camac.regular import open_regular
 from camac.runs import Channel, Channels, Seen, SeenOfBit
 from camac.values import Service
 from camac.words import Words
@@ -106,12 +107,9 @@ class Follower:
         self.begin()
 
     def poll(self) -> bool:
-        """Takes the whole records that came since. Returns whether there may be more at once."""
+        """Takes the whole records that came since. Returns whether there may be more at once. From the place of a fault it is read anew each time."""
         try:
-            if not stat.S_ISREG(os.stat(self.path).st_mode):
-                self.state = State(f"this is no file: {os.fsdecode(self.path)}", True)
-                return False
-            with open(self.path, "rb") as file:
+            with open_regular(self.path) as file:
                 its = os.fstat(file.fileno())
                 if self.place and (its.st_dev, its.st_ino) != self.identity:
                     self.restart("another file has taken the place of the file")
@@ -123,20 +121,21 @@ class Follower:
                         self.restart("the file was written over")
                 self.identity = its.st_dev, its.st_ino
                 file.seek(self.place)
-                data = b"" if self.fault and self.place else file.read(MOST_BYTES)
+                data = file.read(MOST_BYTES)
                 age = time.time() - its.st_mtime
         except OSError as why:
-            self.state = State(f"{why.strerror or why}: {os.fsdecode(self.path)}", self.place > 0)
+            self.state = State(f"{why.strerror or why}: {os.fsdecode(self.path)}", self.place > 0 or why.errno != errno.ENOENT)
             return False
-        if data:
-            self.take(data, age)
-        self.sample(len(data) < MOST_BYTES)
+        self.take(data, age)
+        is_more = len(data) == MOST_BYTES and not self.fault
+        self.sample(not is_more)
         self.tell(len(data))
-        return len(data) == MOST_BYTES
+        return is_more
 
     def take(self, data: bytes, age: float) -> None:
+        self.fault = None
         if not self.place:
-            self.form, self.fault = FORMS.get(data[:HEADER]), None
+            self.form = FORMS.get(data[:HEADER])
             if self.form is None:
                 self.fault = EventFileFault("V1", 0) if len(data) >= HEADER else None
                 return

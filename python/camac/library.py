@@ -14,6 +14,7 @@ from typing import TYPE_CHECKING, Any, Callable, Iterable, Iterator, List, Mappi
 from camac import native
 from camac.drive import Answer, Branch, File, Lockouts, ProgramFault, Refused, UsageFault, file_fault
 from camac.events import FORMS, HEADER, NEW_FILE
+from camac.signals import Signals
 from camac.values import Ending, RunEnd
 from camac.native import (
     BUSY,
@@ -456,7 +457,7 @@ def play(
     `camac.drive`. `program` and `timeout` are taken as `camac.drive` takes them, and have nothing to do here.
 
     Returns how the run ended, and raises what `camac.drive` raises, with the texts of the program: what the branch raises, Refused,
-    ProgramFault. The lockouts that are held then are released by `branch.unlock`, however the run ends."""
+    ProgramFault. The lockouts that are held then are released by `branch.unlock`, however the run ends, by a signal too, as `camac.drive` says."""
     if isinstance(branch, str):
         # Drivers need what this module declares, as the record does.
         from camac.drivers import driver
@@ -466,10 +467,10 @@ def play(
         from camac.record import Played, recorded
 
         return recorded(record, Played(plan, script, events, IN_PROCESS), branch, lambda watched: play(plan, script, watched, events))
-    with Session(plan_text(plan), script_text(script)) as session, _event_file(events) as write:
-        game = _Game(session, branch, write)
+    with Signals() as signals, Session(plan_text(plan), script_text(script)) as session, _event_file(events) as write:
+        game = _Game(session, Lockouts(branch, signals), write)
         try:
-            end = game.serve()
+            end = signals.heed(game.serve)
             game.lockouts.release()
         except BaseException as error:
             game.lockouts.release_after(error)
@@ -480,8 +481,8 @@ def play(
 class _Game:
     """A run in progress: the session, the branch, the crates whose lockout is held, and what writes into the event file."""
 
-    def __init__(self, session: Session, branch: Branch, write: Optional[Callable[[bytes], None]]) -> None:
-        self.session, self.branch, self.write, self.lockouts = session, branch, write, Lockouts(branch)
+    def __init__(self, session: Session, lockouts: Lockouts, write: Optional[Callable[[bytes], None]]) -> None:
+        self.session, self.branch, self.write, self.lockouts = session, lockouts.branch, write, lockouts
         self.events = 0
 
     def serve(self) -> RunEnd:

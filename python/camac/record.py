@@ -22,13 +22,17 @@ from camac.output import Rule, anything, holds_bytes, output
 from camac.printed import read_services
 from camac.program import output_of
 from camac.proof import told
+from camac.regular import read_regular
 from camac.runs import Inputs, collect, is_event_file
+from camac.signals import Signals, signal_of
 from camac.subcommands import plan
 from camac.surveys.summary import Summary, parse_summary, read_summary
 from camac.texts import plan_text, script_text
 from camac.values import RunEnd, Service
 
 FORM = "camac record 1"
+# A longer file is no record: plan, script and verdict are some megabytes at most.
+MOST_BYTES = 1 << 26
 # The seconds between two writings of a record while a run goes on.
 REFRESH = 5.0
 FAILED = "failed"
@@ -148,9 +152,8 @@ class Record:
 
 
 def read_record(file: File) -> Record:
-    """Reads a record. Raises OSError if the file cannot be read, and ValueError, with its name, if it is none."""
-    with open(file, "rb") as opened:
-        data = opened.read()
+    """Reads a record, a regular file. Raises OSError if it cannot be read, and ValueError, with its name, if it is none."""
+    data = read_regular(file, MOST_BYTES)
     try:
         return parse_record(data)
     except (ValueError, KeyError, TypeError, AttributeError, RecursionError) as why:
@@ -220,20 +223,27 @@ def recorded(asked: Union[File, Recording], of: Played, branch: Branch, play: Ca
     record = dataclasses.replace(describe(of, None if its.number is None else operator.index(its.number), its.title, its.survey), begin=now())
     writer = _Writer(its.file, record, of)
     watched = _Watched(branch, {it.gl for it in record.list_services()}, writer)
-    writer.write()
-    try:
-        end = play(watched)
-    except BaseException as error:
+    with Signals() as signals:
+        writer.write()
         try:
-            writer.finish(watched, FAILED, f"{type(error).__name__}: {one_line(error)}")
+            end = signals.heed(lambda: play(watched))
+        except BaseException as error:
+            try:
+                writer.finish(watched, FAILED, _why(error))
+            except ProgramFault as fault:
+                add_note(error, f"and the record: {one_line(fault)}")
+            raise
+        try:
+            writer.finish(watched, end.how.value, end.line)
         except ProgramFault as fault:
-            add_note(error, f"and the record: {one_line(fault)}")
-        raise
-    try:
-        writer.finish(watched, end.how.value, end.line)
-    except ProgramFault as fault:
-        raise ProgramFault(fault.text, fault.status, end) from None
-    return end
+            raise ProgramFault(fault.text, fault.status, end) from None
+        return end
+
+
+def _why(error: BaseException) -> str:
+    """What a record says of a run that failed."""
+    number = signal_of(error)
+    return f"ended by {number.name}" if number else f"{type(error).__name__}: {one_line(error)}"
 
 
 def refuse_foreign(file: File) -> None:

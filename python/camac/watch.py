@@ -1,5 +1,5 @@
 """A page that follows an event file while a run goes on. The server of the standard library gives it, to this computer alone: it writes nothing,
-and answers GET of its own two addresses."""
+and answers GET and HEAD of its own two addresses."""
 import http.server
 import json
 import os
@@ -7,10 +7,10 @@ import threading
 import time
 from typing import Any, Dict, List, NamedTuple, Optional, Tuple
 
-from camac.drive import DriveFault, File, one_line
+from camac.drive import File, one_line
 from camac.events import Event
 from camac.export import About, Given, learn
-from camac.follow import STEP, Counts, Follower
+from camac.follow import STEP, Counts, Follower, State
 from camac.pictures.bounds import draw_seen
 from camac.pictures.spectra import BOTH, channel_groups, seen_groups
 from camac.pictures.svg import Canvas, escape, number, share, ticks
@@ -58,14 +58,15 @@ class Watch:
         self.lock = threading.Lock()
         self.spectra: Dict[str, str] = {}
         self.due = 0.0
+        self.record_at = self.stamp()
         self.known = self.learn()
-        self.record, self.record_at = self.known.about.record, self.stamp()
+        self.record, self.refused = self.known.about.record, ""
         self.follower = Follower(given.events, lambda: Counts(self.known.about.services, self.known.names()))
 
     def learn(self) -> Known:
         """Raises as `camac.export.learn`. A record that is not there yet is none; without plan and script the words have no names until then."""
         given = self.given
-        if given.record is not None and not os.path.exists(given.record):
+        if given.record is not None and self.record_at is None:
             given = given._replace(record=None, words=given.words if given.plan is not None else None)
         about = learn(given)
         if about.record:
@@ -74,36 +75,41 @@ class Watch:
             return Known(about, tuple(response(given.plan, given.script)))
         return Known(about, ())
 
-    def stamp(self) -> Tuple[int, int]:
-        """What changes where the record is written anew."""
+    def stamp(self) -> Optional[Tuple[int, ...]]:
+        """What changes where the record is written anew; None where none is there."""
         try:
             its = os.stat(self.given.record or "")
-        except OSError:
-            return 0, 0
-        return its.st_ino, its.st_mtime_ns
+        except FileNotFoundError:
+            return None
+        return its.st_ino, its.st_mtime_ns, its.st_size
 
     def poll(self) -> bool:
-        """Looks at the files. Returns whether there may be more events at once."""
+        """Looks at the files. Returns whether there may be more events at once. Whatever fails is shown, and tried again at the next look."""
         with self.lock:
-            if self.given.record is not None and self.stamp() != self.record_at:
-                self.read_record(self.given.record)
-            return self.follower.poll()
+            try:
+                if self.given.record is not None:
+                    self.read_record(self.given.record)
+                self.refused = ""
+            except Exception as why:
+                self.refused = f"the record: {one_line(why) or why!r}"
+            try:
+                return self.follower.poll()
+            except Exception as why:
+                self.follower.state = State(f"the events: {one_line(why) or why!r}", True)
+                return False
 
     def read_record(self, file: File) -> None:
-        """The record was written again; if it is that of another plan or script, all is counted again."""
-        self.record_at = self.stamp()
-        try:
-            record = read_record(file)
-        except (OSError, ValueError):
+        """Reads the record if it was written again, and until it is right; if it is that of another plan or script, all is counted again. Raises as
+        `learn`."""
+        stamp = self.stamp()
+        if stamp is None or stamp == self.record_at and not self.refused:
             return
-        before, self.record = self.record, record
+        record, before = read_record(file), self.record
+        self.record_at = stamp
         if before is None or (before.plan.sha256, before.script.sha256) != (record.plan.sha256, record.script.sha256):
-            try:
-                self.known = self.learn()
-            except (DriveFault, ValueError, OSError) as why:
-                self.follower.restarts.append(f"the record: {one_line(why)}")
-            else:
-                self.follower.restart("the record is that of another run")
+            self.known = self.learn()
+            self.follower.restart("the record is that of another run")
+        self.record = record
 
     def follow(self, stop: threading.Event) -> None:
         while not stop.wait(0.0 if self.poll() else POLL):
@@ -137,7 +143,7 @@ class Watch:
     def notes(self) -> str:
         state = self.follower.state
         lines = [f'<b class="{"bad" if state.is_bad else "good"}">{escape(state.text)}</b>']
-        lines += [f'<b class="bad">{escape(it)}</b>' for it in self.follower.restarts]
+        lines += [f'<b class="bad">{escape(it)}</b>' for it in (*self.follower.restarts, self.refused) if it]
         its = self.record
         if its and its.line:
             lines.append(f'The record: <b class="{"good" if its.how == "ended" else "bad"}">{escape(its.line)}</b>, {escape(its.end or "")}')
@@ -249,7 +255,7 @@ class Server(http.server.ThreadingHTTPServer):
 
 
 class _Handler(http.server.BaseHTTPRequestHandler):
-    """Answers GET of the page and of its parts."""
+    """Answers GET and HEAD of the page and of its parts."""
 
     server: Server
     server_version, sys_version = "camac", ""
@@ -266,6 +272,8 @@ class _Handler(http.server.BaseHTTPRequestHandler):
         else:
             self.answer(404, "text/plain", "There is no such page.\n")
 
+    do_HEAD = do_GET
+
     def answer(self, status: int, kind: str, text: str) -> None:
         data = text.encode("utf-8", "replace")
         self.send_response(status)
@@ -279,7 +287,8 @@ class _Handler(http.server.BaseHTTPRequestHandler):
         ):
             self.send_header(name, value)
         self.end_headers()
-        self.wfile.write(data)
+        if self.command != "HEAD":
+            self.wfile.write(data)
 
     def log_message(self, format: str, *args: Any) -> None:
         """Nothing is logged."""

@@ -48,15 +48,6 @@ class Listed:
         self.asked.append(("unlock", c))
 
 
-class Interrupted(Listed):
-    """A branch to whose first release of a lockout Ctrl-C comes."""
-
-    def unlock(self, crate):
-        super().unlock(crate)
-        if [it[0] for it in self.asked].count("unlock") == 1:
-            raise KeyboardInterrupt
-
-
 class Broken(Exception):
     """The branch is out of order."""
 

@@ -3,6 +3,7 @@ import argparse
 import threading
 from typing import Any
 
+from camac.commands.running import refuse_pipes
 from camac.export import Given
 from camac.output import say
 
@@ -32,6 +33,7 @@ def do(args: argparse.Namespace) -> int:
         args.its.error(f"--port is 0 to 65,535, not {args.port}")
     if (args.plan is None) != (args.script is None):
         args.its.error("--plan and --script belong together")
+    refuse_pipes(args.its, [it for it in (args.plan, args.script, args.words) if it is not None])
     watch = Watch(Given(args.events, args.plan, args.script, args.words, args.record))
     stop = threading.Event()
     with Server(watch, args.port) as server:

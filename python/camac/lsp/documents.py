@@ -32,6 +32,8 @@ class Text:
     """A text as the protocol and the checker count it. It does not change."""
 
     def __init__(self, text: str) -> None:
+        if not isinstance(text, str):
+            raise TypeError(f"this is no text: {text!r}")
         self.text = text
 
     @cached_property

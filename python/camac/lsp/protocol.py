@@ -1,5 +1,4 @@
 """Messages of the Language Server Protocol over two streams: JSON-RPC 2.0 behind headers, and requests that are cancelled before they are begun."""
-import contextlib
 import json
 import queue
 import threading
@@ -8,6 +7,8 @@ from typing import Any, BinaryIO, Dict, Optional, Set, Union
 Message = Dict[str, Any]
 PARSE_ERROR, INVALID_REQUEST, METHOD_NOT_FOUND, INVALID_PARAMS, INTERNAL_ERROR = -32700, -32600, -32601, -32602, -32603
 NOT_INITIALIZED, CANCELLED, FAILED = -32002, -32800, -32803
+# The kind of a message that a client logs.
+INFO = 3
 # A longer message is none of an editor's.
 MOST_BYTES = 1 << 26
 HEADER = b"content-length:"
@@ -27,15 +28,18 @@ class Garbled(Exception):
 
 
 class Ended(Exception):
-    """The stream is at its end."""
+    """The stream is at its end, or cannot be read."""
 
 
 def read_message(stream: BinaryIO) -> Message:
     """The next message. Lines that are no header are passed over, so that a wrong length costs what it hides and no more.
 
     Raises Garbled if the bytes behind a header are no message, and Ended at the end of the stream, also within a message."""
-    size = _read_headers(stream)
-    data = stream.read(size)
+    try:
+        size = _read_headers(stream)
+        data = stream.read(size)
+    except (OSError, ValueError) as why:
+        raise Ended from why
     if len(data) < size:
         raise Ended
     try:
@@ -79,7 +83,7 @@ class Connection:
 
     def __init__(self, source: BinaryIO, target: BinaryIO) -> None:
         self.source, self.target = source, target
-        self.arrived: "queue.Queue[Union[Message, Garbled, Ended]]" = queue.Queue()
+        self.arrived: "queue.Queue[Union[Message, Exception]]" = queue.Queue()
         self.lock = threading.Lock()
         # The requests that wait, and those of them that are cancelled.
         self.waiting: Set[Union[int, str]] = set()
@@ -87,31 +91,27 @@ class Connection:
         threading.Thread(target=self._read, daemon=True).start()
 
     def _read(self) -> None:
-        while True:
-            it: Union[Message, Garbled, Ended]
+        """Reads to the end of the stream. Whatever fails arrives in the place of a message, and the next one is read."""
+        is_open = True
+        while is_open:
             try:
                 it = read_message(self.source)
-            except (OSError, ValueError, Ended):
-                self.arrived.put(Ended())
-                return
-            except Garbled as why:
-                it = why
-            if isinstance(it, dict) and self._is_noted(it):
-                continue
-            self.arrived.put(it)
+                if not self._is_noted(it):
+                    self.arrived.put(it)
+            except Exception as why:
+                is_open = not isinstance(why, Ended)
+                self.arrived.put(why)
 
     def _is_noted(self, it: Message) -> bool:
         """Notes a request, and whether one is to be cancelled; whether that is all that a message is for."""
-        number = it.get("id")
-        with self.lock, contextlib.suppress(AttributeError, TypeError):
-            if it.get("method") == "$/cancelRequest":
-                number = it["params"].get("id")
-                if number in self.waiting:
-                    self.cancelled.add(number)
-                return True
-            if "method" in it and number is not None:
+        is_cancel = it.get("method") == "$/cancelRequest"
+        number = it["params"]["id"] if is_cancel else it.get("id")
+        with self.lock:
+            if is_cancel and number in self.waiting:
+                self.cancelled.add(number)
+            elif "method" in it and isinstance(number, (int, str)):
                 self.waiting.add(number)
-        return False
+        return is_cancel
 
     def next(self, timeout: Optional[float]) -> Optional[Message]:
         """The next message that is to be answered; None if none comes in time. Raises Ended at the end of the stream."""
@@ -122,25 +122,28 @@ class Connection:
                 return None
             if isinstance(it, Ended):
                 raise it
-            if isinstance(it, Garbled):
-                self.send({"id": None, "error": {"code": PARSE_ERROR, "message": str(it)}})
-                continue
-            if not self._is_cancelled(it):
+            elif isinstance(it, Garbled):
+                self.fail(None, ResponseError(PARSE_ERROR, str(it)))
+            elif isinstance(it, Exception):
+                self.log(f"camac: {it!r}")
+            elif self._is_cancelled(it):
+                self.fail(it.get("id"), ResponseError(CANCELLED, "the request was cancelled"))
+            else:
                 return it
-            self.fail(it.get("id"), ResponseError(CANCELLED, "the request was cancelled"))
 
     def _is_cancelled(self, it: Message) -> bool:
         number = it.get("id")
-        with self.lock, contextlib.suppress(TypeError):
-            self.waiting.discard(number)  # type: ignore[arg-type]
-            if number in self.cancelled:
-                self.cancelled.discard(number)
-                return True
-        return False
+        with self.lock:
+            if not isinstance(number, (int, str)) or number not in self.waiting:
+                return False
+            is_cancelled = number in self.cancelled
+            self.waiting.discard(number)
+            self.cancelled.discard(number)
+        return is_cancelled
 
-    def put(self, message: Message) -> None:
-        """Adds a message of the server's own to those that arrived."""
-        self.arrived.put(message)
+    def put(self, it: Union[Message, Exception]) -> None:
+        """Adds a message of the server's own to those that arrived, or what failed, which the client logs."""
+        self.arrived.put(it)
 
     def is_idle(self) -> bool:
         return self.arrived.empty()
@@ -150,6 +153,9 @@ class Connection:
 
     def notify(self, method: str, **params: Any) -> None:
         self.send({"method": method, "params": params})
+
+    def log(self, text: str) -> None:
+        self.notify("window/logMessage", type=INFO, message=text)
 
     def answer(self, number: Any, result: Any) -> None:
         self.send({"id": number, "result": result})

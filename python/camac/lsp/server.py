@@ -3,10 +3,9 @@ import signal
 import sys
 import threading
 import time
-from typing import Any, BinaryIO, Callable, Dict, List, Optional, Sequence, Set, Tuple
+from typing import Any, BinaryIO, Callable, Dict, List, Optional, Sequence, Set, Tuple, Union
 
 from camac import library
-from camac.drive import DriveFault
 from camac.edits import Edit
 from camac.layout import LayoutFault, formatted
 from camac.lsp import actions, diagnostics, symbols
@@ -14,7 +13,7 @@ from camac.lsp.completion import complete
 from camac.lsp.documents import Text
 from camac.lsp.hover import hover
 from camac.lsp.protocol import (
-    FAILED, INTERNAL_ERROR, INVALID_PARAMS, INVALID_REQUEST, METHOD_NOT_FOUND, NOT_INITIALIZED, Connection, Ended, Message, ResponseError,
+    FAILED, INFO, INTERNAL_ERROR, INVALID_PARAMS, INVALID_REQUEST, METHOD_NOT_FOUND, NOT_INITIALIZED, Connection, Ended, Message, ResponseError,
 )
 from camac.lsp.refusals import refusals
 from camac.lsp.workspace import Choice, Document, Judged, Workspace, is_plan_text
@@ -27,9 +26,7 @@ QUIET, LOOK = 0.3, 1.0
 LONGEST = 0.1
 SWITCH = 0.000_5
 KEEPS = "camac.keeps"
-INFO = 3
-# The faults that keep a message from being answered. The client gets them, and the server goes on.
-FAULTS = (DriveFault, OSError, ValueError, RecursionError)
+# What wrong parameters raise.
 OF_PARAMS = (LookupError, TypeError, AttributeError)
 Params = Dict[str, Any]
 
@@ -41,9 +38,9 @@ class Own(Dict[str, Any]):
 class Late(threading.Thread):
     """Looks for warnings beside the server, since they may take long. Of each document the last version that was given counts."""
 
-    def __init__(self, done: Callable[[str, Judged, List[Warned]], None]) -> None:
+    def __init__(self, put: Callable[[Union[Own, Exception]], None]) -> None:
         super().__init__(daemon=True)
-        self.done = done
+        self.put = put
         self.jobs: Dict[str, Judged] = {}
         self.ready = threading.Condition()
         self.start()
@@ -59,10 +56,9 @@ class Late(threading.Thread):
                 self.ready.wait_for(lambda: bool(self.jobs))
                 uri, judged = self.jobs.popitem()
             try:
-                found = diagnostics.warned(judged)
-            except FAULTS:
-                found = []
-            self.done(uri, judged, found)
+                self.put(Own(uri=uri, judged=judged, found=diagnostics.warned(judged)))
+            except Exception as why:
+                self.put(why)
 
 
 class Server:
@@ -72,7 +68,7 @@ class Server:
         self.client = Connection(source, target)
         self.workspace = Workspace()
         self.workspace.on_choice = self.tell_choice
-        self.late = Late(self.on_late)
+        self.late = Late(self.client.put)
         self.state = "new"
         # By URI: the last version whose warnings are known, with these; when they are to be looked for; and the scripts whose plan cannot be read.
         self.warned: Dict[str, Tuple[Text, List[Warned]]] = {}
@@ -120,6 +116,8 @@ class Server:
         method, number = message.get("method"), message.get("id")
         params = message.get("params") or {}
         if not isinstance(method, str):
+            if "method" in message:
+                self.client.fail(number, ResponseError(INVALID_REQUEST, "the name of a method is a text"))
             return
         if number is None:
             if self.state == "ready" and method in self.notifications:
@@ -132,7 +130,7 @@ class Server:
             self.client.fail(number, error)
         except OF_PARAMS as why:
             self.client.fail(number, ResponseError(INVALID_PARAMS, f"{method}: {why!r}"))
-        except FAULTS as why:
+        except Exception as why:
             self.client.fail(number, ResponseError(INTERNAL_ERROR, f"{method}: {why}"))
 
     def result(self, method: str, params: Params) -> Any:
@@ -145,14 +143,11 @@ class Server:
         return self.requests[method](params)
 
     def guarded(self, call: Callable[[], None]) -> None:
-        """Does what a notification asks for. A fault is reported, and the server goes on."""
+        """Does what a notification asks for. Whatever fails is logged by the client, and the server goes on."""
         try:
             call()
-        except (*FAULTS, *OF_PARAMS) as why:
-            self.log(f"camac: {why!r}")
-
-    def log(self, text: str) -> None:
-        self.client.notify("window/logMessage", type=INFO, message=text)
+        except Exception as why:
+            self.client.log(f"camac: {why!r}")
 
     def initialize(self, _: Params) -> Any:
         self.state = "ready"
@@ -234,13 +229,13 @@ class Server:
             is_plan = is_plan_text(its.text.data)
             found = diagnostics.of_plan(self.workspace.judge(its.text.data), its.text) if is_plan else []
         else:
-            self.faulty.discard(its.uri)
+            self.faulty.add(its.uri)
             try:
                 judged = self.workspace.judged(its)
             except OSError as why:
-                self.faulty.add(its.uri)
                 found = [diagnostics.of_fault(its.text, f"the plan {why.filename} cannot be read: {why.strerror}")]
             else:
+                self.faulty.discard(its.uri)
                 found = diagnostics.of_refusals(judged) or self.kept_warnings(its)
                 self.due[its.uri] = time.monotonic() + QUIET
         self.send_diagnostics(its, found)
@@ -285,12 +280,9 @@ class Server:
     def is_judged(self, its: Document) -> bool:
         try:
             self.workspace.judged(its)
-        except OSError:
+        except Exception:
             return its.uri in self.faulty
         return its.uri not in self.faulty
-
-    def on_late(self, uri: str, judged: Judged, found: List[Warned]) -> None:
-        self.client.put(Own(uri=uri, judged=judged, found=found))
 
     def publish_late(self, own: Message) -> None:
         """Publishes a script's warnings, if it is still their version."""
@@ -302,7 +294,7 @@ class Server:
             self.send_diagnostics(its, [diagnostics.of_warning(it, its.text) for it in own["found"]])
 
     def tell_choice(self, its: Document, choice: Choice) -> None:
-        self.log(f"camac: {its.uri.rpartition('/')[2]} is judged on the plan {choice.file}: {choice.why}")
+        self.client.log(f"camac: {its.uri.rpartition('/')[2]} is judged on the plan {choice.file}: {choice.why}")
 
     # Requests
 

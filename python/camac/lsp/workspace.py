@@ -14,6 +14,7 @@ from camac.lsp.documents import Text
 from camac.names import Names
 from camac.printed import read_plan
 from camac.program import explain_plan, output_of, quickest, verdict
+from camac.regular import read_regular
 from camac.texts import GREATEST_TEXT, SAMPLE, plan_text
 from camac.toml_places import with_commands
 from camac.values import Plan
@@ -63,15 +64,16 @@ def choose(first_line: str, path: Optional[pathlib.Path]) -> Choice:
 
 
 def _plans_beside(path: pathlib.Path) -> List[pathlib.Path]:
-    with contextlib.suppress(OSError):
+    # A name with a NUL is none of a file.
+    with contextlib.suppress(OSError, ValueError):
         return [it for it in sorted(path.parent.glob("*.toml")) if _is_plan(str(it), it.stat().st_mtime_ns)]
     return []
 
 
 @functools.lru_cache(maxsize=1000)
 def _is_plan(path: str, _changed: int) -> bool:
-    with contextlib.suppress(OSError), open(path, "rb") as file:
-        return is_plan_text(file.read(GREATEST_TEXT))
+    with contextlib.suppress(OSError):
+        return is_plan_text(read_regular(path, GREATEST_TEXT))
     return False
 
 
@@ -166,8 +168,7 @@ class Workspace:
                 return it.text.data
         if choice.file == SAMPLE:
             return plan_text(SAMPLE)
-        with open(path, "rb") as file:
-            return file.read(GREATEST_TEXT + 1)
+        return read_regular(path, GREATEST_TEXT + 1)
 
     def judge(self, data: bytes) -> Judge:
         """The judge of a plan. Those of texts that are none of an open script's plan are forgotten."""
