@@ -81,8 +81,8 @@ Examples:
 
 pub const AFTER_PLAN: &str =
     "Prints the buffer, the module types, the crates and their stations, or the first fault.
-With --commands each type's commands follow it: function, sub-addresses, and the
-width in bits if data move, or 'probe'.
+With --commands each type's commands follow it: function, sub-addresses, the
+width in bits if data move, or 'probe', and 'clears' if it clears the LAM.
 
 Examples:
   camac plan plan.toml
