@@ -54,7 +54,8 @@ pub const SCRIPT_OF_DRIVE: &str = "A script: a file";
 pub const ANSWERS: &str =
     "Answers, a line for each operation (see below): a file, or @in, standard input";
 
-pub const EVENTS: &str = "The event file to write: replaced once plan and script are accepted";
+pub const EVENTS: &str =
+    "The event file to write: an older one is replaced once the first answer is good";
 
 pub const EVENTS_OF_DRIVE: &str =
     "The event file to write: free or empty, opened once plan and script are accepted";
