@@ -1,4 +1,4 @@
 pub mod Trees
 pub mod Kept
 pub mod Passed
-pub mod Makes
+pub mod Controller
