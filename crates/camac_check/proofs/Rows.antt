@@ -26,7 +26,7 @@ use Rattle.camac_check_rows.specs.declared.row.Detail.{Detail}
 use Rattle.camac_check_rows.specs.declared.row.Detail.TheVariants as detail
 use Rattle.camac_check_rows.specs.declared.row.Row.{Row}
 use Rattle.camac_check_rows.specs.declared.inside.Weight.{Weight}
-use Rattle.camac_check_rows.specs.Statements.{is_simple, kind_of, detail_of, first_row, told_row}
+use Rattle.camac_check_rows.specs.Statements.{is_simple, kind_of, detail_of, first_row}
 use Rattle.camac_check_rows.specs.Weights.{once, turning, first_arm, second_arm, inside_row}
 use Rattle.camac_check_rows.specs.Rows.{found, Turning, turning_from, loop_detail, loop_share, lock_share, lock_detail, lock_inside, lock_head, statement_verdict, block_verdict, simple_row, else_row, times_at, inside, statement_rows, block_rows, with_rows}
 
@@ -35,8 +35,8 @@ pub verdict_is : (c : Context) (around : Around) (s : Statement) (k : Known) (v 
 verdict_is c around s k v e = ap (λ q. found unreached q) e
 
 pub simple_is : (c : Context) (around : Around) (s : Statement) (k : Facts) (v : Verdict) → if_reached unreached (Some k) (accept_statement c around s) ≡ Ok v
-    → simple_row c around s (Some k) ≡ told_row s 1 v.costs (detail_of c s (Some k))
-simple_is c around s k v e = ap (λ w. told_row s 1 w.costs (detail_of c s (Some k))) (verdict_is c around s (Some k) v e)
+    → simple_row c around s (Some k) ≡ first_row (line_of s) (kind_of s) 1 v.costs v.costs (detail_of c s (Some k))
+simple_is c around s k v e = ap (λ w. first_row (line_of s) (kind_of s) 1 w.costs w.costs (detail_of c s (Some k))) (verdict_is c around s (Some k) v e)
 
 pub simple_rows : (c : Context) (around : Around) (s : Statement) (k : Known) → IsTrue (is_simple s) → statement_rows c around s k ≡ simple_row c around s k ∷ []
 simple_rows c around (assign line x e) k h = refl
@@ -58,10 +58,10 @@ simple_rows c around (locked line e body) k h = absurd (cc)
 -- the one row of a statement that holds no others
 pub simple_found : (c : Context) (around : Around) (s : Statement) (k : Facts) (v : Verdict) (told : Detail) (rows : List Row)
     → IsTrue (is_simple s) → if_reached unreached (Some k) (accept_statement c around s) ≡ Ok v → told ≡ detail_of c s (Some k)
-    → rows ≡ told_row s 1 v.costs told ∷ [] → rows ≡ statement_rows c around s (Some k)
+    → rows ≡ first_row (line_of s) (kind_of s) 1 v.costs v.costs told ∷ [] → rows ≡ statement_rows c around s (Some k)
 simple_found c around s k v told rows h e d r =
     r
-    ∙ ap (λ x. told_row s 1 v.costs x ∷ []) d
+    ∙ ap (λ x. first_row (line_of s) (kind_of s) 1 v.costs v.costs x ∷ []) d
     ∙ ap (λ x. x ∷ []) (sym (simple_is c around s k v e))
     ∙ sym (simple_rows c around s (Some k) h)
 

@@ -9,7 +9,7 @@ mod place;
 mod texts;
 
 pub use bodies::{BodyCosts, Owner, costs_of, procedure_costs, service_costs};
-pub use camac_check_rows::{Detail, Kind, Makes, Row};
+pub use camac_check_rows::{Detail, Kind, Row};
 pub use known::known_lines;
 pub use place::{Standing, find_place};
 pub use texts::write_costs;

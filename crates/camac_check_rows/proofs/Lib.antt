@@ -1,4 +1,3 @@
 pub mod Trees
 pub mod Kept
 pub mod Passed
-pub mod Makes

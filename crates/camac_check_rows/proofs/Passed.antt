@@ -10,7 +10,7 @@ use Rattle.camac_check_rows.specs.declared.row.Detail.{Detail}
 use Rattle.camac_check_rows.specs.declared.row.Detail.TheVariants as detail
 use Rattle.camac_check_rows.specs.declared.row.Row.{Row}
 use Rattle.camac_check_rows.specs.declared.inside.Weight.{Weight}
-use Rattle.camac_check_rows.specs.Statements.{detail_of, first_row, told_row}
+use Rattle.camac_check_rows.specs.Statements.{kind_of, detail_of, first_row}
 use Rattle.camac_check_rows.specs.Weights.{first_arm, second_arm, inside_row}
 use Rattle.camac_check_rows.specs.Rows.{inside, statement_rows, block_rows}
 
@@ -28,7 +28,7 @@ none_next c around w s rest = map_both (inside_row c.limit w) (statement_rows c 
 pub none_choice : (c : Context) (around : Around) (s : Statement) (line : ℕ) (test : Condition) (a b first_block second_block : Block) (n : Bounds) (told : Detail)
     (first other : Row) (w1 w2 : Weight) (r0 r1 r2 r3 r4 : List Row)
     → s ≡ choose_else line test a b → first_block ≡ a → second_block ≡ b → n ≡ no_costs → told ≡ detail_of c s None
-    → first ≡ told_row s 0 n told → other ≡ first_row line kind.Else 0 n no_costs detail.Nothing
+    → first ≡ first_row (line_of s) (kind_of s) 0 n n told → other ≡ first_row line kind.Else 0 n no_costs detail.Nothing
     → w1 ≡ first_arm n n → w2 ≡ second_arm n n
     → r0 ≡ [] → r1 ≡ r0 ++ (first ∷ []) → r2 ≡ r1 ++ inside c w1 (block_rows c around first_block None)
     → r3 ≡ r2 ++ (other ∷ []) → r4 ≡ r3 ++ inside c w2 (block_rows c around second_block None)
@@ -37,9 +37,9 @@ unfolding if_reached
 none_choice c around s line test a b first_block second_block n told first other w1 w2 r0 r1 r2 r3 r4 is ea eb en et ef eo e1 e2 p0 p1 p2 p3 p4 =
     let first_is : first ≡ first_row line kind.If 0 no_costs no_costs detail.Nothing =
     ef
-    ∙ ap (λ m. told_row s 0 m told) en
-    ∙ ap (λ d. told_row s 0 no_costs d) et
-    ∙ ap (λ q. told_row q 0 no_costs (detail_of c q None)) is in
+    ∙ ap (λ m. first_row (line_of s) (kind_of s) 0 m m told) en
+    ∙ ap (λ d. first_row (line_of s) (kind_of s) 0 no_costs no_costs d) et
+    ∙ ap (λ q. first_row (line_of q) (kind_of q) 0 no_costs no_costs (detail_of c q None)) is in
     let other_is : other ≡ first_row line kind.Else 0 no_costs no_costs detail.Nothing =
     eo ∙ ap (λ m. first_row line kind.Else 0 m no_costs detail.Nothing) en in
     let w1_is : w1 ≡ first_arm no_costs no_costs = e1 ∙ ap (λ m. first_arm m m) en in

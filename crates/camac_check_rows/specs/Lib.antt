@@ -1,4 +1,3 @@
-pub mod Makes
 pub mod Statements
 pub mod Weights
 pub mod Rows

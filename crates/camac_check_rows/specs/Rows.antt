@@ -18,7 +18,7 @@ use Rattle.camac_check_rows.specs.declared.row.Detail.{Detail}
 use Rattle.camac_check_rows.specs.declared.row.Detail.TheVariants as detail
 use Rattle.camac_check_rows.specs.declared.row.Row.{Row}
 use Rattle.camac_check_rows.specs.declared.inside.Weight.{Weight}
-use Rattle.camac_check_rows.specs.Statements.{kind_of, detail_of, first_row, told_row}
+use Rattle.camac_check_rows.specs.Statements.{kind_of, detail_of, first_row}
 use Rattle.camac_check_rows.specs.Weights.{once, turning, first_arm, second_arm, inside_row}
 
 -- what is found where it is reached and not refused
@@ -104,9 +104,9 @@ lock_head (Some crate_no) k = k
 abbrev pub own_row : Context → Around → Statement → Known → (share : Bounds) → Detail → Row
 own_row c around s k share told = first_row (line_of s) (kind_of s) (times_at k) (statement_verdict c around s k).costs share told
 
--- of a statement that holds no others
+-- of a statement that holds no others: its share is all that it can cost
 abbrev pub simple_row : Context → Around → Statement → Known → Row
-simple_row c around s k = told_row s (times_at k) (statement_verdict c around s k).costs (detail_of c s k)
+simple_row c around s k = own_row c around s k (statement_verdict c around s k).costs (detail_of c s k)
 
 -- of the second arm of a choice on this line
 abbrev pub else_row : Context → Around → ℕ → Block → Known → Row

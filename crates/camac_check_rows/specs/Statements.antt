@@ -7,7 +7,7 @@ use Rattle.camac_lang.specs.declared.word.CrateCall.TheVariants as crate_word
 use Rattle.camac_lang.specs.declared.word.LamCall.{LamCall}
 use Rattle.camac_lang.specs.declared.word.LamCall.TheVariants as lam_word
 use Rattle.camac_range.specs.Interval.{Interval}
-use Rattle.camac_lang.specs.Tree.{Expression, Statement, assign, set_register, single, address_scan, q_stop, q_repeat, put, crate_call, lam_call, choose, choose_else, for_, while_, locked, call, line_of}
+use Rattle.camac_lang.specs.Tree.{Expression, Statement, assign, set_register, single, address_scan, q_stop, q_repeat, put, crate_call, lam_call, choose, choose_else, for_, while_, locked, call}
 use Rattle.camac_model.specs.Fine.{Bounds}
 use Rattle.camac_rules.specs.Known.{Region, Known, region_at}
 use Rattle.camac_rules.specs.Fault.{Fault}
@@ -18,13 +18,11 @@ use Rattle.camac_check_rows.specs.declared.row.Kind.{Kind}
 use Rattle.camac_check_rows.specs.declared.row.Kind.TheVariants as kind
 use Rattle.camac_check_rows.specs.declared.row.Detail.{Detail}
 use Rattle.camac_check_rows.specs.declared.row.Detail.TheVariants as detail
-use Rattle.camac_check_rows.specs.declared.row.Makes.TheVariants as makes
 use Rattle.camac_check_rows.specs.declared.row.Row.{Row}
-use Rattle.camac_check_rows.specs.Makes.{makes_of}
 
--- in the body itself, which makes nothing
+-- in the body itself
 abbrev pub first_row : (line : ℕ) → Kind → (times : ℕ) → (each share : Bounds) → Detail → Row
-first_row line word times each share told = record { line = line; depth = 1; kind = word; times = times; each = each; share = share; detail = told; makes = makes.Nothing }
+first_row line word times each share told = record { line = line; depth = 1; kind = word; times = times; each = each; share = share; detail = told }
 
 -- it holds no others
 abbrev pub is_simple : Statement → Bool
@@ -72,10 +70,6 @@ kind_of (for_ line x e1 e2 keeps body) = kind.For
 kind_of (while_ line test most m keeps body) = kind.While
 kind_of (locked line e body) = kind.Lock
 kind_of (call line p es) = kind.Call
-
--- of a statement that holds no others: its share is all that it can cost
-abbrev pub told_row : Statement → (times : ℕ) → (each : Bounds) → Detail → Row
-told_row s times each told = record (first_row (line_of s) (kind_of s) times each each told) { makes = makes_of s times told }
 
 abbrev pub at_region : Option Region → Detail
 at_region None = detail.Nothing

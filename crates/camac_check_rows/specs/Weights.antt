@@ -45,5 +45,4 @@ inside_row limit w r = record {
   each = if nat_eq w.times 0 then no_costs else r.each;
   share = limit (weighed w r.share);
   detail = r.detail;
-  makes = r.makes;
 }

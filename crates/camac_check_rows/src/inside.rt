@@ -91,7 +91,6 @@ fn inside_row(row: &Row, weight: Weight) -> Row
         },
         share: weighed(weight, row.share),
         detail: row.detail,
-        makes: row.makes,
     }
 }
 

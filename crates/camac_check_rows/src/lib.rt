@@ -3,13 +3,12 @@
 #![tactic(auto)]
 
 mod inside;
-mod makes;
 mod row;
 mod rows;
 mod statement;
 mod unreached;
 
 pub use inside::{Weight, first_arm, once, second_arm, turning};
-pub use row::{Detail, Kind, Makes, Row};
+pub use row::{Detail, Kind, Row};
 pub use rows::Rows;
 pub use statement::{detail_of, else_row, if_row, lock_row, loop_row, times_at};

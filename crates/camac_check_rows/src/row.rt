@@ -2,7 +2,6 @@
 
 use camac_check_known::{Costs, Region};
 use camac_range::Range;
-use camac_word::Function;
 
 /// The word by which a statement is known, and that of the second arm of a choice.
 #[derive(Clone, Copy, Debug, PartialEq, Eq)]
@@ -50,16 +49,6 @@ pub enum Detail {
     Procedure(usize),
 }
 
-/// What a statement makes on the dataway by itself, where it can be reached.
-#[derive(Clone, Copy)]
-pub enum Makes {
-    Nothing,
-    /// Cycles of this function, each at one of these addresses.
-    Cycles(Function, Region),
-    /// Those of the procedure that is called, by its number.
-    Procedure(usize),
-}
-
 /// A statement of a body, or the `else` of one, with its part of the bound. Numbers stay at the greatest of 64 bits; those of an accepted
 /// script are below it (own).
 #[derive(Clone, Copy)]
@@ -76,5 +65,4 @@ pub struct Row {
     /// Its part of the body's bound, without what stands in its blocks.
     pub share: Costs,
     pub detail: Detail,
-    pub makes: Makes,
 }

@@ -1,12 +1,13 @@
 // Where a walk puts the rows of the statements: in a list, or nowhere.
 
 ghost use Rattle.std.specs.Prelude.{◌≡◌, ◌∷◌, [], OnOk, None, Some, is_some, map, unwrap_or};
+ghost use Rattle.camac_lang.specs.Tree.{line_of};
 ghost use Rattle.camac_lang.specs.View.{statement_of};
 ghost use Rattle.camac_rules.specs.Capped.{capped};
 ghost use Rattle.camac_rules.specs.Cycles.{Around as Surroundings};
 ghost use Rattle.camac_check_simple.specs.Gives.{by_code};
 ghost use Rattle.camac_check_rows.specs.Rows.{none_yet, statement_rows, with_rows};
-ghost use Rattle.camac_check_rows.specs.Statements.{told_row};
+ghost use Rattle.camac_check_rows.specs.Statements.{first_row, kind_of};
 ghost use Rattle.camac_check_rows.specs.Weights.{inside_row};
 
 use crate::inside::{Weight, push_inside};
@@ -81,7 +82,7 @@ impl Rows {
 
     /// Puts the row of a statement that is reached and holds no others: its share is all that it can cost.
     pub fn put(&mut self, statement: &Stmt, each: Costs, detail: Detail) -> Result<(), AllocError>
-        ensures { OnOk result (self.new ≡ with_rows self.old (told_row (statement_of statement.now) 1 each detail ∷ [])) }
+        ensures { OnOk result (self.new ≡ with_rows self.old (first_row (line_of (statement_of statement.now)) (kind_of (statement_of statement.now)) 1 each each detail ∷ [])) }
     {
         match &mut self.kept {
             Some(rows) => Ok(rows.push(simple_row(statement, 1, each, detail))?),

@@ -1,15 +1,15 @@
 // What the text of a statement tells of its row.
 
 ghost use Rattle.std.specs.Prelude.{◌≡◌, ◌<◌, ◌+◌, ◌-◌, ◌^◌, IfOk, option_map};
+ghost use Rattle.camac_lang.specs.Tree.{line_of};
 ghost use Rattle.camac_lang.specs.View.{expression_of, statement_of};
 ghost use Rattle.camac_range.specs.Interval.{only};
 ghost use Rattle.camac_check_simple.specs.Gives.{by_code};
 ghost use Rattle.camac_rules.specs.Costs.{costs, no_costs};
 ghost use Rattle.camac_check_rows.specs.Rows.{times_at};
-ghost use Rattle.camac_check_rows.specs.Statements.{at_region, between, crate_detail, crate_kind, detail_of, first_row, kind_of, known_region, lam_kind, single_kind, told_row};
+ghost use Rattle.camac_check_rows.specs.Statements.{at_region, between, crate_detail, crate_kind, detail_of, first_row, kind_of, known_region, lam_kind, single_kind};
 
-use crate::makes::makes_of;
-use crate::row::{Detail, Kind, Makes, Row};
+use crate::row::{Detail, Kind, Row};
 use camac_check_known::{CheckFault, Costs, Facts, Region, range_of};
 use camac_check_simple::{Context, lam_region};
 use camac_lang::{CrateCall, Expr, LamCall, Stmt, WordSize};
@@ -28,18 +28,15 @@ fn own_row(line: u32, kind: Kind, times: u64, each: Costs, share: Costs, detail:
         each,
         share,
         detail,
-        makes: Makes::Nothing,
     }
 }
 
 /// The row of a statement that holds no others: its share is all that it can cost.
 pub fn simple_row(statement: &Stmt, times: u64, each: Costs, detail: Detail) -> Row
-    ensures { result ≡ told_row (statement_of statement.now) times each detail }
+    ensures { result ≡ first_row (line_of (statement_of statement.now)) (kind_of (statement_of statement.now)) times each each detail }
 {
     let line = statement.line();
-    let row = own_row(line, kind_of(statement), times, each, each, detail);
-    let makes = makes_of(statement, times, detail);
-    Row { makes, ..row }
+    own_row(line, kind_of(statement), times, each, each, detail)
 }
 
 /// The row of an `if` on this line: its share is a step.

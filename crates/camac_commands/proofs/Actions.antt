@@ -1,14 +1,14 @@
 -- What is accepted of single actions and transfers makes only the commands that are told of it.
 use Rattle.std.proofs.Common.{◌≡◌, ℕ, ◌+◌, ◌<◌, ◌≤◌, Bool, true, false, List, [], ◌∷◌, ◌++◌, Option, Some, None, Result, Ok, Err, refl, sym, ap, subst, ◌∙◌, arith}
 use Rattle.std.specs.List.{list_any}
-use Rattle.std.specs.Prelude.{◌&&◌, nat_eq, nat_lt, option_map, slice_get, if◌then◌else◌}
-use Rattle.std.proofs.lemmas.Bool.{and_parts, cond_both, eqb-true, le-leb, ltb-true}
+use Rattle.std.specs.Prelude.{◌&&◌, nat_eq, nat_lt, option_map, slice_get}
+use Rattle.std.proofs.lemmas.Bool.{and_parts, cond_both, eqb-true, ltb-true}
 use Rattle.camac_lang.specs.declared.word.CrateCall.{CrateCall}
 use Rattle.camac_lang.specs.declared.word.LamCall.{LamCall}
 use Rattle.camac_lang.specs.declared.word.WordSize.{WordSize}
 use Rattle.camac_lang.specs.declared.word.WordSize.TheVariants.{Full}
 use Rattle.camac_lang.specs.Tree.{Expression, Move, no_data, into, from, single, address_scan, q_stop, q_repeat, crate_call, lam_call}
-use Rattle.camac_range.specs.Interval.{Interval, interval, span}
+use Rattle.camac_range.specs.Interval.{Interval, interval}
 use Rattle.camac_func.specs.declared.data.DataMove.TheVariants as moved
 use Rattle.camac_branch.specs.Address.{Address}
 use Rattle.camac_branch.specs.Allowed.{width}
@@ -37,10 +37,8 @@ use Rattle.camac_rules.proofs.Allows.{Allows, allowed, then_allowed, required_al
 use Rattle.camac_rules.proofs.Stores.{Place, around_of, InRegion, Inside}
 use Rattle.camac_rules.proofs.Values.{range_each, only_within}
 use Rattle.camac_rules.proofs.Actions.{Setting, of, seen, value_of, address_of}
-use Rattle.camac_check_rows.specs.Makes.{at_addresses, between_stations, over_stations, of_controller}
-use Rattle.camac_check_rows.specs.Statements.{between, in_crates}
-use Rattle.camac_commands.specs.Commands.{Command, is_told, IsListed, made_by}
-use Rattle.camac_commands.proofs.Listed.{Listed, made_at, told_at, listed_given, listed_any}
+use Rattle.camac_commands.specs.Commands.{Command, is_told, IsListed, made_at, span, called_at}
+use Rattle.camac_commands.proofs.Listed.{Listed, told_at, listed_given, listed_any}
 
 -- what holds of any result
 pub always : {A : Type 0} {P : Type 0} (r : Result A Fault) → P → Allows r (λ _. P)
@@ -77,14 +75,14 @@ record IsSet (r : ℕ) (k : Facts) : Type 0 where
 set_by : (r : ℕ) (k : Facts) (g : Region) → region_at k.registers r ≡ Some g → IsSet r k
 set_by r k g e = record { addresses = g; is = e }
 
-at_register : (ls : List (List Command)) (around : Place) (line f r : ℕ) (k : Facts) → IsSet r k → (s : State) → Inside around k s → (go : Address → Action)
-    → ((at : Address) → list_any (is_told at f) (made_at ls line f (region_at k.registers r)) ≡ true → Listed (made_at ls line f (region_at k.registers r)) (go at (stepped s)))
-    → Listed (made_at ls line f (region_at k.registers r)) (given (s.registers r) go (stepped s))
-at_register ls around line f r k set s i go h =
-    let cs : List Command = made_at ls line f (region_at k.registers r) in
+at_register : (around : Place) (line f r : ℕ) (k : Facts) → IsSet r k → (s : State) → Inside around k s → (go : Address → Action)
+    → ((at : Address) → list_any (is_told at f) (made_at line f (region_at k.registers r)) ≡ true → Listed (made_at line f (region_at k.registers r)) (go at (stepped s)))
+    → Listed (made_at line f (region_at k.registers r)) (given (s.registers r) go (stepped s))
+at_register around line f r k set s i go h =
+    let cs : List Command = made_at line f (region_at k.registers r) in
     let a = address_of (region_at k.registers r) (s.registers r) set.addresses set.is (i.registers r) in
     listed_given cs (s.registers r) go a.at (stepped s) a.is
-    (h a.at (subst (λ o. list_any (is_told a.at f) (made_at ls line f o) ≡ true) (sym set.is) (told_at ls line f set.addresses a.at a.inside)))
+    (h a.at (subst (λ o. list_any (is_told a.at f) (made_at line f o) ≡ true) (sym set.is) (told_at line f set.addresses a.at a.inside)))
 
 single_set : (c : Setting) (around : Place) (line : ℕ) (size : WordSize) (f r : ℕ) (m : Move) (k : Facts) → Allows (single_rule (seen c) (around_of around) line size f r m k) (λ v. IsSet r k)
 single_set c around line size f r no_data k = then_allowed (given_allowed (region_at k.registers r) _ line _) (λ g set. always _ (set_by r k g set))
@@ -93,23 +91,23 @@ single_set c around line size f r (into x) k =
 single_set c around line size f r (from e) k =
     then_allowed (range_each line e k.ranges) (λ v gives. then_allowed (given_allowed (region_at k.registers r) _ line _) (λ g set. always _ (set_by r k g set)))
 
-pub single_listed : (ls : List (List Command)) (c : Setting) (around : Place) (n line : ℕ) (size : WordSize) (f r : ℕ) (m : Move) (k : Facts)
-    → Allows (single_rule (seen c) (around_of around) line size f r m k) (λ v. (s : State) → Inside around k s → Listed (made_at ls line f (region_at k.registers r)) (effect (of c) n (single line size f r m) (stepped s)))
-single_listed ls c around n line size f r m k =
+pub single_listed : (c : Setting) (around : Place) (n line : ℕ) (size : WordSize) (f r : ℕ) (m : Move) (k : Facts)
+    → Allows (single_rule (seen c) (around_of around) line size f r m k) (λ v. (s : State) → Inside around k s → Listed (made_at line f (region_at k.registers r)) (effect (of c) n (single line size f r m) (stepped s)))
+single_listed c around n line size f r m k =
     allowed_more (single_set c around line size f r m k) (λ v set s i.
-    at_register ls around line f r k set s i (λ at. act c.plan at f size m) (λ at told. act_listed (made_at ls line f (region_at k.registers r)) c.plan at f size m (stepped s) told))
+    at_register around line f r k set s i (λ at. act c.plan at f size m) (λ at told. act_listed (made_at line f (region_at k.registers r)) c.plan at f size m (stepped s) told))
 
 -- ---- calls of the controller and of look-at-mes
 
-pub lam_listed : (ls : List (List Command)) (c : Setting) (around : Place) (n line : ℕ) (which : LamCall) (l : ℕ) (k : Facts)
-    → Allows (lam_rule (seen c) (around_of around) line which l k) (λ v. (s : State) → Inside around k s → Listed (made_at ls line (lam_function which) (lam_region (seen c) l)) (effect (of c) n (lam_call line which l) (stepped s)))
-lam_listed ls c around n line which l k = always _ (λ s i. go (slice_get c.lams l) refl s)
+pub lam_listed : (c : Setting) (around : Place) (n line : ℕ) (which : LamCall) (l : ℕ) (k : Facts)
+    → Allows (lam_rule (seen c) (around_of around) line which l k) (λ v. (s : State) → Inside around k s → Listed (made_at line (lam_function which) (lam_region (seen c) l)) (effect (of c) n (lam_call line which l) (stepped s)))
+lam_listed c around n line which l k = always _ (λ s i. go (slice_get c.lams l) refl s)
   where
-    go : (o : Option Address) → slice_get c.lams l ≡ o → (s : State) → Listed (made_at ls line (lam_function which) (option_map single_region o)) (given o (λ at. act c.plan at (lam_function which) Full no_data) (stepped s))
+    go : (o : Option Address) → slice_get c.lams l ≡ o → (s : State) → Listed (made_at line (lam_function which) (option_map single_region o)) (given o (λ at. act c.plan at (lam_function which) Full no_data) (stepped s))
     go None e s = tt
     go (Some at) e s =
-        act_listed (made_at ls line (lam_function which) (Some (single_region at))) c.plan at (lam_function which) Full no_data (stepped s)
-        (told_at ls line (lam_function which) (single_region at) at (alone at))
+        act_listed (made_at line (lam_function which) (Some (single_region at))) c.plan at (lam_function which) Full no_data (stepped s)
+        (told_at line (lam_function which) (single_region at) at (alone at))
 
 -- ---- transfers
 
@@ -130,30 +128,30 @@ block_set : (c : Setting) (around : Place) (line f r : ℕ) (t : Option ℕ) (mo
 block_set c around line f r t most x k =
     required_allowed _ line _ (λ may. then_allowed (given_allowed (region_at k.registers r) _ line _) (λ g set. always _ (set_by r k g set)))
 
-pub q_stop_listed : (ls : List (List Command)) (c : Setting) (around : Place) (n line f r : ℕ) (t : Option ℕ) (e : Expression) (x : ℕ) (k : Facts)
-    → Allows (q_stop_rule (seen c) (around_of around) line f r t e x k) (λ v. (s : State) → Inside around k s → Listed (made_at ls line f (region_at k.registers r)) (effect (of c) n (q_stop line f r t e x) (stepped s)))
-q_stop_listed ls c around n line f r t e x k =
+pub q_stop_listed : (c : Setting) (around : Place) (n line f r : ℕ) (t : Option ℕ) (e : Expression) (x : ℕ) (k : Facts)
+    → Allows (q_stop_rule (seen c) (around_of around) line f r t e x k) (λ v. (s : State) → Inside around k s → Listed (made_at line f (region_at k.registers r)) (effect (of c) n (q_stop line f r t e x) (stepped s)))
+q_stop_listed c around n line f r t e x k =
     then_allowed (range_each line e k.ranges) (λ most gives.
     then_allowed (block_set c around line f r t most.hi x k) (λ g set. allowed (λ s i.
-    let cs : List Command = made_at ls line f (region_at k.registers r) in
+    let cs : List Command = made_at line f (region_at k.registers r) in
     let go : Option (List ℕ) → Address → Action = λ o at. given (value e s.variables) (λ m. transfer_to c.plan f o (q_stop_next at m) x) in
     listed_any cs (sent (of c) t) (λ o. given (s.registers r) (go o)) (stepped s) (λ o _.
-    at_register ls around line f r k set s i (go o) (λ at told.
+    at_register around line f r k set s i (go o) (λ at told.
     listed_any cs (value e s.variables) (λ m. transfer_to c.plan f o (q_stop_next at m) x) (stepped s) (λ m _.
     transfer_listed cs c.plan f o (q_stop_next at m) x (stepped s) (λ qs to w.
     subst (λ a. list_any (is_told a f) cs ≡ true) (sym (stop.wanted_goes_on at to m qs w).1) told)))))))
 
-pub q_repeat_listed : (ls : List (List Command)) (c : Setting) (around : Place) (n line f r : ℕ) (t : Option ℕ) (e1 e2 : Expression) (x : ℕ) (k : Facts)
-    → Allows (q_repeat_rule (seen c) (around_of around) line f r t e1 e2 x k) (λ v. (s : State) → Inside around k s → Listed (made_at ls line f (region_at k.registers r)) (effect (of c) n (q_repeat line f r t e1 e2 x) (stepped s)))
-q_repeat_listed ls c around n line f r t e1 e2 x k =
+pub q_repeat_listed : (c : Setting) (around : Place) (n line f r : ℕ) (t : Option ℕ) (e1 e2 : Expression) (x : ℕ) (k : Facts)
+    → Allows (q_repeat_rule (seen c) (around_of around) line f r t e1 e2 x k) (λ v. (s : State) → Inside around k s → Listed (made_at line f (region_at k.registers r)) (effect (of c) n (q_repeat line f r t e1 e2 x) (stepped s)))
+q_repeat_listed c around n line f r t e1 e2 x k =
     then_allowed (range_each line e1 k.ranges) (λ most gives_m.
     then_allowed (range_each line e2 k.ranges) (λ limit gives_l.
     then_allowed (block_set c around line f r t most.hi x k) (λ g set. allowed (λ s i.
-    let cs : List Command = made_at ls line f (region_at k.registers r) in
+    let cs : List Command = made_at line f (region_at k.registers r) in
     let last : Option (List ℕ) → Address → ℕ → Action = λ o at m. given (value e2 s.variables) (λ l. transfer_to c.plan f o (q_repeat_next at m l) x) in
     let go : Option (List ℕ) → Address → Action = λ o at. given (value e1 s.variables) (last o at) in
     listed_any cs (sent (of c) t) (λ o. given (s.registers r) (go o)) (stepped s) (λ o _.
-    at_register ls around line f r k set s i (go o) (λ at told.
+    at_register around line f r k set s i (go o) (λ at told.
     listed_any cs (value e1 s.variables) (last o at) (stepped s) (λ m _.
     listed_any cs (value e2 s.variables) (λ l. transfer_to c.plan f o (q_repeat_next at m l) x) (stepped s) (λ l _.
     transfer_listed cs c.plan f o (q_repeat_next at m l) x (stepped s) (λ qs to w.
@@ -199,35 +197,29 @@ scan_set c around line f r1 r2 e x k =
       few = ltb-true g.sub_addresses.hi 16 (and_parts (has_sub_addresses g) _ declared).0;
     }))))))))
 
-in_span : (ls : List (List Command)) (line f : ℕ) (g h : Region) (first last at : Address) (qs : List Bool) (m : ℕ) → InRegion g first → InRegion h last → g.sub_addresses.hi < 16 → scan_next first last m qs ≡ Some at
-    → list_any (is_told at f) (made_by ls line (between_stations f g h)) ≡ true
-in_span ls line f g h first last at qs m i j few e =
+in_span : (g h : Region) (first last at : Address) (qs : List Bool) (m : ℕ) → InRegion g first → InRegion h last → g.sub_addresses.hi < 16 → scan_next first last m qs ≡ Some at
+    → InRegion (region g.crates (interval g.stations.lo h.stations.hi) (interval 0 15)) at
+in_span g h first last at qs m i j few e =
     let w = wanted_goes_on first last at m qs e in
-    let to : Address = address_after first qs in
     let gone = gone_to first qs (omega (arith, i.sub_address.high)) in
-    let until = by_station last to w.0.by in
-    let all : Region = region g.crates (interval g.stations.lo h.stations.hi) (interval 0 15) in
-    let inside : InRegion all at =
-    subst (InRegion all) (sym w.1)
+    let until = by_station last (address_after first qs) w.0.by in
+    subst (InRegion (region g.crates (interval g.stations.lo h.stations.hi) (interval 0 15))) (sym w.1)
     (record {
       crate_no = record { low = omega (arith, gone.crate_no, i.crate_no.low); high = omega (arith, gone.crate_no, i.crate_no.high) };
       station = record { low = omega (arith, gone.station, i.station.low); high = omega (arith, until, j.station.high) };
       sub_address = record { low = omega arith; high = gone.sub_address };
-    }) in
-    let some : span g.stations.lo h.stations.hi ≡ Some (interval g.stations.lo h.stations.hi) =
-    ap (λ b. if b then Some (interval g.stations.lo h.stations.hi) else None) (le-leb g.stations.lo h.stations.hi (omega (arith, gone.station, i.station.low, until, j.station.high))) in
-    subst (λ o. list_any (is_told at f) (made_by ls line (over_stations f g.crates o)) ≡ true) (sym some) (told_at ls line f all at inside)
+    })
 
-pub scan_listed : (ls : List (List Command)) (c : Setting) (around : Place) (n line f r1 r2 : ℕ) (e : Expression) (x : ℕ) (k : Facts)
+pub scan_listed : (c : Setting) (around : Place) (n line f r1 r2 : ℕ) (e : Expression) (x : ℕ) (k : Facts)
     → Allows (scan_rule (seen c) (around_of around) line f r1 r2 e x k)
-    (λ v. (s : State) → Inside around k s → Listed (made_by ls line (at_addresses f (between (region_at k.registers r1) (region_at k.registers r2)))) (effect (of c) n (address_scan line f r1 r2 e x) (stepped s)))
-scan_listed ls c around n line f r1 r2 e x k =
+    (λ v. (s : State) → Inside around k s → Listed (made_at line f (span (region_at k.registers r1) (region_at k.registers r2))) (effect (of c) n (address_scan line f r1 r2 e x) (stepped s)))
+scan_listed c around n line f r1 r2 e x k =
     allowed_more (scan_set c around line f r1 r2 e x k) (λ v set s i.
     let g = set.first.addresses in
     let h = set.last.addresses in
-    let cs : List Command = made_by ls line (at_addresses f (between (region_at k.registers r1) (region_at k.registers r2))) in
-    let is : between (region_at k.registers r1) (region_at k.registers r2) ≡ between (Some g) (Some h) =
-    ap (λ o. between o (region_at k.registers r2)) set.first.is ∙ ap (between (Some g)) set.last.is in
+    let cs : List Command = made_at line f (span (region_at k.registers r1) (region_at k.registers r2)) in
+    let is : span (region_at k.registers r1) (region_at k.registers r2) ≡ span (Some g) (Some h) =
+    ap (λ o. span o (region_at k.registers r2)) set.first.is ∙ ap (span (Some g)) set.last.is in
     let a = address_of (region_at k.registers r1) (s.registers r1) g set.first.is (i.registers r1) in
     let b = address_of (region_at k.registers r2) (s.registers r2) h set.last.is (i.registers r2) in
     let go : Address → Address → ℕ → Action = λ first last m. transfer_to c.plan f None (scan_next first last m) x in
@@ -238,15 +230,15 @@ scan_listed ls c around n line f r1 r2 e x k =
     (listed_any cs (value e s.variables) (third a.at b.at) (stepped s) (λ m _.
     unless_meets no_count (IsListed cs) AnyStop Any nothing (nat_eq a.at.crate_no b.at.crate_no) (go a.at b.at m) (stepped s) (λ _. tt) (λ _.
     transfer_listed cs c.plan f None (scan_next a.at b.at m) x (stepped s) (λ qs to w.
-    subst (λ d. list_any (is_told to f) (made_by ls line (at_addresses f d)) ≡ true) (sym is)
-    (in_span ls line f g h a.at b.at to qs m a.inside b.inside set.few w)))))))
+    subst (λ o. list_any (is_told to f) (made_at line f o) ≡ true) (sym is)
+    (told_at line f (region g.crates (interval g.stations.lo h.stations.hi) (interval 0 15)) to (in_span g h a.at b.at to qs m a.inside b.inside set.few w))))))))
 
 -- ---- a crate call, whose crate is one number
 
-pub crate_listed : (ls : List (List Command)) (c : Setting) (around : Place) (n line : ℕ) (which : CrateCall) (e : Expression) (k : Facts)
+pub crate_listed : (c : Setting) (around : Place) (n line : ℕ) (which : CrateCall) (e : Expression) (k : Facts)
     → Allows (crate_rule (seen c) (around_of around) line e k)
-    (λ v. (s : State) → Inside around k s → Listed (made_by ls line (of_controller which (in_crates (range_of line e k.ranges)))) (effect (of c) n (crate_call line which e) (stepped s)))
-crate_listed ls c around n line which e k =
+    (λ v. (s : State) → Inside around k s → Listed (made_at line (crate_function which) (called_at which (range_of line e k.ranges))) (effect (of c) n (crate_call line which e) (stepped s)))
+crate_listed c around n line which e k =
     then_allowed (with_result (range_each line e k.ranges)) (λ r known.
     required_allowed _ line _ (λ fit. allowed (λ s i.
     let at : Address = crate_address which r.lo in
@@ -257,7 +249,7 @@ crate_listed ls c around n line which e k =
     let low = v.fits.within.low in
     let high = v.fits.within.high in
     let same : v.number ≡ r.lo = omega arith in
-    let cs : List Command = made_at ls line f (Some (single_region at)) in
-    subst (λ q. Listed (made_by ls line (of_controller which (in_crates q))) (given (value e s.variables) call (stepped s))) (sym known.0)
+    let cs : List Command = made_at line f (Some (single_region at)) in
+    subst (λ q. Listed (made_at line f (called_at which q)) (given (value e s.variables) call (stepped s))) (sym known.0)
     (listed_given cs (value e s.variables) call r.lo (stepped s) (v.is ∙ ap (λ m. Some m) same)
-    (act_listed cs c.plan at f Full no_data (stepped s) (told_at ls line f (single_region at) at (alone at)))))))
+    (act_listed cs c.plan at f Full no_data (stepped s) (told_at line f (single_region at) at (alone at)))))))

@@ -1,5 +1,4 @@
 pub mod Listed
-pub mod Walk
 pub mod Actions
 pub mod Arguments
 pub mod Loops

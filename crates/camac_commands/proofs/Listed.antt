@@ -13,9 +13,7 @@ use Rattle.camac_model.specs.Moments.{Meets, Any, AnyStop}
 use Rattle.camac_rules.specs.Known.{Region}
 use Rattle.camac_rules.proofs.Stores.{InRegion}
 use Rattle.camac_rules.proofs.Sound.{step}
-use Rattle.camac_check_rows.specs.Makes.{at_addresses}
-use Rattle.camac_check_rows.specs.Statements.{at_region}
-use Rattle.camac_commands.specs.Commands.{Command, is_told, lies_in, IsListed, made_by}
+use Rattle.camac_commands.specs.Commands.{Command, is_told, lies_in, IsListed, made_at}
 
 abbrev pub Listed : List Command → Behaviour State → Type 0
 Listed cs b = Meets no_count (IsListed cs) AnyStop Any nothing b
@@ -28,13 +26,9 @@ inside_lies g at h =
     (and_from (nat_le g.stations.lo at.station && nat_le at.station g.stations.hi) _ (both g.stations at.station h.station)
     (both g.sub_addresses at.sub_address h.sub_address))
 
--- at one of these addresses, where they are known
-abbrev pub made_at : List (List Command) → (line function : ℕ) → Option Region → List Command
-made_at ls line f o = made_by ls line (at_addresses f (at_region o))
-
 -- a cycle at a known address
-pub told_at : (ls : List (List Command)) (line f : ℕ) (g : Region) (at : Address) → InRegion g at → list_any (is_told at f) (made_at ls line f (Some g)) ≡ true
-told_at ls line f g at h = or_left (nat_eq f f && lies_in g at) _ (and_from (nat_eq f f) (lies_in g at) (eq-eqb f f refl) (inside_lies g at h))
+pub told_at : (line f : ℕ) (g : Region) (at : Address) → InRegion g at → list_any (is_told at f) (made_at line f (Some g)) ≡ true
+told_at line f g at h = or_left (nat_eq f f && lies_in g at) _ (and_from (nat_eq f f) (lies_in g at) (eq-eqb f f refl) (inside_lies g at h))
 
 listed_piece : (cs ds : List Command) → ((at : Address) (f : ℕ) → list_any (is_told at f) cs ≡ true → list_any (is_told at f) ds ≡ true) → (p : Piece) → IsListed cs nothing p → IsListed ds nothing p
 listed_piece cs ds more (demanded p v) h = tt

@@ -39,11 +39,10 @@ use Rattle.camac_rules.proofs.Lockless.{has_lock, block_has_lock}
 use Rattle.camac_rules.proofs.Routines.{AreSmall, Serves}
 use Rattle.camac_rules.proofs.Statements.{may_first, may_second, reached_sound, statement_sound, block_sound}
 use Rattle.camac_check_rows.specs.Rows.{found, Turning, turning_from, ways, for_turning, while_turning, taken, lock_inside, lock_head, statement_verdict}
-use Rattle.camac_commands.specs.Commands.{Command, IsListed}
+use Rattle.camac_commands.specs.Commands.{Command, IsListed, statement_commands, block_commands}
 use Rattle.camac_commands.proofs.Listed.{Listed, listed_first, listed_second, listed_then, listed_given, listed_any}
 use Rattle.camac_commands.proofs.Actions.{always, with_result, single_listed, scan_listed, q_stop_listed, q_repeat_listed, crate_listed, lam_listed}
 use Rattle.camac_commands.proofs.Arguments.{GiveAll, AllFit, ranges_each, in_ranges, are_small}
-use Rattle.camac_commands.proofs.Walk.{statement_commands, block_commands}
 use Rattle.camac_commands.proofs.Loops.{for_listed, while_listed}
 
 -- a procedure's body, on all arguments in range
@@ -250,13 +249,13 @@ module _ (c : Setting) (narrow : HasWidths c.plan) (serves : Serves c) (n : ℕ)
     statement_lists : (around : Place) (st : Statement) → MayLock around (has_lock st) → (k : Facts) → Allows (accept_statement (seen c) (around_of around) st k) (λ v. Lists around st k)
     statement_lists around (assign line x e) may k = always _ (assign_lists around line x e k)
     statement_lists around (set_register line r e1 e2 e3) may k = always _ (register_lists around line r e1 e2 e3 k)
-    statement_lists around (single line size f r m) may k = single_listed ls c around n line size f r m k
-    statement_lists around (address_scan line f r1 r2 max x) may k = scan_listed ls c around n line f r1 r2 max x k
-    statement_lists around (q_stop line f r t max x) may k = q_stop_listed ls c around n line f r t max x k
-    statement_lists around (q_repeat line f r t max limit x) may k = q_repeat_listed ls c around n line f r t max limit x k
+    statement_lists around (single line size f r m) may k = single_listed c around n line size f r m k
+    statement_lists around (address_scan line f r1 r2 max x) may k = scan_listed c around n line f r1 r2 max x k
+    statement_lists around (q_stop line f r t max x) may k = q_stop_listed c around n line f r t max x k
+    statement_lists around (q_repeat line f r t max limit x) may k = q_repeat_listed c around n line f r t max limit x k
     statement_lists around (put line e) may k = always _ (put_lists around line e k)
-    statement_lists around (crate_call line which e) may k = crate_listed ls c around n line which e k
-    statement_lists around (lam_call line which l) may k = lam_listed ls c around n line which l k
+    statement_lists around (crate_call line which e) may k = crate_listed c around n line which e k
+    statement_lists around (lam_call line which l) may k = lam_listed c around n line which l k
     statement_lists around (call line p es) may k = call_lists around line p es k
     statement_lists around (choose line test a) may k =
         then_allowed (with_result (split_each around line test k)) (λ arms d.

@@ -1,7 +1,4 @@
 //! The commands that each service of a script may make, by what the checker knows where each statement begins. All is own.
 #![tactic(auto)]
 
-mod commands;
 pub mod laws;
-
-pub use commands::{Command, commands_of};
