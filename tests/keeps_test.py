@@ -368,6 +368,11 @@ class Proposed(Case):
             (["k = 5", "for i = 1 to 7 keep k in 6..9 { k = 9 }", "put k"], [(5, "for i = 1 to 7 keep k in 5..9 {")]),
             (["for i = 1 to 7 keep t in 0..1 {", f"{read} k = v t = 1 }}", "put k + t"], [(4, "for i = 1 to 7 keep t in 0..1, k in 0..4095 {")]),
             (["t = 2", "for i = 1 to 2 {", "t = t - 1 }"], [(6, "if t >= 1 { t = t - 1 }  # true unless it would fall below 0")]),
+            # 4094 stays, since it cannot fall by 4095; then 8190 is added.
+            (["k = 4", "for i = 0 to 0 {", f"{read} k = v", "k = k - 4095 }", "for i = 1 to 2 {", read, "k = k + v }", "put k"], [
+                (5, "for i = 0 to 0 keep k in 0..4094 {"), (7, "if k >= 4095 { k = k - 4095 }  # true unless it would fall below 0"),
+                (8, "for i = 1 to 2 keep k in 0..12284 {"), (10, "if k <= 12284 - 4095 { k = k + v }  # always true"),
+            ]),
             ([read, "for i = 1 to 2 {", "t = v - k", "k = v }", "put t"], [
                 (5, "for i = 1 to 2 keep k in 0..4095, t in 0..4095 {"),
                 (6, "t = v + 4095 - k  if t >= 4095 { t = t - 4095 } else { t = 0 }  # 0 if it would be below 0"),
@@ -410,6 +415,11 @@ class Proposed(Case):
         found = self.proposed(text)
         self.assertEqual([it.text for it in found.proposals], ["for i = 1 to 2 keep k in 0..2 {"])
         self.assertEqual(found.remaining, ("E16", 7, "word above 24 bits"))
+
+    def test_what_remains_of_a_lesser_range(self):
+        """The range is made so small that both sums fit; then the difference is what is refused."""
+        text = script(["for i = 0 to 11 {", "cdreg r 1 1 5 0 cfsa 0 r -> v", "k = k + 1", "k = k + v", "k = k - 100 }", "put k * 16"])
+        self.assertEqual(self.proposed(text).remaining, ("E4", 8, "value out of range"))
 
     def test_plan(self):
         """A plan that is refused is no fault of the script."""
