@@ -34,15 +34,14 @@ sys.path.insert(0, str(TOP / "tools"))
 
 import oracle.maker.scripts
 from oracle.maker.edges import PLAN, make_edge
+from oracle.maker.extremes import BY_CHANCE, GREATEST, LEAST, RISEN, SILENT, events
 from oracle.maker.nodes import Node
 from oracle.maker.plans import make_plan
 from oracle.maker.scripts import make_script
 from oracle.maker.statements import Maker
 from oracle.reader import grammar
-from oracle.reader.answers import Answer, Answers
 from oracle.reader.checker import Checker
 from oracle.reader.loops import everything
-from oracle.reader.meaning import Run, Short
 from oracle.reader.plan import read_plan, sample_plan
 from oracle.reader.refusals import Refused
 
@@ -77,8 +76,8 @@ service adc within 0 cycles event 0 words {
 """
 # These change nothing that an accepted script does.
 SAME = {Kind.KEEP, Kind.GUARD, Kind.COMPARISON, Kind.HEADING}
-# The offset of a difference that is put as it is; words that rise from reading to reading.
-OFFSET, RISING = "more than the difference", -1
+# The offset of a difference that is put as it is.
+OFFSET = "more than the difference"
 is_whole = False
 
 
@@ -117,38 +116,9 @@ def is_inside(inner, outer):
     return outer[0] <= inner[0] and inner[1] <= outer[1]
 
 
-class Given(Answers):
-    """Answers to each operation of a run: words and Q that are the greatest, the least, or come by chance; or words that rise."""
-
-    def __init__(self, dice, word, q, count):
-        super().__init__(b"")
-        self.dice, self.word, self.q, self.left, self.risen = dice, word, q, count, 0
-
-    def next(self):
-        self.left -= 1
-        if self.left < 0:
-            return None
-        word = self.dice.choice([0, 1, 200, 4095, self.dice.randrange(2**24)]) if self.word is None else self.word
-        if self.word == RISING:
-            self.risen += self.dice.randrange(9)
-            word = self.risen % 1024
-        return Answer(1, self.dice.randrange(2) if self.q is None else self.q, word, 0, 0xFFFFFF)
-
-
-class Twice(Run):
-    """A run that ends after two services."""
-
-    def serve(self, bit, service):
-        if self.count == 2:
-            raise Short
-        super().serve(bit, service)
-
-
-def events(plan, text, dice, *given):
-    """The bytes of the event file of a run, as the independent reader plays it, whether the script is accepted or not."""
-    run = Twice(grammar.read_script(text), sample_plan() if plan == "@sample" else read_plan(pathlib.Path(plan).read_bytes()), Given(dice, *given, 20_000))
-    run.play()
-    return run.count, bytes(run.events)
+def played(plan, text, dice, kind):
+    """What two services of a script make, as the independent reader plays it, whether the script is accepted or not."""
+    return events(sample_plan() if plan == "@sample" else read_plan(pathlib.Path(plan).read_bytes()), text, dice, kind)
 
 
 class Loops(unittest.TestCase):
@@ -191,11 +161,10 @@ class Loops(unittest.TestCase):
             if found.remaining or not kinds <= {*SAME, Kind.DIFFERENCE} or any(OFFSET in it.text for it in found.proposals):
                 continue
             tried += 1
-            by_chance = [(None, 1), (None, None)] if kinds <= SAME else []
-            for given in [(2**24 - 1, 1), (2**24 - 1, 0), (0, 1), (RISING, 1), *by_chance]:
+            for given in [GREATEST, SILENT, LEAST, RISEN, *(BY_CHANCE if kinds <= SAME else ())]:
                 seed = dice.random()
                 with self.subTest(loop=name, given=given):
-                    was, now = (events(plan, it, random.Random(seed), *given) for it in (text, found.applied(text)))
+                    was, now = (played(plan, it, random.Random(seed), given) for it in (text, found.applied(text)))
                     self.assertEqual((was, was[0]), (now, 2))
         self.assertGreater(tried, 30)
 

@@ -29,7 +29,7 @@ class Told(NamedTuple):
 
 
 class Inputs(NamedTuple):
-    """The bytes of the inputs; the plan is None for `@sample`. `words` are the options of `response`."""
+    """The bytes of the inputs; the plan is None for `@sample`. `words` are the options of `response` and `explain`."""
 
     plan: Optional[bytes] = None
     script: bytes = b""
@@ -138,5 +138,5 @@ def words_of(command: str) -> Tuple[str, ...]:
     """The inputs and outputs that are after a subcommand."""
     return {
         "plan": ("plan",), "check": ("plan", "script"), "bounds": ("plan", "script"), "costs": ("plan", "script"),
-        "response": ("plan", "script"), "run": ("plan", "script", "answers", "EVENTS"), "drive": ("plan", "script", "EVENTS"), "events": ("file",),
+        "response": ("plan", "script"), "explain": ("plan", "script"), "run": ("plan", "script", "answers", "EVENTS"), "drive": ("plan", "script", "EVENTS"), "events": ("file",),
     }[command]
