@@ -8,7 +8,6 @@ It needs gcc and the archive that tests/support/of_c.py names, else all is left 
 makes it), or what the environment variable CAMAC_PROGRAM names.
 """
 import os
-import sys
 
 from support import of_c
 from support.live import PROGRAM, STRAIGHT_LINE, TOP, Case, run_tests
@@ -107,7 +106,5 @@ class Abandoned(Case):
 
 
 if __name__ == "__main__":
-    if of_c.lacking():
-        print(f"left out: {of_c.lacking()}")
-        sys.exit()
-    run_tests()
+    if of_c.is_here():
+        run_tests()

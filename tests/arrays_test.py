@@ -5,12 +5,12 @@ usage: tests/arrays_test.py [-v] [TEST ..]     from any folder; takes some secon
 
 It is left out if numpy (package python3-numpy of Debian) is not installed.
 """
-import importlib.util
 import random
 import unittest
 from unittest import mock
 
 from support.live import Case
+from support.needs import needed
 from camac import arrays
 from camac.events import NEW_FILE, Event, EventFileFault, record
 from camac.runs import Asked, _read_event_file
@@ -45,7 +45,7 @@ def told(run):
     )
 
 
-@unittest.skipUnless(importlib.util.find_spec("numpy"), "numpy is not here")
+@needed("python3-numpy")
 class Arrays(Case):
     def read(self, data, long, piece=arrays.PIECE):
         (self.room / "events").write_bytes(data)

@@ -12,6 +12,7 @@ import signal
 import subprocess
 import unittest
 
+from support.needs import skip
 from support.program import ANSWERS, EVENT_FILE, FULL, LISTING, PROGRAM, REQUESTS, VERDICT, Case, unwritten
 
 HEADER, RECORD = 8, len(EVENT_FILE) - 8
@@ -90,9 +91,9 @@ class Full(Case):
         try:
             tried = subprocess.run([*self.apart, self.MOUNT], capture_output=True, cwd=self.room, timeout=60)
         except FileNotFoundError:
-            self.skipTest("no unshare")
+            skip("util-linux")
         if tried.returncode:
-            self.skipTest("nothing can be mounted: /dev/full is tried by tests/program_test.py")
+            skip("a disk that can be mounted")  # tests/program_test.py tries /dev/full
 
     def apart_shell(self, line):
         """A line of bash in which `small` is the disk; then what is on it is copied."""

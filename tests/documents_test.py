@@ -37,7 +37,7 @@ import sys
 import unittest
 
 from support import of_c
-
+from support.needs import has
 from support.program import PROGRAM, TOP, Room, run_tests
 
 if "CAMAC_PROGRAM" in os.environ:
@@ -82,11 +82,9 @@ def run(command, room, given=b""):
 
 def is_left_out(text):
     """Whether a console block needs a compiler, the library for C, or numpy and h5py if there is none."""
-    if ARRAYS.search(text) and subprocess.run(["python3", "-c", "import numpy, h5py"], stderr=subprocess.DEVNULL, check=False).returncode:
+    if ARRAYS.search(text) and not has("python3-numpy", "python3-h5py") or COMPILER.search(text) and not has("gcc", "g++"):
         return True
-    lacks_compiler = not (shutil.which("cc") and shutil.which("c++"))
-    lacks_library = bool(of_c.lacking()) or not shutil.which("pkg-config")
-    return bool(COMPILER.search(text) and lacks_compiler or LIBRARY.search(text) and lacks_library)
+    return bool(LIBRARY.search(text)) and not (of_c.is_here() and has("pkg-config"))
 
 
 def compare(what, wanted, found):
@@ -180,10 +178,8 @@ def try_page(text, room):
     for words, body in blocks:
         kind, _, rest = words.partition(" ")
         before, printed = printed, None
-        if kind == "console" and is_left_out(body):
-            print("left out:", body.partition("\n")[0])
-        elif kind == "console":
-            tried += try_console(body, room)
+        if kind == "console":
+            tried += 0 if is_left_out(body) else try_console(body, room)
         elif kind == "camac":
             tried, printed = tried + 1, try_script(rest, body, room)
         elif kind == "toml" and re.fullmatch(r"P\d", rest):
@@ -328,6 +324,36 @@ class Documents(Room):
     def test_commands_of_more_lines(self):
         self.assertEqual(try_page("```console\n$ ./camac plan @sample |\n>   grep buffer\nbuffer 4096\n$ true\n```\n", self.room), 2)
         self.refuse("```console\n$ ./camac plan @sample |\n>   grep buffer\nbuffer 4095\n```\n")
+
+
+class Sentences(unittest.TestCase):
+    """What several pages say, or a page and a file."""
+
+    def page(self, name):
+        return (TOP / name).read_text()
+
+    def test_promises(self):
+        """PROMISES has each promise of README word by word."""
+        mine, its = (set(re.findall(r"(?m)^> .*(?:\n> .*)*", self.page(it))) for it in ("README.md", "docs/inside/PROMISES.md"))
+        self.assertEqual(len(mine), 2)
+        self.assertEqual({" ".join(it.split()) for it in mine} - {" ".join(it.split()) for it in its}, set())
+
+    def test_conditions_of_look_at_mes(self):
+        """There are as many as the pages say."""
+        listed = self.page("docs/RESPONSE.md").partition("## What has to hold\n")[2].partition("\n## ")[0]
+        number = ("four", "five", "six", "seven", "eight")[len(re.findall(r"(?m)^- \*\*", listed)) - 4]
+        told = [it for page in PAGES for it in re.findall(r"\[(\w+) conditions\]", page.read_text())]
+        self.assertEqual((len(told), {*told}), (3, {number}))
+
+    def test_time_of_a_step(self):
+        """The page on the library gives the longest that the header does."""
+        longest = re.search(r"Count (\d+) microseconds a step", self.page("docs/C.md"))
+        self.assertIn(f"to {longest[1]} us each", self.page("include/camac/camac.h"))
+
+    def test_revisions(self):
+        """No page names a tag: the repository has none."""
+        named = [it for page in PAGES for it in re.findall(r"\brev: (\S+)", page.read_text())]
+        self.assertEqual(named, ["COMMIT"])
 
 
 class Tasks(unittest.TestCase):

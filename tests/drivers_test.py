@@ -7,13 +7,13 @@ usage: tests/drivers_test.py [-v] [TEST ..]     from any folder; takes some seco
 """
 import fcntl
 import select
-import shutil
 import signal
 import subprocess
 import sys
 import unittest
 
 from support.live import LOCKOUT, PATIENCE, STRAIGHT_LINE, TOP, Case, Pipes
+from support.needs import needed
 
 sys.path.insert(0, str(TOP / "tools"))
 
@@ -216,7 +216,7 @@ class Misbehaving(Case):
                     self.expect_end(pipes, script, b"".join(lines[:count]), output)
 
 
-@unittest.skipUnless(shutil.which("gcc"), "gcc is not here")
+@needed("gcc")
 class InC(Case):
     """The driver in C. Here the requests are written by the test, in the place of camac."""
 

@@ -11,7 +11,6 @@ import json
 import os
 import pathlib
 import re
-import shutil
 import subprocess
 import sys
 import unittest
@@ -21,6 +20,7 @@ from xml.etree import ElementTree
 from support import of_c
 from support.live import PROGRAM, TOP, Case
 from support.lsp import SCRIPT
+from support.needs import needed
 
 ALE = pathlib.Path("/usr/share/vim-scripts/ale"), pathlib.Path("/usr/share/vim/vimfiles/pack/dist-bundle/opt/ale"), pathlib.Path("/usr/share/vim/vimfiles/pack/dist-bundle/start/ale")
 WRONG = SCRIPT.replace("within 6", "within 5")
@@ -116,7 +116,7 @@ qall!
 """
 
 
-def is_here(*words):
+def succeeds(*words):
     """Whether a command that tries something out succeeds."""
     try:
         return subprocess.run(words, capture_output=True, timeout=PATIENCE, stdin=subprocess.DEVNULL).returncode == 0
@@ -208,20 +208,20 @@ class Editors(Case):
         """The lines of what an editor said that are of a step."""
         return [it.rstrip("\r") for it in text.splitlines() if re.match("opened|fixed|left|told|renamed", it)]
 
-    @unittest.skipUnless(shutil.which("nvim"), "nvim is not here")
+    @needed("neovim")
     def test_neovim(self):
         self.write("work.lua", NVIM)
         start = f"set rtp^={TOP}/editors/vim,{TOP}/editors/nvim | filetype plugin on"
         text = self.run_editor("nvim", "--headless", "-i", "NONE", "--clean", "--cmd", start, "a.script", "-c", "luafile work.lua")
         self.assertEqual(self.said(text), STEPS, text)
 
-    @unittest.skipUnless(is_here("emacs", "-q", "--no-site-file", "--batch", "--eval", "(progn (require 'package) (package-initialize) (require 'eglot))"), "emacs with eglot is not here")
+    @needed("elpa-eglot", is_here=succeeds("emacs", "-q", "--no-site-file", "--batch", "--eval", "(progn (require 'package) (package-initialize) (require 'eglot))"))
     def test_emacs(self):
         self.write("work.el", EMACS)
         text = self.run_editor("emacs", "-q", "--no-site-file", "--batch", "-L", TOP / "editors/emacs", "-l", "work.el")
         self.assertEqual(self.said(text), STEPS, text)
 
-    @unittest.skipUnless(shutil.which("vim") and any(it.is_dir() for it in ALE), "vim with ALE is not here")
+    @needed("vim-ale", is_here=any(it.is_dir() for it in ALE))
     def test_vim(self):
         """ALE shows what is wrong; the rest is its own."""
         ale = next(it for it in ALE if it.is_dir())
@@ -229,7 +229,7 @@ class Editors(Case):
         text = self.run_editor("vim", "-es", "-u", "work.vim", "-i", "NONE")
         self.assertEqual(self.said((self.room / "said").read_text()), STEPS[:1], text)
 
-    @unittest.skipUnless(shutil.which("node"), "node is not here")
+    @needed("nodejs")
     def test_vscode(self):
         """The extension, as its package has it, over a stand-in of the editor."""
         subprocess.run([TOP / "tools/vsix", self.room / "camac.vsix"], check=True)

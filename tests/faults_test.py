@@ -9,8 +9,8 @@ import os
 import shutil
 import subprocess
 import tempfile
-import unittest
 
+from support.needs import skip
 from support.program import ANSWERS, DEMAND, EVENT_FILE, LISTING, PROGRAM, REQUESTS, STRAIGHT_LINE, TWICE, Case, fault, lacks, run_tests, unwritten
 
 # FAILING_TURN is the number of the call that fails, and FAILING_ERROR its error, 0 for a write that takes nothing, or SHORT for a read or
@@ -186,7 +186,7 @@ class Logged(Case):
     def setUpClass(cls):
         with open(PROGRAM, "rb") as program:
             if program.read(4) != b"\x7fELF":
-                raise unittest.SkipTest("the calls of a launcher would fail")
+                skip("a built program")  # the calls of a launcher would fail
         room = tempfile.TemporaryDirectory(prefix="camac-test-")
         cls.addClassCleanup(room.cleanup)
         cls.library = f"{room.name}/calls.so"

@@ -88,6 +88,14 @@ class Layout(unittest.TestCase):
                 formatted(text.encode())
             self.assertEqual((why.exception.line, str(why.exception)), (line, said))
 
+    def test_blocks_in_blocks(self):
+        """Sixteen may be open, and with one more no line is made."""
+        self.assertEqual(formatted(b"if q {\n" * 16 + b"}" * 16).count(b"\n"), 31)
+        for text, line in ((b"if q {\n" * 17 + b"}" * 17, 17), (b"{" * 1000 + b"}" * 1000, 1), (b"{" * 1000, 1)):
+            with self.assertRaises(LayoutFault) as why:
+                formatted(text)
+            self.assertEqual((why.exception.line, str(why.exception)), (line, "more than 16 open `{`: deeper than a script may be"))
+
     def test_text_that_would_be_too_long(self):
         text = HEAD.encode() + b"if q {" + b"put 1\n" * 174_000 + b"}}"
         self.assertLess(len(text), 1_048_576)
@@ -108,7 +116,13 @@ class Command(Case):
         self.assertEqual((bad.read_text(), bad.stat().st_mode & 0o777), ("var a\nvar b\n", 0o640))
         self.assertEqual(self.package("fmt", "none.script"), (1, "", said))
         self.assertEqual(self.file("none.script"), b"var }")
-        self.assertEqual(self.package("fmt", "lost.script"), (3, "", "camac: No such file or directory: lost.script\n"))
+        lost = "camac: No such file or directory: lost.script\n"
+        self.assertEqual(self.package("fmt", "lost.script"), (3, "", lost))
+        bad.write_text("var a  var b")
+        told = "bad.script: its layout is another one\n"
+        self.assertEqual(self.package("fmt", "--check", "bad.script", "lost.script", "none.script", "bad.script"), (3, told + told, lost + said))
+        self.assertEqual(self.package("fmt", "none.script", "lost.script", "bad.script"), (3, "", said + lost))
+        self.assertEqual(bad.read_text(), "var a\nvar b\n")
         self.assertEqual(self.package("fmt"), (2, "", self.package("fmt")[2]))
 
     def test_standard_input(self):
@@ -116,7 +130,7 @@ class Command(Case):
         self.assertEqual(self.package("fmt", "-", given=b"var {"), (1, "", "camac: -:1: this `{` is not closed\n"))
 
 
-@unittest.skipIf(of_c.lacking(), of_c.lacking() or "it is here")
+@of_c.needed()
 class RandomScripts(Case):
     """What the checker says of a script, and what a run of it does, stays with its layout and with other names."""
 

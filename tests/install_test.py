@@ -17,6 +17,7 @@ import unittest
 
 from support import launcher, of_c
 from support.launcher import call, copy, stand_in, start, toolchain
+from support.needs import has, needed
 from support.program import PROGRAM, TOP
 
 # What ./camac calls, and ./install besides.
@@ -132,7 +133,7 @@ class Lacking(Case):
         self.assertEqual(call(COPY / "install", "--pack", place, env=self.path(*OF_LAUNCHER, *OF_INSTALLER, *OF_ARCHIVES["--pack"]))[::2], (0, ""))
 
 
-@unittest.skipUnless(all(map(shutil.which, OF_ARCHIVES["--deb"])), "no tools of Debian")
+@needed("the tools of Debian", is_here=all(map(shutil.which, OF_ARCHIVES["--deb"])))
 class DebianPackage(Case):
     """It has the library if that is here to be put in."""
 
@@ -157,8 +158,18 @@ class DebianPackage(Case):
         wanted += " share/doc/camac/copyright share/doc/camac/changelog.gz share/doc/camac/changelog.Debian.gz share/doc/camac/docs/REFUSALS.md"
         wanted += "" if of_c.lacking() else " include/camac/camac.h lib/x86_64-linux-gnu/libcamac.so.0 lib/x86_64-linux-gnu/pkgconfig/camac.pc"
         self.assertEqual([it for it in wanted.split() if not (room / "usr" / it).is_file()], [])
-        if shutil.which("lintian"):
+        said = call("dpkg-deb", "-f", package, "Description")[1]
+        self.assertEqual(said.splitlines()[0], "checker and simulator for CAMAC readout scripts, not proved")
+        self.assertEqual("\n The library for C in this package is not proved.\n" in said, not of_c.lacking())
+        if has("lintian"):
             self.assertEqual(call("lintian", "--allow-root", "--fail-on", "error,warning", package)[:2], (0, ""))
+
+    def test_what_is_proved(self):
+        for program, library, lacking, said, last in (("yes", "no", "", "proved", "not proved"), ("no", "yes", "", "not proved", "proved"), ("yes", "", "gcc", "proved", None)):
+            line = f'source tools/debian.bash; folder={self.folder()} is_proved={program} is_library_proved={library} lacking={lacking} debian_control'
+            told = call("bash", "-c", line, cwd=COPY)[1]
+            self.assertRegex(told, f"(?m)^Description: checker and simulator for CAMAC readout scripts, {said}$")
+            self.assertEqual(re.findall("library for C in this package is (.*)[.]$", told), [last] if last else [])
 
 
 class Beside(Case):
@@ -224,7 +235,8 @@ class Named(Case):
         self.assertEqual(ran.returncode, 1)
 
 
-@unittest.skipIf(of_c.lacking() or not shutil.which("pkg-config"), "no library for C, or no pkg-config")
+@of_c.needed()
+@needed("pkg-config")
 class BlockOfC(Case):
     """The block of README for programs in C, in a shell in which nothing else is set, after ./install into the home folder."""
 

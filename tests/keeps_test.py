@@ -396,6 +396,13 @@ class Proposed(Case):
             propose(self.write("plan", "[[types]]\n"), b"", judge())
 
 
+    def test_the_page(self):
+        """The table of docs/CHECKER.md says of a guard what its proposal says."""
+        rows = [it for it in (TOP / "docs/CHECKER.md").read_text().splitlines() if it.startswith("| `if ") and " = " in it]
+        for statement, said in (("sum = sum + v", "always true"), ("left = left - 1", "true unless it would fall below 0")):
+            self.assertEqual([said in it for it in rows if statement in it], [True])
+
+
 class Command(Case):
     def command(self, *words):
         status, out, err = self.package("check", *words)

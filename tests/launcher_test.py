@@ -22,6 +22,7 @@ import time
 import unittest
 
 from support.launcher import Case, call, copy, start, toolchain
+from support.needs import has
 from support.program import TOP
 
 VERDICT = "accepted\nservice adc gl 3 cycles 3 of 3 words 1 of 1 steps 3\n"
@@ -389,7 +390,7 @@ class Install(Case):
             self.assertEqual(told, (1, f"{COPY}/examples/too_few_cycles.script:4:1: refused E12: more cycles than annotated\n", ""))
         status, out, err = call(COPY / "install", place, env={**os.environ, "PATH": f"{place}/bin:{os.environ['PATH']}"})
         self.assertEqual((status, out.splitlines()[-2].startswith("install: camac 0.2.0"), err), (0, True, ""))
-        if not self.lacking and shutil.which("pkg-config"):
+        if not self.lacking and has("pkg-config"):
             words = ["pkg-config", "--cflags", "--libs", "--modversion", "camac"]
             status, out, err = call(*words, env={**os.environ, "PKG_CONFIG_PATH": f"{place}/lib/pkgconfig"})
             self.assertEqual((status, out.splitlines()[0], err), (0, "0.2.0", ""))
@@ -495,7 +496,7 @@ class Install(Case):
         self.addCleanup((COPY / "python/camac/a_module.py").unlink)
         place = self.folder()
         out = call(COPY / "install", place)[1]
-        self.assertIn(f"{place}/include/a_header.h\n", out)
+        self.assertEqual(f"{place}/include/a_header.h\n" in out, not self.lacking)
         self.assertEqual(len([*place.glob("lib/python3*/site-packages/camac/a_module.py")]), 1, out)
 
     def test_words(self):

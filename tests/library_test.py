@@ -8,7 +8,6 @@ It needs gcc and the archive that tests/support/of_c.py names, else all is left 
 import collections
 import concurrent.futures
 import functools
-import importlib.util
 import os
 import re
 import shutil
@@ -16,12 +15,12 @@ import subprocess
 import sys
 import threading
 import time
-import unittest
 import zipfile
 from random import Random
 
 from support import of_c
 from support.live import LOCKOUT, PROGRAM, STRAIGHT_LINE, TOP, Broken, Case, Interrupted, Listed, run_tests
+from support.needs import needed
 import camac
 from camac import Answer, Ending, ProgramFault, Refused, UsageFault, judge, library
 from camac.mock import Adc, Auxiliary, MockBranch, Recorder, Register
@@ -310,7 +309,7 @@ class Calls(Case):
         self.assertEqual(status, 0, told)
         self.assertGreater(int(told), 50)
 
-    @unittest.skipUnless(shutil.which("valgrind"), "valgrind is not here")
+    @needed("valgrind")
     def test_all_is_freed(self):
         words = ["valgrind", "-q", "--leak-check=full", "--show-leak-kinds=all", "--errors-for-leak-kinds=all", "--error-exitcode=9"]
         folder = self.room / "folder"
@@ -678,7 +677,7 @@ class Package(Case):
         status, told = call(*calls, "report", "@sample", its, self.write("answers", ""), "-o", self.room / "it.html", env=env)
         self.assertEqual((status, told), (3, "camac: the program camac is not in PATH, and CAMAC_PROGRAM is not set\n"))
 
-    @unittest.skipUnless(importlib.util.find_spec("pip"), "pip is not here")
+    @needed("python3-pip")
     def test_pip(self):
         place = self.room / "place"
         source = self.room / "python"
@@ -706,7 +705,5 @@ class Package(Case):
 
 
 if __name__ == "__main__":
-    if of_c.lacking():
-        print(f"left out: {of_c.lacking()}")
-        sys.exit()
-    run_tests()
+    if of_c.is_here():
+        run_tests()

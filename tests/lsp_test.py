@@ -471,8 +471,9 @@ class Changed(Served):
         edits = self.client.ask("textDocument/formatting", textDocument={"uri": uri}, options={})
         self.assertEqual(applied(text, edits), wanted)
         self.assertEqual(self.client.ask("textDocument/formatting", textDocument={"uri": self.open(wanted)}, options={}), [])
-        told = self.client.ask("textDocument/formatting", textDocument={"uri": self.open("var {")}, options={})
-        self.assertEqual(told["message"], "line 1: this `{` is not closed")
+        for text, why in (("var {", "this `{` is not closed"), ("{" * 17, "more than 16 open `{`: deeper than a script may be")):
+            told = self.client.ask("textDocument/formatting", textDocument={"uri": self.open(text)}, options={})
+            self.assertEqual(told["message"], f"line 1: {why}")
 
 
 class Size(Served):

@@ -1,22 +1,27 @@
 #!/usr/bin/env python3
-"""Tests of the output of the Python package's commands: whatever is at the place of OUT, nothing of the user's is lost or half there.
+"""Tests of the files that commands write: whatever is at the place, nothing of the user's is lost or half there.
 
-usage: tests/output_test.py [-v] [TEST ..]     from any folder; takes a few seconds
+usage: tests/output_test.py [-v] [TEST ..]     from any folder, over a built program; takes half a minute
 
-It needs no program: event files and listings are made here.
+`Written` has the commands in the table of docs/RUNNING.md, each beside each kind of place; `Outputs` what a shell can make of a place, by one of them.
 """
 import os
+import re
 import shlex
+import shutil
 import stat
 import struct
 import subprocess
 import sys
 import tempfile
 import unittest
+from typing import NamedTuple, Tuple
 
-from support.live import TOP, Case
+from support.live import PROGRAM, TOP, Case, run_tests
+from support.needs import needed, skip
+from support.program import ANSWERS, EVENT_FILE, EVENT_FILE_ONE, LISTING, STRAIGHT_LINE, unwritten
 
-NIGHT_BEFORE = "of the night before\n"
+NIGHT_BEFORE = "$ of the night before\n"
 HEAD = "number,gl,cycles,missed,count,word_0\n"
 
 
@@ -26,30 +31,115 @@ def event_file(count, words=1):
     return b"CAMACEV2" + b"".join(records), HEAD + "".join(f"{k},3,5,0,1,{k}\n" for k in range(1, count + 1))
 
 
-class Outputs(Case):
+COMMAND = """
+import sys
+from camac.__main__ import main
+sys.exit(main())
+"""
+RECORDED = """
+import os, sys, camac
+class Silent:
+    def demand(self): return None
+    def cycle(self): pass
+    lock = unlock = cycle
+try:
+    camac.drive("@sample", "script", Silent(), "live.events", record=sys.argv[1])
+except camac.ProgramFault as fault:
+    print(f"camac: {fault}", file=sys.stderr)
+    sys.exit(fault.status)
+finally:
+    os.path.exists("live.events") and os.remove("live.events")
+"""
+# Somebody writes at the place that is the first word, once a command has looked there and makes its new file.
+SAVED = "saved meanwhile\n"
+SAVES = f"""
+import sys, tempfile
+place, make = sys.argv.pop(1), tempfile.mkstemp
+def make_later(*words):
+    with open(place, "a") as out:
+        out.write({SAVED!r})
+    return make(*words)
+tempfile.mkstemp = make_later
+"""
+WIDE = STRAIGHT_LINE.decode().replace("within 3 cycles event 1", "within 30 cycles event 10")
+KEEPS = """cdlam adc 1 1 5 12
+var i k
+service adc within 9 cycles event 9 words {
+  for i = 1 to 2 {
+    k = i
+  }
+  put k
+}
+"""
+KEPT = KEEPS.replace("1 to 2 {", "1 to 2 keep k in 0..2 {").replace("within 9 cycles event 9", "within 0 cycles event 1")
+SIMULATE = ("simulate", "@sample", "script", "--rate", "adc=9", "--cycle-us", "1", "--services", "9")
+
+
+class Command(NamedTuple):
+    """A command that writes a file: its words, in which OUT is the place; the file, if it has another name; the program, and of a script what it is
+    before and after."""
+
+    words: Tuple[str, ...]
+    file: str = "OUT"
+    program: str = COMMAND
+    old: str = ""
+    new: str = ""
+
+
+COMMANDS = {
+    "camac-check --write": Command(("check", "--write", "@sample", "OUT"), old=WIDE, new=STRAIGHT_LINE.decode()),
+    "camac-check --keeps --write": Command(("check", "--keeps", "--write", "@sample", "OUT"), old=KEEPS, new=KEPT),
+    "camac-fmt": Command(("fmt", "OUT"), old="var a  var b", new="var a\nvar b\n"),
+    "camac-report -o": Command(("report", "@sample", "script", "answers", "-o", "OUT")),
+    "camac-report --record": Command(("report", "@sample", "script", "answers", "-o", "page.html", "--record", "OUT")),
+    "python3 -m camac draw -o": Command(("draw", "plan", "@sample", "-o", "OUT")),
+    "python3 -m camac simulate -o": Command((*SIMULATE, "-o", "OUT")),
+    "python3 -m camac simulate --events": Command((*SIMULATE, "--events", "OUT")),
+    "python3 -m camac annotate -o": Command(("annotate", "@sample", "script", "answers", "-o", "OUT")),
+    "python3 -m camac csv -o": Command(("csv", "events", "run.events", "-o", "OUT")),
+    "python3 -m camac export -o": Command(("export", "run.events", "-o", "OUT.csv"), "OUT.events.csv"),
+    "camac.drive(.., record=..)": Command(("OUT",), program=RECORDED),
+}
+# Commands of the program, which have a test of their own; and what writes as it goes, into what is there.
+OF_PROGRAM, AS_IT_GOES = {"camac run", "camac drive"}, {"python3 -m camac simulate --events"}
+SCRIPT, NOTHING, CHANGED = "the script that it read", "nothing that holds bytes", "the script changed while it was judged"
+# By what a command may replace, as the page has it, why it leaves another file.
+FOREIGN = "another command made it; --overwrite replaces it"
+REASONS = {SCRIPT: CHANGED, NOTHING: "it holds bytes; ", "a record without times": "it holds bytes; "}
+
+
+def table():
+    """By command what it may replace, as the page has it."""
+    page = (TOP / "docs/RUNNING.md").read_text().partition("\n## What is written over\n")[2].partition("\n## ")[0]
+    return {name: replaced for name, replaced in re.findall(r"^\| `([^|]*)` \| `[^|]*` \| ([^|]*) \|$", page, re.M)}
+
+
+class Called(Case):
     @classmethod
     def setUpClass(cls):
         """Python keeps what it compiles for all calls, and not in the sources."""
         cache = tempfile.TemporaryDirectory(prefix="camac-python-")
         cls.addClassCleanup(cache.cleanup)
-        cls.env = {**os.environ, "PYTHONPATH": str(TOP / "python"), "PYTHONDONTWRITEBYTECODE": "", "PYTHONPYCACHEPREFIX": cache.name}
+        cls.env = {**os.environ, "CAMAC_PROGRAM": PROGRAM, "PYTHONPATH": str(TOP / "python"), "PYTHONDONTWRITEBYTECODE": "", "PYTHONPYCACHEPREFIX": cache.name}
 
-    def setUp(self):
-        super().setUp()
-        data, self.table = event_file(3)
-        (self.room / "run.events").write_bytes(data)
-
-    def shell(self, line, before=()):
-        """Status, standard output and standard error of a line of bash, in which `csv` makes a table."""
-        text = f'csv() {{ {shlex.quote(sys.executable)} -m camac csv "$@" --overwrite; }}\n{line}'
-        ran = subprocess.run([*before, "bash", "-c", text], cwd=self.room, env=self.env, capture_output=True, text=True, timeout=60)
+    def ran(self, words, **more):
+        """Status, standard output and standard error."""
+        ran = subprocess.run(words, cwd=self.room, env={**self.env, **more}, capture_output=True, text=True, timeout=60)
         return ran.returncode, ran.stdout, ran.stderr
 
-    def write_table(self, out, status=0, told=""):
-        self.assertEqual(self.shell(f"csv events run.events -o {out}"), (status, "", told))
+    def on_small_disk(self, line):
+        """The same of a line of bash in which `small` is a disk of 64 KiB."""
+        apart = ["unshare", "--mount"] + ([] if not os.getuid() else ["--map-root-user"])
+        try:
+            ran = self.ran([*apart, "bash", "-c", f"mkdir small && mount -t tmpfs -o size=64k none small || exit 77\n{line}"])
+        except FileNotFoundError:
+            skip("util-linux")
+        if ran[0] == 77 or ran[2].startswith("unshare: "):
+            skip("a disk that can be mounted")
+        return ran
 
     def text(self, name):
-        return (self.room / name).read_text()
+        return (self.room / name).read_text(errors="surrogateescape")
 
     def there(self):
         return sorted(it.name for it in self.room.iterdir())
@@ -57,8 +147,189 @@ class Outputs(Case):
     def mode(self, name):
         return stat.S_IMODE((self.room / name).lstat().st_mode)
 
+
+class Written(Called):
+    # Of each command what it may replace, and what it puts there, once that is known.
+    known = {name: (it.old, it.new) for name, it in COMMANDS.items() if it.old}
+
+    def setUp(self):
+        super().setUp()
+        (self.room / "script").write_bytes(STRAIGHT_LINE)
+        (self.room / "answers").write_bytes(ANSWERS)
+        (self.room / "run.events").write_bytes(event_file(3)[0])
+
+    @staticmethod
+    def words(its, out):
+        return [sys.executable, "-c", its.program, *(it.replace("OUT", out) for it in its.words)]
+
+    def each(self, but=frozenset()):
+        """Each command: what it is, why it leaves another file, what it may replace at its file, and what it puts there."""
+        for name, replaced in table().items():
+            its = COMMANDS.get(name)
+            if its is None or name in but:
+                continue
+            if name not in self.known:
+                self.assertEqual(self.ran(self.words(its, "fresh"))[::2], (0, ""), name)
+                new, made = (read(its.file.replace("OUT", "fresh")) for read in (self.timeless, self.text))
+                self.known[name] = "" if replaced == NOTHING else made if "record" in name else made[:56] + NIGHT_BEFORE, new
+            yield its, REASONS.get(replaced, FOREIGN), *self.known[name]
+            for it in {*self.room.iterdir()} - {self.room / name for name in ("script", "answers", "run.events")}:
+                shutil.rmtree(it) if it.is_dir() and not it.is_symlink() else it.unlink()
+
+    def timeless(self, file):
+        """A text without the times that a record has."""
+        return re.sub(r'"(begin|end|told|demands|services)": ("[^"]*"|[0-9.]+)', "", self.text(file))
+
+    def refuse(self, words, file, reason):
+        """A command ends with status 3, the name and the reason, and leaves no other file."""
+        status, out, err = self.ran(words)
+        self.assertEqual((status, reason in out + err, file in out + err), (3, True, True), out + err)
+        self.assertEqual([*self.room.rglob("*.new")], [])
+
+    def test_the_page_has_them_all(self):
+        self.assertEqual({*table()}, {*COMMANDS, *OF_PROGRAM})
+        self.assertEqual({name for name, it in table().items() if it == SCRIPT}, {name for name, it in COMMANDS.items() if it.old})
+
+    def test_links(self):
+        """What a link leads to is written, and the link stays. A file of two names keeps both, and its mode."""
+        for its, _, old, new in self.each():
+            with self.subTest(its.words):
+                (self.room / "far").mkdir()
+                self.write("far/there", old).chmod(0o604)
+                os.link(self.room / "far/there", self.room / "other")
+                link = self.room / its.file.replace("OUT", "to")
+                link.symlink_to("far/there")
+                self.assertEqual(self.ran(self.words(its, "to"))[::2], (0, ""))
+                self.assertEqual((os.readlink(link), self.timeless("far/there"), self.text("other")), ("far/there", new, self.text("far/there")))
+                self.assertEqual(((self.room / "other").stat().st_nlink, self.mode("other"), len([*(self.room / "far").iterdir()])), (2, 0o604, 1))
+
+    def test_owners(self):
+        """Another file comes to the place, with mode, owner and group of the old one."""
+        owner = (65534, 65534) if not os.getuid() else (os.getuid(), os.getgid())
+        for its, _, old, new in self.each(AS_IT_GOES):
+            with self.subTest(its.words):
+                file = self.write(its.file.replace("OUT", "out"), old)
+                os.chown(file, *owner)
+                file.chmod(0o640)
+                with file.open() as before:
+                    self.assertEqual(self.ran(self.words(its, "out"))[::2], (0, ""))
+                    after = file.stat()
+                    self.assertFalse(os.path.samestat(os.fstat(before.fileno()), after))
+                self.assertEqual((self.timeless(file), self.mode(file), after.st_uid, after.st_gid), (new, 0o640, *owner))
+
+    def test_owners_that_cannot_be_given(self):
+        """The file of another user, who lets it be written, is written in place."""
+        before = self.without("chown")
+        for its, _, old, new in self.each():
+            with self.subTest(its.words):
+                file = self.write(its.file.replace("OUT", "out"), old)
+                os.chown(file, 65534, 65534)
+                file.chmod(0o666)
+                self.assertEqual(self.ran([*before, *self.words(its, "out")])[::2], (0, ""))
+                self.assertEqual((self.timeless(file), self.mode(file), file.stat().st_uid), (new, 0o666, 65534))
+                self.assertEqual([*self.room.rglob("*.new")], [])
+
+    def without(self, right):
+        """The words of a command that takes a right away from root. A user has it not."""
+        words = ["setpriv", "--bounding-set", f"-{right}"]
+        try:
+            if os.getuid() or self.ran([*words, "true"])[0]:
+                skip("root")
+        except FileNotFoundError:
+            skip("util-linux")
+        return words
+
+    def test_read_only_files(self):
+        """A file that its user may not write stays, although the folder may be written."""
+        before = self.without("dac_override") if not os.getuid() else []
+        for its, _, old, _ in self.each():
+            with self.subTest(its.words):
+                file = self.write(its.file.replace("OUT", "out"), old)
+                file.chmod(0o444)
+                self.refuse([*before, *self.words(its, "out")], file.name, "Permission denied")
+                self.assertEqual((file.read_text(), self.mode(file)), (old, 0o444))
+
+    def test_other_kinds(self):
+        """A file of another kind stays, and a folder."""
+        for its, reason, _, _ in self.each():
+            with self.subTest(its.words):
+                file = self.write(its.file.replace("OUT", "out"), NIGHT_BEFORE)
+                if reason == CHANGED:
+                    self.assertEqual(self.ran(self.words(its, "out"))[0], 1)
+                else:
+                    self.refuse(self.words(its, "out"), file.name, reason)
+                self.assertEqual(file.read_text(), NIGHT_BEFORE)
+                file.unlink()
+                file.mkdir()
+                self.refuse(self.words(its, "out"), file.name, "Is a directory")
+
+    def test_what_is_saved_meanwhile(self):
+        """It is not lost, although the command found nothing of it when it began."""
+        for its, reason, _, _ in self.each(AS_IT_GOES):
+            with self.subTest(its.words):
+                file = self.write(its.file.replace("OUT", "out"), its.old)
+                words = self.words(its._replace(program=SAVES + its.program), "out")
+                self.refuse([*words[:3], file.name, *words[3:]], file.name, reason)
+                self.assertRegex(file.read_text(), f"(?s)\\A{re.escape(its.old)}({SAVED})+\\Z")
+
+    def test_what_is_saved_between_questions(self):
+        """A script that an editor saves each time that the program is asked."""
+        self.write("asks", f'#!/bin/bash\necho "# saved" >>out\nexec {shlex.quote(PROGRAM)} "$@"\n').chmod(0o755)
+        for name in ("camac-check --write", "camac-check --keeps --write"):
+            with self.subTest(name):
+                self.write("out", COMMANDS[name].old)
+                status, told, _ = self.ran(self.words(COMMANDS[name], "out"), CAMAC_PROGRAM=str(self.room / "asks"))
+                self.assertEqual((status, told), (3, f"out: fault: {CHANGED}\n"))
+                self.assertRegex(self.text("out"), f"\\A{re.escape(COMMANDS[name].old)}(# saved\n)+\\Z")
+
+    def test_full_disk(self):
+        """A disk that has no room, seen by these commands alone."""
+        rows, line = [], ""
+        for number, (its, _, old, _) in enumerate(self.each()):
+            rows.append((its, old))
+            file = its.file.replace("OUT", "small/out")
+            line += f"printf %s {shlex.quote(old)} >{file}; head -c 65536 /dev/zero >small/rest 2>&-\n"
+            line += f"{shlex.join(self.words(its, 'small/out'))} >said{number} 2>&1; echo $? >>said{number}; cat {file} >left{number}; rm small/rest; ls small >names{number}; rm small/*\n"
+        self.on_small_disk(line)
+        for number, (its, old) in enumerate(rows):
+            file, said = its.file.replace("OUT", "out"), self.text(f"said{number}")
+            with self.subTest(its.words):
+                self.assertEqual((said[-2:], "No space left on device" in said, f"small/{file}" in said), ("3\n", True, True), said)
+                self.assertEqual((self.text(f"left{number}"), self.text(f"names{number}")), (old, f"{file}\n"))
+
+    def test_event_files(self):
+        """`run` replaces an event file alone, and `drive` nothing that holds bytes."""
+        self.assertEqual([table()[it] for it in sorted(OF_PROGRAM)], [NOTHING, "an event file"])
+        run, drive = ([PROGRAM, *it.split(), "out"] for it in ("run @sample script answers", "drive @sample script"))
+        foreign = unwritten("it is no event file", "out").decode()
+        own = unwritten("it holds bytes; a live run needs a file of its own", "out").decode()
+        file = self.room / "out"
+        for old in (b"", EVENT_FILE, EVENT_FILE_ONE, EVENT_FILE[:8]):
+            file.write_bytes(old)
+            self.assertEqual((self.ran(run), file.read_bytes()), ((0, LISTING.decode(), ""), EVENT_FILE))
+        for words, old, told in [*((run, it, foreign) for it in (ANSWERS, b"C", b"CAMACEV", b"CAMACEV3")), *((drive, it, own) for it in (ANSWERS, EVENT_FILE))]:
+            with self.subTest(words=words, old=old):
+                file.write_bytes(old)
+                self.assertEqual((self.ran(words), file.read_bytes()), ((3, "", told), old))
+
+
+class Outputs(Called):
+    def setUp(self):
+        super().setUp()
+        data, self.table = event_file(3)
+        (self.room / "run.events").write_bytes(data)
+
+    CSV = f'csv() {{ {shlex.quote(sys.executable)} -m camac csv "$@" --overwrite; }}\n'
+
+    def shell(self, line):
+        """Status, standard output and standard error of a line of bash, in which `csv` makes a table."""
+        return self.ran(["bash", "-c", f"{self.CSV}{line}"])
+
+    def write_table(self, out, status=0, told=""):
+        self.assertEqual(self.shell(f"csv events run.events -o {out}"), (status, "", told))
+
     def test_files_of_others(self):
-        """What the same command made is replaced, and another file by --overwrite alone."""
+        """A file of another kind is replaced by --overwrite alone. What is behind standard output is written into."""
         csv = f"{shlex.quote(sys.executable)} -m camac csv events run.events -o"
         (self.room / "mine.csv").write_text(NIGHT_BEFORE)
         self.assertEqual(self.shell(f"{csv} mine.csv"), (3, "", "camac: another command made it; --overwrite replaces it: mine.csv\n"))
@@ -77,30 +348,28 @@ class Outputs(Case):
         self.write_table("old")
         self.assertEqual((self.text("old"), self.mode("old"), self.there()), (self.table, 0o604, ["new", "old", "run.events"]))
 
-    def test_links(self):
-        """What a link leads to is written, there or not; the link stays."""
+    def test_link_to_nothing(self):
         (self.room / "far").mkdir()
-        self.write("far/there", NIGHT_BEFORE).chmod(0o600)
-        for name in ("there", "none"):
-            (self.room / f"to_{name}").symlink_to(f"far/{name}")
-            self.write_table(f"to_{name}")
-            self.assertEqual((os.readlink(self.room / f"to_{name}"), self.text(f"far/{name}")), (f"far/{name}", self.table))
-        self.assertEqual((self.mode("far/there"), sorted(it.name for it in (self.room / "far").iterdir())), (0o600, ["none", "there"]))
+        (self.room / "link").symlink_to("far/none")
+        self.write_table("link")
+        self.assertEqual((os.readlink(self.room / "link"), self.text("far/none")), ("far/none", self.table))
 
     def test_pipes(self):
         os.mkfifo(self.room / "pipe")
         self.assertEqual(self.shell("csv events run.events -o pipe & cat pipe; wait $!"), (0, self.table, ""))
         self.assertTrue(stat.S_ISFIFO((self.room / "pipe").stat().st_mode))
         self.assertEqual(self.shell("csv events run.events -o >(cat)| cat"), (0, self.table, ""))
+        told = "camac: it is no regular file: pipe\n"
+        self.assertEqual(self.shell("printf 'var a  var b' >pipe & camac() { python3 -m camac fmt pipe; }; camac; s=$?; wait; exit $s"), (3, "", told))
 
-    @unittest.skipIf(os.getuid(), "only root makes a device node")
+    @needed("root", is_here=not os.getuid())
     def test_devices(self):
         for name, minor, status, told in (("null", 3, 0, ""), ("full", 7, 3, "camac: No space left on device: full\n")):
             try:
                 os.mknod(self.room / name, 0o666 | stat.S_IFCHR, os.makedev(1, minor))
                 os.close(os.open(self.room / name, os.O_WRONLY))
             except OSError as why:
-                self.skipTest(f"no device node here: {why}")
+                skip(f"a device node ({why.strerror})")
             self.write_table(name, status, told)
             self.assertTrue(stat.S_ISCHR((self.room / name).stat().st_mode))
         self.assertEqual(self.there(), ["full", "null", "run.events"])
@@ -166,19 +435,12 @@ class Outputs(Case):
             self.write_table(out, 3, f"camac: {why}: {out}\n")
         self.assertEqual(self.there(), ["folder", "run.events"])
 
-    def test_full_disk(self):
-        """A disk of 64 KiB, seen by this command alone."""
-        apart = ["unshare", "--mount"] + ([] if not os.getuid() else ["--map-root-user"])
-        (self.room / "run.events").write_bytes(event_file(20_000)[0])
-        line = "mkdir small && mount -t tmpfs -o size=64k none small || exit 77\n"
-        line += f"printf '{NIGHT_BEFORE}' >small/out; csv events run.events -o small/out; status=$?; cat small/*; exit $status"
-        try:
-            ran = self.shell(line, apart)
-        except FileNotFoundError:
-            self.skipTest("no unshare")
-        if ran[0] == 77 or ran[2].startswith("unshare: "):
-            self.skipTest("nothing can be mounted")
-        self.assertEqual(ran, (3, NIGHT_BEFORE, "camac: No space left on device: small/out\n"))
+    def test_a_disk_that_has_room_once(self):
+        """The file of two names stays whole, where the new one has room beside it and not in its place."""
+        (self.room / "run.events").write_bytes(event_file(3000)[0])
+        line = f"printf '{NIGHT_BEFORE}' >small/out; ln small/out small/other; csv events run.events -o small/out; status=$?; cat small/*; exit $status"
+        ran = self.on_small_disk(f"{self.CSV}{line}")
+        self.assertEqual(ran, (3, NIGHT_BEFORE * 2, "camac: No space left on device: small/out\n"))
 
     def test_a_reader_that_is_gone(self):
         """The command ends without a word, by the signal by which `cat` ends."""
@@ -217,4 +479,4 @@ class Outputs(Case):
 
 
 if __name__ == "__main__":
-    unittest.main()
+    run_tests()

@@ -7,7 +7,6 @@ Tests in Chromium are left out if it is not installed. The pictures that are kep
 --keep` writes them anew, to be looked at before they are committed.
 """
 import re
-import shutil
 import statistics
 import subprocess
 import sys
@@ -20,6 +19,7 @@ from support import laboratory
 import camac
 from support import two_crates
 from support.browser import CHROMIUM, Browser
+from support.needs import needed
 from support.rows import ROWS
 from camac import __main__ as commands
 from camac import pictures
@@ -552,7 +552,7 @@ class Kept(unittest.TestCase):
         self.assertTrue(all(right == left for (_, right), (left, _) in zip(edges, edges[1:])))
 
 
-@unittest.skipUnless(CHROMIUM, "Chromium is not here")
+@needed("chromium", is_here=CHROMIUM)
 class InChromium(laboratory.BenchCase):
     def opened(self, browser, text):
         browser.open(self.write("page.html", text))
@@ -636,7 +636,7 @@ class InChromium(laboratory.BenchCase):
             browser.ask("document.querySelector('.scale').click()")
             self.assertEqual((before[1], browser.ask(shown)), (0, [0, before[0]]))
 
-    @unittest.skipUnless(shutil.which("pdftotext"), "pdftotext (package poppler-utils) is not here")
+    @needed("poppler-utils")
     def test_paper(self):
         """No page of paper ends with a heading, and the lines of calls are open."""
         headings = "Array.from(document.querySelectorAll('h2,h3,h4,summary')).map(it=>it.textContent)"

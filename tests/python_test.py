@@ -21,6 +21,7 @@ except ImportError:
     numpy = None
 
 from support.live import TOP
+from support.needs import needed
 from support.program import called
 from support.seconds import is_within
 import camac
@@ -174,7 +175,7 @@ class EventFiles(unittest.TestCase):
         self.assertTrue(is_within(1, lambda: self.assertEqual(sum(1 for _ in read_events(io.BytesIO(data))), 200_000)))
 
 
-@unittest.skipUnless(numpy, "numpy is not here")
+@needed("python3-numpy")
 class Arrays(unittest.TestCase):
     def compare(self, data):
         events, arrays = list(read_events(io.BytesIO(data))), event_arrays(io.BytesIO(data))

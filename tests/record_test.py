@@ -157,6 +157,16 @@ camac.drive("@sample", {str(SCRIPT)!r}, Killed(), "run.events", program={PROGRAM
         self.assertEqual(caught.exception.end.line, "ended events 2")
         self.assertEqual(len([*camac.read_events(self.events)]), 2)
 
+    def test_a_record_that_somebody_else_writes(self):
+        class Changed(MockBranch):
+            def demand(its):
+                self.record.write_text("mine")
+                return super().demand()
+        with unittest.mock.patch("camac.record.REFRESH", 0.0), self.assertRaises(camac.ProgramFault) as caught:
+            self.drive(branch(2, Changed), record=self.record)
+        self.assertEqual((caught.exception.end.line, self.record.read_text()), ("ended events 2", "mine"))
+        self.assertIn("it holds bytes; a run needs a record of its own", caught.exception.text)
+
     def test_numbers_and_titles(self):
         for wrong in ({"number": "7"}, {"number": 1.5}, {"title": 3}):
             with self.assertRaises(TypeError):
@@ -213,7 +223,7 @@ class Again(Case):
         end = camac.drive(PLAN, SCRIPT, Recorded(answers), self.room / "again.events", program=PROGRAM)
         self.assertEqual((end.line, self.file("again.events")), ("ended events 200", self.file("run.events")))
 
-    @unittest.skipIf(of_c.lacking(), of_c.lacking())
+    @of_c.needed()
     def test_the_same_file_in_this_process(self):
         os.environ.update(of_c.environment())
         answers = self.recorded(200)

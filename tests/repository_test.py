@@ -13,6 +13,7 @@ import sys
 import unittest
 
 from support import plans
+from support.needs import has, needed, skip
 from support.program import TOP, Room, keywords
 from support.rows import ROWS, SAMPLE
 
@@ -85,7 +86,7 @@ class Plans(unittest.TestCase):
         """All plans of the repository are of the schema. Wrong ones are not, where a key or a value by itself is wrong."""
         python = next((it for it in (sys.executable, "/usr/bin/python3") if shutil.which(it) and not run(it, "-c", "import tomllib, jsonschema").returncode), None)
         if not python:
-            self.skipTest("python3 with jsonschema and tomllib is not here")
+            skip("python3-jsonschema")
         right = [it.read_text() for it in sorted((TOP / "examples").rglob("*.toml"))]
         wrong = [text for _, text, code, _ in plans.MISTAKES if code in ("P2", "P3", "P4")]
         for old, new, said in (*plans.TABLES, *plans.FIELDS):
@@ -125,7 +126,7 @@ class ManualPages(unittest.TestCase):
         version = re.search(r"(?m)^## (\S+) \((.*)\)$", page("CHANGELOG.md"))
         for it in sorted((TOP / "man").iterdir()):
             self.assertIn(f"\n.Os camac {version[1]}\n", it.read_text(), it.name)
-        if shutil.which("mandoc"):
+        if has("mandoc"):
             said = run("mandoc", "-T", "lint", "-W", "warning", *sorted((TOP / "man").iterdir()))
             self.assertEqual(said.stdout, "")
 
@@ -228,15 +229,15 @@ class Editors(Room):
         found = [it.strip() for it in (self.room / "found").read_text().split("\n") if it]
         self.assertEqual(found, ["1 a.script:4 col 3: refused E12: more cycles than annotated", "2 a.script:5 warning: W4: this kept bound is not needed", "3 b.script: No such file or directory"])
 
-    @unittest.skipUnless(shutil.which("vim"), "vim is not here")
+    @needed("vim")
     def test_vim(self):
         self.try_vim("vim", "-es")
 
-    @unittest.skipUnless(shutil.which("nvim"), "nvim is not here")
+    @needed("neovim")
     def test_nvim(self):
         self.try_vim("nvim", "--headless")
 
-    @unittest.skipUnless(shutil.which("emacs"), "emacs is not here")
+    @needed("emacs-nox")
     def test_emacs(self):
         work = """(require 'camac-mode)
           (dolist (file (directory-files "." nil "script$"))

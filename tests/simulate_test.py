@@ -141,6 +141,11 @@ class Simulations(Case):
         self.assertEqual(status, 0)
         self.assertIn("49 more services were called for a look-at-me that was answered before", out)
 
+    def test_least_rate_and_cycle(self):
+        """The times are as exact there as elsewhere: to a tenth of a cycle."""
+        status, out, _ = self.told("--rate", "trig=0.01", "--cycle-us", "0.1")
+        self.assertEqual((status, out.splitlines()[1]), (0, "  cycles from look-at-me to end: 50 % 13.0, 90 % 13.0, 99 % 13.0, 99.9 % 13.0, most 13.0; at most 17"))
+
     def test_silence(self):
         """A crate that was initialised calls nobody; the simulation comes to its end."""
         self.script.write_text(SCRIPT.replace("  cclc slow\n", "  cccz 1\n"))
@@ -165,11 +170,11 @@ class Simulations(Case):
         for words, text in (
             (["--rate", "trig"], "SERVICE=RATE"),
             (["--rate", "trig=0"], "SERVICE=RATE"),
-            (["--rate", "trig=nan"], "SERVICE=RATE"),
+            *((["--rate", f"trig={it}"], "SERVICE=RATE with 0.01 to 10,000,000 a second") for it in ("nan", "inf", "-1", "0.0099", "1e-300", "10000001")),
             (["--rate", "trig=1", "--rate", "trig=2"], "is there twice"),
             (["--rate", "nobody=1"], "no such service"),
             (["--rate", "trig=1", "--services", "0"], "--services"),
-            (["--rate", "trig=1", "--cycle-us", "0"], "--cycle-us"),
+            *((["--rate", "trig=1", "--cycle-us", it], "--cycle-us is 0.1 to 1,000,000") for it in ("0", "nan", "inf", "1e-320", "0.099", "1000001")),
             (["--rate", "trig=1", "--every", "trig=0"], "--every"),
             ([], "--rate"),
         ):

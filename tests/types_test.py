@@ -6,11 +6,11 @@ usage: tests/types_test.py [-v] [TEST ..]     from any folder; takes some second
 It is left out if mypy (package mypy of Debian) is not installed.
 """
 import os
-import shutil
 import subprocess
 import unittest
 
 from support.live import TOP, Case
+from support.needs import needed
 
 PROGRAM = """\
 from typing import Optional
@@ -40,7 +40,7 @@ print(camac.drive("plan.toml", "a.script", MockBranch({(1, 5): Adc()}, {(1, 5): 
 """
 
 
-@unittest.skipUnless(shutil.which("mypy"), "mypy is not here")
+@needed("mypy")
 class Types(Case):
     def judged(self, *files):
         words = ["mypy", "--strict", "--no-error-summary", "--cache-dir", self.room / "cache", *files]

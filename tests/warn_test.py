@@ -36,6 +36,10 @@ class Warnings(Case):
         """The lines and codes of the warnings of a script on the plan @sample."""
         return [(it.line, it.code.value) for it in camac.warnings("@sample", self.write("a.script", text))]
 
+    def test_page(self):
+        """It has a section for each code, where the editors' links lead."""
+        self.assertEqual(re.findall(r"(?m)^### (W\d+): ", (TOP / "docs/REFUSALS.md").read_text()), [it.value for it in Code])
+
     def test_unreached(self):
         """The first statement of each block has a warning, and no statement in a block of it."""
         read = READ.split("\n")

@@ -18,7 +18,6 @@ import subprocess
 import sys
 import threading
 import time
-import unittest
 
 from support.live import PROGRAM, TOP, Case, run_tests
 from support import laboratory
@@ -26,6 +25,7 @@ import camac
 import camac.mock
 from support import two_crates
 from support.browser import CHROMIUM, Browser
+from support.needs import needed
 from camac.events import NEW_FILE, Event, record
 from camac.export import Given
 from camac.follow import Counts, Follower
@@ -326,7 +326,7 @@ class Served(ServedCase):
             self.assertEqual((done.returncode, done.stdout), (2, ""), words)
 
 
-@unittest.skipUnless(CHROMIUM, "Chromium is not here")
+@needed("chromium", is_here=CHROMIUM)
 class InChromium(ServedCase):
     """The page in a browser, with names that would do harm."""
 

@@ -11,13 +11,13 @@ import io
 import json
 import os
 import random
-import shutil
 import subprocess
 import sys
 import unittest
 import unittest.mock
 
 from support.live import PROGRAM, Case, script
+from support.needs import has, needed, skip
 
 import camac
 from camac.__main__ import main
@@ -105,7 +105,7 @@ class OfFile(Case):
         try:
             import tomllib
         except ImportError:
-            self.skipTest("this Python has no tomllib")
+            skip("Python 3.11")
         for value in ('"a # b"', "'a\\b'  # c", r'"\u00b5 \U0001f600 \t \" \\"', '""', '"é"'):
             text = f"[[word]]\r\ngl=1\nname = 'x'\n\tunit={value}"
             self.assertEqual(self.read(text).fields[0].unit, tomllib.loads(text)["word"][0]["unit"], value)
@@ -306,7 +306,7 @@ class Export(Case):
             for name in ("events.csv", "words.csv", "about.json"):
                 self.assertEqual(self.file(f"0.{name}"), self.file(f"1.{name}"))
 
-    @unittest.skipUnless(numpy, "numpy is not here")
+    @needed("python3-numpy")
     def test_npz(self):
         self.call("run.events", "-o", "run.npz", "--words", "words.toml")
         with numpy.load(self.room / "run.npz") as found:
@@ -326,13 +326,13 @@ class Export(Case):
         self.assertEqual(found["events/missed"][:].tolist(), [it.missed for it in self.events])
         self.assertEqual(found["events/count"][:].tolist(), [len(it.words) for it in self.events])
 
-    @unittest.skipUnless(h5py, "h5py is not here")
+    @needed("python3-h5py")
     def test_hdf5(self):
         self.call("run.events", "-o", "run.h5", "--words", "words.toml")
         with h5py.File(self.room / "run.h5") as found:
             self.compare(found)
             self.assertEqual((found["words/charge"].attrs["unit"], found.attrs["words"]), ("pC", (self.room / "words.toml").read_text()))
-        if shutil.which("h5dump"):
+        if has("hdf5-tools"):
             told = subprocess.run(["h5dump", "-d", "/words/word", "-y", "-w", "1", "run.h5"], cwd=self.room, capture_output=True, text=True, check=True).stdout
             numbers = told.partition("DATA {")[2].partition("}")[0].split(",")
             self.assertEqual([int(it) for it in numbers], [word for it in self.events for word in it.words])
@@ -427,7 +427,7 @@ class Export(Case):
                 self.call(f"{name}.events", "-o", f"{name}.npz")
 
 
-@unittest.skipUnless(numpy, "numpy is not here")
+@needed("python3-numpy")
 class Arrays(Case):
     def test_arrays_have_the_values_of_the_events(self):
         packed = parse_words(PACKED.encode(), "words.toml", SERVICES)

@@ -13,6 +13,10 @@ maintainer() {
   echo "${DEBFULLNAME:-The camac authors} <${DEBEMAIL:-camac@camac.invalid}>"
 }
 
+proved_or_not() {
+  if [ "$1" = yes ]; then echo proved; else echo 'not proved'; fi
+}
+
 debian_control() {
   local bytes size=0
   while read -r bytes; do size=$((size + (bytes + 1023) / 1024)); done < <(find "$folder" -type f -printf '%s\n')
@@ -25,13 +29,14 @@ Installed-Size: $size
 Depends: libc6 (>= 2.34), python3
 Section: science
 Priority: optional
-Description: proved checker and simulator for CAMAC readout scripts
+Description: checker and simulator for CAMAC readout scripts, $(proved_or_not "$is_proved")
  camac checks a readout script against a plan of CAMAC crates (IEEE 583)
  before it runs. It accepts the script with the greatest number of dataway
  cycles and event words of each service, or names the rule and the line that
  fail. It plays an accepted script against a list of answers, and runs it live
  with a driver of the crates.
 TEXT
+  [ -n "$lacking" ] || printf ' .\n The library for C in this package is %s.\n' "$(proved_or_not "$is_library_proved")"
 }
 
 debian_changelog() {

@@ -34,8 +34,8 @@
  *           one of the copies may be used.
  * THREADS   Different sessions may be used by different threads at the same time. The calls on one session come one after another, each
  *           after the one before (by a lock, by a join). No call is for a signal handler, or for the child of a fork of a process with threads.
- * TIME      camac_next and camac_step go on until an operation is wanted: at most as many steps as camac_service tells of the service in progress, some
- *           7 to 200 ns each. Nothing interrupts them, but camac_limit_steps may set a limit for a session.
+ * TIME      camac_next and camac_step go on until an operation is wanted: at most as many steps as camac_service tells of the service in progress, of
+ *           7 ns to 10 us each, by the length of its expressions. Nothing interrupts them, but camac_limit_steps may set a limit for a session.
  * YOU KEEP  what the proof takes for granted, and nothing can test:
  *           1. A session is CAMAC_NONE or what camac_open left there, and nobody else changes its bytes.
  *           2. Each pointer leads to as many bytes as its length says. What the library writes overlaps nothing else that you hand in, and

@@ -17,7 +17,7 @@ from camac.commands.running import main as run_command
 from camac.drive import STATUS as STATUS_OF
 from camac.drive import ProgramFault, Refused
 from camac.events import EventFileFault
-from camac.output import is_one_of, output, refuse_loss, write_made
+from camac.output import anything, is_one_of, made_like, output, refuse_loss, write_made
 from camac.pictures import Canvas, spectra
 from camac.program import knows_command
 from camac.record import refuse_foreign, write_played
@@ -142,7 +142,7 @@ def draw(args: argparse.Namespace) -> int:
     for out, text in texts.items():
         if is_one_of(out, args.files):
             raise ProgramFault(LOST.format(out), FAULT)
-        refuse_loss(out, text, args.overwrite)
+        refuse_loss(out, anything if args.overwrite else made_like(text))
     for out, text in texts.items():
         write_made(out, text, args.overwrite)
     return DONE
@@ -150,8 +150,8 @@ def draw(args: argparse.Namespace) -> int:
 
 def make_report(args: argparse.Namespace) -> int:
     inputs = Inputs(args.plan, args.script, args.source)
-    if args.record and not args.overwrite:
-        refuse_foreign(args.record)
+    if args.record:
+        refuse_loss(args.record, anything if args.overwrite else refuse_foreign)
     made = report(inputs, every=args.every, naming=naming(args))
     write_made(args.out, made.text, args.overwrite)
     if args.record:
@@ -163,8 +163,7 @@ def make_report(args: argparse.Namespace) -> int:
 
 def make_annotated(args: argparse.Namespace) -> int:
     status = DONE
-    refuse_loss(args.out, FIRST_LINE, args.overwrite)
-    with output(args.out) as out:
+    with output(args.out, anything if args.overwrite else made_like(FIRST_LINE)) as out:
         for line, it in annotate(args.plan, args.script, args.answers):
             status = REFUSED if isinstance(it, RunEnd) and STATUS_OF[it.how] else status
             out.write(line + "\n")
@@ -173,8 +172,8 @@ def make_annotated(args: argparse.Namespace) -> int:
 
 def make_csv(args: argparse.Namespace) -> int:
     refusal = None
-    refuse_loss(args.out, ",".join(tables.LISTING if args.what == "listing" else tables.EVENTS), args.overwrite)
-    with output(args.out) as out:
+    head = ",".join(tables.LISTING if args.what == "listing" else tables.EVENTS)
+    with output(args.out, anything if args.overwrite else made_like(head)) as out:
         if args.what == "listing":
             with open_listing(args.file) as listing:
                 tables.write_listing(listing, out)

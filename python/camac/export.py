@@ -2,7 +2,6 @@
 without numpy there are tables of comma-separated values alone."""
 import contextlib
 import dataclasses
-import errno
 import importlib
 import io
 import itertools
@@ -10,13 +9,13 @@ import json
 import os
 import tempfile
 from dataclasses import dataclass
-from typing import Any, Dict, Iterator, List, NamedTuple, Optional, Sequence, Set, Tuple
+from typing import Any, BinaryIO, Dict, Iterator, List, NamedTuple, Optional, Sequence, Set, Tuple
 
 from camac import export_csv
 from camac.arrays import Array, EventArrays, event_arrays
 from camac.drive import File, ProgramFault
 from camac.events import GREATEST_COUNT, GREATEST_GL, EventFileFault, whole_size
-from camac.output import bytes_output, holds_bytes, output
+from camac.output import anything, bytes_output, nothing, refuse_loss
 from camac.record import Record, Source, read_record
 from camac.subcommands import check, plan as read_plan
 from camac.texts import plan_text, script_text
@@ -201,45 +200,46 @@ def export(given: Given, out: str, may_replace: bool = False, program: Optional[
 
     Raises EventFileFault at the first wrong field, behind the events before it; FileExistsError if a file would be lost; ProgramFault if numpy
     or h5py is not there; and what `learn` raises."""
-    files = files_of(out)
+    files, rule = files_of(out), anything if may_replace else nothing
     for file in files:
-        if not may_replace and holds_bytes(file):
-            raise FileExistsError(errno.EEXIST, "it holds bytes; --overwrite replaces it", file)
-    fault = ENDINGS[os.path.splitext(out)[1]](given, learn(given, program), files)
+        refuse_loss(file, rule)
+    about = learn(given, program)
+    with contextlib.ExitStack() as opened:
+        outs = [opened.enter_context(bytes_output(it, rule)) for it in files]
+        fault = ENDINGS[os.path.splitext(out)[1]](given, about, outs)
+        # No file takes its place before all are whole.
+        for it in outs:
+            it.flush()
     if fault:
         raise fault
 
 
-def _write_csv(given: Given, about: About, files: List[str]) -> Optional[EventFileFault]:
-    with contextlib.ExitStack() as opened:
-        events, words = (opened.enter_context(bytes_output(it)) for it in files[:2])
-        try:
-            arrays, fault = read_all(given.events)
-        except ImportError:
-            fault = export_csv.write_events(export_csv.Without(given.events, about.sources, about.words), events, words)
-        else:
-            series = tables(arrays, about)
-            for table, file in (("events", events), ("words", words)):
-                export_csv.write_series([it for it in series if it.table == table], file)
+def _write_csv(given: Given, about: About, outs: Sequence[BinaryIO]) -> Optional[EventFileFault]:
+    to_events, to_words, to_about = outs
+    try:
+        arrays, fault = read_all(given.events)
+    except ImportError:
+        fault = export_csv.write_events(export_csv.Without(given.events, about.sources, about.words), to_events, to_words)
+    else:
+        series = tables(arrays, about)
+        for table, out in (("events", to_events), ("words", to_words)):
+            export_csv.write_series([it for it in series if it.table == table], out)
     units = {name: fields[0].unit for name, fields in about.words.by_name().items()}
-    with output(files[2]) as out:
-        json.dump({**about.value(), "units": units}, out, indent=1)
-        out.write("\n")
+    to_about.write((json.dumps({**about.value(), "units": units}, indent=1) + "\n").encode())
     return fault
 
 
-def _write_npz(given: Given, about: About, files: List[str]) -> Optional[EventFileFault]:
+def _write_npz(given: Given, about: About, outs: Sequence[BinaryIO]) -> Optional[EventFileFault]:
     numpy = _needed("numpy")
     events, fault = read_all(given.events)
     series = tables(events, about)
     arrays = {f"{it.table}/{it.name}": it.values for it in series}
     values = {**about.value(), "columns": {f"{it.table}/{it.name}": _about(it) for it in series}, "sources": about.source_names()}
-    with bytes_output(files[0]) as out:
-        numpy.savez(out, about=numpy.array(json.dumps(values)), **arrays)
+    numpy.savez(outs[0], about=numpy.array(json.dumps(values)), **arrays)
     return fault
 
 
-def _write_h5(given: Given, about: About, files: List[str]) -> Optional[EventFileFault]:
+def _write_h5(given: Given, about: About, outs: Sequence[BinaryIO]) -> Optional[EventFileFault]:
     h5py = _needed("h5py")
     events, fault = read_all(given.events)
     with h5py.File("export", "w", driver="core", backing_store=False) as file:
@@ -256,8 +256,7 @@ def _write_h5(given: Given, about: About, files: List[str]) -> Optional[EventFil
             file.attrs.update({name: text.encode("utf-8", "replace").decode() for name, text in its.items()})
         file.flush()
         image = file.id.get_file_image()
-    with bytes_output(files[0]) as out:
-        out.write(image)
+    outs[0].write(image)
     return fault
 
 

@@ -4,7 +4,7 @@ from itertools import chain
 from typing import Iterator, List, NamedTuple, Optional, Sequence, Tuple
 
 from camac.reader import CRATE_CALLS, LAM_CALLS
-from camac.texts import GREATEST_TEXT
+from camac.texts import GREATEST_DEPTH, GREATEST_TEXT
 from camac.tokens import Row, is_token, rows_of
 
 STEP, WIDTH = 2, 120
@@ -54,8 +54,8 @@ class Line(NamedTuple):
 
 
 def formatted(text: bytes) -> bytes:
-    """A script in the one layout. Raises LayoutFault if it has a byte that begins no token or braces that are not closed, or if it would be too
-    long."""
+    """A script in the one layout. Raises LayoutFault if it has a byte that begins no token, or braces that are not closed or too deep, or if it
+    would be too long."""
     rows = rows_of(text)
     kept = _kept(rows)
     made = _written(_Layout(list(_pieces(rows, kept[0]))).lines()).encode("latin-1")
@@ -170,6 +170,8 @@ class _Layout:
                 ends[open_at.pop()] = at
             if it.text[-1] == "{" and not it.is_comment:
                 open_at.append(at)
+            if len(open_at) > GREATEST_DEPTH:
+                raise LayoutFault(it.line, f"more than {GREATEST_DEPTH} open `{{`: deeper than a script may be")
         if open_at:
             raise LayoutFault(self.pieces[open_at[-1]].line, "this `{` is not closed")
         return ends

@@ -477,6 +477,7 @@ class _Game:
     def make(self, want: Want) -> Optional[Answer]:
         """Has the branch make an operation. Only a demand may be without an answer."""
         kind, c, n, a, f, data = native.read_want(want, native.BEHIND_SIZE)
+        answer: Optional[Answer]
         if kind == CYCLE:
             answer = self.branch.cycle(c, n, a, f, want.word if data == WRITE else None)
         elif kind == DEMAND:

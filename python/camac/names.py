@@ -28,7 +28,8 @@ class Kind(enum.Enum):
 
 
 # A lookup in the class takes as long as the rest that is done at a name.
-LAM, TABLE, VARIABLE, PARAMETER, REGISTER, PROCEDURE = Kind
+LAM, TABLE, VARIABLE = Kind.LAM, Kind.TABLE, Kind.VARIABLE
+PARAMETER, REGISTER, PROCEDURE = Kind.PARAMETER, Kind.REGISTER, Kind.PROCEDURE
 
 
 class Symbol(NamedTuple):

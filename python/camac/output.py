@@ -1,5 +1,5 @@
-"""The output of the commands of this package: to standard output, into what is there and is no regular file, or into a file that is put in its
-place in one step, once it is whole."""
+"""The one door by which the commands of this package write: to standard output, into what is there and is no regular file, or into a file that is put
+in its place once it is whole, if what is there may be replaced."""
 import contextlib
 import errno
 import io
@@ -7,34 +7,94 @@ import os
 import signal
 import stat
 import sys
-from typing import Any, BinaryIO, ContextManager, Iterator, Optional, Sequence, TextIO
+from typing import Any, BinaryIO, Callable, ContextManager, Iterator, NamedTuple, Optional, Sequence, TextIO, Tuple
 
 STANDARD_OUTPUT = "standard output"
+# The first bytes of a picture, and of a page, which are the same in all of them.
+BEGIN = 56
+# What may be lost: it looks at what is at a place, or that nothing is there, and raises OSError or ProgramFault if that has to stay.
+Rule = Callable[[str], None]
 
 
 @contextlib.contextmanager
-def output(path: Optional[str]) -> Iterator[TextIO]:
+def output(path: Optional[str], rule: Rule) -> Iterator[TextIO]:
     """A file for text (UTF-8, LF), open as `bytes_output` says. What of a name is no text is written as it was given."""
-    with bytes_output(path) as file, io.TextIOWrapper(file, "utf-8", "surrogateescape", "\n") as out:
+    with bytes_output(path, rule) as file, io.TextIOWrapper(file, "utf-8", "surrogateescape", "\n") as out:
         yield out
 
 
 @contextlib.contextmanager
-def bytes_output(path: Optional[str]) -> Iterator[BinaryIO]:
-    """A file to write, as it goes; None is standard output. A device or a pipe is written into. Else a new file is made beside the place
-    that `path` leads to, with the mode of the old one. It takes that place at the end of the block. Where the block fails it is removed,
-    and what was there stays.
+def bytes_output(path: Optional[str], rule: Rule) -> Iterator[BinaryIO]:
+    """A file to write, as it goes; None is standard output. A device or a pipe is written into. Else a new file is made beside the place that
+    `path` leads to, and takes it at the end of the block, if by the rule what is there may be lost, at the begin and at the end. Where the
+    block fails it is removed, and what was there stays.
 
-    Raises OSError with the name if it cannot be written, and BrokenPipeError if the reader of a pipe closed it."""
+    Raises OSError with the name if it cannot be written, what the rule raises, and BrokenPipeError if the reader of a pipe closed it."""
     its: ContextManager[BinaryIO]
     if path is None:
         its = _buffered(_standard_output(), STANDARD_OUTPUT)
     elif (there := _open_as_it_is(path)) is None:
-        its = _replacement(path)
+        its = _replacement(path, rule)
     else:
         its = _buffered(there, path)
     with its as file:
         yield file
+
+
+def refuse_loss(path: str, rule: Rule) -> None:
+    """Raises OSError if a file may not be written, or what the rule raises. What would be written into is not looked at."""
+    its = _stat(path)
+    if its is None or _is_replaced(its):
+        _look(path, rule)
+
+
+def anything(path: str) -> None:
+    """The rule of --overwrite: whatever is there may be lost."""
+
+
+def nothing(path: str) -> None:
+    """The rule that a file holds no bytes."""
+    if holds_bytes(path):
+        raise FileExistsError(errno.EEXIST, "it holds bytes; --overwrite replaces it", path)
+
+
+def made_like(text: str) -> Rule:
+    """The rule that a file holds no bytes, or begins as this text does, or as its first `BEGIN` bytes: else another command made it."""
+    begin = text.encode("utf-8", "surrogateescape")[:BEGIN]
+
+    def rule(path: str) -> None:
+        if holds_bytes(path):
+            with open(path, "rb") as file:
+                if file.read(len(begin)) != begin:
+                    raise FileExistsError(errno.EEXIST, "another command made it; --overwrite replaces it", path)
+
+    return rule
+
+
+class Original(NamedTuple):
+    """A script that was read, to be replaced: its file, its bytes, and which file it was then."""
+
+    file: str
+    data: bytes
+    identity: Tuple[int, ...]
+
+    def refuse_change(self, path: str) -> None:
+        """The rule that the file is still the one that was read."""
+        its = _stat(path)
+        if its is None or _identity(its) != self.identity or read_original(path) != self:
+            raise OSError(errno.ESTALE, "the script changed while it was judged", path)
+
+    def replace(self, text: bytes) -> None:
+        """Puts another text into its place. Raises OSError as `bytes_output`, and if it is no regular file, or changed since it was read."""
+        with _replacement(self.file, self.refuse_change) as out:
+            out.write(text)
+
+
+def read_original(file: str) -> Original:
+    """Reads a script that is to be replaced. Raises OSError if it cannot be read."""
+    with open(file, "rb") as opened:
+        identity = _identity(os.fstat(opened.fileno()))
+        return Original(file, opened.read(), identity)
 
 
 def holds_bytes(path: Any) -> bool:
@@ -52,25 +112,37 @@ def is_one_of(out: str, inputs: Sequence[str]) -> bool:
     return os.path.exists(out) and any(os.path.exists(it) and os.path.samefile(it, out) for it in names)
 
 
-# The first bytes of a picture, and of a page, which are the same in all of them.
-BEGIN = 56
-
-
-def refuse_loss(path: Optional[str], text: str, may_replace: bool) -> None:
-    """Raises FileExistsError for a file that holds bytes and does not begin as this text does, or as its first `BEGIN` bytes: then another command
-    made it. Nothing is refused where it `may_replace`, and of standard output and standard error."""
-    begin = text.encode("utf-8", "surrogateescape")[:BEGIN]
-    if path is not None and not may_replace and holds_bytes(path) and _stream_of(os.stat(path)) is None:
-        with open(path, "rb") as file:
-            if file.read(len(begin)) != begin:
-                raise FileExistsError(errno.EEXIST, "another command made it; --overwrite replaces it", path)
-
-
 def write_made(path: str, text: str, may_replace: bool) -> None:
-    """Writes a picture or a page as `output` does, unless `refuse_loss` refuses that."""
-    refuse_loss(path, text, may_replace)
-    with output(path) as out:
+    """Writes a picture or a page in the place of one, or of any file where it `may_replace`."""
+    with output(path, anything if may_replace else made_like(text)) as out:
         out.write(text)
+
+
+def _identity(its: os.stat_result) -> Tuple[int, ...]:
+    return its.st_dev, its.st_ino, its.st_size, its.st_mtime_ns
+
+
+def _stat(path: str) -> Optional[os.stat_result]:
+    """What the system says of what is at a place; None if nothing is there."""
+    try:
+        return os.stat(path)
+    except FileNotFoundError:
+        return None
+
+
+def _is_replaced(its: os.stat_result) -> bool:
+    """Whether this is a file that another one takes the place of, and nothing that is written into."""
+    return stat.S_ISREG(its.st_mode) and _stream_of(its) is None
+
+
+def _look(path: str, rule: Rule) -> None:
+    """Raises OSError if what is there is no file that may be written, or what the rule raises."""
+    its = _stat(path)
+    if its is not None:
+        if not stat.S_ISREG(its.st_mode):
+            raise OSError(errno.EINVAL, "it is no regular file", path)
+        os.close(os.open(path, os.O_WRONLY))
+    rule(path)
 
 
 def _standard_output() -> int:
@@ -81,14 +153,11 @@ def _standard_output() -> int:
 
 def _open_as_it_is(path: str) -> Optional[int]:
     """Opens what is there and is no regular file, or is the file of a standard stream; None if a file is to be made."""
-    try:
-        its = os.stat(path)
-    except FileNotFoundError:
+    its = _stat(path)
+    if its is None or _is_replaced(its):
         return None
     stream = _stream_of(its)
-    if stream is not None:
-        return os.dup(stream)
-    return None if stat.S_ISREG(its.st_mode) else os.open(path, os.O_WRONLY)
+    return os.open(path, os.O_WRONLY) if stream is None else os.dup(stream)
 
 
 def _stream_of(its: os.stat_result) -> Optional[int]:
@@ -101,37 +170,80 @@ def _stream_of(its: os.stat_result) -> Optional[int]:
 
 
 @contextlib.contextmanager
-def _replacement(path: str) -> Iterator[BinaryIO]:
-    """A new file, under a name that no other call has, that takes the place of a regular file or of none."""
+def _replacement(path: str, rule: Rule) -> Iterator[BinaryIO]:
+    """A new file, under a name that no other call has, that takes the place of a regular file or of none, if the rule lets it."""
     import tempfile
 
     place = os.path.realpath(path)
     with _named(path):
         if not os.path.basename(path):
             raise IsADirectoryError(errno.EISDIR, os.strerror(errno.EISDIR))
+        _look(path, rule)
         descriptor, new = tempfile.mkstemp(".new", "camac-", os.path.dirname(place))
     try:
-        # A disk without modes refuses to set one.
-        with contextlib.suppress(OSError):
-            os.fchmod(descriptor, _mode(place))
         with _buffered(descriptor, path) as file:
             yield file
         with _named(path):
-            os.replace(new, place)
+            _sync(new)
+            takes_place = _is_made_alike(new, place)
+            _look(path, rule)
+            if takes_place:
+                os.replace(new, place)
+            else:
+                _write_into(place, new)
+                os.remove(new)
     except BaseException:
         with contextlib.suppress(OSError):
             os.remove(new)
         raise
+    # Not every disk can be asked for this of a folder.
+    with contextlib.suppress(OSError):
+        _sync(os.path.dirname(place))
 
 
-def _mode(place: str) -> int:
-    """The mode of a file that is there; else what a new one gets."""
+def _is_made_alike(new: str, place: str) -> bool:
+    """Gives a new file the mode, owner and group of the one in its place, else the mode of new ones. Whether it may take that place: no link leads to
+    the old file by another name, and the new one could be made like it."""
+    old, its = _stat(place), os.stat(new)
+    # A disk without modes refuses to set one, and a user may not give a file away.
+    with contextlib.suppress(OSError):
+        if old is None:
+            umask = os.umask(0o077)
+            os.umask(umask)
+            os.chmod(new, 0o666 & ~umask)
+            return True
+        if (old.st_uid, old.st_gid) != (its.st_uid, its.st_gid):
+            os.chown(new, old.st_uid, old.st_gid)
+        os.chmod(new, stat.S_IMODE(old.st_mode))
+        return old.st_nlink == 1
+    return old is None
+
+
+def _write_into(place: str, new: str) -> None:
+    """Writes a file's bytes into another one, which keeps its names, mode and owner. Their room is taken first: a full disk changes nothing."""
+    import shutil
+
+    with open(new, "rb") as source, open(os.open(place, os.O_WRONLY), "wb") as target:
+        size, old = os.fstat(source.fileno()).st_size, os.fstat(target.fileno()).st_size
+        if size > old:
+            try:
+                os.posix_fallocate(target.fileno(), old, size - old)
+            except OSError:
+                target.truncate(old)
+                raise
+        shutil.copyfileobj(source, target)
+        target.truncate(size)
+        target.flush()
+        os.fsync(target.fileno())
+
+
+def _sync(path: str) -> None:
+    """Has the disk take a file, or the names in a folder, for good."""
+    descriptor = os.open(path, os.O_RDONLY)
     try:
-        return os.stat(place).st_mode & 0o777
-    except FileNotFoundError:
-        umask = os.umask(0o077)
-        os.umask(umask)
-        return 0o666 & ~umask
+        os.fsync(descriptor)
+    finally:
+        os.close(descriptor)
 
 
 class _Raw(io.FileIO):
@@ -162,7 +274,7 @@ def _named(shown: str) -> Iterator[None]:
 def say(text: str) -> None:
     """Writes a text to standard output. For an empty one that may be closed."""
     if text:
-        with output(None) as out:
+        with output(None, anything) as out:
             out.write(text)
 
 

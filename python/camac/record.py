@@ -18,7 +18,7 @@ from typing import Any, Callable, Dict, List, NamedTuple, Optional, Set, Tuple, 
 from camac import native
 from camac.drive import Answer, Branch, File, ProgramFault, UsageFault, add_note, file_fault, one_line
 from camac.events import EventFileFault, read_events
-from camac.output import holds_bytes, output
+from camac.output import Rule, anything, holds_bytes, output
 from camac.printed import read_services
 from camac.program import output_of, version
 from camac.runs import Inputs, collect, is_event_file
@@ -208,8 +208,6 @@ def recorded(asked: Union[File, Recording], of: Played, branch: Branch, play: Ca
 
     Raises what `describe` and the run raise, and ProgramFault if the record cannot be written; a file that holds bytes is none."""
     its = asked if isinstance(asked, Recording) else Recording(asked)
-    if holds_bytes(its.file):
-        raise file_fault("write", its.file, OWN_FILE)
     record = dataclasses.replace(describe(of, None if its.number is None else operator.index(its.number), its.title), begin=now())
     writer = _Writer(its.file, record, of)
     watched = _Watched(branch, {it.gl for it in record.list_services()}, writer)
@@ -230,7 +228,7 @@ def recorded(asked: Union[File, Recording], of: Played, branch: Branch, play: Ca
 
 
 def refuse_foreign(file: File) -> None:
-    """Raises ProgramFault if a file holds bytes, and is none that `write_played` made."""
+    """The rule that a file holds no bytes, or is one that `write_played` made. Raises ProgramFault."""
     if holds_bytes(file):
         try:
             is_own = read_record(file).begin is None
@@ -243,8 +241,6 @@ def refuse_foreign(file: File) -> None:
 def write_played(file: File, inputs: Inputs, may_replace: bool = False) -> None:
     """Writes the record of a run that is played or read for it: nothing of it is timed. Raises as `describe`, and as `refuse_foreign` unless it
     `may_replace` a file."""
-    if not may_replace:
-        refuse_foreign(file)
     events = inputs.source if is_event_file(inputs.source) else None
     record = describe(Played(inputs.plan, inputs.script, events, None))
     run = collect(inputs, plan(inputs.plan), record.list_services())
@@ -252,13 +248,14 @@ def write_played(file: File, inputs: Inputs, may_replace: bool = False) -> None:
     size = None if events is None else os.path.getsize(events)
     how = run.end.how.value if run.end else None
     of_services = {it.name: counts[it.gl] for it in record.list_services()}
-    _write(file, dataclasses.replace(record, told=now(), how=how, line=run.last_line(), size=size, counts=of_services))
+    rule = anything if may_replace else refuse_foreign
+    _write(file, dataclasses.replace(record, told=now(), how=how, line=run.last_line(), size=size, counts=of_services).text(), rule)
 
 
-def _write(file: File, record: Record) -> None:
+def _write(file: File, text: str, rule: Rule) -> None:
     try:
-        with output(os.fsdecode(file)) as out:
-            out.write(record.text())
+        with output(os.fsdecode(file), rule) as out:
+            out.write(text)
     except OSError as why:
         raise file_fault("write", file, why) from why
 
@@ -267,12 +264,21 @@ class _Writer:
     """Writes a record, and keeps when that was."""
 
     def __init__(self, file: File, record: Record, of: Played) -> None:
-        self.file, self.record, self.of, self.at = file, record, of, 0.0
+        self.file, self.record, self.of, self.at, self.text = file, record, of, 0.0, ""
 
     def write(self) -> None:
         self.at = time.monotonic()
         self.record = dataclasses.replace(self.record, told=now())
-        _write(self.file, self.record)
+        text = self.record.text()
+        _write(self.file, text, self.refuse_change)
+        self.text = text
+
+    def refuse_change(self, path: str) -> None:
+        """The rule that a file holds no bytes, or what was written last."""
+        if holds_bytes(path):
+            with open(path, "rb") as file:
+                if file.read() != self.text.encode():
+                    raise file_fault("write", path, OWN_FILE)
 
     def refresh(self, watched: "_Watched") -> None:
         """Writes how far the run is, if that is some seconds old. If it cannot be written the run goes on."""

@@ -269,7 +269,7 @@ def by_bit(bits: Sequence[int], *columns: Sequence[int]) -> Iterator[Tuple[int, 
 def _seen(run: Run) -> Dict[int, SeenOfBit]:
     """By bit, the counts of its services."""
     columns = by_bit(run.gl, run.cycles, run.words, run.waits, run.no_q, run.of_transfers, run.no_x)
-    return {gl: SeenOfBit(_seen_of(its[0]), _seen_of(its[1]), *map(sum, its[2:])) for gl, its in columns}
+    return {gl: SeenOfBit(_seen_of(its[0]), _seen_of(its[1]), *[sum(it) for it in its[2:]]) for gl, its in columns}
 
 
 def _seen_of(numbers: Sequence[int]) -> Seen:

@@ -19,7 +19,7 @@ from camac.values import Plan, RunEnd
 
 # After this number of triggers that call nobody all crates are silent, and the run ends.
 PATIENCE = 1000
-GREATEST_RATE = 1e7
+LEAST_RATE, GREATEST_RATE = 0.01, 1e7
 # The rates of a curve, as multiples of the given ones.
 FACTORS = tuple(2.0**k for k in range(-3, 4))
 

@@ -5,8 +5,9 @@ from typing import List, Optional, Sequence
 from camac.drive import File, ProgramFault, UsageFault, file_fault
 
 SAMPLE = "@sample"
-# The greatest plan or script, in bytes.
+# The greatest plan or script, in bytes; and how many blocks may be open at once.
 GREATEST_TEXT = 1_048_576
+GREATEST_DEPTH = 16
 
 
 def is_sample(plan: File) -> bool:

@@ -9,9 +9,11 @@ import shutil
 import subprocess
 import tempfile
 
+from support import needs
 from support.program import TOP
 
 ARCHIVE = pathlib.Path(os.environ.get("CAMAC_ARCHIVE") or TOP / "crates/camac_c/out/libcamac_c.a").absolute()
+NAME = "the library for C"
 TOOLS = ("gcc", "ld", "ar", "nm", "objcopy")
 WARNINGS = ("-Wall", "-Wextra", "-Wpedantic", "-Wconversion", "-Werror")
 STANDARD = {".c": ("gcc", "-std=c99"), ".cpp": ("g++", "-std=c++17")}
@@ -25,6 +27,16 @@ def lacking():
     if not ARCHIVE.is_file():
         return f"{ARCHIVE} is not there: after `rt ci` tools/proved_library makes it, or CAMAC_ARCHIVE names another"
     return ""
+
+
+def is_here():
+    """Whether there is a library to test with; it is told if there is none."""
+    return needs.has(NAME, is_here=not lacking())
+
+
+def needed():
+    """Leaves a test or a class of tests out if there is no library."""
+    return needs.needed(NAME, is_here=not lacking())
 
 
 @functools.lru_cache(maxsize=None)

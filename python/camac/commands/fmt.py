@@ -3,9 +3,9 @@ import argparse
 import sys
 from typing import Any, NamedTuple, Optional
 
-from camac.commands.running import DONE, REFUSED
+from camac.commands.running import DONE, FAULT, REFUSED, reason
 from camac.layout import LayoutFault, formatted
-from camac.output import bytes_output, say
+from camac.output import anything, bytes_output, read_original, say
 
 ABOUT = """\
 Puts scripts into one layout: two spaces a block, one statement a line, comments kept. If tokens or comments would change, the script
@@ -16,11 +16,11 @@ STANDARD = "-"
 
 
 class Laid(NamedTuple):
-    """A script that was looked at: its file, whether its layout was another one, and why it has none."""
+    """A script that was looked at: its file, the status for it, and what has failed, if that is no other layout."""
 
     file: str
-    is_changed: bool
-    fault: Optional[str]
+    status: int
+    fault: Optional[str] = None
 
 
 def add_to(commands: Any) -> None:
@@ -36,20 +36,40 @@ def do(args: argparse.Namespace) -> int:
     for it in laid:
         if it.fault:
             print(f"camac: {it.fault}", file=sys.stderr)
-        elif it.is_changed and args.check:
+        elif it.status:
             say(f"{it.file}: its layout is another one\n")
-    return REFUSED if any(it.fault or it.is_changed and args.check for it in laid) else DONE
+    return max(it.status for it in laid)
 
 
 def _lay_out(file: str, is_check: bool) -> Laid:
-    """Puts a script into the one layout, in one step; if `is_check`, nothing is written. A script that has no layout stays as it is."""
-    with open(0 if file == STANDARD else file, "rb", closefd=file != STANDARD) as given:
-        text = given.read()
+    """Puts a script into the one layout; if `is_check`, nothing is written. A script that has no layout stays as it is."""
     try:
-        made = formatted(text)
+        is_other = _lay_out_input(is_check) if file == STANDARD else _lay_out_file(file, is_check)
     except LayoutFault as fault:
-        return Laid(file, False, f"{file}:{fault.line}: {fault}")
-    if not is_check and (file == STANDARD or made != text):
-        with bytes_output(None if file == STANDARD else file) as out:
+        return Laid(file, REFUSED, f"{file}:{fault.line}: {fault}")
+    except BrokenPipeError:
+        # Nobody is there to be told: this ends the process.
+        raise
+    except OSError as why:
+        return Laid(file, FAULT, reason(why))
+    return Laid(file, REFUSED if is_check and is_other else DONE)
+
+
+def _lay_out_input(is_check: bool) -> bool:
+    """Writes the layout of standard input, and returns whether it is another one."""
+    with open(0, "rb", closefd=False) as given:
+        text = given.read()
+    made = formatted(text)
+    if not is_check:
+        with bytes_output(None, anything) as out:
             out.write(made)
-    return Laid(file, made != text, None)
+    return made != text
+
+
+def _lay_out_file(file: str, is_check: bool) -> bool:
+    """Puts a file into the layout, and returns whether it was another one."""
+    original = read_original(file)
+    made = formatted(original.data)
+    if not is_check and made != original.data:
+        original.replace(made)
+    return made != original.data

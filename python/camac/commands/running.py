@@ -45,10 +45,15 @@ def main(parse: Parse, words: Optional[List[str]] = None) -> int:
     except (DriveFault, ValueError) as fault:
         text = one_line(fault)
     except OSError as fault:
-        text = f"{fault.strerror or fault}" + (f": {os.fsdecode(fault.filename)}" if fault.filename else "")
+        text = reason(fault)
     with contextlib.suppress(OSError):
         print(f"camac: {text}", file=sys.stderr)
     return status
+
+
+def reason(fault: OSError) -> str:
+    """What failed, and of which file."""
+    return f"{fault.strerror or fault}" + (f": {os.fsdecode(fault.filename)}" if fault.filename else "")
 
 
 def _run(parse: Parse, words: List[str]) -> int:

@@ -10,10 +10,10 @@ from camac.mock import Module, Place
 from camac.output import say, write_made
 from camac.pictures import draw_rates
 from camac.pictures.svg import share
-from camac.simulate import GREATEST_RATE, PATIENCE, Setting, Simulated, Simulation, curve, simulate
+from camac.simulate import GREATEST_RATE, LEAST_RATE, PATIENCE, Setting, Simulated, Simulation, curve, simulate
 from camac.values import Ending
 
-GREATEST_CYCLE, GREATEST_SERVICES = 1e6, 10_000_000
+LEAST_CYCLE, GREATEST_CYCLE, GREATEST_SERVICES = 0.1, 1e6, 10_000_000
 # The most services that are simulated for each rate of a curve.
 OF_A_CURVE = 500
 SHARES = ((0.5, "50 %"), (0.9, "90 %"), (0.99, "99 %"), (0.999, "99.9 %"), (1.0, "most"))
@@ -34,9 +34,10 @@ def add_to(commands: Any) -> None:
     it = commands.add_parser("simulate", help="Prints what is lost at a rate, and how long look-at-mes wait", epilog=ABOUT, formatter_class=raw)
     it.add_argument("plan", metavar="PLAN", help="a plan: a TOML file, or @sample, the built-in plan")
     it.add_argument("script", metavar="SCRIPT", help="a script")
-    text = "this many triggers a second call for a service; once for each service that is called"
+    text = f"this many triggers a second call for a service, {LEAST_RATE:g} to {GREATEST_RATE:,.0f}; once for each service that is called"
     it.add_argument("--rate", action="append", required=True, metavar="SERVICE=RATE", help=text)
-    it.add_argument("--cycle-us", required=True, type=float, metavar="TIME", help="how many microseconds a dataway cycle takes on your branch")
+    text = f"how many microseconds a dataway cycle takes on your branch, {LEAST_CYCLE:g} to {GREATEST_CYCLE:,.0f}"
+    it.add_argument("--cycle-us", required=True, type=float, metavar="TIME", help=text)
     it.add_argument("--regular", action="store_true", help="triggers come regularly, not at random")
     add_every(it)
     it.add_argument("--services", type=int, default=10_000, metavar="COUNT", help="how many services are simulated (10,000)")
@@ -50,8 +51,8 @@ def add_to(commands: Any) -> None:
 
 def do(args: argparse.Namespace) -> int:
     its = args.its
-    if not 0 < args.cycle_us <= GREATEST_CYCLE:
-        its.error(f"--cycle-us is above 0 and at most {GREATEST_CYCLE:,.0f}")
+    if not LEAST_CYCLE <= args.cycle_us <= GREATEST_CYCLE:
+        its.error(f"--cycle-us is {LEAST_CYCLE:g} to {GREATEST_CYCLE:,.0f}")
     if not 1 <= args.services <= GREATEST_SERVICES:
         its.error(f"--services is 1 to {GREATEST_SERVICES:,}")
     setting = Setting(_read_rates(args.rate, its), args.cycle_us / 1e6, args.regular, read_every(args.every, its), args.services, args.seed)
@@ -72,8 +73,8 @@ def _read_rates(words: Sequence[str], its: argparse.ArgumentParser) -> Dict[str,
             rate = float(text)
         except ValueError:
             rate = 0.0
-        if not name or not 0 < rate <= GREATEST_RATE:
-            its.error(f"--rate is SERVICE=RATE with a rate above 0 and at most {GREATEST_RATE:,.0f} a second, not {word!r}")
+        if not name or not LEAST_RATE <= rate <= GREATEST_RATE:
+            its.error(f"--rate is SERVICE=RATE with {LEAST_RATE:g} to {GREATEST_RATE:,.0f} a second, not {word!r}")
         if name in rates:
             its.error(f"--rate {name} is there twice")
         rates[name] = rate

@@ -14,7 +14,7 @@ from camac.loops.proposals import Found, Proposal, Proposals, Remaining
 from camac.loops.ranges import MOST, Cause, State
 from camac.loops.trials import Stopped, Trials
 from camac.loops.widths import Widths
-from camac.output import bytes_output
+from camac.output import read_original
 from camac.printed import read_headings
 from camac.program import verdict
 from camac.reader import read_script
@@ -63,13 +63,11 @@ def write_keeps(plan: File, script: str, program: Optional[File] = None) -> List
     """Puts what the loops of a script have to keep into it, as `propose` finds it, and returns that. Nothing else of the text changes, and nothing
     that it does at run time. If there is nothing to keep, the file is not touched.
 
-    Raises as `propose`, with nothing written, and OSError if the file cannot be read or written."""
-    with open(script, "rb") as file:
-        text = file.read()
-    found = [it for it in propose(plan, text, program, keeps_only=True).proposals if it.kind is Kind.KEEP]
+    Raises as `propose`, with nothing written, and OSError if the file cannot be read or written, or changed meanwhile."""
+    original = read_original(script)
+    found = [it for it in propose(plan, original.data, program, keeps_only=True).proposals if it.kind is Kind.KEEP]
     if found:
-        with bytes_output(script) as out:
-            out.write(edited(text, [edit for it in found for edit in it.edits]))
+        original.replace(edited(original.data, [edit for it in found for edit in it.edits]))
     return found
 
 

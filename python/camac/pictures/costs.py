@@ -5,11 +5,11 @@ from camac.bodies import calls_of, opened
 from camac.pictures.lines import OF_LOCK, draw_lines, parts_of
 from camac.pictures.svg import MONO_11, NO_POINTER, SANS_11, WIDTH, Canvas, count, cut, number, share
 from camac.runs import Seen
+from camac.texts import GREATEST_DEPTH
 from camac.values import Body, BodyKind, Row
 
 WIDE = WIDTH - 2
 FIRST_BAR, BAR, STEP = 22, 20, 21
-DEEPEST = 16
 # Where the heading promises more than FAR times what is needed, the picture is cut at SHOWN times, so that what is needed has room.
 FAR, SHOWN = 1.5, 1.3
 # Narrower bars are not drawn, and marks narrower than MARK have no tip.
@@ -54,7 +54,7 @@ def draw_costs(body: Body, source: Sequence[str], seen: Optional[Seen] = None, b
     y += FIRST_BAR + 2
     _draw_nodes(canvas, y, nodes, scale, (body, source))
     deepest = max((it.row.depth for it in nodes if it.cycles), default=0)
-    y += min(deepest, DEEPEST) * STEP + 6
+    y += min(deepest, GREATEST_DEPTH) * STEP + 6
     _draw_legend(canvas, y, body)
     draw_lines(canvas, y + 28, body, (source, most), _wholes(body))
     for title, lines in draw_calls(body, source, bodies) if has_calls else ():
@@ -138,7 +138,7 @@ def _draw_nodes(canvas: Canvas, y: float, nodes: List[Node], scale: Scale, of: T
         begins.append(x)
         free[node.parent] = x + node.cycles * scale.cycle
         free[at] = x + node.row.share.cycles * scale.cycle
-        if node.cycles * scale.cycle >= NARROWEST and node.row.depth <= DEEPEST:
+        if node.cycles * scale.cycle >= NARROWEST and node.row.depth <= GREATEST_DEPTH:
             top = y + (node.row.depth - 1) * STEP
             _draw_node(canvas, (x, top), node, scale, of)
 

@@ -71,7 +71,7 @@ def seen_groups(cycles: Mapping[int, Spectrum], words: Mapping[int, Spectrum], s
 def _of_bits(bits: Sequence[int], values: Sequence[int], bounds: Dict[int, int]) -> Dict[int, Spectrum]:
     """By bit the spectrum of the values of its services, on an axis that holds the greatest bound and the greatest value."""
     found = {gl: its for gl, (its,) in by_bit(bits, values) if gl in bounds}
-    end = max([*bounds.values(), *map(max, found.values())], default=0) + 1
+    end = max([*bounds.values(), *(max(it) for it in found.values())], default=0) + 1
     spectra = {gl: Spectrum(end) for gl in bounds}
     for gl, its in found.items():
         spectra[gl].add_all(its)

@@ -95,7 +95,7 @@ def _gather(run: Run, axis: Axis) -> Dict[int, Dict[int, Column]]:
     numbers = (run.gl, run.cycles, run.waits, run.no_q, run.no_x, run.locked)
     for at, start in enumerate(range(0, len(run.gl), axis.per)):
         for gl, (cycles, *others) in by_bit(*(it[start : start + axis.per] for it in numbers)):
-            waits, no_q, no_x, locked = map(sum, others)
+            waits, no_q, no_x, locked = [sum(it) for it in others]
             gathered.setdefault(gl, {})[at] = Column(len(cycles), sum(cycles), waits, max(cycles), no_q, no_x, locked)
     return gathered
 

@@ -1,7 +1,6 @@
 """The parts of the page of a run, from its head to the checks."""
 import hashlib
 import heapq
-import operator
 import os
 from typing import Dict, List, NamedTuple, Optional, Sequence, Tuple, Union
 
@@ -136,8 +135,8 @@ def late(facts: Facts) -> str:
         return out[0] + '<p class="mute">This program has no <code>response</code>: how late each service can be is not known.</p>'
     out.append(
         "<p>From a look-at-me to the end of its service no more cycles pass than these, whatever the modules answer. This holds if "
-        "auxiliary controllers keep to the waits of the plan, a look-at-me stays until it is answered, the demand output of its crate is "
-        "on, and modules keep the given rates (<code>--every</code>).</p>"
+        "auxiliary controllers keep to the waits of the plan, each look-at-me stays until its own service clears it, none is hidden and seen "
+        "later, and modules keep the given rates (<code>--every</code>).</p>"
     )
     out.append(figure(draw_response(facts.responses, run)))
     if not run.has_listing:
@@ -281,7 +280,7 @@ def histograms(facts: Facts) -> str:
 def services(facts: Facts) -> str:
     """The table of the services of the run: the first ones, and the worst ones."""
     run, total, rows = facts.run, len(facts.run.gl), []
-    worst = heapq.nsmallest(WORST_SERVICES, zip(map(operator.neg, run.no_x), map(operator.neg, run.cycles), range(total)))
+    worst = heapq.nsmallest(WORST_SERVICES, zip(map(int.__neg__, run.no_x), map(int.__neg__, run.cycles), range(total)))
     chosen = sorted({*(k for _, _, k in worst), *range(min(total, FIRST_SERVICES))})
     for k in chosen:
         service = facts.service(run.gl[k])
