@@ -10,8 +10,9 @@ CLOSING = "cclc adc\n}\n"
 NUMBERS = {"c": (1, 1, 2, 10, 100, 4095, 65_536), "s": (2, 3, 4, 7, 12, 16)}
 # What is done with a reading `v`, with other variables `a` and `b`, and with numbers `c` and `s`.
 STEPS = (
-    "{a} = {a} + v", "{a} = {a} + v", "{a} = {a} + 1", "{a} = {a} + 1", "{a} = {a} + {c}", "{a} = {a} + v * {s}", "{a} = {a} + v / {s}", "{a} = v", "{a} = v", "{a} = {b}", "{a} = {b} + {c}", "{a} = v - {b}",
-    "{a} = {a} - 1", "{a} = {a} - {c}", "{a} = ({a} + 1) % {s}", "{a} = ({a} * {s} + v) / 8", "{a} = {a} * 2", "{a} = i", "{a} = {s}", "put {a}", "put {a} / {s}", "put v - {b}", "put {b} - {a}",
+    "{a} = {a} + v", "{a} = {a} + v", "{a} = {a} + 1", "{a} = {a} + 1", "{a} = {a} + {c}", "{a} = {a} + v * {s}", "{a} = {a} + v / {s}",
+    "{a} = v", "{a} = v", "{a} = {b}", "{a} = {b} + {c}", "{a} = v - {b}", "{a} = {a} - 1", "{a} = {a} - {c}", "{a} = ({a} + 1) % {s}",
+    "{a} = ({a} * {s} + v) / 8", "{a} = {a} * 2", "{a} = i", "{a} = {s}", "put {a}", "put {a} / {s}", "put v - {b}", "put {b} - {a}",
     "put {a} + {b}", "cdreg w 1 1 5 {a}", "cclc adc",
 )
 TESTS = "v > {a}", "v > {a}", "v > {c}", "{a} < {c}", "{a} > 0", "{a} >= {s}", "q", "not q and v < {a}", "v - {b} > {c}", "{a} != {b}"
