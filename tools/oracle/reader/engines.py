@@ -136,7 +136,8 @@ def tell(command: str, inputs: Inputs) -> Told:
 
 def words_of(command: str) -> Tuple[str, ...]:
     """The inputs and outputs that are after a subcommand."""
+    both = "plan", "script"
     return {
-        "plan": ("plan",), "check": ("plan", "script"), "bounds": ("plan", "script"), "costs": ("plan", "script"),
-        "response": ("plan", "script"), "explain": ("plan", "script"), "run": ("plan", "script", "answers", "EVENTS"), "drive": ("plan", "script", "EVENTS"), "events": ("file",),
+        "plan": ("plan",), "check": both, "bounds": both, "costs": both, "response": both, "explain": both,
+        "run": (*both, "answers", "EVENTS"), "drive": (*both, "EVENTS"), "events": ("file",),
     }[command]
