@@ -100,7 +100,12 @@ def reached_by(run: Run) -> str:
 
 
 def listed(run: Run) -> Told:
-    return told(run.listing, REFUSED if run.is_refused else GOOD, reached_by(run), bytes(run.events))
+    return told(run.listing, REFUSED if run.is_refused else GOOD, reached_by(run), bytes(run.events) if is_begun(run) else None)
+
+
+def is_begun(run: Run) -> bool:
+    """Whether the event file of a listing is begun: the first answer is good, or the answers have ended."""
+    return not run.listing[0].startswith("refused")
 
 
 def tell_run(inputs: Inputs) -> Told:
