@@ -29,7 +29,7 @@ class Told(NamedTuple):
 
 
 class Inputs(NamedTuple):
-    """The bytes of the inputs; the plan is None for `@sample`. `words` are the options of `response`."""
+    """The bytes of the inputs; the plan is None for `@sample`. `words` are the options of `response` and `explain`."""
 
     plan: Optional[bytes] = None
     script: bytes = b""
@@ -141,7 +141,8 @@ def tell(command: str, inputs: Inputs) -> Told:
 
 def words_of(command: str) -> Tuple[str, ...]:
     """The inputs and outputs that are after a subcommand."""
+    both = "plan", "script"
     return {
-        "plan": ("plan",), "check": ("plan", "script"), "bounds": ("plan", "script"), "costs": ("plan", "script"),
-        "response": ("plan", "script"), "run": ("plan", "script", "answers", "EVENTS"), "drive": ("plan", "script", "EVENTS"), "events": ("file",),
+        "plan": ("plan",), "check": both, "bounds": both, "costs": both, "response": both, "explain": both,
+        "run": (*both, "answers", "EVENTS"), "drive": (*both, "EVENTS"), "events": ("file",),
     }[command]
