@@ -174,8 +174,9 @@ def drive(
     (`camac.driver`), and `plan` "@sample". `events` must not hold bytes. `record` is a file
     for the record of the run (`camac.record`), which must not hold bytes either. A `Recording` gives the run a number and a title, too.
 
-    `program` is found by `find_program` unless given; if there is none, the library plays the run in this process. `timeout` is how many seconds the program may take for its next line, and for its
-    end; the time that the branch takes does not count. It is 0 to 2,147,483; without it the program may take as long as it does.
+    `program` is found by `find_program` unless given; if there is none, the library plays the run in this process. `timeout` is how many seconds
+    the program may take for its next line, and for its end; the time that the branch takes does not count. It is 0 to 2,147,483; without it the
+    program may take as long as it does.
 
     The lockouts that are held when the requests end are released by `branch.unlock`, however the run ends. So they are after Ctrl-C
     (KeyboardInterrupt), and after SIGTERM and SIGHUP, which raise SystemExit here. A signal inside `branch.lock` may come after the lockout was
