@@ -96,6 +96,12 @@ int fsync(int fd) {
     return end(answer);
 }
 
+int ftruncate(int fd, off_t size) {
+    long answer = fails("ftruncate", place(fd)) ? -number("FAILING_ERROR") : raw(SYS_ftruncate, fd, size, 0, 0, 0);
+    write_down("ftruncate", place(fd), size, answer, 0);
+    return end(answer);
+}
+
 int statx(int fd, const char *path, int flags, unsigned mask, struct statx *about) {
     long answer = fails("statx", *path ? path : place(fd)) ? -number("FAILING_ERROR") : raw(SYS_statx, fd, (long)path, flags, mask, (long)about);
     write_down("statx", *path ? path : place(fd), 0, answer, 0);
@@ -130,6 +136,7 @@ ERRORS = {
     "write": (EINTR, EIO, EAGAIN, ENOSPC, NOTHING),
     "open": (EINTR, EIO, ENOSPC, EMFILE),
     "fsync": (EINTR, EIO, ENOSPC),
+    "ftruncate": (EINTR, EIO, ENOSPC),
     "statx": (EIO,),
     "close": (EINTR, EIO, ENOSPC),
 }
@@ -214,7 +221,7 @@ class Logged(Case):
 def is_reading(line, call):
     """Whether it is the call of an input."""
     command, *_, output = line.split()
-    return call.name == "read" or call.name == "open" and (command not in ("run", "drive") or call.place != output)
+    return call.name in ("read", "open") and (command not in ("run", "drive") or call.place != output)
 
 
 def told(line, call, error):
@@ -244,22 +251,22 @@ class InTurn(Logged):
                 self.assertEqual((ran.out, ran.err, ran.events), (held["out"], b"", held["e"]))
 
     def test_run(self):
-        states = [(b"", HEADER), (LINES[0], HEADER), (LINES[0] + LINES[1], EVENT_FILE), (LISTING, EVENT_FILE)]
+        states = [(b"", b""), (LINES[0], HEADER), (LINES[0] + LINES[1], EVENT_FILE), (LISTING, EVENT_FILE)]
         self.expect_states("run plan.toml straight.script answers e", states)
         self.expect_states("run plan.toml straight.script @in e", states, "answers")
 
     def test_run_of_two_events(self):
         (self.room / "answers").write_bytes(ANSWERS * 2)
         pair, file = LINES[0] + LINES[1], EVENT_FILE + SECOND_RECORD
-        states = [(b"", HEADER), (LINES[0], HEADER), (pair, EVENT_FILE), (pair + LINES[0], EVENT_FILE), (pair * 2, file)]
+        states = [(b"", b""), (LINES[0], HEADER), (pair, EVENT_FILE), (pair + LINES[0], EVENT_FILE), (pair * 2, file)]
         self.expect_states("run plan.toml straight.script answers e", [*states, (pair * 2 + b"ended events 2\n", file)])
 
     def test_run_in_a_lock(self):
         (self.room / "locked.script").write_bytes(LOCKOUT)
         (self.room / "answers").write_bytes(DEMAND + b"0 0 000000 2 000000\n1 1 000abc 0 000000\n1 1 000abc 1 000000\n")
         lines = [b"demand 000004 adc\n", b"lock 1 wait 2\n", b"cycle 1 5 0 0 in 000abc x1 q1 wait 0\n", b"overrun 1 wait 1 events 0\n"]
-        states = [(b"".join(lines[:n]), HEADER) for n in range(5)]
-        self.expect_states("run plan.toml locked.script answers e", [*states, states[-1]])
+        states = [(b"".join(lines[:n]), HEADER) for n in range(1, 5)]
+        self.expect_states("run plan.toml locked.script answers e", [(b"", b""), *states, states[-1]])
 
     def test_live_run(self):
         asked = [b"".join(ASKED[:n]) for n in (1, 2, 3)]
@@ -272,7 +279,7 @@ class InTurn(Logged):
         bad = (DEMAND + b"1 1 fffffff 0 000000\n", b"refused A1 line 2: line shape\n")
         for given, told in (overrun, bad):
             (self.room / "answers").write_bytes(given + ANSWERS)
-            self.expect_states("run plan.toml straight.script answers e", [(b"", HEADER), (LINES[0], HEADER), None, (LINES[0] + told, HEADER)])
+            self.expect_states("run plan.toml straight.script answers e", [(b"", b""), (LINES[0], HEADER), None, (LINES[0] + told, HEADER)])
             asked = ASKED[0] + ASKED[1]
             self.expect_states("drive plan.toml straight.script e", [(ASKED[0], HEADER), (asked, HEADER), None, (asked + told, HEADER)], "answers")
 
@@ -315,8 +322,8 @@ class Fails(Logged):
         self.assertEqual((whole.status, whole.err), (status, b""))
         for place, (turn, call) in enumerate(zip(whole.turns, whole.calls)):
             for error in ERRORS[call.name]:
-                # std makes an interrupted open or sync again
-                is_repeated = call.name in ("open", "fsync") and error == EINTR
+                # std makes an interrupted open, cut or sync again, and a read of what EVENTS begins with
+                is_repeated = error == EINTR and (call.name in ("open", "fsync", "ftruncate") or call[:2] == ("read", "e"))
                 for later in (False,) if is_repeated else (False, True):
                     is_good = False
                     with self.subTest(line=line, call=call[:3], error=error, later=later):
@@ -359,11 +366,13 @@ class Fails(Logged):
         self.assertTrue(ran.calls == wanted)
 
     def expect_left(self, ran, there):
-        """The calls wrote what is there, and no more; EVENTS is as it was if it was not opened."""
+        """The calls wrote what is there, and no more; EVENTS is as it was until it is emptied."""
         left = collections.defaultdict(bytes, {} if there is None else {"e": there})
         for call in ran.calls:
             if call.name == "open" and call.place == "e" and call.answer > 0:
-                left["e"] = b""
+                left["e"] += b""
+            elif call.name == "ftruncate" and call.answer == 0:
+                left[call.place] = b""
             elif call.name == "write":
                 left[call.place] += call.bytes
         self.assertEqual((ran.out, ran.events), (left["out"], left.get("e")))
@@ -387,7 +396,8 @@ class Fails(Logged):
         calls = self.expect_each("run plan.toml straight.script answers e")
         self.assertEqual(calls[-2:], ["statx", "fsync"])
         self.expect_each("run @sample straight.script @in e", "answers")
-        self.expect_each("run plan.toml straight.script answers e", there=b"of an earlier run")
+        calls = self.expect_each("run plan.toml straight.script answers e", there=EVENT_FILE * 2)
+        self.assertEqual(calls.count("ftruncate"), 1)
 
     def test_runs_in_pieces(self):
         """A call that moves only some bytes is followed by one for the rest, and that may fail too."""
@@ -410,7 +420,10 @@ class Fails(Logged):
         for name in ("check", "explain"):
             self.expect_each(f"{name} plan.toml refused.script", status=1)
         self.expect_each("run plan.toml refused.script answers e", status=1)
-        self.expect_each("run plan.toml refused.script answers e", there=b"of an earlier run", status=1)
+        self.expect_each("run plan.toml refused.script answers e", there=EVENT_FILE, status=1)
+        (self.room / "bad").write_bytes(b"!")
+        calls = self.expect_each("run plan.toml straight.script bad e", there=EVENT_FILE, status=1)
+        self.assertNotIn("ftruncate", calls)
         (self.room / "cut.events").write_bytes(EVENT_FILE[:-1])
         self.expect_each("events cut.events", status=1)
 

@@ -16,7 +16,7 @@ TESTS = {
     "good": "print('.skipped: mypy')\nprint('skipped: mypy')\nprint('skipped: a disk')",
     "other": "import os\nprint('skipped: mypy')\nopen('path', 'w').write(os.environ['PATH'])",
     "bad": "print('it is wrong')\nraise SystemExit(1)",
-    "whole": "",
+    "whole": "print('judged: 7 cases')\nprint('nothing else')",
 }
 
 
@@ -41,19 +41,28 @@ class Lines(Room):
         file.write_text(f"#!/bin/sh\n{line}\n")
         file.chmod(0o755)
 
-    def last_lines(self, command, *names, **environment):
-        """The last two lines of a command, with these tests, and its status."""
+    def lines(self, command, *names, **environment):
+        """The lines of a command, with these tests, and its status."""
         for it in names:
             (self.room / f"tests/{it}_test.py").write_text(TESTS[it])
         path = f"{self.room / 'bin'}:{os.environ['PATH']}"
         status, out, _ = ran(command, cwd=self.room, env={**os.environ, "CI": "", "PATH": path, **environment})
-        return status, out.decode().splitlines()[-2:]
+        return status, out.decode().splitlines()
+
+    def last_lines(self, *words, **environment):
+        status, lines = self.lines(*words, **environment)
+        return status, lines[-2:]
 
     def test_nothing_left_out(self):
         status, (before, last) = self.last_lines(["tests/run", "--proved"], "whole")
         self.assertEqual((status, before.partition(" took")[0], last), (0, "the tests", "1 passed, 0 failed"))
         status, (before, last) = self.last_lines([".ci/run"])
         self.assertEqual((status, before.partition(" took")[0], last), (0, "the gate", "14 passed, 0 failed"))
+
+    def test_what_was_judged(self):
+        """Of a test that passes only that is shown."""
+        _, (_, *judged, _, _) = self.lines(["tests/run", "--proved"], "whole")
+        self.assertEqual(judged, ["judged: 7 cases"])
 
     def test_left_out(self):
         lacking = "skipped: a disk (good), mypy (good, other)"

@@ -34,15 +34,14 @@ sys.path.insert(0, str(TOP / "tools"))
 
 import oracle.maker.scripts
 from oracle.maker.edges import PLAN, make_edge
+from oracle.maker.extremes import BY_CHANCE, GREATEST, LEAST, RISEN, SILENT, events
 from oracle.maker.nodes import Node
 from oracle.maker.plans import make_plan
 from oracle.maker.scripts import make_script
 from oracle.maker.statements import Maker
 from oracle.reader import grammar
-from oracle.reader.answers import Answer, Answers
 from oracle.reader.checker import Checker
 from oracle.reader.loops import everything
-from oracle.reader.meaning import Run, Short
 from oracle.reader.plan import read_plan, sample_plan
 from oracle.reader.refusals import Refused
 
@@ -77,8 +76,8 @@ service adc within 0 cycles event 0 words {
 """
 # These change nothing that an accepted script does.
 SAME = {Kind.KEEP, Kind.GUARD, Kind.COMPARISON, Kind.HEADING}
-# The offset of a difference that is put as it is; words that rise from reading to reading.
-OFFSET, RISING = "more than the difference", -1
+# The offset of a difference that is put as it is.
+OFFSET = "more than the difference"
 is_whole = False
 
 
@@ -117,38 +116,9 @@ def is_inside(inner, outer):
     return outer[0] <= inner[0] and inner[1] <= outer[1]
 
 
-class Given(Answers):
-    """Answers to each operation of a run: words and Q that are the greatest, the least, or come by chance; or words that rise."""
-
-    def __init__(self, dice, word, q, count):
-        super().__init__(b"")
-        self.dice, self.word, self.q, self.left, self.risen = dice, word, q, count, 0
-
-    def next(self):
-        self.left -= 1
-        if self.left < 0:
-            return None
-        word = self.dice.choice([0, 1, 200, 4095, self.dice.randrange(2**24)]) if self.word is None else self.word
-        if self.word == RISING:
-            self.risen += self.dice.randrange(9)
-            word = self.risen % 1024
-        return Answer(1, self.dice.randrange(2) if self.q is None else self.q, word, 0, 0xFFFFFF)
-
-
-class Twice(Run):
-    """A run that ends after two services."""
-
-    def serve(self, bit, service):
-        if self.count == 2:
-            raise Short
-        super().serve(bit, service)
-
-
-def events(plan, text, dice, *given):
-    """The bytes of the event file of a run, as the independent reader plays it, whether the script is accepted or not."""
-    run = Twice(grammar.read_script(text), sample_plan() if plan == "@sample" else read_plan(pathlib.Path(plan).read_bytes()), Given(dice, *given, 20_000))
-    run.play()
-    return run.count, bytes(run.events)
+def played(plan, text, dice, kind):
+    """What two services of a script make, as the independent reader plays it, whether the script is accepted or not."""
+    return events(sample_plan() if plan == "@sample" else read_plan(pathlib.Path(plan).read_bytes()), text, dice, kind)
 
 
 class Loops(unittest.TestCase):
@@ -191,11 +161,10 @@ class Loops(unittest.TestCase):
             if found.remaining or not kinds <= {*SAME, Kind.DIFFERENCE} or any(OFFSET in it.text for it in found.proposals):
                 continue
             tried += 1
-            by_chance = [(None, 1), (None, None)] if kinds <= SAME else []
-            for given in [(2**24 - 1, 1), (2**24 - 1, 0), (0, 1), (RISING, 1), *by_chance]:
+            for given in [GREATEST, SILENT, LEAST, RISEN, *(BY_CHANCE if kinds <= SAME else ())]:
                 seed = dice.random()
                 with self.subTest(loop=name, given=given):
-                    was, now = (events(plan, it, random.Random(seed), *given) for it in (text, found.applied(text)))
+                    was, now = (played(plan, it, random.Random(seed), given) for it in (text, found.applied(text)))
                     self.assertEqual((was, was[0]), (now, 2))
         self.assertGreater(tried, 30)
 
@@ -368,6 +337,11 @@ class Proposed(Case):
             (["k = 5", "for i = 1 to 7 keep k in 6..9 { k = 9 }", "put k"], [(5, "for i = 1 to 7 keep k in 5..9 {")]),
             (["for i = 1 to 7 keep t in 0..1 {", f"{read} k = v t = 1 }}", "put k + t"], [(4, "for i = 1 to 7 keep t in 0..1, k in 0..4095 {")]),
             (["t = 2", "for i = 1 to 2 {", "t = t - 1 }"], [(6, "if t >= 1 { t = t - 1 }  # true unless it would fall below 0")]),
+            # 4094 stays, since it cannot fall by 4095; then 8190 is added.
+            (["k = 4", "for i = 0 to 0 {", f"{read} k = v", "k = k - 4095 }", "for i = 1 to 2 {", read, "k = k + v }", "put k"], [
+                (5, "for i = 0 to 0 keep k in 0..4094 {"), (7, "if k >= 4095 { k = k - 4095 }  # true unless it would fall below 0"),
+                (8, "for i = 1 to 2 keep k in 0..12284 {"), (10, "if k <= 12284 - 4095 { k = k + v }  # always true"),
+            ]),
             ([read, "for i = 1 to 2 {", "t = v - k", "k = v }", "put t"], [
                 (5, "for i = 1 to 2 keep k in 0..4095, t in 0..4095 {"),
                 (6, "t = v + 4095 - k  if t >= 4095 { t = t - 4095 } else { t = 0 }  # 0 if it would be below 0"),
@@ -410,6 +384,11 @@ class Proposed(Case):
         found = self.proposed(text)
         self.assertEqual([it.text for it in found.proposals], ["for i = 1 to 2 keep k in 0..2 {"])
         self.assertEqual(found.remaining, ("E16", 7, "word above 24 bits"))
+
+    def test_what_remains_of_a_lesser_range(self):
+        """The range is made so small that both sums fit; then the difference is what is refused."""
+        text = script(["for i = 0 to 11 {", "cdreg r 1 1 5 0 cfsa 0 r -> v", "k = k + 1", "k = k + v", "k = k - 100 }", "put k * 16"])
+        self.assertEqual(self.proposed(text).remaining, ("E4", 8, "value out of range"))
 
     def test_plan(self):
         """A plan that is refused is no fault of the script."""

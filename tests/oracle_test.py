@@ -1,10 +1,12 @@
 #!/usr/bin/env python3
-"""Compares the program with the independent reader of tools/oracle, on cases that are made by a seed, and the reader with the worked rows.
+"""Compares what the program tells with what the independent reader of tools/oracle says, on cases that are made by a seed, and the reader with the
+worked rows.
 
-usage: tests/oracle_test.py [-v] [TEST ..]     from any folder; takes half a minute
+usage: tests/oracle_test.py [-v] [TEST ..]     from any folder; takes three minutes of processor time
 
-CAMAC_SEED is another seed than the usual one. A difference is printed with its files, which are kept in out/oracle.
+The seed is the day's date, or CAMAC_SEED. A difference is kept in out/oracle, and its case is made again by the command that is printed.
 """
+import datetime
 import os
 import pathlib
 import sys
@@ -20,13 +22,13 @@ sys.dont_write_bytecode = True
 
 from oracle.calls import Program
 from oracle.comparing import Comparison, keep, used
+from oracle.judges import JUDGES
 from oracle.reader.engines import TELL, Inputs, tell
 from oracle.reader.refusals import LeftOut
 
-SEED = os.environ.get("CAMAC_SEED") or "camac"
-SECONDS = 30
-# The least number of cases, also on a slow computer: the usual seed has reached every code after 1,200.
-LEAST_CASES, MOST_CASES = 1_500, 6_000
+SEED = os.environ.get("CAMAC_SEED") or datetime.date.today().isoformat()
+# By this seed every code is reached after 1,200 cases.
+OF_CODES, CASES_OF_CODES = "camac", 1_500
 
 
 class Reader(unittest.TestCase):
@@ -51,20 +53,44 @@ class Reader(unittest.TestCase):
             self.assertEqual(NOT_MADE if told.events is None else told.events, case.events)
 
 
-class Compared(unittest.TestCase):
-    """The program answers what the reader does, and every code is reached."""
+class Judged(unittest.TestCase):
+    """The program tells what the reader says. Each judge has so many seconds of processor time, and on a slow computer takes more for the least cases."""
 
-    def test_cases(self):
-        print(f"the cases are made by seed {SEED}")
+    def judge(self, name, seconds, seed=SEED, least=0):
         memory = "/dev/shm" if os.access("/dev/shm", os.W_OK) else None
         with tempfile.TemporaryDirectory(prefix="camac-oracle-", dir=memory) as room:
-            it = Comparison(Program(PROGRAM, pathlib.Path(room)), SEED)
+            it = Comparison(Program(PROGRAM, pathlib.Path(room)), seed, JUDGES[name])
             began = used()
-            it.run(0, LEAST_CASES)
-            it.run(LEAST_CASES, MOST_CASES - LEAST_CASES, SECONDS - (used() - began))
-        print(f"{it.cases} cases, {it.calls} calls; left out: {dict(it.left_out)}")
-        self.assertEqual([str(keep(one, SEED, TOP / "out/oracle")) for one in it.differences], [])
-        self.assertEqual(it.missing(), [])
+            it.run(0, least)
+            it.run(least, sys.maxsize - least, seconds - (used() - began))
+        print(f"judged: {it.told()}")
+        again = f"tools/oracle/compare {name} --seed {seed} --count 1 --first"
+        self.assertEqual([f"{keep(one, it, TOP / 'out/oracle')}: {again} {one.number}" for one in it.differences], [])
+        return it.missing()
+
+    def test_every_code(self):
+        self.assertEqual(self.judge("answers", 0, OF_CODES, CASES_OF_CODES), [])
+
+    def test_answers(self):
+        self.judge("answers", 20)
+
+    def test_at(self):
+        self.assertEqual(self.judge("at", 25), [])
+
+    def test_mark(self):
+        self.assertEqual(self.judge("mark", 20), [])
+
+    def test_also(self):
+        self.assertEqual(self.judge("also", 15), [])
+
+    def test_expected(self):
+        self.assertEqual(self.judge("expected", 20), [])
+
+    def test_keeps(self):
+        self.assertEqual(self.judge("keeps", 40), [])
+
+    def test_response(self):
+        self.assertEqual(self.judge("response", 25, least=1_500), [])
 
 
 if __name__ == "__main__":

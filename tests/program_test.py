@@ -5,6 +5,7 @@ usage: tests/program_test.py [-v] [TEST ..]     from any folder; takes a few sec
 """
 import errno
 import json
+import os
 import re
 import select
 import subprocess
@@ -168,7 +169,7 @@ class Help(Case):
         self.assertIn("'x q word wait gl'", text)
         self.assertIn("one hexadecimal digit", text)
         self.assertIn("six hexadecimal digits", text)
-        self.assertIn("replaced once plan and script are accepted", text)
+        self.assertIn("an older one is replaced once the first answer is good", text)
         self.assertIn("nothing is sent to any hardware", text)
 
     def test_the_program(self):
@@ -214,19 +215,27 @@ class Files(Case):
         told = fault("read", ".", errno.EISDIR)
         for words in (["plan", "."], ["check", "@sample", "."], ["events", "."], ["run", "@sample", "straight.script", ".", "e"]):
             self.assertEqual(self.call(*words), (3, b"", told), words)
-        self.assertEqual(self.file("e"), b"CAMACEV2")
+        self.assertFalse((self.room / "e").exists())
 
-    def test_events_is_made_once_plan_and_script_are_accepted(self):
-        """Where one of them is refused, an earlier file is as it was, and none is made."""
-        refused = (["@sample", "@in"], b"!", b"refused S1 line 1: bad byte\n"), (["@in", "straight.script"], b"buffer = 0", b"refused P4: value out of range\n")
-        for words, given, line in refused:
-            self.assertEqual(self.call("run", *words, "answers", "e", given=given), (1, line, b""))
-            self.assertFalse((self.room / "e").exists())
-        (self.room / "e").write_bytes(b"of an earlier run")
-        for words, given, line in refused:
-            self.assertEqual(self.call("run", *words, "answers", "e", given=given), (1, line, b""))
-            self.assertEqual(self.file("e"), b"of an earlier run")
-        self.assertEqual(self.call("run", "@sample", "straight.script", "@in", "e", given=b"!"), (1, b"refused A1 line 1: line shape\n", b""))
+    def test_events_is_made_once_the_first_answer_is_good(self):
+        """Where plan, script or first answer is refused or not read, an older event file is as it was, and none is made."""
+        refused = (
+            (["@sample", "@in", "answers"], b"!", b"refused S1 line 1: bad byte\n"),
+            (["@in", "straight.script", "answers"], b"buffer = 0", b"refused P4: value out of range\n"),
+            (["@sample", "straight.script", "@in"], b"!\n" + ANSWERS, b"refused A1 line 1: line shape\n"),
+            (["@sample", "straight.script", "@in"], DEMAND.replace(b"4", b"G"), b"refused A2 line 1: bad digit\n"),
+        )
+        unread = ["@sample", "straight.script", "."], fault("read", ".", errno.EISDIR)
+        for there in (None, EVENT_FILE):
+            for words, given, line in refused:
+                self.assertEqual(self.call("run", *words, "e", given=given), (1, line, b""))
+            self.assertEqual(self.call("run", *unread[0], "e"), (3, b"", unread[1]))
+            self.assertEqual(self.file("e") if (self.room / "e").exists() else None, there)
+            (self.room / "e").write_bytes(EVENT_FILE)
+
+    def test_events_where_no_answer_is_given(self):
+        """The end of the answers begins an event file, too."""
+        self.assertEqual(self.call("run", "@sample", "straight.script", "/dev/null", "e"), (0, b"ended events 0\n", b""))
         self.assertEqual(self.file("e"), b"CAMACEV2")
 
     def test_inputs_that_are_too_long(self):
@@ -281,7 +290,7 @@ class Streams(Case):
         self.assertEqual(self.shell('"$camac" run plan.toml @in answers e <&-'), closed)
         self.assertFalse((self.room / "e").exists())
         self.assertEqual(self.shell('"$camac" run plan.toml straight.script @in e <&-'), closed)
-        self.assertEqual(self.file("e"), b"CAMACEV2")
+        self.assertFalse((self.room / "e").exists())
         self.assertEqual(self.shell('"$camac" run plan.toml straight.script answers e >&-'), (3, b"", unwritten(errno.EBADF)))
         self.assertEqual(self.file("e"), b"CAMACEV2")
         for streams in ("2>&-", "<&- 2>&-", ">&- 2>&-", "<&- >&- 2>&-"):
@@ -344,7 +353,6 @@ class Streams(Case):
         words = [PROGRAM, "run", "@sample", "straight.script", "@in", "e"]
         lines = LISTING.splitlines(True)[:-1]
         with subprocess.Popen(words, stdin=subprocess.PIPE, stdout=subprocess.PIPE, bufsize=0, cwd=self.room) as ran:
-            self.until("e", b"CAMACEV2")
             # many services at once, and the begin of an answer that comes later
             ran.stdin.write(ANSWERS * 100 + ANSWERS[:10])
             told = b"".join(ran.stdout.readline() for _ in range(100 * len(lines)))
@@ -378,6 +386,7 @@ class Streams(Case):
             self.assertEqual((ran.wait(10), ran.stderr.read()), (3, FULL))
         self.assertEqual(self.file("e"), b"CAMACEV2")
         with subprocess.Popen([*words, "/dev/full"], stdout=subprocess.PIPE, **piped) as ran:
+            ran.stdin.write(first)
             self.assertEqual((ran.wait(10), ran.stdout.read(), ran.stderr.read()), (3, b"", unwritten(errno.ENOSPC, "/dev/full")))
 
     def test_an_output_fails_at_the_end(self):
@@ -424,13 +433,30 @@ class Kept(Case):
         (self.room / "soft").symlink_to(self.room / "e")
         for name in ("e", "soft", "/dev/stdout", "/proc/self/fd/1"):
             line = f'"$camac" run plan.toml straight.script answers {name} >>e'
-            (self.room / "e").write_bytes(b"of an earlier run")
+            (self.room / "e").write_bytes(EVENT_FILE)
             self.assertEqual(self.shell(line), (3, b"", unwritten("it is standard output", name)), name)
-            self.assertEqual(self.file("e"), b"of an earlier run", name)
+            self.assertEqual(self.file("e"), EVENT_FILE, name)
+
+    def test_events_is_a_pipe_or_a_terminal_of_an_output(self):
+        """Bytes of the event file would be among the lines. The null device keeps neither."""
+        os.mkfifo(self.room / "pipe")
+        for command in ("run plan.toml straight.script answers", "drive plan.toml straight.script"):
+            for events, how in (("/dev/stdout", "| cat"), ("/proc/self/fd/1", "| cat"), ("pipe", ">pipe & cat pipe; wait $!")):
+                line = f'set -o pipefail; "$camac" {command} {events} <answers {how}'
+                self.assertEqual(self.shell(line), (3, b"", unwritten("it is standard output", events)), line)
+            self.assertEqual(self.shell(f'"$camac" {command} /dev/stderr <answers 2>&1 >out | cat'), (0, unwritten("it is standard error", "/dev/stderr"), b""))
+            self.assertEqual(self.file("out"), b"")
+            ends = os.openpty()
+            for events in ("/dev/stdout", os.ttyname(ends[1])):
+                told = self.call(*command.split(), events, given=ANSWERS, stdout=ends[1])
+                self.assertEqual(told, (3, None, unwritten("it is standard output", events)), command)
+            for end in ends:
+                os.close(end)
+            self.assertEqual(self.shell(f'"$camac" {command} /dev/null <answers >/dev/null 2>/dev/null'), (0, b"", b""))
 
     def test_events_is_standard_error(self):
         """A fault that is written there would be in the event file."""
-        for command, there in (("run plan.toml straight.script answers", b"of an earlier run"), ("drive plan.toml straight.script", b"")):
+        for command, there in (("run plan.toml straight.script answers", EVENT_FILE), ("drive plan.toml straight.script", b"")):
             for name in ("e", "soft", "/dev/stderr", "/proc/self/fd/2"):
                 (self.room / "soft").unlink(missing_ok=True)
                 (self.room / "soft").symlink_to(self.room / "e")
@@ -449,13 +475,28 @@ class Kept(Case):
 
     def test_events_that_is_no_file(self):
         self.assertEqual(self.call("run", "@sample", "straight.script", "answers", "/dev/null"), (0, LISTING, b""))
-        line = '"$camac" run plan.toml straight.script answers /dev/stdout | wc -c'
-        self.assertEqual(self.shell(line), (0, f"{len(LISTING) + len(EVENT_FILE)}\n".encode(), b""))
+        line = 'mkfifo pipe; "$camac" run plan.toml straight.script answers pipe >/dev/null & cat pipe; wait $!'
+        self.assertEqual(self.shell(line), (0, EVENT_FILE, b""))
 
-    def test_events_was_there_and_longer(self):
-        (self.room / "e").write_bytes(EVENT_FILE * 1000)
-        self.assertEqual(self.call("run", "@sample", "straight.script", "answers", "e"), (0, LISTING, b""))
-        self.assertEqual(self.file("e"), EVENT_FILE)
+    def test_an_older_event_file_is_replaced(self):
+        """One of either version, also a longer one that is no longer whole, and an empty file."""
+        for there in (EVENT_FILE_ONE, EVENT_FILE, EVENT_FILE * 1000, EVENT_FILE[:8], b"CAMACEV1", b""):
+            (self.room / "e").write_bytes(there)
+            self.assertEqual(self.call("run", "@sample", "straight.script", "answers", "e"), (0, LISTING, b""))
+            self.assertEqual(self.file("e"), EVENT_FILE)
+
+    def test_no_other_file_is_replaced(self):
+        """Whatever is typed for EVENTS, a file that does not begin as an event file stays."""
+        (self.room / "old.events").write_bytes(EVENT_FILE)
+        others = {"notes.md": b"# Notes\n", "README": b"CAMAC crates of hall 2\n", "cut": b"CAMAC", "almost": b"CAMACEV", "three": b"CAMACEV3", "later": b" " + EVENT_FILE, "night": ANSWERS}
+        for name, text in others.items():
+            (self.room / name).write_bytes(text)
+            self.assertEqual(self.call("run", "plan.toml", "straight.script", "answers", name), (3, b"", unwritten("it is no event file", name)))
+            self.assertEqual(self.file(name), text)
+        # the last two words exchanged
+        self.assertEqual(self.call("run", "plan.toml", "straight.script", "old.events", "night"), (1, b"refused A1 line 1: line shape\n", b""))
+        self.assertEqual((self.file("night"), self.file("old.events")), (ANSWERS, EVENT_FILE))
+        self.assertEqual(self.call("run", "plan.toml", "straight.script", "@in", "night"), (3, b"", unwritten("it is no event file", "night")))
 
 
 def subcommands(help_text):

@@ -1,14 +1,9 @@
 #!/usr/bin/env python3
-"""Compares what `camac response` prints with the independent reader of tools/oracle, and watches its law along runs.
+"""Tests what `camac response` prints at edges that are seldom made by chance: by hand, by the independent reader of tools/oracle, and by the program.
 
-usage: tests/response_test.py [-v] [TEST ..]     from any folder; takes a quarter of a minute
-
-CAMAC_SEED is another seed than the usual one. A difference is printed with its files, which are kept in out/oracle.
+usage: tests/response_test.py [-v] [TEST ..]     from any folder; takes some seconds
 """
-import collections
-import os
 import pathlib
-import random
 import sys
 import tempfile
 import unittest
@@ -19,17 +14,8 @@ sys.path.insert(0, str(TOP / "tools"))
 sys.dont_write_bytecode = True
 
 from oracle.calls import Program
-from oracle.comparing import Difference, differs, keep
-from oracle.maker.modules import Ambush, Careless, Modules
-from oracle.maker.responses import make_inputs
-from oracle.reader.engines import Inputs, checked, listed, tell
-from oracle.reader.response import rates_of, response_of, services_of
-from oracle.reader.stretches import Watch, watch
+from oracle.reader.engines import Inputs, tell
 
-SEED = os.environ.get("CAMAC_SEED") or "camac"
-RUNS = 2_000
-# A service that may take more is not played.
-LONGEST = 1_000
 READ = "cfsa 0 r -> v"
 # Services of bits 1 to 4, by name; before each cycle of the last one there are up to 14 waits.
 PLAN = b"""[[type]]
@@ -98,78 +84,15 @@ def edge_script(services):
     return f"{lams}var v i k\n{''.join(heading.format(it, STATIONS[it], block) for it, block in services.items())}".encode()
 
 
-class Responses(unittest.TestCase):
-    def setUp(self):
-        memory = "/dev/shm" if os.access("/dev/shm", os.W_OK) else None
-        room = tempfile.TemporaryDirectory(prefix="camac-response-", dir=memory)
-        self.addCleanup(room.cleanup)
-        self.program = Program(PROGRAM, pathlib.Path(room.name))
-
-    def compare(self, number, command, inputs, wanted):
-        answered = self.program.call(command, inputs)
-        if differs(wanted, answered):
-            folder = keep(Difference(number, command, inputs, wanted, answered), f"{SEED}-response", TOP / "out/oracle")
-            self.fail(f"{command} answers status {answered.status}, {answered.err}; {folder} has what was wanted")
-
-
-class Edges(Responses):
-    """What is seldom made by chance."""
-
+class Edges(unittest.TestCase):
     def test_lines(self):
-        for number, (services, words, lines) in enumerate(EDGES):
-            inputs = Inputs(PLAN, edge_script(services), words=words.encode())
-            wanted = tell("response", inputs)
-            self.assertEqual((wanted.status, wanted.out.decode()), (0, lines))
-            self.compare(number, "response", inputs, wanted)
-
-
-class Made(Responses):
-    """The program prints the reader's lines, and no run passes them."""
-
-    def setUp(self):
-        super().setUp()
-        self.seen = collections.Counter()
-
-    def test_scripts(self):
-        number = 0
-        while self.seen["played"] < RUNS:
-            dice = random.Random(f"{SEED}/response/{number}")
-            inputs = make_inputs(dice)
-            wanted = tell("response", inputs)
-            self.compare(number, "response", inputs, wanted)
-            self.count(wanted)
-            if wanted.reached == "response":
-                self.play(number, dice, inputs)
-            number += 1
-        print(f"{number} scripts by seed {SEED}: {dict(self.seen)}")
-        self.assertGreater(self.seen["end reached"], RUNS // 4)
-        self.assertTrue(all(self.seen.values()))
-
-    def count(self, wanted):
-        self.seen["without a number"] += b" end - " in wanted.out
-        self.seen["above a promise"] += wanted.status == 1 and wanted.reached == "response"
-        self.seen["refused"] += wanted.out.startswith(b"refused")
-        self.seen["fault of the words"] += wanted.status == 2
-
-    def play(self, number, dice, inputs):
-        """Plays the script on answers made for it, watches the law, and has the program play it too."""
-        checker = checked(inputs)
-        services = services_of(checker, rates_of(inputs.words.decode().split())[0])
-        if any(it.cycles > LONGEST for it in services):
-            return
-        modules = dice.choice((Ambush, Ambush, Modules, Careless))(dice, checker, services)
-        modules.run.play()
-        watches = [Watch(it, response_of(services, it), modules.raised[it.name]) for it in services]
-        watch(watches, modules.run.listing)
-        self.assertEqual([it.faults for it in watches], [[]] * len(watches), number)
-        if not isinstance(modules, Careless):
-            self.assertEqual([call for it in watches for call in it.broken if call.service.every], [], number)
-        late = [{end.number for end in it.ended if it.found and end.waited == it.found.end} for it in watches]
-        self.seen["end reached"] += any(late)
-        self.seen["end reached by a later call"] += any(it and 1 not in it for it in late)
-        self.seen["played"] += 1
-        answers = "".join(f"{it}\n" for it in modules.lines).encode()
-        self.compare(number, "run", inputs._replace(answers=answers), listed(modules.run))
+        with tempfile.TemporaryDirectory(prefix="camac-response-") as room:
+            program = Program(PROGRAM, pathlib.Path(room))
+            for services, words, lines in EDGES:
+                with self.subTest(words=words):
+                    inputs = Inputs(PLAN, edge_script(services), words=words.encode())
+                    for told in tell("response", inputs), program.call("response", inputs):
+                        self.assertEqual((told.status, told.out.decode(), told.err), (0, lines, b""))
 
 
 if __name__ == "__main__":

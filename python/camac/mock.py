@@ -220,7 +220,7 @@ class Memory(Module):
 class Declared(Module):
     """A module that accepts what its type in a plan declares, and nothing else. Each read has a word of the register's width: what was
     written there (F16, F17), else a number that looks random. F27 answers Q = 1 in half of the tests, and a probe Q = 0. F8, F10, F24 and
-    F26 are those of a look-at-me, wherever they are declared; F9 clears it, and so does F2 at its last sub-address."""
+    F26 are those of a look-at-me, wherever they are declared; a command that clears by the plan takes it away, too."""
 
     def __init__(self, declarations: Iterable[Declaration], seed: int = 1) -> None:
         super().__init__(lam_at=0)
@@ -238,7 +238,7 @@ class Declared(Module):
             return super().cycle(0, f, data)
         if f == 27:
             return Reply(q=self.random.randint(0, 1))
-        if f == 9 or (f == 2 and a == its.last):
+        if its.clears:
             self.clear()
         if data is not None:
             self.words[a] = data

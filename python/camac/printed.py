@@ -29,6 +29,7 @@ PARTS: Dict[str, Tuple[str, Callable[[str], Any]]] = {
     "kind": ("service|proc", BodyKind),
     "head": ("service|proc", lambda it: it == "service"),
     "probe": ("(?: probe)?", bool),
+    "clears": ("(?: clears)?", bool),
     "each": (r"cycles \d+ words \d+ steps \d+", lambda it: Cost(*map(int, it.split()[1::2]))),
     "cost": (r"\d+ \d+ \d+", lambda it: Cost(*map(int, it.split()))),
     "about": (r"(?: at \S+ \S+ \S+(?: to \S+ \S+ \S+)?| turns \d+| crate \S+| proc \w+)?", str.lstrip),
@@ -93,7 +94,7 @@ BODY = Form(
 ROW = Form(Row, "line {line} depth {depth} {word:name} times {times} {each:each} share {share:cost}{about:about}")
 BUFFER = Form(lambda words: Plan(words, {}, ()), "buffer {words}")
 TYPE = Form(ModuleType, "type {name:name} commands {commands} probes {probes}")
-DECLARATION = Form(_declaration, "command f {function} a {first}(?: to {last})?(?: width {width})?{is_probe:probe}")
+DECLARATION = Form(_declaration, "command f {function} a {first}(?: to {last})?(?: width {width})?{is_probe:probe}{clears:clears}")
 CRATE = Form(Crate, "crate {number} waits {waits}")
 STATION = Form(Station, "station {number} {type:name} gl {gl:maybe}")
 AT = Form(lambda move, **at: (Command(**at), move), "cycle {crate:crate} {station:station} {sub_address:sub} {function:function} {move:move}")

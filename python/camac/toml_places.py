@@ -244,8 +244,8 @@ def declarations(text: str) -> Iterator[Tuple[str, Declaration]]:
         for one in tables(it, "commands"):
             function, first, last = number(one, "f"), number(one, "a"), number(one, "to")
             if function is not None and first is not None:
-                is_probe = "probe" in one.value and one.value["probe"].value.value is True
-                yield name, Declaration(function, first, first if last is None else last, number(one, "width"), is_probe)
+                is_probe, clears = (key in one.value and one.value[key].value.value is True for key in ("probe", "clears"))
+                yield name, Declaration(function, first, first if last is None else last, number(one, "width"), is_probe, clears)
 
 
 def with_commands(plan: Plan, text: str) -> Plan:

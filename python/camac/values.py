@@ -162,13 +162,14 @@ class Body(NamedTuple):
 
 class Declaration(NamedTuple):
     """Commands that a module type declares: one function at the sub-addresses `first` to `last`. `width` is how many bits are moved, None
-    if no data moves, and of a probe, which has no register."""
+    if no data moves, and of a probe, which has no register. A command that `clears` takes the module's look-at-me away."""
 
     function: int
     first: int
     last: int
     width: Optional[int]
     is_probe: bool
+    clears: bool = False
 
 
 class ModuleType(NamedTuple):

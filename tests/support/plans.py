@@ -36,6 +36,7 @@ MISTAKES = [
     ("types without brackets", "type = 3\n", "P3", "type: the value is of the kind integer; expected an array of tables."),
     ("a range that ends before it begins", TYPE.replace("a = 0, to = 11", "a = 5, to = 3"), "P4", "type `ADC`, first command, to: the value is 3; expected 5 to 15."),
     ("a width of a probe", TYPE.replace("to = 11", "to = 11, probe = true, width = 12"), "P4", "type `ADC`, first command, width: the value is 12, and a probe has 24 bits."),
+    ("a probe that clears", TYPE.replace("to = 11", "to = 11, probe = true, clears = true"), "P4", "type `ADC`, first command, clears: a probe clears no look-at-me."),
     ("a blank in a name", TYPE.replace("ADC", "A DC"), "P4", "first entry of `type`, name: the value is `A DC`, and a name has 1 to 32 letters, digits, `_` or `-`."),
     ("a type too many", "".join(TYPE.replace("ADC", f"ADC-{i}") for i in range(65)), "P4", "type `ADC-64`: there are at most 64 types."),
     ("a name twice", TYPE + TYPE, "P8", "second entry of `type`, name: the value is `ADC`, which is already used at first entry of `type`."),

@@ -40,7 +40,7 @@ class Program:
         words = [str(self.room / it) for it in words_of(command)]
         if words_of(command)[0] == "plan" and inputs.plan is None:
             words[0] = "@sample"
-        return [command, *words, *(inputs.words.decode().split() if command == "response" else [])]
+        return [command, *words, *(inputs.words.decode().split() if command in ("response", "explain") else [])]
 
     def call(self, command: str, inputs: Inputs) -> Told:
         words = self.words(command, inputs)

@@ -11,7 +11,7 @@ from oracle.maker.limits import make_limit
 from oracle.maker.plans import make_faulty_plan, make_plan
 from oracle.maker.scripts import make_script
 from oracle.reader.engines import Inputs, checked
-from oracle.reader.plan import read_plan, sample_plan
+from oracle.reader.plan import Plan, read_plan, sample_plan
 from oracle.reader.refusals import EVENT_FILE_LIMIT, TEXT_LIMIT, Refused
 
 STEPS_OF_A_RUN = 3_000
@@ -25,14 +25,23 @@ class Case(NamedTuple):
     commands: Tuple[str, ...]
 
 
+def make_inputs(random: Random, make: Callable[[Random, Plan], bytes] = make_script) -> Inputs:
+    """A plan, and a script for it."""
+    text = None if random.random() < 0.35 else make_plan(random)
+    return Inputs(text, make(random, sample_plan() if text is None else read_plan(text)))
+
+
+def make_edge_inputs(random: Random) -> Inputs:
+    return Inputs(edges.PLAN, edges.make_edge(random))
+
+
 def script_case(random: Random) -> Case:
     """A plan, a script for it, and answers if it is accepted."""
-    text = None if random.random() < 0.35 else make_plan(random)
-    return played(random, Inputs(text, make_script(random, sample_plan() if text is None else read_plan(text))))
+    return played(random, make_inputs(random))
 
 
 def edge_case(random: Random) -> Case:
-    return played(random, Inputs(edges.PLAN, edges.make_edge(random)))
+    return played(random, make_edge_inputs(random))
 
 
 def played(random: Random, inputs: Inputs) -> Case:

@@ -1,19 +1,20 @@
-"""Compares the answers of the program with those of the reader."""
+"""Compares what the program tells with what the reader says, case after case, by one of the judges."""
 from __future__ import annotations
 
 import collections
 import os
 import pathlib
-from typing import Counter, List, NamedTuple, Optional
+from random import Random
+from typing import Callable, Counter, List, NamedTuple, Optional, Tuple
 
 from oracle.calls import Hung, Program
-from oracle.cases import Case, make_case
-from oracle.reader.engines import Inputs, Told, tell
+from oracle.reader.engines import Inputs, Told
 from oracle.reader.refusals import TEXTS, LeftOut
-from oracle.reader.toml_text import READS_ALL
 
 
 class Difference(NamedTuple):
+    """What a command has to answer on inputs, and what it answered: None if it did not end, or was not asked."""
+
     number: int
     command: str
     inputs: Inputs
@@ -21,59 +22,70 @@ class Difference(NamedTuple):
     answered: Optional[Told]
 
 
-def differs(wanted: Told, answered: Told) -> bool:
-    return wanted._replace(reached="") != answered
+class Judge(NamedTuple):
+    """Judges the case in hand of a comparison. `needs` is what has to be seen now and then, else the judge is blind."""
+
+    name: str
+    says: str
+    judge: Callable[[Comparison], None]
+    needs: Tuple[str, ...]
 
 
 class Comparison:
-    """Compares case after case. `reached` counts what was reached, `left_out` the cases that the reader does not judge."""
+    """Judges case after case. `judged` counts what was compared, `seen` what was met there, `left_out` the cases that the reader does not judge."""
 
-    def __init__(self, program: Program, seed: str) -> None:
-        self.program, self.seed = program, seed
-        self.reached: Counter[str] = collections.Counter()
+    def __init__(self, program: Program, seed: str, judge: Judge) -> None:
+        self.program, self.seed, self.judge = program, seed, judge
+        self.seen: Counter[str] = collections.Counter()
         self.left_out: Counter[str] = collections.Counter()
         self.differences: List[Difference] = []
-        self.cases = self.calls = 0
+        self.cases = self.judged = self.number = 0
 
-    def compare(self, number: int) -> None:
-        self.cases += 1
-        case = make_case(self.seed, number)
-        for command in case.commands:
-            self.compare_call(number, command, case)
+    def dice(self) -> Random:
+        """The source of chance of the case in hand."""
+        return Random(f"{self.seed}/{self.judge.name}/{self.number}")
 
-    def compare_call(self, number: int, command: str, case: Case) -> None:
+    def asked(self, command: str, inputs: Inputs) -> Optional[Told]:
+        """What the program answers; None if it does not end."""
         try:
-            wanted = tell(command, case.inputs)
-        except LeftOut as why:
-            self.left_out[str(why)] += 1
-            return
-        self.reached[wanted.reached] += 1
-        self.calls += 1
-        try:
-            answered: Optional[Told] = self.program.call(command, case.inputs)
+            return self.program.call(command, inputs)
         except Hung:
-            answered = None
-        if answered is None or differs(wanted, answered):
-            self.differences.append(Difference(number, command, case.inputs, wanted, answered))
+            return None
+
+    def differs(self, command: str, inputs: Inputs, wanted: Told, answered: Optional[Told] = None) -> None:
+        self.differences.append(Difference(self.number, command, inputs, wanted, answered))
+
+    def compare(self, command: str, inputs: Inputs, wanted: Told) -> None:
+        self.judged += 1
+        self.seen[wanted.reached] += 1
+        answered = self.asked(command, inputs)
+        if answered != wanted._replace(reached=""):
+            self.differs(command, inputs, wanted, answered)
 
     def run(self, first: int, count: int, seconds: Optional[float] = None, most: int = 5) -> None:
-        """Compares `count` cases, or as many as fit into `seconds` of processor time, and stops at `most` differences."""
+        """Judges `count` cases, or as many as fit into `seconds` of processor time, and stops at `most` differences."""
         began = used()
-        for number in range(first, first + count):
+        for self.number in range(first, first + count):
             if len(self.differences) >= most or seconds is not None and used() - began >= seconds:
                 return
-            self.compare(number)
+            self.cases += 1
+            try:
+                self.judge.judge(self)
+            except LeftOut as why:
+                self.left_out[str(why)] += 1
 
     def missing(self) -> List[str]:
-        """The codes that no case has reached, of those that this Python can find."""
-        return [it for it in (*TEXTS, "G4") if not self.reached[it] and (READS_ALL or it != "P1")]
+        """What has to be seen, and was not."""
+        return [it for it in self.judge.needs if not self.seen[it]]
+
+    def told(self) -> str:
+        left = "".join(f", {count} left out ({why})" for why, count in self.left_out.items())
+        return f"{self.judge.name} by seed {self.seed}: {self.cases} cases, {self.judged} judged, {len(self.differences)} differ{left}"
 
     def table(self) -> str:
-        """How often each code was reached, and each other end."""
-        codes = [*TEXTS, "G4"]
-        lines = [f"{it:4} {self.reached[it]:6}  {TEXTS.get(it, 'input too long')}" for it in codes]
-        lines += [f"     {count:6}  {it}" for it, count in sorted(self.reached.items()) if it not in codes]
-        return "\n".join(lines)
+        """How often each code and each other thing was seen."""
+        names = [*self.judge.needs, *sorted(it for it in self.seen if it not in self.judge.needs)]
+        return "\n".join(f"{self.seen[it]:7}  {it} {TEXTS.get(it, '')}".rstrip() for it in names)
 
 
 def used() -> float:
@@ -82,12 +94,11 @@ def used() -> float:
     return times.user + times.system + times.children_user + times.children_system
 
 
-def keep(difference: Difference, seed: str, folder: pathlib.Path) -> pathlib.Path:
+def keep(difference: Difference, it: Comparison, folder: pathlib.Path) -> pathlib.Path:
     """Writes the files of a difference into a folder of its own."""
-    to = folder / f"seed-{seed}-case-{difference.number}-{difference.command}"
+    to = folder / f"{it.judge.name}-seed-{it.seed}-case-{difference.number}-{difference.command}"
     to.mkdir(parents=True, exist_ok=True)
-    inputs = difference.inputs
-    for name, data in inputs._asdict().items():
+    for name, data in difference.inputs._asdict().items():
         if data:
             (to / name).write_bytes(data)
     for name, told in (("wanted", difference.wanted), ("answered", difference.answered)):

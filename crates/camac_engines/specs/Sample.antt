@@ -3,16 +3,17 @@ use Rattle.std.specs.Prelude.{ℕ, true, false, List, [], ◌∷◌, ◌++◌, O
 use Rattle.std.specs.List.{range_with_len, fold}
 use Rattle.camac_module.specs.Commands.{Commands, none_declared, with_declared, declare_fault}
 use Rattle.camac_module.specs.declared.map.Decl.{Decl}
+use Rattle.camac_module.specs.declared.kind.CommandKind.TheVariants.{Plain, Probe}
 use Rattle.camac_module.specs.declared.map.ModuleFault.{ModuleFault}
 use Rattle.camac_branch.specs.Plan.{Layout, no_crates, with_type, with_crate, with_installed}
 
 -- a function at a sub-address, which moves so many bits
 abbrev pub command : ℕ → ℕ → ℕ → Decl
-command f a width = record { f = f; a = a; width = width; probe = false }
+command f a width = record { f = f; a = a; width = width; kind = Plain }
 
 -- a sub-address without a register, which a scan may reach
 abbrev pub probe : ℕ → ℕ → Decl
-probe f a = record { f = f; a = a; width = 24; probe = true }
+probe f a = record { f = f; a = a; width = 24; kind = Probe }
 
 -- the commands of a type that declares these
 abbrev pub commands_of : List Decl → Commands

@@ -7,7 +7,7 @@ ghost use Rattle.camac_module.specs.Commands.{none_declared};
 ghost use Rattle.camac_engines.specs.Sample.{adc, command, commands_of, declare_all, probe, reg, sample, sample_types};
 
 use camac_branch::{Plan, TypeName};
-use camac_module::{Decl, ModuleFault, ModuleType};
+use camac_module::{CommandKind, Decl, ModuleFault, ModuleType};
 use camac_word::{CrateNo, Function, GlBit, Station, SubAddress};
 use std::alloc::{AllocError, Global};
 
@@ -119,7 +119,7 @@ fn command(f: u32, a: u32, width: u8) -> Decl
         f: Function::new(f).unwrap(),
         a: SubAddress::new(a).unwrap(),
         width,
-        probe: false,
+        kind: CommandKind::Plain,
     }
 }
 
@@ -129,7 +129,7 @@ fn probe(f: u32, a: u32) -> Decl
     ensures { result ≡ probe f a }
 {
     Decl {
-        probe: true,
+        kind: CommandKind::Probe,
         ..command(f, a, 24)
     }
 }

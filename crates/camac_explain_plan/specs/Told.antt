@@ -78,6 +78,7 @@ told top value (case.Range there key found low high) =
 told top value (case.Name there key) =
     concat (codes "the value is " ∷ shown value ∷ codes ", and a name has 1 to 32 letters, digits, `_` or `-`." ∷ [])
 told top value (case.Probe there width) = concat (codes "the value is " ∷ decimal width ∷ codes ", and a probe has 24 bits." ∷ [])
+told top value (case.ClearingProbe there) = codes "a probe clears no look-at-me."
 told top value (case.Full there) = codes "there are at most 64 types."
 told top value (case.Twice there key first) = twice_told top value key first
 told top value (case.Command there f a first) =

@@ -114,6 +114,7 @@ fn table_in(case: PlanCase) -> Option<PlanTable>
         | PlanCase::Range { table, .. }
         | PlanCase::Name { table, .. }
         | PlanCase::Probe { table, .. }
+        | PlanCase::ClearingProbe { table }
         | PlanCase::Full { table }
         | PlanCase::Twice { table, .. }
         | PlanCase::NoType { table, .. }
@@ -149,6 +150,7 @@ fn key_in(case: PlanCase) -> Option<PlanKey>
         | PlanCase::Twice { key, .. }
         | PlanCase::NoType { key, .. } => Some(key),
         PlanCase::Probe { .. } => Some(PlanKey::Width),
+        PlanCase::ClearingProbe { .. } => Some(PlanKey::Clears),
         _ => None,
     }
 }

@@ -74,6 +74,9 @@ pub(crate) fn told(
         PlanCase::Probe { width, .. } => {
             format!(in alloc; "the value is {width}, and a probe has 24 bits.")
         }
+        PlanCase::ClearingProbe { .. } => {
+            String::from_str(alloc, "a probe clears no look-at-me.")
+        }
         PlanCase::Full { .. } => String::from_str(alloc, "there are at most 64 types."),
         PlanCase::Twice { key, first, .. } => twice_told(alloc, top, shown, key, first),
         PlanCase::Command { f, a, first, .. } => {

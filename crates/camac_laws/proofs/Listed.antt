@@ -1,9 +1,11 @@
 -- The lines of the commands of a type are the runs of neighbours that are alike.
 use Rattle.std.proofs.Common.{◌≡◌, ◌≢◌, ℕ, ◌+◌, ◌-◌, ◌<◌, ◌≤◌, zero, suc, Bool, true, false, List, [], ◌∷◌, ◌++◌, Option, Some, None, refl, sym, ap, ap₂, subst, ◌∙◌, inl, inr, append_assoc, append-nil, arith}
 use Rattle.std.specs.Prelude.{◌&&◌, nat_eq, nat_lt, if◌then◌else◌}
-use Rattle.std.specs.Bool.{beq}
 use Rattle.std.specs.List.{flat_map}
-use Rattle.std.proofs.lemmas.Bool.{and_parts, eqb-true, eqb-false, ltb-true, ltb-false, false≢true}
+use Rattle.std.proofs.lemmas.Bool.{and_parts, and_from, eqb-true, eqb-false, ltb-true, ltb-false, false≢true}
+use Rattle.camac_module.specs.Kind.{same_kind}
+use Rattle.camac_module.specs.declared.kind.CommandKind.{CommandKind}
+use Rattle.camac_module.specs.declared.kind.CommandKind.TheVariants.{Plain, Clearing, Probe}
 use Rattle.camac_module.specs.Entry.{Entry}
 use Rattle.camac_module.specs.Commands.{Commands, entry}
 use Rattle.camac_lines.specs.Commands.{is_same, last_same, goes_on, command_line, text_at, command_text, function_text}
@@ -13,30 +15,35 @@ use Rattle.camac_laws.specs.Listed.{CommandLine, line_text, IsDeclared, AreDecla
 
 -- ---- the same command
 
-probe_is : (p q : Bool) → beq p q ≡ true → p ≡ q
-probe_is true true e = refl
-probe_is false false e = refl
-probe_is true false e = absurd (cc)
-probe_is false true e = absurd (cc)
+kind_is : (p q : CommandKind) → same_kind p q ≡ true → p ≡ q
+kind_is Plain Plain e = refl
+kind_is Plain Clearing e = absurd (cc)
+kind_is Plain Probe e = absurd (cc)
+kind_is Clearing Plain e = absurd (cc)
+kind_is Clearing Clearing e = refl
+kind_is Clearing Probe e = absurd (cc)
+kind_is Probe Plain e = absurd (cc)
+kind_is Probe Clearing e = absurd (cc)
+kind_is Probe Probe e = refl
+
+itself : (p : CommandKind) → same_kind p p ≡ true
+itself Plain = refl
+itself Clearing = refl
+itself Probe = refl
 
 same_is : (e : Entry) (o : Option Entry) → is_same e o ≡ true → o ≡ Some e
 same_is e None h = absurd (false≢true h)
 same_is e (Some d) h =
-    let p = and_parts (nat_eq d.width e.width) (beq d.is_probe e.is_probe) h in
+    let p = and_parts (nat_eq d.width e.width) (same_kind d.kind e.kind) h in
     let width : d.width ≡ e.width = eqb-true d.width e.width p.0 in
-    let probe : d.is_probe ≡ e.is_probe = probe_is d.is_probe e.is_probe p.1 in
-    ap₂ (λ w b. Some (record { width = w; is_probe = b })) width probe
+    let kind : d.kind ≡ e.kind = kind_is d.kind e.kind p.1 in
+    ap₂ (λ w k. Some (record { width = w; kind = k })) width kind
 
 nat_same : (n : ℕ) → nat_eq n n ≡ true
 nat_same n = grind (arith)
 
 is_itself : (e : Entry) → is_same e (Some e) ≡ true
-is_itself e = both (nat_eq e.width e.width) e.is_probe (nat_same e.width)
-  where
-    both : (b p : Bool) → b ≡ true → (b && beq p p) ≡ true
-    both true true h = refl
-    both true false h = refl
-    both false p h = absurd (false≢true h)
+is_itself e = and_from (nat_eq e.width e.width) (same_kind e.kind e.kind) (nat_same e.width) (itself e.kind)
 
 module _ (commands : Commands) (f : ℕ) where
   abbrev at : ℕ → Option Entry

@@ -1,10 +1,10 @@
 -- The lines of the commands of a plan's types.
 use Rattle.std.specs.Prelude.{ℕ, ◌+◌, ◌-◌, zero, suc, Bool, false, ◌&&◌, nat_eq, nat_lt, List, [], ◌++◌, map, codes, decimal, Option, Some, None, if◌then◌else◌}
-use Rattle.std.specs.Bool.{beq}
 use Rattle.std.specs.List.{range_with_len, prefix_len}
 use Rattle.camac_func.specs.Class.{class_of}
 use Rattle.camac_func.specs.declared.code.FunctionClass.{FunctionClass}
 use Rattle.camac_func.specs.declared.code.FunctionClass.TheVariants.{Read, Write, Control}
+use Rattle.camac_module.specs.Kind.{clears, is_probe, same_kind}
 use Rattle.camac_module.specs.Entry.{Entry}
 use Rattle.camac_module.specs.Commands.{Commands, entry}
 use Rattle.camac_lines.specs.Texts.{texts}
@@ -12,7 +12,7 @@ use Rattle.camac_lines.specs.Texts.{texts}
 -- of one width and kind
 abbrev pub is_same : Entry → Option Entry → Bool
 is_same e None = false
-is_same e (Some d) = nat_eq d.width e.width && beq d.is_probe e.is_probe
+is_same e (Some d) = nat_eq d.width e.width && same_kind d.kind e.kind
 
 -- what a type declares of a function at so many sub-addresses from one on
 abbrev pub entries_from : Commands → ℕ → (first count : ℕ) → List (Option Entry)
@@ -38,7 +38,10 @@ width_text Write width = codes " width " ++ decimal width
 width_text Control width = []
 
 abbrev pub kind_text : ℕ → Entry → List ℕ
-kind_text f e = if e.is_probe then codes " probe" else width_text (class_of f) e.width
+kind_text f e =
+    if is_probe e.kind then codes " probe"
+    else if clears e.kind then width_text (class_of f) e.width ++ codes " clears"
+    else width_text (class_of f) e.width
 
 abbrev pub command_line : (function first last : ℕ) → Entry → List ℕ
 command_line f first last e =

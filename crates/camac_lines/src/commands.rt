@@ -71,7 +71,7 @@ fn is_same(plan: &Plan, t: usize, d: &Decl, a: SubAddress) -> bool
     ensures { result ≡ is_same (declared d.now) (entry (kind plan.now t).commands d.now.f a) }
 {
     match plan.declaration(t, d.f, a) {
-        Some(other) => other.width == d.width && other.probe == d.probe,
+        Some(other) => other.width == d.width && other.kind == d.kind,
         None => false,
     }
 }
@@ -126,12 +126,17 @@ fn push_last(line: &mut Line, first: u32, last: u32)
 fn push_kind(line: &mut Line, d: &Decl)
     requires { length line.old ≤ 130 }
     ensures bytes { line.new ≡ line.old ++ kind_text d.now.f (declared d.now) }
-    ensures len { length line.new ≤ length line.old + 20 }
+    ensures len { length line.new ≤ length line.old + 30 }
 {
-    if d.probe {
+    if d.kind.is_probe() {
         line.push_str(" probe");
-    } else if class(d.f) != FunctionClass::Control {
+        return;
+    }
+    if class(d.f) != FunctionClass::Control {
         line.push_str(" width ");
         line.push_number(d.width);
+    }
+    if d.kind.clears() {
+        line.push_str(" clears");
     }
 }

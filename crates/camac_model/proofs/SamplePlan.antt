@@ -3,6 +3,7 @@ use Rattle.std.proofs.Common.{◌≡◌, ℕ, zero, suc, ◌+◌, ◌<◌, ◌�
 use Rattle.std.specs.Prelude.{slice_index_or, option_map, option_and_then, ◌⊎◌}
 use Rattle.std.proofs.Common.{inl, inr}
 use Rattle.camac_module.specs.Commands.{IsDeclarable, IsCommandMap}
+use Rattle.camac_module.specs.declared.kind.CommandKind.TheVariants.{Plain, Probe}
 use Rattle.camac_branch.specs.declared.plan.Crate.{Crate}
 use Rattle.camac_branch.specs.declared.plan.Installed.{Installed}
 use Rattle.camac_branch.specs.Plan.{IsPlan, numbered, crate_at, installed, gl, kind}
@@ -46,13 +47,13 @@ from_first : {A : Type 0} (P : ℕ → ℕ → A → Type 0) (rows : List (List 
 from_first P rows h f a x e = let same : 0 + a ≡ a = omega arith in subst (λ j. P f j x) same (row_at P 0 rows h f a x e)
 
 -- a command of 12, 24 or 8 bits; a probe
-command : (f a w : ℕ) → f < 32 → a < 16 → 1 ≤ w → w ≤ 24 → IsDeclarable f a (record { width = w; is_probe = false })
+command : (f a w : ℕ) → f < 32 → a < 16 → 1 ≤ w → w ≤ 24 → IsDeclarable f a (record { width = w; kind = Plain })
 command f a w hf ha low high = record { function = hf; sub_address = ha; width_from_1 = low; width_to_24 = high; probe = λ e. absurd (cc) }
 
-probed : (a : ℕ) → a < 16 → IsDeclarable 0 a (record { width = 24; is_probe = true })
+probed : (a : ℕ) → a < 16 → IsDeclarable 0 a (record { width = 24; kind = Probe })
 probed a ha = record { function = omega arith; sub_address = ha; width_from_1 = omega arith; width_to_24 = omega arith; probe = λ e. refl }
 
-bits_12 : (a : ℕ) → a < 16 → IsDeclarable 0 a (record { width = 12; is_probe = false })
+bits_12 : (a : ℕ) → a < 16 → IsDeclarable 0 a (record { width = 12; kind = Plain })
 bits_12 a ha = command 0 a 12 (omega arith) ha (omega arith) (omega arith)
 
 adc_commands : IsCommandMap adc.commands
@@ -60,7 +61,7 @@ adc_commands f a e h =
     from_first IsDeclarable adc.commands
     ((bits_12 0 (omega arith), tt), ((bits_12 1 (omega arith), tt), ((bits_12 2 (omega arith), tt), ((bits_12 3 (omega arith), tt), ((bits_12 4 (omega arith), tt), ((bits_12 5 (omega arith), tt), ((bits_12 6 (omega arith), tt), ((bits_12 7 (omega arith), tt), ((bits_12 8 (omega arith), tt), ((bits_12 9 (omega arith), tt), ((bits_12 10 (omega arith), tt), ((bits_12 11 (omega arith), tt), ((probed 12 (omega arith), (at_12 8 (omega arith), (at_12 10 (omega arith), (at_12 24 (omega arith), (at_12 26 (omega arith), tt))))), ((probed 13 (omega arith), tt), ((probed 14 (omega arith), tt), ((probed 15 (omega arith), tt), tt)))))))))))))))) f a e h
   where
-    at_12 : (f : ℕ) → f < 32 → IsDeclarable f 12 (record { width = 24; is_probe = false })
+    at_12 : (f : ℕ) → f < 32 → IsDeclarable f 12 (record { width = 24; kind = Plain })
     at_12 f hf = command f 12 24 hf (omega arith) (omega arith) (omega arith)
 
 reg_commands : IsCommandMap reg.commands
@@ -68,7 +69,7 @@ reg_commands f a e h =
     from_first IsDeclarable reg.commands
     ((at_0 0 24 (omega arith) (omega arith) (omega arith), (at_0 5 24 (omega arith) (omega arith) (omega arith), (at_0 16 8 (omega arith) (omega arith) (omega arith), (at_0 27 24 (omega arith) (omega arith) (omega arith), tt)))), (tt, (tt, (tt, (tt, (tt, (tt, (tt, (tt, (tt, (tt, (tt, (tt, (tt, (tt, (tt, tt)))))))))))))))) f a e h
   where
-    at_0 : (f w : ℕ) → f < 32 → 1 ≤ w → w ≤ 24 → IsDeclarable f 0 (record { width = w; is_probe = false })
+    at_0 : (f w : ℕ) → f < 32 → 1 ≤ w → w ≤ 24 → IsDeclarable f 0 (record { width = w; kind = Plain })
     at_0 f w hf low high = command f 0 w hf (omega arith) low high
 
 commands_of : (t : ℕ) → IsCommandMap (kind sample_plan t).commands

@@ -1,6 +1,7 @@
 -- The sample plan, and the standard opening of the worked rows.
 use Rattle.std.specs.Prelude.{ℕ, zero, suc, List, [], ◌∷◌, Option, Some, None, codes, Bool, true, false, length, option_map, slice_get}
 use Rattle.camac_module.specs.Entry.{Entry, Entries}
+use Rattle.camac_module.specs.declared.kind.CommandKind.TheVariants.{Plain, Probe}
 use Rattle.camac_lang.specs.View.{block_of}
 use Rattle.camac_lang.specs.declared.word.WordSize.TheVariants.{Full}
 use Rattle.camac_lang.specs.Tree.{Text, number, variable, into, Statement, set_register, single, put, Table, Lam, next_table, next_lam, next_variables, next_procedure, next_service, Procedure, Script}
@@ -26,10 +27,10 @@ gap n rest = times n None rest
 
 -- a command of so many bits, and a probe
 abbrev pub bits : ℕ → Option Entry
-bits w = Some (record { width = w; is_probe = false })
+bits w = Some (record { width = w; kind = Plain })
 
 abbrev pub probe : Option Entry
-probe = Some (record { width = 24; is_probe = true })
+probe = Some (record { width = 24; kind = Probe })
 
 -- a converter: F0 at A0 to A11, probes up to A15, and F8, F10, F24 and F26 at A12
 abbrev pub adc_lam_row : Entries

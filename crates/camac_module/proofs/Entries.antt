@@ -3,6 +3,7 @@ use Rattle.std.proofs.Common.{◌≡◌, ◌≢◌, ℕ, ◌<◌, ◌≤◌, Boo
 use Rattle.std.proofs.lemmas.Bool.{cases_eq, false≢true, leb-true, eqb-true}
 use Rattle.std.proofs.lemmas.Option.{same_Some}
 use Rattle.std.specs.List.{range_with_len}
+use Rattle.camac_module.specs.Kind.{is_probe}
 use Rattle.camac_module.specs.Entry.{Entry, no_entries}
 use Rattle.camac_module.specs.Commands.{Commands, entry, IsDeclarable, IsCommandMap, declared, fits_width, none_declared, with_declared, width}
 use Rattle.camac_module.specs.declared.map.Decl.{Decl}
@@ -66,7 +67,7 @@ and_right false b h = absurd (false≢true h)
 equal : (m n : ℕ) → nat_eq m n ≡ true → m ≡ n
 equal m n h = eqb-true m n h
 
-probe_width : (d : Decl) → (not d.probe || nat_eq d.width 24) ≡ true → d.probe ≡ true → d.width ≡ 24
+probe_width : (d : Decl) → (not (is_probe d.kind) || nat_eq d.width 24) ≡ true → is_probe d.kind ≡ true → d.width ≡ 24
 probe_width d h probe = equal d.width 24 (rw probe at h)
 
 -- a declaration whose width fits can be declared

@@ -1,5 +1,5 @@
 -- The entries of a row, by function.
-use Rattle.std.proofs.Common.{◌≡◌, ◌≢◌, ℕ, ◌<◌, ◌≤◌, ◌%◌, ◌^◌, is_some, bit_and, Bool, true, length, get_or, set, Some, None, List, [], map, replicate, ap, arith, refl, sym, ◌∙◌, length-set, get_or-set_same, get_or-set_other, inl, inr}
+use Rattle.std.proofs.Common.{◌≡◌, ◌≢◌, ℕ, ◌<◌, ◌≤◌, ◌%◌, ◌^◌, is_some, bit_and, Bool, true, false, length, get_or, set, Some, None, List, [], map, replicate, ap, arith, refl, sym, ◌∙◌, length-set, get_or-set_same, get_or-set_other, inl, inr}
 use Rattle.std.proofs.lemmas.Bool.{cases_eq, cases_lt}
 use Rattle.std.proofs.lemmas.Nat.{and_le_l}
 use Rattle.std.proofs.Math.Nat.{mod-eq_of_lt}
@@ -7,6 +7,9 @@ use Rattle.std.proofs.lemmas.List.Sums.{count_by-le-length}
 use lib.Count.{ones}
 use Rattle.camac_module.proofs.Bits.{one_if, bit_cases, bit-and, ones-counted}
 use Rattle.std.proofs.lemmas.List.FromFn.{length-map-range_with_len, get_or-map-range_with_len, fill_by_all}
+use Rattle.camac_module.specs.Kind.{kind_of, is_probe, clears}
+use Rattle.camac_module.specs.declared.kind.CommandKind.{CommandKind}
+use Rattle.camac_module.specs.declared.kind.CommandKind.TheVariants.{Plain, Clearing, Probe}
 use Rattle.camac_module.specs.Entry.{Entries, no_entries, is_probe_entry, count_commands, count_probes}
 use Rattle.camac_module.specs.Row.{bit, entry_of, entries_of}
 use Rattle.std.proofs.lemmas.List.{get_or_past, get_or-map, map-set, length-map, length-replicate, get_or-replicate}
@@ -28,29 +31,41 @@ unfolding entries_of
 same_entries_of row es len at = fill_by_all (entry_of row) es 32 None len at
 
 -- the masks and widths after a declaration
-pub record IsDeclared (old new : Row) (f w : ℕ) (probe : Bool) : Type 0 where
+pub record IsDeclared (old new : Row) (f w : ℕ) (kind : CommandKind) : Type 0 where
   pub declared : bit new.declared f ≡ true
-  pub probes : bit new.probes f ≡ probe
+  pub probes : bit new.probes f ≡ is_probe kind
+  pub clearing : bit new.clearing f ≡ clears kind
   pub widths : new.widths ≡ set old.widths f w
   pub other_declared : (k : ℕ) → k < 32 → k ≢ f → bit new.declared k ≡ bit old.declared k
   pub other_probes : (k : ℕ) → k < 32 → k ≢ f → bit new.probes k ≡ bit old.probes k
+  pub other_clearing : (k : ℕ) → k < 32 → k ≢ f → bit new.clearing k ≡ bit old.clearing k
 
-declared_at : (old new : Row) (f w : ℕ) (probe : Bool) → f < 32 → length old.widths ≡ 32 → IsDeclared old new f w probe → (k : ℕ) → k < 32
-    → get_or (set (entries_of old) f (Some (record { width = w; is_probe = probe }))) k None ≡ entry_of new k
-declared_at old new f w probe below len is k h =
+kind_again : (kind : CommandKind) → kind_of (is_probe kind) (clears kind) ≡ kind
+kind_again Plain = refl
+kind_again Clearing = refl
+kind_again Probe = refl
+
+probe_of : (probe clears : Bool) → is_probe (kind_of probe clears) ≡ probe
+probe_of true clears = refl
+probe_of false true = refl
+probe_of false false = refl
+
+declared_at : (old new : Row) (f w : ℕ) (kind : CommandKind) → f < 32 → length old.widths ≡ 32 → IsDeclared old new f w kind → (k : ℕ) → k < 32
+    → get_or (set (entries_of old) f (Some (record { width = w; kind = kind }))) k None ≡ entry_of new k
+declared_at old new f w kind below len is k h =
     elim (cases_eq k f) [
       | inl same ↦
           let inside : f < length (entries_of old) = rw (length-entries_of old) below in
           let within : f < length old.widths = rw len below in
-          rw (same, get_or-set_same (entries_of old) f _ None inside, is.declared, is.probes, is.widths, get_or-set_same old.widths f w 0 within) refl
+          rw (same, get_or-set_same (entries_of old) f _ None inside, is.declared, is.probes, is.clearing, kind_again kind, is.widths, get_or-set_same old.widths f w 0 within) refl
       | inr other ↦
-          rw (get_or-set_other (entries_of old) f k _ None other, get_or-entries_of old k h, is.other_declared k h other, is.other_probes k h other, is.widths, get_or-set_other old.widths f k w 0 other) refl
+          rw (get_or-set_other (entries_of old) f k _ None other, get_or-entries_of old k h, is.other_declared k h other, is.other_probes k h other, is.other_clearing k h other, is.widths, get_or-set_other old.widths f k w 0 other) refl
     ]
 
-pub entries_of-declared : (old new : Row) (f w : ℕ) (probe : Bool) → f < 32 → length old.widths ≡ 32 → IsDeclared old new f w probe
-    → entries_of new ≡ set (entries_of old) f (Some (record { width = w; is_probe = probe }))
-entries_of-declared old new f w probe below len is =
-    sym (same_entries_of new _ (length-set (entries_of old) f _ ∙ length-entries_of old) (declared_at old new f w probe below len is))
+pub entries_of-declared : (old new : Row) (f w : ℕ) (kind : CommandKind) → f < 32 → length old.widths ≡ 32 → IsDeclared old new f w kind
+    → entries_of new ≡ set (entries_of old) f (Some (record { width = w; kind = kind }))
+entries_of-declared old new f w kind below len is =
+    sym (same_entries_of new _ (length-set (entries_of old) f _ ∙ length-entries_of old) (declared_at old new f w kind below len is))
 
 counted : (row : Row) (j : ℕ) → one_if (is_some (entry_of row j)) ≡ one_if (bit row.declared j)
 counted row j = elim (bit_cases row.declared j) [ inl clear ↦ rw clear refl | inr here ↦ rw here refl ]
@@ -60,7 +75,7 @@ counted_probe row j =
     rw (bit-and row.declared row.probes j)
     (elim (bit_cases row.declared j) [
       | inl clear ↦ rw clear refl
-      | inr here ↦ rw here refl
+      | inr here ↦ rw (here, probe_of (bit row.probes j) (bit row.clearing j)) refl
     ])
 
 pub count_commands-entries_of : (row : Row) → row.declared < 2 ^ 32 → ones row.declared ≡ count_commands (entries_of row)
@@ -85,7 +100,7 @@ count_probes-le row = rw (length-entries_of row) at (count_by-le-length is_probe
 
 -- what a declaration in one of the rows does to the entries of all
 pub map-entries_of-declared : (rows : List Row) (d : Decl) (a f : ℕ) (blank declared : Row) → a ≡ d.a → f ≡ d.f → a < length rows
-    → entries_of declared ≡ set (entries_of (get_or rows a blank)) f (Some (record { width = d.width; is_probe = d.probe }))
+    → entries_of declared ≡ set (entries_of (get_or rows a blank)) f (Some (record { width = d.width; kind = d.kind }))
     → map entries_of (set rows a declared) ≡ with_declared (map entries_of rows) d
 map-entries_of-declared rows d a f blank declared place function below is =
     let old : get_or (map entries_of rows) a [] ≡ entries_of (get_or rows a blank) = get_or-map entries_of rows a blank [] below in

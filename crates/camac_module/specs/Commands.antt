@@ -1,6 +1,7 @@
 -- The declared commands of a module, by sub-address and function.
 use Rattle.std.specs.Prelude.{◌≡◌, ℕ, ◌+◌, ◌-◌, ◌<◌, ◌≤◌, Bool, true, not, ◌&&◌, ◌||◌, nat_le, nat_lt, nat_eq, min, max, List, [], ◌∷◌, map, Option, Some, None, option_map, is_some, if◌then◌else◌, slice_index_or, slice_set, sum_by}
 use Rattle.std.specs.List.{range_with_len}
+use Rattle.camac_module.specs.Kind.{is_probe}
 use Rattle.camac_module.specs.Entry.{Entry, Entries, no_entries, count_commands, count_probes}
 use Rattle.camac_module.specs.declared.map.Decl.{Decl}
 use Rattle.camac_module.specs.declared.map.ModuleFault.{ModuleFault}
@@ -20,7 +21,7 @@ pub record IsDeclarable (f a : ℕ) (e : Entry) : Type 0 where
   pub sub_address : a < 16
   pub width_from_1 : 1 ≤ e.width
   pub width_to_24 : e.width ≤ 24
-  pub probe : e.is_probe ≡ true → e.width ≡ 24
+  pub probe : is_probe e.kind ≡ true → e.width ≡ 24
 
 -- what is true of the commands of each type
 abbrev pub IsCommandMap : Commands → Type 0
@@ -39,7 +40,7 @@ abbrev pub none_declared : ℕ → Commands
 none_declared sub_addresses = map (λ _. no_entries) (range_with_len 0 sub_addresses)
 
 abbrev pub declared : Decl → Entry
-declared d = record { width = d.width; is_probe = d.probe }
+declared d = record { width = d.width; kind = d.kind }
 
 -- the commands with one more
 abbrev pub with_declared : Commands → Decl → Commands
@@ -53,7 +54,7 @@ pub record DeclaresOne (old new : Commands) (d : Decl) : Type 0 where
 
 -- 1 to 24 bits, and 24 at a probe
 abbrev pub fits_width : Decl → Bool
-fits_width d = nat_le 1 d.width && nat_le d.width 24 && (not d.probe || nat_eq d.width 24)
+fits_width d = nat_le 1 d.width && nat_le d.width 24 && (not (is_probe d.kind) || nat_eq d.width 24)
 
 -- why a declaration is refused, at a map of so many sub-addresses
 abbrev pub declare_fault : ℕ → Commands → Decl → Option ModuleFault

@@ -4,6 +4,7 @@ ghost use Rattle.std.specs.Prelude.{◌≡◌, ◌≤◌, option_map, IfSome, On
 ghost use Rattle.std.specs.Result.{result_err};
 ghost use Rattle.camac_module.specs.Commands.{entry, declared, width, counts, widths, none_declared, with_declared, DeclaresOne, declare_fault, fits_width, IsCommandMap};
 
+use crate::kind::CommandKind;
 use crate::row::Row;
 use camac_word::{Function, SubAddress};
 use std::alloc::{AllocError, Global};
@@ -17,8 +18,7 @@ pub struct Decl {
     pub a: SubAddress,
     /// The bits that it moves, 1 to 24.
     pub width: u8,
-    /// Whether it is a probe: a command at a sub-address without a register, which a scan may reach. Its width is 24.
-    pub probe: bool,
+    pub kind: CommandKind,
 }
 
 /// Why a declaration is refused (own).
@@ -91,7 +91,7 @@ impl<const A: usize> CommandMap<A> {
         if self.rows[a].width(d.f.get()).is_some() {
             return Err(ModuleFault::DeclaredBefore);
         }
-        self.rows[a].declare(d.f.get(), d.width, d.probe);
+        self.rows[a].declare(d.f.get(), d.width, d.kind);
         Ok(())
     }
 
@@ -116,7 +116,7 @@ impl<const A: usize> CommandMap<A> {
         let row = a.get() as usize;
         if row < A {
             match self.rows[row].entry(f.get()) {
-                Some((width, probe)) => Some(Decl { f, a, width, probe }),
+                Some((width, kind)) => Some(Decl { f, a, width, kind }),
                 None => None,
             }
         } else {
@@ -166,5 +166,5 @@ impl<const A: usize> CommandMap<A> {
 fn fits_width(d: &Decl) -> bool
     ensures { result ≡ fits_width d.now }
 {
-    1 <= d.width && d.width <= 24 && (!d.probe || d.width == 24)
+    1 <= d.width && d.width <= 24 && (!d.kind.is_probe() || d.width == 24)
 }

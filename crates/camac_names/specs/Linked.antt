@@ -1,10 +1,12 @@
 -- A linked script: a plan and a script, of which no rule of linking is broken.
 use Rattle.std.specs.Prelude.{◌≡◌, ℕ, Bool, List, Option, Some, None, map, slice_get, option_and_then, refl}
-use Rattle.std.specs.Coded.{Coded, code_by, coded_list, coded_option, coded×, coded_ℕ, coded_bool}
+use Rattle.std.specs.Coded.{Coded, code_by, coded_list, coded_option, coded×, coded_ℕ}
 use Rattle.camac_lang.specs.Tree.{Script}
 use Rattle.camac_lang.specs.Code.{script_coded}
 use Rattle.camac_module.specs.Entry.{Entry}
 use Rattle.camac_module.specs.Commands.{Commands}
+use Rattle.camac_module.specs.contracts.kind.CommandKind as command_kind
+use Rattle.camac_module.specs.declared.kind.CommandKind.{CommandKind}
 use Rattle.camac_branch.specs.Plan.{Layout}
 use Rattle.camac_branch.specs.declared.plan.Kind.{Kind}
 use Rattle.camac_branch.specs.declared.plan.Crate.{Crate}
@@ -29,7 +31,7 @@ HasBits l bits = map (service_bit l.plan l.script.lams) l.script.services ≡ ma
 
 -- Distinct values have distinct codes, by which a proof tells them apart.
 abbrev pub entry_coded : Coded Entry
-entry_coded = code_by (ℕ × Bool) (coded× coded_ℕ coded_bool) (λ e. (e.width, e.is_probe)) (λ p. record { width = p.0; is_probe = p.1 }) (λ _. refl)
+entry_coded = code_by (ℕ × CommandKind) (coded× coded_ℕ command_kind.the_row.coded) (λ e. (e.width, e.kind)) (λ p. record { width = p.0; kind = p.1 }) (λ _. refl)
 
 abbrev pub kind_coded : Coded Kind
 kind_coded =

@@ -127,7 +127,8 @@ command_of-tabular at ms =
     next-tabular _ _ (needed-tabular at key.A 0 15 ms) (λ a.
     next-tabular _ _ (number_at-tabular at key.To a 15 ms) (λ to.
     next-tabular _ _ (optional-tabular (flag_in at key.Probe) (value_at key.Probe ms) (flag_in-tabular at key.Probe)) (λ probe.
-    next-tabular _ _ (next-tabular _ _ (number_at-tabular at key.Width 1 24 ms) (λ width. if-tabular _ _ _ (err-tabular _ rule.OutOfRange _ refl) (ok-tabular _))) (λ width. ok-tabular _))))))
+    next-tabular _ _ (next-tabular _ _ (number_at-tabular at key.Width 1 24 ms) (λ width. if-tabular _ _ _ (err-tabular _ rule.OutOfRange _ refl) (ok-tabular _))) (λ width.
+    next-tabular _ _ (next-tabular _ _ (optional-tabular (flag_in at key.Clears) (value_at key.Clears ms) (flag_in-tabular at key.Clears)) (λ clears. if-tabular _ _ _ (err-tabular _ rule.OutOfRange _ refl) (ok-tabular _))) (λ kind. ok-tabular _)))))))
 
 with_places-tabular : (all : TypeCommands) (n : ℕ) (line : CommandLine) (commands : Commands) (a k : ℕ) → tabular (with_places all n line commands a k) ≡ true
 with_places-tabular all n line commands a zero = ok-tabular commands

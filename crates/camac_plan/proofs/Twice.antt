@@ -260,7 +260,9 @@ module _ (types crates : Items) where
       then_tells (number_tells at key.To a 15 (value_at key.To t)) (λ to r.
       then_tells (flag_tells at key.Probe (value_at key.Probe t)) (λ probe w.
       then_tells (then_tells (number_tells at key.Width 1 24 (value_at key.Width t)) (λ width x.
-      if_tells (unwrap_or probe false && not (nat_eq (unwrap_or width 24) 24)) {Q = Any} (λ e. shows tt) (λ e. reads tt))) (λ width y. reads tt))))))
+      if_tells (unwrap_or probe false && not (nat_eq (unwrap_or width 24) 24)) {Q = Any} (λ e. shows tt) (λ e. reads tt))) (λ width y.
+      then_tells (then_tells (flag_tells at key.Clears (value_at key.Clears t)) (λ clears z.
+      if_tells (unwrap_or probe false && unwrap_or clears false) {Q = Any} (λ e. shows tt) (λ e. reads tt))) (λ kind z. reads tt)))))))
 
   places_tell : (all : TypeCommands) (n : ℕ) (line : CommandLine) (commands : Commands) (a k : ℕ) → Tells (with_places all n line commands a k) Any
   places_tell all n line commands a zero = reads tt

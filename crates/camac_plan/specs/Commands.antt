@@ -1,6 +1,8 @@
 -- What the commands of a type say: those declared, or the first rule that is broken.
 use Rattle.std.specs.Prelude.{ℕ, ◌+◌, ◌-◌, zero, suc, Bool, false, ◌&&◌, not, nat_eq, nat_le, is_some, Option, Some, None, Result, Ok, Err, unwrap_or, if◌then◌else◌}
 use Rattle.toml.specs.Data.{Data, table, Items, no_items, item, Members}
+use Rattle.camac_module.specs.Kind.{kind_of}
+use Rattle.camac_module.specs.declared.kind.CommandKind.{CommandKind}
 use Rattle.camac_module.specs.Commands.{Commands, entry, with_declared, fits_width}
 use Rattle.camac_module.specs.declared.map.Decl.{Decl}
 use Rattle.toml.specs.View.{array_view}
@@ -21,6 +23,12 @@ width_at at probe ms =
     next (number_at at key.Width 1 24 ms) (λ width.
     if probe && not (nat_eq (unwrap_or width 24) 24) then Err (broken OutOfRange (case.Probe at (unwrap_or width 24))) else Ok (unwrap_or width 24))
 
+-- what it does beside: a probe cannot clear
+abbrev pub kind_at : PlanTable → Bool → Members → Result CommandKind BrokenRule
+kind_at at probe ms =
+    next (flag_at at key.Clears ms) (λ clears.
+    if probe && unwrap_or clears false then Err (broken OutOfRange (case.ClearingProbe at)) else Ok (kind_of probe (unwrap_or clears false)))
+
 -- a command's table: its keys, and then one key after the other
 abbrev pub command_of : PlanTable → Members → Result CommandLine BrokenRule
 command_of at ms =
@@ -30,11 +38,12 @@ command_of at ms =
     next (number_at at key.To a 15 ms) (λ to.
     next (flag_at at key.Probe ms) (λ probe.
     next (width_at at (unwrap_or probe false) ms) (λ width.
-    Ok (record { f = f; first = a; last = unwrap_or to a; width = width; probe = unwrap_or probe false })))))))
+    next (kind_at at (unwrap_or probe false) ms) (λ kind.
+    Ok (record { f = f; first = a; last = unwrap_or to a; width = width; kind = kind }))))))))
 
 -- the command at one of its sub-addresses
 abbrev pub command_at : CommandLine → ℕ → Decl
-command_at line a = record { f = line.f; a = a; width = line.width; probe = line.probe }
+command_at line a = record { f = line.f; a = a; width = line.width; kind = line.kind }
 
 -- the width of the command is one that a command can have
 abbrev pub fits : CommandLine → Bool

@@ -1,16 +1,17 @@
 //! The commands of a type.
 
 ghost use Rattle.std.specs.Prelude.{◌≡◌, ◌≤◌, ◌<◌, true, IfOk};
+ghost use Rattle.camac_module.specs.Kind.{is_probe};
 ghost use Rattle.toml.specs.View.{view, array_view, table_view};
 ghost use Rattle.camac_plan.specs.declared.fault.PlanTable.TheVariants.{Command};
 ghost use Rattle.camac_plan.specs.Broken.{next};
 ghost use Rattle.camac_plan.specs.Field.{Changes, required_number_at};
-ghost use Rattle.camac_plan.specs.Commands.{commands_view, declared_twice, command_of, width_at, with_commands, with_command, with_new, command_at, declares, first_declaring, fits};
+ghost use Rattle.camac_plan.specs.Commands.{commands_view, declared_twice, command_of, kind_at, width_at, with_commands, with_command, with_new, command_at, declares, first_declaring, fits};
 
 use crate::fault::{BrokenRule, PlanCase, PlanRule, PlanTable, broken};
 use crate::field::{flag_at, has_only, no_tables, number_at, out_of_range, required_number_at};
 use crate::key::PlanKey;
-use camac_module::{Decl, ModuleType};
+use camac_module::{CommandKind, Decl, ModuleType};
 use camac_word::{Function, SubAddress};
 use toml::value::Array;
 use toml::{Table, Value};
@@ -22,7 +23,7 @@ pub(crate) struct CommandLine {
     pub(crate) first: u32,
     pub(crate) last: u32,
     pub(crate) width: u8,
-    pub(crate) probe: bool,
+    pub(crate) kind: CommandKind,
 }
 
 // The array of the commands of a type, with the place of the type.
@@ -117,7 +118,7 @@ fn declare_at(
         f: line.f,
         a,
         width: line.width,
-        probe: line.probe,
+        kind: line.kind,
     };
     match commands.declare(d) {
         Ok(()) => Ok(()),
@@ -184,12 +185,13 @@ fn read_command(at: PlanTable, table: &Table) -> Result<CommandLine, BrokenRule>
     let to = number_at(at, table, PlanKey::To, first, 15)?;
     let probe = flag_at(at, table, PlanKey::Probe)?.unwrap_or(false);
     let width = command_width(at, table, probe)?;
+    let kind = command_kind(at, table, probe)?;
     Ok(CommandLine {
         f,
         first,
         last: to.unwrap_or(first),
         width,
-        probe,
+        kind,
     })
 }
 
@@ -211,4 +213,17 @@ fn command_width(at: PlanTable, table: &Table, probe: bool) -> Result<u8, Broken
         return Err(broken(PlanRule::OutOfRange, PlanCase::Probe { table: at, width }));
     }
     Ok(width as u8)
+}
+
+// What a command does beside. A probe cannot clear.
+fn command_kind(at: PlanTable, table: &Table, probe: bool) -> Result<CommandKind, BrokenRule>
+    ensures value { result ≡ kind_at at probe (table_view table.now) }
+    ensures probe { IfOk result (λ k. is_probe k ≡ probe) }
+{
+    let clears = flag_at(at, table, PlanKey::Clears)?.unwrap_or(false);
+    if probe && clears {
+        let case = PlanCase::ClearingProbe { table: at };
+        return Err(broken(PlanRule::OutOfRange, case));
+    }
+    Ok(CommandKind::of(probe, clears))
 }

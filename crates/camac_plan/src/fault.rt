@@ -99,6 +99,10 @@ pub enum PlanCase {
         table: PlanTable,
         width: u32,
     },
+    /// P4: the probe is said to clear.
+    ClearingProbe {
+        table: PlanTable,
+    },
     /// P4: the table is that of a 65th type.
     Full {
         table: PlanTable,

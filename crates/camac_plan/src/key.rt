@@ -21,6 +21,7 @@ pub enum PlanKey {
     To,
     Probe,
     Width,
+    Clears,
     /// Of a crate.
     Number,
     Waits,
@@ -47,6 +48,7 @@ impl PlanKey {
             PlanKey::To => "to",
             PlanKey::Probe => "probe",
             PlanKey::Width => "width",
+            PlanKey::Clears => "clears",
             PlanKey::Number => "number",
             PlanKey::Waits => "waits",
             PlanKey::Stations => "station",
@@ -69,6 +71,7 @@ pub fn keys_of(table: PlanTable) -> &'static [PlanKey]
             PlanKey::To,
             PlanKey::Width,
             PlanKey::Probe,
+            PlanKey::Clears,
         ],
         PlanTable::Crate { .. } => &[PlanKey::Number, PlanKey::Waits, PlanKey::Stations],
         PlanTable::Station { .. } => &[PlanKey::N, PlanKey::TypeName, PlanKey::Gl],

@@ -1,6 +1,6 @@
 -- A run that is fed, what it has sent, and what it calls for.
-use Rattle.std.proofs.Common.{◌≡◌, ℕ, ◌+◌, ◌<◌, ◌≤◌, ◌^◌, ◌⊎◌, List, [], ◌∷◌, ◌++◌, length, Option, Some, None, refl, sym, ap, subst, ◌∙◌, append_assoc, append-nil, length-append, inl, inr, Bool, true, arith}
-use Rattle.std.specs.Prelude.{IfSome, IfNone, Result, Ok, Err, take, option_map, unwrap_or}
+use Rattle.std.proofs.Common.{◌≡◌, ℕ, ◌+◌, ◌<◌, ◌≤◌, ◌^◌, ◌⊎◌, List, [], ◌∷◌, ◌++◌, length, Option, Some, None, refl, sym, ap, subst, ◌∙◌, append_assoc, append-nil, length-append, inl, inr, Bool, true, false, arith}
+use Rattle.std.specs.Prelude.{IfSome, IfNone, Result, Ok, Err, take, option_map, unwrap_or, is_none}
 use Rattle.camac_lang.specs.Tree.{Script}
 use Rattle.camac_branch.specs.Branch.{Answer}
 use Rattle.camac_branch.specs.Plan.{Layout}
@@ -22,7 +22,7 @@ use Rattle.camac_run.specs.declared.progress.Wanted.{Wanted}
 use Rattle.camac_run.proofs.Holds.{pieces-after, stop_of-after, going_on_holds, told_all, wants_are_wanted}
 use Rattle.camac_play.specs.Play.{HasGiven, HasRead, ReadsNoMore, FailsAtWrite, Feeds, FeedsOver, with_taken}
 use Rattle.camac_play.specs.Sent.{Outputs, Sends, SendsPrefix, Sent, to_listing}
-use Rattle.camac_play.specs.Told.{most_answers, asked_text, line_of, pieces_sent, open_text, called_for, ending_of}
+use Rattle.camac_play.specs.Told.{most_answers, is_begun, if_begun, asked_text, line_of, pieces_sent, open_text, called_for, report, report_by, played, last_line, ending_of}
 use Rattle.camac_play.specs.declared.ending.Ending.{Ending}
 use Rattle.camac_play.specs.declared.ending.Ending.TheVariants as how
 use Rattle.camac_play.specs.declared.fault.PlayFault.{PlayFault}
@@ -31,36 +31,54 @@ use Rattle.camac_play.specs.declared.telling.Telling.{Telling}
 use Rattle.camac_play.specs.declared.telling.Telling.TheVariants.{Listing, Requests}
 use Rattle.camac_play.proofs.Given.{given_none, given_next, given_end, given_fault, given_all, has_read, known}
 use Rattle.camac_play.proofs.Pieces.{count_of, count-append, pieces_sent-append, told_sent, answer_sent, answer_counts, answer_uses, uses-append}
-use Rattle.camac_play.proofs.Sending.{sends_nothing, Sends-trans, SendsPrefix-longer, SendsPrefix-after, last_part, later_part}
+use Rattle.camac_play.proofs.Begun.{start, due, first_due, before_first, begun_then, begun_ended, asked_after, nothing_asked, begins, first_part}
+use Rattle.camac_play.proofs.Sending.{Sends-trans, SendsPrefix-longer, SendsPrefix-after, later_part}
 
 -- no answer was taken; or what was sent is what those before the last one call for, and more
 abbrev pub Follows : Telling → Layout → Script → List Answer → List Sent → Type 0
 Follows t plan script taken sent =
     (taken ≡ [])
-    ⊎ ((before : List Answer) × (a : Answer) × (more' : List Sent) × (taken ≡ before ++ a ∷ []) × (sent ≡ called_for t plan script before ++ more'))
+    ⊎ ((before : List Answer) × (a : Answer) × (more' : List Sent) × (taken ≡ before ++ a ∷ []) × (sent ≡ report t plan script before ++ more'))
+
+-- what is sent of these pieces, after what begins the event file
+abbrev pub sent_of : Telling → Script → List Answer → List Piece → List Sent
+sent_of t script taken done = if_begun (is_begun t taken false) (start ++ pieces_sent (line_of t script) 1 done)
 
 -- the answers so far did these pieces, which were sent, and the runner holds the rest
-pub record IsFed (t : Telling) (plan : Layout) (script : Script) (left now : Option Reading) (start sent_now : Outputs) (runner : RunnerState) (count : ℕ) : Type 0 where
+pub record IsFed (t : Telling) (plan : Layout) (script : Script) (left now : Option Reading) (first sent_now : Outputs) (runner : RunnerState) (count : ℕ) : Type 0 where
   pub taken : List Answer
   pub done : List Piece
   pub holds : HoldsAfter plan script taken done runner
-  pub sent : Sends start sent_now (pieces_sent (line_of t script) 1 done)
+  pub sent : Sends first sent_now (sent_of t script taken done)
   pub counted : count ≡ count_of done
   pub used : uses done ≡ length taken
   pub given : HasGiven left now taken
-  pub follows : Follows t plan script taken (pieces_sent (line_of t script) 1 done)
+  pub follows : Follows t plan script taken (sent_of t script taken done)
+  pub fresh : taken ≡ [] → done ≡ []
 
-abbrev pub starts : (t : Telling) (plan : Layout) (script : Script) (left : Option Reading) (a : Outputs) (runner : RunnerState) → ((answers : List Answer) → rest runner answers ≡ the_run plan script answers) → IsFed t plan script left left a a runner 0
-starts t plan script left a runner run = record {
+pub first_sent : (t : Telling) (script : Script) (a b : Outputs) → Sends a b (first_due t) → Sends a b (sent_of t script [] [])
+first_sent Listing script a b sends = sends
+first_sent Requests script a b sends = subst (λ (l : List Sent). Sends a b l) (sym (append-nil start)) sends
+
+-- the header was sent, where that is due at first
+abbrev pub starts : (t : Telling) (plan : Layout) (script : Script) (left now : Option Reading) (a b : Outputs) (runner : RunnerState) → ((answers : List Answer) → rest runner answers ≡ the_run plan script answers) → now ≡ left
+    → Sends a b (first_due t) → IsFed t plan script left now a b runner 0
+starts t plan script left now a b runner run same sends = record {
   taken = [];
   done = [];
   holds = record { goes = λ (answers : List Answer). sym (run answers) };
-  sent = sends_nothing a;
+  sent = first_sent t script a b sends;
   counted = refl;
   used = refl;
-  given = given_none left;
+  given = subst (λ (n : Option Reading). HasGiven left n []) (sym same) (given_none left);
   follows = inl refl;
+  fresh = λ e. refl;
 }
+
+-- a prefix of the header was written before the first request
+pub stops_at_first : (t : Telling) (plan : Layout) (script : Script) (left : Option Reading) (text : Option (List ℕ)) (a b : Outputs) (r : Result (Ending × ℕ) PlayFault) → r ≡ Err fault.Write → left ≡ left_in (most_answers t) 0 text
+    → SendsPrefix a b (first_due t) → Feeds t plan script left text a b r
+stops_at_first t plan script left text a b r write same prefix = rw write (inl (inl (has_read t left left text [] (given_none left) same, before_first t plan script a b prefix)))
 
 -- the answers of a run can be numbered in 32 bits
 pub numbered : (t : Telling) → most_answers t ≤ 4294967295
@@ -94,6 +112,18 @@ no_overrun t plan script left now (end.Overrun o) (stops short s) w h = cc
 no_overrun t plan script left now (end.Overrun o) (stops (overrun c k) s) w h = absurd w
 no_overrun t plan script left now (end.Overrun o) (stops wrong s) w h = absurd w
 no_overrun t plan script left now (end.Overrun o) (stops more s) w h = absurd w
+
+-- a run that waits for an answer does not end at a wait
+waits_end : {A : Type 0} (t : Telling) (plan : Layout) (script : Script) (left : Option Reading) (now : Option (List ℕ)) (b : Behaviour A) → Waits b → ReadsNoMore t plan script left now (ending_of (stop_of b) None)
+waits_end t plan script left now (does p b) w = absurd w
+waits_end t plan script left now (ends x) w = tt
+waits_end t plan script left now (stops short s) w = tt
+waits_end t plan script left now (stops (overrun c k) s) w = absurd w
+waits_end t plan script left now (stops wrong s) w = absurd w
+waits_end t plan script left now (stops more s) w = absurd w
+
+pub none_taken : {T : Type 0} (xs : List Answer) (a : Answer) → xs ++ a ∷ [] ≡ [] → T
+none_taken xs a e = absurd (omega (arith, ap length e, length-append xs (a ∷ [])))
 
 stops_now : (o : Option Overrun) (P : Type 0) → o ≡ None → IfNone o P → P
 stops_now None P e h = h
@@ -147,39 +177,44 @@ module _ (t : Telling) (plan : Layout) (script : Script) (left now : Option Read
       ap (called_for t plan script) (sym (append-nil fed.taken))
       ∙ called_at [] (ap (λ (l : List Answer). pieces (the_run plan script l)) (append-nil fed.taken) ∙ did)
 
-  stops_after : (text : Option (List ℕ)) (c : Outputs) → HasRead t left text fed.taken → SendsPrefix b c asked → Follows t plan script fed.taken (pieces_sent (line_of t script) 1 done) → FailsAtWrite t left text a c (called_for t plan script)
+  report_now : report t plan script fed.taken ≡ sent_of t script fed.taken done ++ asked
+  report_now = ap (λ (l : List Sent). if_begun (is_begun t fed.taken false) (start ++ l)) called_now ∙ asked_after t fed.taken o (pieces_sent (line_of t script) 1 done)
+
+  stops_after : (text : Option (List ℕ)) (c : Outputs) → HasRead t left text fed.taken → SendsPrefix b c asked → Follows t plan script fed.taken (sent_of t script fed.taken done) → FailsAtWrite t left text a c (report t plan script)
   stops_after text c read prefix (inl none) = inl (
     subst (λ (l : List Answer). HasRead t left text l) none read,
-    subst (λ (l : List Answer). SendsPrefix a c (called_for t plan script l)) none
-        (subst (λ (l : List Sent). SendsPrefix a c l) (sym called_now) (SendsPrefix-after a b c (pieces_sent (line_of t script) 1 done) asked fed.sent prefix)),
+    subst (λ (l : List Answer). SendsPrefix a c (report t plan script l)) none
+        (subst (λ (l : List Sent). SendsPrefix a c l) (sym report_now) (SendsPrefix-after a b c (sent_of t script fed.taken done) asked fed.sent prefix)),
   )
   stops_after text c read prefix (inr (before, x, more', taken, sent)) = inr (
     before,
     x,
     subst (λ (l : List Answer). HasRead t left text l) taken read,
-    later_part a b c (called_for t plan script before) more' asked (called_for t plan script (before ++ x ∷ []))
+    later_part a b c (report t plan script before) more' asked (report t plan script (before ++ x ∷ []))
         (subst (λ (l : List Sent). Sends a b l) sent fed.sent) prefix
-        (ap (called_for t plan script) (sym taken) ∙ called_now ∙ ap (λ (l : List Sent). l ++ asked) sent),
+        (ap (report t plan script) (sym taken) ∙ report_now ∙ ap (λ (l : List Sent). l ++ asked) sent),
   )
 
   -- what asks for the operation was not written whole
   pub stops_asking : (r : Result (Ending × ℕ) PlayFault) (text : Option (List ℕ)) (c : Outputs) → r ≡ Err fault.Write → now ≡ left_in (most_answers t) (length fed.taken) text → SendsPrefix b c asked → Feeds t plan script left text a c r
-  stops_asking r text c write same prefix = rw write (stops_after text c (has_read t left now text fed.taken fed.given same) prefix fed.follows)
+  stops_asking r text c write same prefix = rw write (inl (stops_after text c (has_read t left now text fed.taken fed.given same) prefix fed.follows))
+
+  nothing_called : t ≡ Listing → fed.taken ≡ [] → called_for t plan script fed.taken ≡ []
+  nothing_called is none = called_now ∙ ap (λ (ps : List Piece). pieces_sent (line_of t script) 1 ps ++ asked) (fed.fresh none) ∙ nothing_asked t o is
+
+  -- the header, where it is due by the next answer or the end
+  abbrev due_now : List Sent
+  due_now = due t (length fed.taken)
+
+  pub begun_now : report_by true t plan script fed.taken ≡ report t plan script fed.taken ++ due_now
+  begun_now = begins t fed.taken (called_for t plan script fed.taken) nothing_called
+
+  begun_all : report_by true t plan script fed.taken ≡ start ++ called_for t plan script fed.taken
+  begun_all = ap (λ (yes : Bool). if_begun yes (start ++ called_for t plan script fed.taken)) (begun_ended t fed.taken)
 
   module _ (c : Outputs) (asks : Sends b c asked) where
-    pub sends_all : Sends a c (called_for t plan script fed.taken)
-    sends_all = subst (λ (l : List Sent). Sends a c l) (sym called_now) (Sends-trans a b c (pieces_sent (line_of t script) 1 done) asked fed.sent asks)
-
-    -- no answer is left
-    pub ends_here : (new : Option Reading) (text : Option (List ℕ)) (e : End) → IsNext now (Ok None) new → stop_in e ≡ stop_of (rest runner []) → Feeds t plan script left text a c (Ok (how.End e, count))
-    ends_here new text e s stop = (
-      record { answers = fed.taken; fault = None },
-      given_end left now new fed.taken fed.given s,
-      sym (ends_by e) ∙ ap (λ (x : Option Stop). ending_of x None) (stop ∙ sym stop_now),
-      no_overrun t plan script left text e (rest runner []) wants.1 stop,
-      count_now,
-      sends_all,
-    )
+    pub sends_all : Sends a c (report t plan script fed.taken)
+    sends_all = subst (λ (l : List Sent). Sends a c l) (sym report_now) (Sends-trans a b c (sent_of t script fed.taken done) asked fed.sent asks)
 
     -- the text has a fault where the next answer is wanted
     pub faults_here : (new : Option Reading) (text : Option (List ℕ)) (f : AnswerFault) → IsNext now (Err f) new → Feeds t plan script left text a c (Ok (how.Refused f, count))
@@ -200,6 +235,45 @@ module _ (t : Telling) (plan : Layout) (script : Script) (left now : Option Read
     unread_here gathers before text fault.Write r is few same open' unread =
         let u = unread refl in
         inr (is, (u.1, (fed.taken, has_read t left now text fed.taken fed.given (same ∙ ap (left_in (most_answers t) (length fed.taken)) (sym u.0)), sends_all)))
+
+    -- the header was not written whole, after an answer or at the end of the text
+    pub stops_beginning : (next : Option Answer) (new : Option Reading) (text : Option (List ℕ)) (d : Outputs) (r : Result (Ending × ℕ) PlayFault) → r ≡ Err fault.Write → IsNext now (Ok next) new
+        → ((answer : Answer) → new ≡ left_in (most_answers t) (length (fed.taken ++ answer ∷ [])) text) → SendsPrefix c d due_now → Feeds t plan script left text a d r
+    stops_beginning (Some answer) new text d r write given same prefix =
+        let then' : List Answer = fed.taken ++ answer ∷ [] in
+        rw write (inl (inr (
+          fed.taken,
+          answer,
+          has_read t left new text then' (given_next left now new fed.taken fed.given answer given) (same answer),
+          first_part t plan script fed.taken a c d (report t plan script then') (called_for t plan script then')
+              (ap (λ (yes : Bool). if_begun yes (start ++ called_for t plan script then')) (begun_then t fed.taken [] answer false)) sends_all prefix,
+        )))
+    stops_beginning None new text d r write given same prefix =
+        let whole : Reading = record { answers = fed.taken; fault = None } in
+        let line : List Sent = to_listing (last_line plan script whole) in
+        rw write (inr (
+          whole,
+          given_end left now new fed.taken fed.given given,
+          subst (λ (x : Option Stop). ReadsNoMore t plan script left text (ending_of x None)) (sym stop_now) (waits_end t plan script left text (rest runner []) wants.1),
+          first_part t plan script fed.taken a c d (played t plan script whole) (called_for t plan script fed.taken ++ line)
+              (ap (λ (l : List Sent). l ++ line) begun_all ∙ append_assoc start (called_for t plan script fed.taken) line) sends_all prefix,
+        ))
+
+    -- it was, or was not due
+    pub sends_due : (d : Outputs) → Sends c d due_now → Sends a d (report_by true t plan script fed.taken)
+    sends_due d due' = subst (λ (l : List Sent). Sends a d l) (sym begun_now) (Sends-trans a c d (report t plan script fed.taken) due_now sends_all due')
+
+  module _ (c : Outputs) (sends_all : Sends a c (report_by true t plan script fed.taken)) where
+    -- no answer is left
+    pub ends_here : (new : Option Reading) (text : Option (List ℕ)) (e : End) → IsNext now (Ok None) new → stop_in e ≡ stop_of (rest runner []) → Feeds t plan script left text a c (Ok (how.End e, count))
+    ends_here new text e s stop = (
+      record { answers = fed.taken; fault = None },
+      given_end left now new fed.taken fed.given s,
+      sym (ends_by e) ∙ ap (λ (x : Option Stop). ending_of x None) (stop ∙ sym stop_now),
+      no_overrun t plan script left text e (rest runner []) wants.1 stop,
+      count_now,
+      sends_all,
+    )
 
     module _ (new : Option Reading) (text : Option (List ℕ)) (answer : Answer) (given : IsNext now (Ok (Some answer)) new) where
       abbrev pub taken : List Answer
@@ -223,13 +297,15 @@ module _ (t : Telling) (plan : Layout) (script : Script) (left now : Option Read
         overruns_here same =
             let more' : List Answer = (known new).answers in
             let s = stopped more' in
+            let ended : Bool = is_none (known new).fault in
             let parts : taken ++ more' ≡ fed.taken ++ answer ∷ more' = append_assoc fed.taken (answer ∷ []) more' in (
               with_taken taken (known new),
               given_all left new taken given_then,
               ap (λ (y : Option Stop). ending_of y (known new).fault) (sym s.1 ∙ ap (λ (l : List Answer). stop_of (the_run plan script l)) (sym parts)),
               (taken, has_read t left new text taken given_then same, ap (λ (y : Option Stop). ending_of y None) (stopped []).1),
               fed.counted ∙ ap (λ (ps : List Piece). length (events_in ps)) (sym s.0 ∙ ap (λ (l : List Answer). pieces (the_run plan script l)) (sym parts)),
-              subst (λ (l : List Sent). Sends a c l) (called_now ∙ sym (called_at (answer ∷ more') s.0) ∙ ap (called_for t plan script) (sym parts)) sends_all,
+              subst (λ (l : List Sent). Sends a c l) (begun_all ∙ ap (λ (l : List Sent). start ++ l) (called_now ∙ sym (called_at (answer ∷ more') s.0) ∙ ap (called_for t plan script) (sym parts))
+                  ∙ sym (ap (λ (yes : Bool). if_begun yes (start ++ called_for t plan script (taken ++ more'))) (ap (λ (l : List Answer). is_begun t l ended) parts ∙ begun_then t fed.taken more' answer ended))) sends_all,
             )
 
       module _ (runner' : RunnerState) (told : Item) (ks : List ℕ) (event : Option Left) (words : List ℕ) (g : GoesOn runner answer told ks event runner') (same_words : words ≡ last_words_in runner') (counted : runner.events ≡ count) where
@@ -257,6 +333,13 @@ module _ (t : Telling) (plan : Layout) (script : Script) (left now : Option Read
             ∙ sym (append_assoc (pieces_sent (line_of t script) 1 done) asked text_sent)
             ∙ ap (λ (l : List Sent). l ++ text_sent) (sym called_now)
 
+        pub as_report : sent_of t script taken done' ≡ report_by true t plan script fed.taken ++ text_sent
+        as_report =
+            ap (λ (yes : Bool). if_begun yes (start ++ pieces_sent (line_of t script) 1 done')) (begun_then t fed.taken [] answer false)
+            ∙ ap (λ (l : List Sent). start ++ l) as_called
+            ∙ sym (append_assoc start (called_for t plan script fed.taken) text_sent)
+            ∙ ap (λ (l : List Sent). l ++ text_sent) (sym begun_all)
+
         pub uses_then : uses done' ≡ length taken
         uses_then =
             let sum = uses-append done (piece_of told ∷ told_after ks event (last_words_in runner')) in
@@ -271,12 +354,19 @@ module _ (t : Telling) (plan : Layout) (script : Script) (left now : Option Read
           taken = taken;
           done = done';
           holds = holds';
-          sent = subst (λ (l : List Sent). Sends a d l) (sym as_called) (Sends-trans a c d (called_for t plan script fed.taken) text_sent sends_all sends);
+          sent = subst (λ (l : List Sent). Sends a d l) (sym as_report) (Sends-trans a c d (report_by true t plan script fed.taken) text_sent sends_all sends);
           counted = answer_counts told ks event (last_words_in runner') count n none some (next_number event runner.events count runner'.events g.next counted)
               ∙ ap (λ (k : ℕ). k + count_of (piece_of told ∷ told_after ks event (last_words_in runner'))) fed.counted ∙ sym (count-append done (piece_of told ∷ told_after ks event (last_words_in runner')));
           used = uses_then;
           given = given_then;
-          follows = inr (fed.taken, answer, text_sent, refl, as_called);
+          follows = inr (
+            fed.taken,
+            answer,
+            due_now ++ text_sent,
+            refl,
+            as_report ∙ ap (λ (l : List Sent). l ++ text_sent) begun_now ∙ append_assoc (report t plan script fed.taken) due_now text_sent,
+          );
+          fresh = λ e. none_taken fed.taken answer e;
         }
 
         -- a prefix of that was written
@@ -287,14 +377,21 @@ module _ (t : Telling) (plan : Layout) (script : Script) (left now : Option Read
             ap (λ (l : List Answer). pieces (the_run plan script l)) (sym (append-nil taken)) ∙ ap (λ (y : Behaviour (Unit {0})). pieces y) (holds'.goes []) ∙ pieces-after done' (rest runner' []) in
             let next' : List Sent = pieces_sent (line_of t script) (1 + count_of done') more' in
             let open' : List Sent = to_listing (open_text t plan script taken) in
-            let whole : called_for t plan script taken ≡ called_for t plan script fed.taken ++ (text_sent ++ (next' ++ open')) =
+            let last' : List Sent = text_sent ++ (next' ++ open') in
+            let called : called_for t plan script taken ≡ called_for t plan script fed.taken ++ last' =
             ap (λ (ps : List Piece). pieces_sent (line_of t script) 1 ps ++ open') did_then
             ∙ ap (λ (l : List Sent). l ++ open') (pieces_sent-append (line_of t script) 1 done' more' ∙ ap (λ (l : List Sent). l ++ next') as_called)
             ∙ append_assoc (called_for t plan script fed.taken ++ text_sent) next' open'
             ∙ append_assoc (called_for t plan script fed.taken) text_sent (next' ++ open') in
-            rw write (inr (
+            let whole : report t plan script taken ≡ (report t plan script fed.taken ++ due_now) ++ last' =
+            ap (λ (yes : Bool). if_begun yes (start ++ called_for t plan script taken)) (begun_then t fed.taken [] answer false)
+            ∙ ap (λ (l : List Sent). start ++ l) called
+            ∙ sym (append_assoc start (called_for t plan script fed.taken) last')
+            ∙ ap (λ (l : List Sent). l ++ last') (sym begun_all ∙ begun_now) in
+            rw write (inl (inr (
               fed.taken,
               answer,
               has_read t left new text taken given_then same,
-              last_part a c d (called_for t plan script fed.taken) (text_sent ++ (next' ++ open')) (called_for t plan script taken) sends_all (SendsPrefix-longer c d text_sent (next' ++ open') prefix) whole,
-            ))
+              later_part a c d (report t plan script fed.taken) due_now last' (report t plan script taken)
+                  (subst (λ (l : List Sent). Sends a c l) begun_now sends_all) (SendsPrefix-longer c d text_sent (next' ++ open') prefix) whole,
+            )))

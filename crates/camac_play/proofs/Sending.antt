@@ -137,13 +137,3 @@ later_part a b c first more' last whole p (prefix, rest, split, some, q) e = (
   some,
   subst (λ (l : List Sent). Sends a c l) (append_assoc first more' prefix) (Sends-trans a b c (first ++ more') prefix p q),
 )
-
--- after a text before both
-pub last_part-after : (a b c : Outputs) (text first whole : List Sent) → Sends a b text → SendsLastPart b c first whole → SendsLastPart a c (text ++ first) (text ++ whole)
-last_part-after a b c text first whole p (part, rest, split, some, q) = (
-  part,
-  rest,
-  ap (λ (l : List Sent). text ++ l) split ∙ sym (append_assoc text first (part ++ rest)),
-  some,
-  subst (λ (l : List Sent). Sends a c l) (sym (append_assoc text first part)) (Sends-trans a b c text (first ++ part) p q),
-)

@@ -1,5 +1,5 @@
 -- The headline of a play, with what its event file has got.
-use Rattle.std.specs.Prelude.{◌≡◌, ℕ, List, Option, IfSome, Result, Ok, Err}
+use Rattle.std.specs.Prelude.{◌≡◌, ℕ, false, List, Option, IfSome, is_none, Result, Ok, Err}
 use Rattle.std.specs.Io.KnownBytes.{Appends}
 use Rattle.camac_lang.specs.Tree.{Script}
 use Rattle.camac_branch.specs.Branch.{Answer}
@@ -11,38 +11,40 @@ use Rattle.camac_run.specs.Requested.{IsSafeRequest, held_after}
 use Rattle.camac_run.specs.Operation.{wanted_after}
 use Rattle.camac_play.specs.Play.{Gives, GivesFirst}
 use Rattle.camac_play.specs.Sent.{events_of}
-use Rattle.camac_play.specs.Told.{report, played, used_of}
+use Rattle.camac_play.specs.Told.{is_begun, if_begun, report, played, used_of}
 use Rattle.camac_play.specs.declared.ending.Ending.{Ending}
 use Rattle.camac_play.specs.declared.fault.PlayFault.{PlayFault}
 use Rattle.camac_play.specs.declared.fault.PlayFault.TheVariants as fault
 use Rattle.camac_play.specs.declared.telling.Telling.{Telling}
 
--- what is sent to the event file is the spelling of the run's events, however the run is told
+-- What is sent to the event file is the spelling of the run's events, however the run is told. Where it is not begun, nothing is.
 abbrev pub ReportSendsEventFile : Type 0
 ReportSendsEventFile =
-    (telling : Telling) (plan : Layout) (script : Script) (answers : List Answer) → events_of (report telling plan script answers) ≡ event_file plan script answers
+    (telling : Telling) (plan : Layout) (script : Script) (answers : List Answer)
+    → events_of (report telling plan script answers) ≡ if_begun (is_begun telling answers false) (event_file plan script answers)
 
 abbrev pub PlayedSendsEventFile : Type 0
 PlayedSendsEventFile =
-    (telling : Telling) (plan : Layout) (script : Script) (r : Reading) → events_of (played telling plan script r) ≡ event_file plan script r.answers
+    (telling : Telling) (plan : Layout) (script : Script) (r : Reading)
+    → events_of (played telling plan script r) ≡ if_begun (is_begun telling r.answers (is_none r.fault)) (event_file plan script r.answers)
 
 -- of the run on these answers and of these bytes of its event file the headline is true, and the operation that is wanted last may be made
 abbrev pub IsByHeadline : Layout → Script → List Bounds → List Answer → List ℕ → Type 0
 IsByHeadline plan script ks answers file =
     Headline plan script ks answers file × IfSome (wanted_after plan script (used_of plan script answers)) (IsSafeRequest plan (held_after plan script (used_of plan script answers)))
 
--- the text gives these answers, and the event file has got these bytes
-abbrev pub PlaysByHeadline : Layout → Script → List Bounds → Option Reading → (old new : Option (List ℕ)) → Type 0
-PlaysByHeadline plan script ks left old new =
-    (r : Reading) × (file : List ℕ) × Gives left r × Appends old new file × IsByHeadline plan script ks r.answers file
+-- the text gives these answers, and the event file has got these bytes, once it is begun
+abbrev pub PlaysByHeadline : Telling → Layout → Script → List Bounds → Option Reading → (old new : Option (List ℕ)) → Type 0
+PlaysByHeadline telling plan script ks left old new =
+    (r : Reading) × (file : List ℕ) × Gives left r × Appends old new (if_begun (is_begun telling r.answers (is_none r.fault)) file) × IsByHeadline plan script ks r.answers file
 
 -- the same of the answers before one that could not be read
-abbrev pub PlaysByHeadlineSoFar : Layout → Script → List Bounds → Option Reading → (old new : Option (List ℕ)) → Type 0
-PlaysByHeadlineSoFar plan script ks left old new =
-    (taken : List Answer) × (file : List ℕ) × GivesFirst left taken × Appends old new file × IsByHeadline plan script ks taken file
+abbrev pub PlaysByHeadlineSoFar : Telling → Layout → Script → List Bounds → Option Reading → (old new : Option (List ℕ)) → Type 0
+PlaysByHeadlineSoFar telling plan script ks left old new =
+    (taken : List Answer) × (file : List ℕ) × GivesFirst left taken × Appends old new (if_begun (is_begun telling taken false) file) × IsByHeadline plan script ks taken file
 
 -- wherever all that was sent was written
-abbrev pub KeepsHeadline : Layout → Script → List Bounds → Option Reading → (old new : Option (List ℕ)) → Result Ending PlayFault → Type 0
-KeepsHeadline plan script ks left old new (Ok e) = PlaysByHeadline plan script ks left old new
-KeepsHeadline plan script ks left old new (Err fault.Read) = PlaysByHeadlineSoFar plan script ks left old new
-KeepsHeadline plan script ks left old new (Err fault.Write) = Unit {0}
+abbrev pub KeepsHeadline : Telling → Layout → Script → List Bounds → Option Reading → (old new : Option (List ℕ)) → Result Ending PlayFault → Type 0
+KeepsHeadline telling plan script ks left old new (Ok e) = PlaysByHeadline telling plan script ks left old new
+KeepsHeadline telling plan script ks left old new (Err fault.Read) = PlaysByHeadlineSoFar telling plan script ks left old new
+KeepsHeadline telling plan script ks left old new (Err fault.Write) = Unit {0}

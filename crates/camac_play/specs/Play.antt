@@ -10,7 +10,7 @@ use Rattle.camac_answer.specs.Reading.{Reading}
 use Rattle.camac_run.specs.declared.progress.End.TheVariants as end
 use Rattle.camac_play.specs.RunIo.{RunState, sent_in}
 use Rattle.camac_play.specs.Sent.{Outputs, Sends, SendsPrefix, SendsLastPart, Sent}
-use Rattle.camac_play.specs.Told.{most_answers, called_for, ending, report, played}
+use Rattle.camac_play.specs.Told.{most_answers, ending, report, whole_report, played}
 use Rattle.camac_play.specs.declared.ending.Ending.{Ending}
 use Rattle.camac_play.specs.declared.ending.Ending.TheVariants as how
 use Rattle.camac_play.specs.declared.fault.PlayFault.{PlayFault}
@@ -58,26 +58,28 @@ FailsAtWrite telling left now old new calls =
     (HasRead telling left now [] × SendsPrefix old new (calls []))
     ⊎ ((taken : List Answer) × (last : Answer) × HasRead telling left now (taken ++ last ∷ []) × SendsLastPart old new (calls taken) (calls (taken ++ last ∷ [])))
 
--- All was written at an ending. A fault of the text counts only where the run comes to it, and no answer is read before what the ones
--- before it call for was sent: a write fails in what the last answer that was read calls for, or in the last line.
+-- A run that stops before its last line. No answer is read before what the ones before it call for was sent: a write fails in what the last
+-- answer that was read calls for, or in what the end of the text does.
+abbrev pub StopsBy : Telling → Layout → Script → Option Reading → Option (List ℕ) → Outputs → Outputs → PlayFault → Type 0
+StopsBy telling plan script left now old new fault.Write =
+    FailsAtWrite telling left now old new (report telling plan script)
+    ⊎ ((r : Reading) × Gives left r × ReadsNoMore telling plan script left now (ending plan script r)
+    × SendsLastPart old new (report telling plan script r.answers) (played telling plan script r))
+StopsBy telling plan script left now old new fault.Read = FailsAtRead telling plan script left now old new (report telling plan script)
+
+-- All was written at an ending. A fault of the text counts only where the run comes to it.
 abbrev pub Plays : Telling → Layout → Script → Option Reading → Option (List ℕ) → Outputs → Outputs → Result Ending PlayFault → Type 0
 Plays telling plan script left now old new (Ok e) =
     (r : Reading) × Gives left r × (e ≡ ending plan script r) × ReadsNoMore telling plan script left now e
     × (length (events (the_run plan script r.answers)) < 2 ^ 32) × Sends old new (played telling plan script r)
-Plays telling plan script left now old new (Err fault.Write) =
-    FailsAtWrite telling left now old new (report telling plan script)
-    ⊎ ((r : Reading) × Gives left r × ReadsNoMore telling plan script left now (ending plan script r)
-    × SendsLastPart old new (report telling plan script r.answers) (played telling plan script r))
-Plays telling plan script left now old new (Err fault.Read) =
-    FailsAtRead telling plan script left now old new (report telling plan script)
+Plays telling plan script left now old new (Err f) = StopsBy telling plan script left now old new f
 
--- the same after the header and before the last line, with the number of events
+-- the same before the last line, with the number of events
 abbrev pub Feeds : Telling → Layout → Script → Option Reading → Option (List ℕ) → Outputs → Outputs → Result (Ending × ℕ) PlayFault → Type 0
 Feeds telling plan script left now old new (Ok v) =
     (r : Reading) × Gives left r × (v.0 ≡ ending plan script r) × ReadsNoMore telling plan script left now v.0
-    × (v.1 ≡ length (events (the_run plan script r.answers))) × Sends old new (called_for telling plan script r.answers)
-Feeds telling plan script left now old new (Err fault.Write) = FailsAtWrite telling left now old new (called_for telling plan script)
-Feeds telling plan script left now old new (Err fault.Read) = FailsAtRead telling plan script left now old new (called_for telling plan script)
+    × (v.1 ≡ length (events (the_run plan script r.answers))) × Sends old new (whole_report telling plan script r)
+Feeds telling plan script left now old new (Err f) = StopsBy telling plan script left now old new f
 
 -- What was given could not be handed on, where it is held: all that the answers so far call for was given, and no more was read.
 abbrev pub FailsAtHandingOn : Bool → Telling → Option Reading → Option (List ℕ) → Outputs → Outputs → (List Answer → List Sent) → Type 0
@@ -87,7 +89,7 @@ FailsAtHandingOn gathers telling left now old new calls =
 -- the same over streams that may hold what they are given
 abbrev pub FeedsOver : Bool → Telling → Layout → Script → Option Reading → Option (List ℕ) → Outputs → Outputs → Result (Ending × ℕ) PlayFault → Type 0
 FeedsOver gathers telling plan script left now old new r =
-    Feeds telling plan script left now old new r ⊎ ((r ≡ Err fault.Write) × FailsAtHandingOn gathers telling left now old new (called_for telling plan script))
+    Feeds telling plan script left now old new r ⊎ ((r ≡ Err fault.Write) × FailsAtHandingOn gathers telling left now old new (report telling plan script))
 
 abbrev pub PlaysOver : Bool → Telling → Layout → Script → Option Reading → Option (List ℕ) → Outputs → Outputs → Result Ending PlayFault → Type 0
 PlaysOver gathers telling plan script left now old new r =

@@ -1,5 +1,5 @@
 -- What a run writes, to its listing or as requests and to its event file, in one order, from the script and the text of its answers.
-use Rattle.std.specs.Prelude.{ℕ, ◌+◌, List, [], ◌∷◌, ◌++◌, length, take, Option, Some, None, Result, option_map, unwrap_or}
+use Rattle.std.specs.Prelude.{ℕ, ◌+◌, Bool, true, false, List, [], ◌∷◌, ◌++◌, length, take, Option, Some, None, Result, is_none, nat_eq, option_map, unwrap_or}
 use Rattle.camac_lang.specs.Tree.{Script}
 use Rattle.camac_branch.specs.Branch.{Answer}
 use Rattle.camac_branch.specs.Plan.{Layout}
@@ -88,9 +88,34 @@ abbrev pub called_for : Telling → Layout → Script → List Answer → List S
 called_for telling plan script answers =
     pieces_sent (line_of telling script) 1 (pieces (the_run plan script answers)) ++ to_listing (open_text telling plan script answers)
 
--- the same after the header of the event file
+-- Whether the event file is begun: that of a live run before its first request, that of a listing once its first answer is good or the
+-- answers have ended.
+abbrev pub is_begun : Telling → List Answer → (ended : Bool) → Bool
+is_begun Requests answers ended = true
+is_begun Listing [] ended = ended
+is_begun Listing (first ∷ answers) ended = true
+
+-- it is begun after so many answers
+abbrev pub begins_after : Telling → (given : ℕ) → Bool
+begins_after Listing given = nat_eq given 0
+begins_after Requests given = false
+
+-- what is there once the event file is begun
+abbrev pub if_begun : {A : Type 0} → Bool → List A → List A
+if_begun true sent = sent
+if_begun false sent = []
+
+-- the same after the header, which begins the event file: before that nothing is sent
+abbrev pub report_by : (ended : Bool) → Telling → Layout → Script → List Answer → List Sent
+report_by ended telling plan script answers = if_begun (is_begun telling answers ended) (to_events (header Two) ++ called_for telling plan script answers)
+
+-- where more answers may come
 abbrev pub report : Telling → Layout → Script → List Answer → List Sent
-report telling plan script answers = to_events (header Two) ++ called_for telling plan script answers
+report = report_by false
+
+-- of the whole text of the answers, which ends after a good one or has a fault
+abbrev pub whole_report : Telling → Layout → Script → Reading → List Sent
+whole_report telling plan script r = report_by (is_none r.fault) telling plan script r.answers
 
 -- How a run ends, by why it stopped and what is wrong with the text of its answers. Such a fault counts only where the run comes to
 -- the end of the answers. A run of a checked script stops for no other reasons.
@@ -113,7 +138,7 @@ last_line plan script r = ending_text (ending plan script r) (length (events (th
 
 -- all that a run writes: what it tells, and its last line
 abbrev pub played : Telling → Layout → Script → Reading → List Sent
-played telling plan script r = report telling plan script r.answers ++ to_listing (last_line plan script r)
+played telling plan script r = whole_report telling plan script r ++ to_listing (last_line plan script r)
 
 -- the record of the event that a service left, where one was left
 abbrev pub event_record : Option Left → List ℕ → List ℕ

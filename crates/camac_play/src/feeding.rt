@@ -12,12 +12,13 @@ use crate::ending::Ending;
 use crate::fault::PlayFault;
 use crate::next::next_answer;
 use crate::run_io::RunIo;
-use crate::telling::{Telling, ask, count_after, tell, write_event};
+use crate::telling::{Telling, ask, begin, count_after, tell, write_event};
 use camac_checked::Checked;
 use camac_run::{End, FullRunner, Used};
 
 /// Gives the run all answers that it takes. What it wants is asked for before an answer is read, and what an answer did is given before the
-/// next one. Returns how the run ends, and how many events it left.
+/// next one. The event file of a live run is begun at first, that of a listing once the first answer is good or there is none. Returns how
+/// the run ends, and how many events it left.
 pub fn feed<I: RunIo>(
     telling: Telling,
     checked: &Checked,
@@ -32,13 +33,17 @@ pub fn feed<I: RunIo>(
     let mut used = Used::new();
     let mut given = 0;
     let mut count = 0;
+    begin(telling.begins_first(), io)?;
     'answers: loop {
         ask(telling, &runner, io)?;
-        let next = next_answer(io, given, limit)?;
-        let answer = match next {
-            Ok(Some(answer)) => answer,
-            Ok(None) => return Ok((Ending::End(end_of(&runner)), count)),
+        let read = next_answer(io, given, limit)?;
+        let next = match read {
+            Ok(next) => next,
             Err(fault) => return Ok((Ending::Refused(fault), count)),
+        };
+        begin(telling.begins_after(given), io)?;
+        let Some(answer) = next else {
+            return Ok((Ending::End(end_of(&runner)), count));
         };
         given += 1;
         match runner.advance(answer, &mut used) {

@@ -16,9 +16,9 @@ use crate::telling::{Telling, close};
 use camac_checked::Checked;
 use camac_run::{requests_are_safe, runs_by_headline};
 
-/// Runs a checked script on the answers of a text: by `telling`, a listing or requests are listed, and the event file is recorded. What an
-/// answer did is told before the next one is read, and the last line at the end; of a live run each operation is asked for before its answer
-/// is read. A fault of the text counts only where the run needs that answer, and no answer is read beyond a wait that is not permitted. After
+/// Runs a checked script on the answers of a text: by `telling`, a listing or requests are listed, and the event file is recorded. That of a
+/// listing is begun only once the first answer is good, or the answers have ended. What an answer did is told before the next one is read, and
+/// the last line at the end; of a live run each operation is asked for before its answer is read. A fault of the text counts only where the run needs that answer, and no answer is read beyond a wait that is not permitted. After
 /// a write fault nothing more is told; after a read fault no last line is. Where the streams hold what they are given, that may fail to be
 /// handed on before an answer is read.
 pub fn play_over<I: RunIo>(
@@ -27,7 +27,7 @@ pub fn play_over<I: RunIo>(
     io: &mut I,
 ) -> Result<Ending, PlayFault>
     ensures plays { PlaysIn telling checked.now.plan checked.now.script (I.state io.old) (I.state io.new) result }
-    ensures headline { KeepsHeadline checked.now.plan checked.now.script checked.now.bounds (left_of telling (I.state io.old)) (I.state io.old).recorded (I.state io.new).recorded result }
+    ensures headline { KeepsHeadline telling checked.now.plan checked.now.script checked.now.bounds (left_of telling (I.state io.old)) (I.state io.old).recorded (I.state io.new).recorded result }
     ensures fails { FailsBy (I.state io.old) (I.state io.new) (is_write_fault result) (is_read_fault result) }
 {
     runs_by_headline(checked);
@@ -35,12 +35,11 @@ pub fn play_over<I: RunIo>(
     play_on(telling, checked, io)
 }
 
-// The header, the run and its last line.
+// The run and its last line.
 fn play_on<I: RunIo>(telling: Telling, checked: &Checked, io: &mut I) -> Result<Ending, PlayFault>
     ensures plays { PlaysIn telling checked.now.plan checked.now.script (I.state io.old) (I.state io.new) result }
     ensures fails { FailsBy (I.state io.old) (I.state io.new) (is_write_fault result) (is_read_fault result) }
 {
-    io.record_header()?;
     let (ending, count) = feed(telling, checked, io)?;
     finish(io, ending, count)
 }

@@ -1,11 +1,13 @@
 // How a run tells what it does, and what is written at an answer and at the end.
 
-ghost use Rattle.std.specs.Prelude.{◌≡◌, ◌≤◌, ◌<◌, ◌^◌, ◌++◌, length, is_err, IfSome, IfNone, None, false};
+ghost use Rattle.std.specs.Prelude.{◌≡◌, ◌≤◌, ◌<◌, ◌^◌, ◌++◌, [], length, is_err, IfSome, IfNone, None, false};
+ghost use Rattle.camac_event.specs.Spelling.{header};
+ghost use Rattle.camac_event.specs.declared.event.Version.TheVariants.{Two};
 ghost use Rattle.camac_report.specs.Items.{unlock_texts};
 ghost use Rattle.camac_machine.specs.MachineState.{piece_of};
 ghost use Rattle.camac_machine.specs.Rest.{is_paused};
 ghost use Rattle.camac_play.specs.RunIo.{OnlyLists, OnlyRecords};
-ghost use Rattle.camac_play.specs.Told.{most_answers, item_line, ending_text, Asks, event_record};
+ghost use Rattle.camac_play.specs.Told.{most_answers, is_begun, begins_after, if_begun, item_line, ending_text, Asks, event_record};
 ghost use Rattle.camac_word.specs.Writing.{Writes};
 
 use crate::ending::Ending;
@@ -36,10 +38,38 @@ impl Telling {
             Telling::Requests => LIVE_ANSWERS,
         }
     }
+
+    /// Whether the event file is begun before the first operation.
+    pub fn begins_first(self) -> bool
+        ensures { result ≡ is_begun self [] false }
+    {
+        match self {
+            Telling::Listing => false,
+            Telling::Requests => true,
+        }
+    }
+
+    /// Whether it is begun where so many answers were given and the next one is good or there is none.
+    pub fn begins_after(self, given: u32) -> bool
+        ensures { result ≡ begins_after self given }
+    {
+        match self {
+            Telling::Listing => given == 0,
+            Telling::Requests => false,
+        }
+    }
 }
 
 /// An event that a service left: its number, its bit and its usage.
 pub type Left = (u32, GlBit, Usage);
+
+/// Begins the event file, where that is due.
+pub fn begin<I: RunIo>(is_due: bool, io: &mut I) -> Result<(), WriteFault>
+    ensures text { Writes (I.state io.old).recorded (I.state io.new).recorded result (if_begun is_due (header Two)) }
+    ensures only { OnlyRecords (I.state io.old) (I.state io.new) (is_err result) }
+{
+    if is_due { io.record_header() } else { Ok(()) }
+}
 
 /// Asks for the operation that a run wants. A listing asks for nothing.
 pub fn ask<I: RunIo>(

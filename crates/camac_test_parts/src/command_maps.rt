@@ -1,6 +1,6 @@
 // Maps of declared commands.
 
-use camac_module::{CommandMap, Decl, ModuleFault, ModuleType};
+use camac_module::{CommandKind, CommandMap, Decl, ModuleFault, ModuleType};
 use camac_word::{Function, SubAddress};
 
 fn decl(f: u32, a: u32, width: u8, probe: bool) -> Option<Decl> {
@@ -8,7 +8,7 @@ fn decl(f: u32, a: u32, width: u8, probe: bool) -> Option<Decl> {
         f: Function::new(f)?,
         a: SubAddress::new(a)?,
         width,
-        probe,
+        kind: CommandKind::of(probe, false),
     })
 }
 

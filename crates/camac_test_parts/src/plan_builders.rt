@@ -1,7 +1,7 @@
 //! The sample plan, and what its builders refuse.
 
 use camac_branch::{BuildFault, Plan, TypeName};
-use camac_module::{Decl, ModuleType};
+use camac_module::{CommandKind, Decl, ModuleType};
 use camac_plan::read;
 use camac_test_fixtures::plans::SAMPLE;
 use camac_word::{CrateNo, Function, GlBit, Station, SubAddress};
@@ -72,7 +72,7 @@ fn declare(commands: &mut ModuleType, f: u32, a: u32, width: u8, probe: bool) ->
         f: function(f)?,
         a: sub_address(a)?,
         width,
-        probe,
+        kind: CommandKind::of(probe, false),
     };
     commands.declare(d)?;
     Ok(())

@@ -35,3 +35,15 @@ pub taken : (a d : Option (List ℕ)) (held text room : List ℕ) → Keeps a (a
 taken None d held text room kept is = tt
 taken (Some xs) None held text room kept is = absurd kept
 taken (Some xs) (Some ys) held text room kept is = ap (λ (l : List ℕ). ys ++ l) is ∙ sym (append_assoc ys held text) ∙ ap (λ (l : List ℕ). l ++ text) kept
+
+behind : (a d e : Option (List ℕ)) (held text : List ℕ) → Keeps a (append_known d held) → held ≡ [] → Appends d e text → Appends a (append_known e held) text
+behind None d e held text kept none p = tt
+behind (Some xs) None e held text kept none p = absurd kept
+behind (Some xs) (Some ys) None held text kept none p = absurd p
+behind (Some xs) (Some ys) (Some zs) held text kept none p =
+    ap (λ (l : List ℕ). zs ++ l) none ∙ append-nil zs ∙ p ∙ ap (λ (l : List ℕ). l ++ text) (sym (append-nil ys) ∙ ap (λ (l : List ℕ). ys ++ l) (sym none) ∙ kept)
+
+-- all that was held was handed on, and then a text was written behind it
+pub written_behind : {T E : Type 0} (r : Result T E) (a d e : Option (List ℕ)) (held text : List ℕ) → Keeps a (append_known d held) → held ≡ [] → Writes d e r text → Writes a (append_known e held) r text
+written_behind (Ok x) a d e held text kept none p = behind a d e held text kept none p
+written_behind (Err x) a d e held text kept none (prefix, rest, split, some, p) = (prefix, rest, split, some, behind a d e held prefix kept none p)

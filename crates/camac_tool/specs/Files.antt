@@ -1,8 +1,11 @@
 -- What is known of the file of a name, and how EVENTS is opened.
-use Rattle.std.specs.Prelude.{◌≡◌, ◌⊎◌, ◌&&◌, ◌<◌, Bool, true, Option, Some, None, Result, Ok, Err, nat_eq}
-use Rattle.std.specs.Fs.{IsFile, file_type, metadata_len, new_options, with_create, with_truncate, with_write}
+use Rattle.std.specs.Prelude.{◌≡◌, ◌⊎◌, ◌&&◌, ◌||◌, ◌<◌, ℕ, Bool, true, false, List, Option, Some, None, Result, Ok, Err, nat_eq, bit_and}
+use Rattle.std.specs.List.{starts_with}
+use Rattle.std.specs.Fs.{IsFile, file_type, metadata_len, metadata_mode, new_options, with_create, with_write}
 use Rattle.std.specs.declared.fs.options.OpenOptions.{OpenOptions}
 use Rattle.std.specs.declared.fs.attrs.Metadata.{Metadata}
+use Rattle.camac_event.specs.Spelling.{header}
+use Rattle.camac_event.specs.declared.event.Version.TheVariants.{One, Two}
 use Rattle.camac_engines.specs.declared.fault.ToolFault.{ToolFault}
 use Rattle.camac_engines.specs.declared.fault.ToolFault.TheVariants.{Write}
 use Rattle.camac_tool.specs.declared.target.Earlier.{Earlier}
@@ -14,15 +17,26 @@ abbrev pub SaysSame : {E : Type 0} → FileId → Result FileId E → Result Boo
 SaysSame file (Ok other) said = said ≡ Ok (nat_eq file.device other.device && nat_eq file.number other.number)
 SaysSame file (Err why) said = said ≡ Err Write
 
--- what was found, if it is a regular file; where nothing is there, there is none
-abbrev pub SaysRegular : {E : Type 0} → Result Metadata E → Result (Option Metadata) E → Type 0
-SaysRegular (Ok about) said = (IsFile (file_type about) → said ≡ Ok (Some about)) × ((IsFile (file_type about) → ⊥) → said ≡ Ok None)
-SaysRegular (Err why) said = (said ≡ Ok None) ⊎ (said ≡ Err why)
+abbrev pub IsCharacterDevice : Metadata → Type 0
+IsCharacterDevice about = bit_and (metadata_mode about) 0o170000 ≡ 0o020000
 
--- a file that is not there is made; a run empties one that is there, and a live run leaves it
-abbrev pub options_of : Earlier → OpenOptions
-options_of Emptied = with_truncate (with_create (with_write new_options true) true) true
-options_of Refused = with_create (with_write new_options true) true
+-- What was found, if it can be the same as another file: of character devices not the null device. Where nothing is there, there is none.
+abbrev pub SaysCompared : {E : Type 0} → Result Metadata E → Result (Option Metadata) E → Type 0
+SaysCompared (Ok about) said = (said ≡ Ok (Some about)) ⊎ (IsCharacterDevice about × (said ≡ Ok None))
+SaysCompared (Err why) said = (said ≡ Ok None) ⊎ (said ≡ Err why)
+
+-- a file that is not there is made, and one that is there is not emptied by that
+abbrev pub events_options : OpenOptions
+events_options = with_create (with_write new_options true) true
+
+-- the first bytes of an event file of either version
+abbrev pub begins_as_events : List ℕ → Bool
+begins_as_events bytes = starts_with nat_eq bytes (header One) || starts_with nat_eq bytes (header Two)
+
+-- whether a file that holds bytes and begins so may be emptied: by a run if it is an event file, by a live run never
+abbrev pub may_empty : Earlier → List ℕ → Bool
+may_empty Emptied beginning = begins_as_events beginning
+may_empty Refused beginning = false
 
 -- a regular file that is not empty
 abbrev pub HoldsBytes : Metadata → Type 0

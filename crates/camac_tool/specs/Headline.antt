@@ -18,8 +18,8 @@ use Rattle.camac_tool.specs.World.{World}
 -- Of a run that came to its end the headline is true, and where an answer could not be read of the run on the answers before it. The answers'
 -- text is u, and e and f are what the event file holds before the run and after it.
 abbrev pub RunKeeps : Telling → CheckedScript → (u e f : Option (List ℕ)) → Result Outcome ToolFault → Type 0
-RunKeeps telling c u e f (Ok outcome) = PlaysByHeadline c.plan c.script c.bounds (left_in (most_answers telling) 0 u) e f
-RunKeeps telling c u e f (Err fault.Read) = PlaysByHeadlineSoFar c.plan c.script c.bounds (left_in (most_answers telling) 0 u) e f
+RunKeeps telling c u e f (Ok outcome) = PlaysByHeadline telling c.plan c.script c.bounds (left_in (most_answers telling) 0 u) e f
+RunKeeps telling c u e f (Err fault.Read) = PlaysByHeadlineSoFar telling c.plan c.script c.bounds (left_in (most_answers telling) 0 u) e f
 RunKeeps telling c u e f (Err _) = Unit {0}
 
 -- with the bounds that the checker gives; a refused script sends nothing

@@ -15,7 +15,7 @@ use crate::gathered::Gathered;
 use camac_answer::fill;
 use camac_check::Checked;
 use camac_engines::{Outcome, ToolFault};
-use camac_event::{Usage, write_header, write_record};
+use camac_event::{Usage, write_record};
 use camac_play::{PlayFault, RunIo};
 use camac_report::Line;
 use camac_run::Item;
@@ -31,7 +31,7 @@ pub struct Ran<W: Drop, E: Drop> {
     pub records: E,
 }
 
-/// The answers of a run, which are read ahead, and its listing and its event file, each gathered. Once a call of one output has failed, both
+/// The answers of a run, which are read ahead, and its listing and its event file, each gathered but the header. Once a call of one output has failed, both
 /// are left alone, and each later call fails.
 #[derive(Drop)]
 pub struct Streams<R: Read + Drop, W: Drop, E: Drop> {
@@ -171,7 +171,7 @@ impl<R: Read + Drop, W: Write + Drop, E: Write + Drop> RunIo for Streams<R, W, E
         if self.failed() {
             return Err(WriteFault);
         }
-        write_header(&mut self.records)
+        self.records.put_header()
     }
 
     fn record_event(

@@ -1,14 +1,14 @@
-// The event file of a run. No input and no standard stream is lost by it, and no run ends well before it is on the disk.
+// The event file of a run. Nothing but an older event file is lost by it, and no run ends well before it is on the disk.
 
-ghost use Rattle.std.specs.Prelude.{◌≡◌, ◌↔◌, None, IfErr, IsTrue};
-ghost use Rattle.camac_tool.specs.Files.{HoldsBytes, SaysRegular, SaysSame, options_of};
+ghost use Rattle.std.specs.Prelude.{◌≡◌, ◌↔◌, None, IfErr, IsOk, IsTrue};
+ghost use Rattle.camac_tool.specs.Files.{HoldsBytes, IsCharacterDevice, SaysCompared, SaysSame, begins_as_events, events_options, may_empty};
 ghost use Rattle.camac_engines.specs.declared.fault.ToolFault.TheVariants.{Write as write-fault};
 
 use crate::failure::{Failure, Named};
 use crate::input::Input;
 use camac_engines::ToolFault;
 use std::fs::{Files, Metadata, OpenFile, OpenOptions};
-use std::io::{Error, ErrorKind, Write};
+use std::io::{Error, ErrorKind, Read, Write};
 use std::os::unix::fs::MetadataExt;
 use std::{fs, io};
 
@@ -19,6 +19,16 @@ const STANDARD_OUTPUTS: [(&str, &str); 2] = [
     ("/proc/self/fd/1", "it is standard output"),
     ("/proc/self/fd/2", "it is standard error"),
 ];
+
+/// The kind of a file in its mode, that of a character device, and the number of the null device.
+const KIND: u32 = 0o170000;
+
+const CHARACTER_DEVICE: u32 = 0o020000;
+
+const NULL_DEVICE: u64 = 0x103;
+
+/// The length of the header of an event file.
+const HEADER: usize = 8;
 
 /// Refuses EVENTS where it is the same file as one of the inputs, as standard output or as standard error.
 pub fn keep_apart<'a, R: Files, S: Drop>(
@@ -47,14 +57,14 @@ pub fn keep_apart<'a, R: Files, S: Drop>(
     Ok(())
 }
 
-/// What becomes of an EVENTS that holds bytes.
+/// What becomes of an EVENTS that holds bytes. It is emptied only if it is an event file.
 #[derive(Clone, Copy, PartialEq, Eq)]
 pub enum Earlier {
     Emptied,
     Refused,
 }
 
-/// EVENTS, which is opened at the first write to it. That is of the header: plan and script are accepted then.
+/// EVENTS, which is opened at the first write to it. That is of the header, when the event file is begun.
 #[derive(Drop)]
 pub struct NewFile<'a, R: Files> {
     rt: &'a R,
@@ -96,22 +106,65 @@ impl<R: Files> Write for NewFile<'_, R> {
 }
 
 fn open_events<R: Files>(rt: &R, name: &str, earlier: Earlier) -> io::Result<R::File> {
-    let file = options_of(earlier).open(rt, name)?;
-    if earlier == Earlier::Refused && holds_bytes(&file.metadata()?) {
-        let refusal = "it holds bytes; a live run needs a file of its own";
-        return Err(Error::new(ErrorKind::AlreadyExists, refusal));
+    let file = events_options().open(rt, name)?;
+    let about = file.metadata()?;
+    if holds_bytes(&about) {
+        let beginning = beginning_of(rt, name, earlier, id_of(&about))?;
+        may_empty(earlier, &beginning)?;
+        file.set_len(0)?;
     }
     Ok(file)
 }
 
-fn options_of(earlier: Earlier) -> OpenOptions
-    ensures { result ≡ options_of earlier }
+fn events_options() -> OpenOptions
+    ensures { result ≡ events_options }
 {
     let mut options = OpenOptions::new();
     options.write(true);
     options.create(true);
-    options.truncate(earlier == Earlier::Emptied);
     options
+}
+
+// The first bytes of the file that was opened. A live run reads none.
+fn beginning_of<R: Files>(
+    rt: &R,
+    name: &str,
+    earlier: Earlier,
+    opened: FileId,
+) -> io::Result<[u8; HEADER]> {
+    let mut beginning = [0; HEADER];
+    if earlier == Earlier::Refused {
+        return Ok(beginning);
+    }
+    let mut file = fs::open(rt, name)?;
+    if id_of(&file.metadata()?) != opened {
+        return Err(Error::other("another file has its name"));
+    }
+    match file.read_exact(&mut beginning) {
+        Err(why) if why.kind() != ErrorKind::UnexpectedEof => Err(why),
+        _ => Ok(beginning),
+    }
+}
+
+// Refuses to empty an EVENTS that holds bytes and begins so.
+fn may_empty(earlier: Earlier, beginning: &[u8]) -> io::Result<()>
+    ensures { IsOk result ↔ IsTrue (may_empty earlier beginning.now) }
+{
+    match earlier {
+        Earlier::Emptied if begins_as_events(beginning) => Ok(()),
+        Earlier::Emptied => Err(Error::other("it is no event file")),
+        Earlier::Refused => {
+            let refusal = "it holds bytes; a live run needs a file of its own";
+            Err(Error::new(ErrorKind::AlreadyExists, refusal))
+        }
+    }
+}
+
+// These bytes begin as an event file of either version.
+fn begins_as_events(bytes: &[u8]) -> bool
+    ensures { result ≡ begins_as_events bytes.now }
+{
+    bytes.starts_with(b"CAMACEV1") || bytes.starts_with(b"CAMACEV2")
 }
 
 // What is no regular file holds no bytes.
@@ -165,7 +218,7 @@ fn id_of_input<R: Files, S: Drop>(rt: &R, input: &Input<S, R::File>) -> io::Resu
     }
 }
 
-// The regular file of this name, if there is one.
+// The file of this name, if there is one.
 fn file_at<'a, R: Files>(
     rt: &R,
     failure: &Failure<'a>,
@@ -173,23 +226,29 @@ fn file_at<'a, R: Files>(
 ) -> Result<Option<FileId>, ToolFault>
     ensures { IfErr result (λ fault. fault ≡ write-fault) }
 {
-    match regular(fs::metadata(rt, name)) {
+    match compared(fs::metadata(rt, name)) {
         Ok(Some(about)) => Ok(Some(id_of(&about))),
         Ok(None) => Ok(None),
         Err(why) => Err(failure.write(name, why)),
     }
 }
 
-// What was found, if it is a regular file. That nothing is there is no fault.
-fn regular(found: io::Result<Metadata>) -> io::Result<Option<Metadata>>
-    ensures { SaysRegular found result }
+// What was found, if it can be the same as another file. That nothing is there is no fault, and the null device keeps nothing.
+fn compared(found: io::Result<Metadata>) -> io::Result<Option<Metadata>>
+    ensures { SaysCompared found result }
 {
     match found {
-        Ok(about) if about.is_file() => Ok(Some(about)),
-        Ok(_) => Ok(None),
+        Ok(about) if is_character_device(&about) && about.rdev() == NULL_DEVICE => Ok(None),
+        Ok(about) => Ok(Some(about)),
         Err(why) if why.kind() == ErrorKind::NotFound => Ok(None),
         Err(why) => Err(why),
     }
+}
+
+fn is_character_device(about: &Metadata) -> bool
+    ensures { IsTrue result ↔ IsCharacterDevice about.now }
+{
+    about.mode() & KIND == CHARACTER_DEVICE
 }
 
 // A file of which the system says nothing may be any file.

@@ -54,7 +54,8 @@ pub const SCRIPT_OF_DRIVE: &str = "A script: a file";
 pub const ANSWERS: &str =
     "Answers, a line for each operation (see below): a file, or @in, standard input";
 
-pub const EVENTS: &str = "The event file to write: replaced once plan and script are accepted";
+pub const EVENTS: &str =
+    "The event file to write: an older one is replaced once the first answer is good";
 
 pub const EVENTS_OF_DRIVE: &str =
     "The event file to write: free or empty, opened once plan and script are accepted";
@@ -81,8 +82,8 @@ Examples:
 
 pub const AFTER_PLAN: &str =
     "Prints the buffer, the module types, the crates and their stations, or the first fault.
-With --commands each type's commands follow it: function, sub-addresses, and the
-width in bits if data move, or 'probe'.
+With --commands each type's commands follow it: function, sub-addresses, the
+width in bits if data move, or 'probe', and 'clears' if it clears the LAM.
 
 Examples:
   camac plan plan.toml

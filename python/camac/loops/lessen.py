@@ -14,10 +14,12 @@ IsGood = Callable[[], bool]
 def leave_out(found: Found, sure: Set[Cause], is_good: IsGood) -> None:
     """Leaves out what is kept and changed for nothing. What is sure to be needed, as a rule, comes last."""
     leave_out_of([*found.changed], lambda its: found.without_changes(its, is_good))
-    count = len(found.kept)
-    for is_sure in (False, True):
-        leave_out_of([it for it in found.kept if (it in sure) == is_sure], lambda its: found.without_ranges(its, is_good))
-    if len(found.kept) < count:
+    count, left = len(found.kept), -1
+    while left != len(found.kept):
+        left = len(found.kept)
+        for is_sure in (False, True):
+            leave_out_of([it for it in found.kept if (it in sure) == is_sure], lambda its: found.without_ranges(its, is_good))
+    if left < count:
         leave_out_of([*found.changed], lambda its: found.without_changes(its, is_good))
 
 

@@ -6,8 +6,8 @@ from camac.drive import File, Refused
 from camac.edits import edited
 from camac.headings import least_headings
 from camac.loops.causes import causes_before, causes_of, foreseen
-from camac.loops.changes import Change, Changes, Kind
-from camac.loops.guards import GuardFinder, loops_around
+from camac.loops.changes import FALLS, Change, Changes, Kind
+from camac.loops.guards import ALWAYS, BUT_THE_LAST, GuardFinder, loops_around
 from camac.loops.heads import FULL, Kept, Known, Least
 from camac.loops.lessen import leave_out, narrow
 from camac.loops.proposals import Found, Proposal, Proposals, Remaining
@@ -50,6 +50,11 @@ def propose(plan: File, script: bytes, program: Optional[File] = None, keeps_onl
     return Proposals(tuple(proposals), search.remaining, search.trials.calls + 1)
 
 
+def _place(cause: Cause) -> Tuple[int, str]:
+    """By which causes are in one order, whatever the order of a set."""
+    return cause[0].start, cause[1]
+
+
 def _remaining(refusal: Refused, line: Optional[int]) -> Remaining:
     return Remaining(refusal.code, line, refusal.rule)
 
@@ -90,6 +95,8 @@ class _Search:
     def run(self) -> None:
         stopped = self.go_on(BOUNDS)
         self.lessen(BOUNDS, stopped)
+        # A refusal may come later with less.
+        stopped = stopped and self.stopped(BOUNDS)
         if stopped is None:
             self.fit_headings()
         else:
@@ -118,7 +125,7 @@ class _Search:
         if best is not None:
             self.found.cut(best.when[0])
         leave_out(self.found, self.sure, is_good)
-        narrow(self.found, [cause for it in self.least.values() for cause in it.widened], is_good)
+        narrow(self.found, sorted((cause for it in self.least.values() for cause in it.widened), key=_place), is_good)
 
     def stopped(self, command: str) -> Optional[Stopped]:
         return self.trials.stopped(command, self.found.edits())
@@ -161,7 +168,7 @@ class _Search:
         """Keeps the least ranges of what loops forget. One that is a group by itself is sure to be needed, as a rule."""
         causes: Set[Cause] = set().union(*groups)
         is_new = not self.keeps_only and any(self.range(body, *it)[1] == MOST for it in causes) and self.guard(body)
-        ranges = {it: self.range(body, *it) for it in causes}
+        ranges = {it: self.range(body, *it) for it in sorted(causes, key=_place)}
         new = {it: its for it, its in ranges.items() if its != FULL and self.found.kept.get(it) != its}
         self.found.kept.update(new)
         self.sure.update(it for group in groups if len(group) == 1 for it in group)
@@ -200,7 +207,7 @@ class _Search:
         """New guards in one statement of a body."""
         it, state = body.statements[at], least.known[at]
         ranges = {(loop, name): its for loop in all_in([it]) if isinstance(loop, Loop) for name, its in least.found.get(loop, {}).items()}
-        endless = [cause for cause, its in ranges.items() if its[1] == MOST]
+        endless = sorted((cause for cause, its in ranges.items() if its[1] == MOST), key=_place)
         new: Dict[Statement, Change] = {}
         if state and endless:
             finder = GuardFinder(self.text, body, self.known(body, ranges, (it, state)), self.turn_work)
@@ -212,12 +219,23 @@ class _Search:
         return new
 
     def replace(self, body: Body, new: Dict[Statement, Change]) -> None:
-        """Changes statements, and so the least ranges behind them in their body."""
+        """Changes statements, and so the least ranges behind them in their body. What may no longer fall lets others grow further: they get their
+        guards anew."""
+        first = min(it.start for it in new)
+        at = next(at for at, it in enumerate(body.statements) if it.end > first)
+        stale = []
+        if any(it.remark == FALLS for it in new.values()):
+            behind = [it for it in self.found.changed if body.statements[at].start <= it.start < body.end]
+            stale = [it for it in behind if self.found.changed[it].remark in (ALWAYS, BUT_THE_LAST)]
+        for it in stale:
+            del self.found.changed[it]
         self.found.changed.update(new)
         if body.start in self.least:
-            least, first = self.least[body.start], min(it.start for it in new)
-            self.go_back(least, next(at for at, it in enumerate(body.statements) if it.end > first))
-            least.finish()
+            self.go_back(self.least[body.start], at)
+            self.least[body.start].finish()
+        if stale:
+            self.tight.clear()
+            self.guard(body)
         self.renew(body)
 
     def renew(self, body: Body) -> None:

@@ -165,4 +165,5 @@ def function_text(it: Declaration) -> str:
     """What a command does to data."""
     if it.is_probe:
         return "a probe, without a register"
-    return f"{it.width or 24} bits" if functions.reads(it.function) or functions.writes(it.function) else "moves no data"
+    data = f"{it.width or 24} bits" if functions.reads(it.function) or functions.writes(it.function) else "moves no data"
+    return f"{data}, clears the look-at-me" if it.clears else data

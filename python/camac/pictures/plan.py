@@ -138,4 +138,4 @@ def _declaration_line(it: Declaration) -> str:
     where = f"F{it.function} A{it.first}" + (f" to A{it.last}" if it.last > it.first else "")
     if it.is_probe:
         return f"{where}: probe: no register"
-    return f"{where}: {name(it.function)}" + (f", {count(it.width, 'bit')}" if it.width else "")
+    return f"{where}: {name(it.function)}" + (f", {count(it.width, 'bit')}" if it.width else "") + (", clears its LAM" if it.clears else "")

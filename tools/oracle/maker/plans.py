@@ -36,6 +36,8 @@ def commands_of(random: Random) -> List[Table]:
             command["probe"] = random.random() < 0.8
         if not command.get("probe") and random.random() < 0.7:
             command["width"] = random.choice((1, 4, 8, 12, 15, 16, 17, 23, 24))
+        if not command.get("probe") and random.random() < 0.2:
+            command["clears"] = random.random() < 0.8
         commands.append(command)
     return commands
 

@@ -9,8 +9,8 @@ from oracle.reader.engines import Inputs, checked
 from oracle.reader.refusals import MOST, Refused
 from oracle.reader.response import response_of, services_of
 
-NAMES = "adc", "reg", "tick", "trip", "scaler", "busy_1"
-TYPE = b'[[type]]\nname = "A"\ncommands = [ { f = 0, a = 0 } ]\n'
+NAMES = ["adc", "reg", "tick", "trip", "scaler", "busy_1", *(f"lam_{it}" for it in range(17))]
+TYPE = b'[[type]]\nname = "A"\ncommands = [ { f = 0, a = 0 }, { f = 10, a = 0 } ]\n'
 
 
 def make_plan(random: Random, bits: List[int]) -> Tuple[bytes, List[Tuple[int, int]]]:
@@ -42,14 +42,14 @@ def make_script(random: Random, places: List[Tuple[int, int]]) -> bytes:
         if random.random() < 0.01:
             block += f"for i = 1 to {random.choice((9_000, 65_535))} {{ for k = 1 to {random.choice((40, 65_535))} {{ cfsa 0 r -> v }} }}"
         promised = MOST if random.random() < 0.99 else random.choice((0, 1, 5))
-        services += f"service {name} within {promised} cycles event {random.choice((12, 4096))} words {{ cdreg r 1 {crate} {n} 0 {block}}}\n"
+        services += f"service {name} within {promised} cycles event {random.choice((12, 4096))} words {{ cclc {name} cdreg r 1 {crate} {n} 0 {block}}}\n"
     return f"{lams}var v i k\n{services}".encode()
 
 
 def make_rate(random: Random, cycles: int, total: int) -> int:
     """Some rates leave room for all services, some nearly do, and some are at an edge."""
     near = cycles + random.choice((-1, -1, 0, 1, 2, 3))
-    edge = random.choice((1, MOST, near, total, total + 1, 2 * total))
+    edge = random.choice((1, MOST, near, total + random.randrange(-2, 3), 2 * total))
     close = random.randrange(2 * total // 3, 4 * total // 3 + 2)
     return random.choices((edge, close, random.randrange(total + 1, 5 * total + 3)), (10, 55, 35))[0]
 
@@ -72,7 +72,7 @@ def make_words(random: Random, checker: Checker) -> bytes:
     for it in services:
         if random.random() < 0.2:
             found = response_of(services, it)
-            most = random.choice((0, MOST)) if found is None else found.end + random.choice((-1, 0, 0, 1, 9))
+            most = random.choice((0, MOST)) if found is None or random.random() < 0.1 else found.end + random.choice((-1, 0, 0, 1, 9))
             words.append(f"--within {it.name}={min(MOST, max(0, most))}")
     if random.random() < 0.02:
         words.append(random.choice((*words, "--every nobody=7", "--within nobody=7")))
@@ -81,8 +81,9 @@ def make_words(random: Random, checker: Checker) -> bytes:
 
 
 def make_inputs(random: Random) -> Inputs:
-    """A plan, a script of two to six services, which is mostly accepted, and words for it."""
-    plan, places = make_plan(random, random.sample(range(1, 25), random.randrange(2, 7)))
+    """A plan, a script of some services, which is mostly accepted, and words for it."""
+    count = random.randrange(2, 7) if random.random() < 0.95 else random.randrange(1, 1 + len(NAMES))
+    plan, places = make_plan(random, random.sample(range(1, 25), count))
     inputs = Inputs(plan, make_script(random, places))
     try:
         return inputs._replace(words=make_words(random, checked(inputs)))

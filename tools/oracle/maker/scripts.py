@@ -182,6 +182,33 @@ def change_line(random: Random, text: str) -> str:
     return "".join(lines)
 
 
+def make_troubled(random: Random, plan: Plan) -> bytes:
+    """A script for a plan that is refused, mostly, often for several reasons."""
+    maker = ScriptMaker(random, plan)
+    maker.make()
+    if random.random() < 0.9:
+        maker.repair()
+    for _ in range(random.randrange(1, 5)):
+        maker.spoil()
+    maker.promise()
+    text = text_of(maker.nodes)
+    for _ in range(random.choice((0, 1, 2))):
+        text = change_meaning(random, text)
+    return (spread(random, text) if random.random() < 0.4 else text).encode("latin-1")
+
+
+def make_misspelt(random: Random, plan: Plan) -> bytes:
+    """A script for a plan with a word too many, or none any more, behind a word of any kind."""
+    text = text_of(ScriptMaker(random, plan).make())
+    ends: Dict[str, List[int]] = {}
+    for it in WORD.finditer(text):
+        ends.setdefault(it.group() if it.group() in KEYWORDS_TEXT else re.sub(r"\w+", "w", it.group()), []).append(it.end())
+    at = random.choice(random.choice([*ends.values()]))
+    more = random.choice((*SIGNS, *sorted(KEYWORDS_TEXT), "0", "name"))
+    text = text[:at] if random.random() < 0.2 else f"{text[:at]} {more} {text[at:]}"
+    return (spread(random, text) if random.random() < 0.2 else text).encode("latin-1")
+
+
 def make_script(random: Random, plan: Plan) -> bytes:
     """A script for a plan. About half of them are accepted."""
     maker = ScriptMaker(random, plan)

@@ -1,12 +1,13 @@
 """The checker's rules: what is known after each statement, what it costs, and the first rule that is broken."""
 from __future__ import annotations
 
-from typing import Dict, FrozenSet, List, Set, Tuple
+from contextlib import suppress
+from typing import Dict, FrozenSet, Iterator, List, Set, Tuple
 
 from oracle.reader import loops, transfers
 from oracle.reader.addresses import widths_of
 from oracle.reader.costs import STEP, Cost, one_cycle
-from oracle.reader.linking import gl_of, link
+from oracle.reader.linking import gl_of, link_faults
 from oracle.reader.plan import Plan, kind_of
 from oracle.reader.ranges import Address, Known, Range, State, is_inside, join, test_values, value_of, where
 from oracle.reader.refusals import MOST, Refused
@@ -30,7 +31,7 @@ class Checker:
         self.script, self.plan, self.is_least = script, plan, is_least
         self.costs: List[Cost] = []
         self.headings: Dict[str, Cost] = {}
-        # Of each statement that can be reached, by its identity: what was known before it, and what one time of it costs.
+        # Of each statement that can be reached, by its identity: what was known before it, and what one time of it costs (nothing if it is refused).
         self.judged: Dict[int, Tuple[Known, Cost]] = {}
         # The choices whose `else` cannot be reached.
         self.never_else: Set[int] = set()
@@ -38,14 +39,26 @@ class Checker:
         self.loop_variables: Tuple[str, ...] = ()
 
     def judge(self) -> None:
-        link(self.script, self.plan, not self.is_least)
-        for body in self.script.bodies:
-            cost = self.body(body)
+        for refused in self.refusals():
+            raise refused
+
+    def refusals(self) -> Iterator[Refused]:
+        """The faults of linking, or else the first broken rule of each body that breaks one."""
+        faults = list(link_faults(self.script, self.plan, not self.is_least))
+        yield from faults
+        for body in self.script.bodies if not faults else []:
+            self.headings[body.name] = Cost(body.cycles, body.words, body.steps)
+            try:
+                cost = self.body(body)
+            except Refused as refused:
+                yield refused
+                continue
             self.costs.append(cost)
-            if not body.is_service:
-                self.headings[body.name] = cost if self.is_least else Cost(body.cycles, body.words, body.steps)
+            if self.is_least:
+                self.headings[body.name] = cost
 
     def body(self, body: Body) -> Cost:
+        self.loop_variables = ()
         variables: Dict[str, Range] = {it.name: (it.first, it.last) for it in body.parameters}
         if body.is_service:
             variables = {name: (0, 0) for name in self.script.variables}
@@ -55,13 +68,13 @@ class Checker:
         if self.is_least:
             most = Cost(MOST, MOST, MOST)
         if cost.words > most.words:
-            raise Refused("E11", body.line)
+            raise Refused("E11", body.line, body)
         if self.is_least and body.is_service and cost.words > self.plan.buffer:
-            raise Refused("L4", body.line)
+            raise Refused("L4", body.line, body)
         if cost.cycles > most.cycles:
-            raise Refused("E12", body.line)
+            raise Refused("E12", body.line, body)
         if cost.steps > most.steps:
-            raise Refused("E18", body.line)
+            raise Refused("E18", body.line, body)
         return cost
 
     def block(self, state: State, statements: List[Statement]) -> Tuple[State, Cost]:
@@ -70,7 +83,12 @@ class Checker:
             if state is None:
                 break
             known = state
-            state, one = RULES[type(statement)](self, known, statement)
+            self.judged[id(statement)] = known, Cost()
+            try:
+                state, one = RULES[type(statement)](self, known, statement)
+            except Refused as refused:
+                refused.what = refused.what or statement
+                raise
             self.judged[id(statement)] = known, one
             cost = cost.plus(one)
         return state, cost
@@ -135,10 +153,15 @@ class Checker:
 
     def choice(self, known: Known, it: If) -> Tuple[State, Cost]:
         test_values(known, it.condition, it.line)
-        after, cost = self.block(where(known, it.condition, True, it.line), it.body)
         fails = where(known, it.condition, False, it.line)
         if fails is None:
             self.never_else.add(id(it))
+        try:
+            after, cost = self.block(where(known, it.condition, True, it.line), it.body)
+        except Refused:
+            with suppress(Refused):
+                self.block(fails, it.otherwise or [])
+            raise
         other, other_cost = self.block(fails, it.otherwise or [])
         return join(after, other), STEP.plus(cost.greater(other_cost))
 

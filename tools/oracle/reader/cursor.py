@@ -4,7 +4,7 @@ from __future__ import annotations
 from typing import Container, Dict, List, Set
 
 from oracle.reader.refusals import Refused
-from oracle.reader.tokens import Token, read_tokens
+from oracle.reader.tokens import Token
 from oracle.reader.tree import Condition, Expression, Keep, Operation, Part, Script
 
 COMPARISONS = ("<", "<=", ">", ">=", "==", "!=")
@@ -15,10 +15,10 @@ LIMITS = {
 
 
 class Cursor:
-    """Reads the tokens of a text from left to right. The first fault is a `Refused` at the token in hand."""
+    """Reads tokens from left to right, of which the last one is the end. The first fault is a `Refused` at the token in hand."""
 
-    def __init__(self, text: bytes) -> None:
-        self.tokens = read_tokens(text)
+    def __init__(self, tokens: List[Token]) -> None:
+        self.tokens = tokens
         self.at = 0
         self.script = Script()
         # The names for S4: tables, LAMs, variables, procedures, and the parameters of the procedure in hand.
@@ -34,7 +34,7 @@ class Cursor:
         return self.tokens[self.at]
 
     def stop(self, code: str) -> None:
-        raise Refused(code, self.token.line)
+        raise Refused(code, self.token.line, self.token.start)
 
     def sees(self, kind: str) -> bool:
         return self.token.kind == kind

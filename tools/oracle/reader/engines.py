@@ -29,7 +29,7 @@ class Told(NamedTuple):
 
 
 class Inputs(NamedTuple):
-    """The bytes of the inputs; the plan is None for `@sample`. `words` are the options of `response`."""
+    """The bytes of the inputs; the plan is None for `@sample`. `words` are the options of `response` and `explain`."""
 
     plan: Optional[bytes] = None
     script: bytes = b""
@@ -100,7 +100,12 @@ def reached_by(run: Run) -> str:
 
 
 def listed(run: Run) -> Told:
-    return told(run.listing, REFUSED if run.is_refused else GOOD, reached_by(run), bytes(run.events))
+    return told(run.listing, REFUSED if run.is_refused else GOOD, reached_by(run), bytes(run.events) if is_begun(run) else None)
+
+
+def is_begun(run: Run) -> bool:
+    """Whether the event file of a listing is begun: the first answer is good, or the answers have ended."""
+    return not run.listing[0].startswith("refused")
 
 
 def tell_run(inputs: Inputs) -> Told:
@@ -136,7 +141,8 @@ def tell(command: str, inputs: Inputs) -> Told:
 
 def words_of(command: str) -> Tuple[str, ...]:
     """The inputs and outputs that are after a subcommand."""
+    both = "plan", "script"
     return {
-        "plan": ("plan",), "check": ("plan", "script"), "bounds": ("plan", "script"), "costs": ("plan", "script"),
-        "response": ("plan", "script"), "run": ("plan", "script", "answers", "EVENTS"), "drive": ("plan", "script", "EVENTS"), "events": ("file",),
+        "plan": ("plan",), "check": both, "bounds": both, "costs": both, "response": both, "explain": both,
+        "run": (*both, "answers", "EVENTS"), "drive": (*both, "EVENTS"), "events": ("file",),
     }[command]

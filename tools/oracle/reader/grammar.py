@@ -1,9 +1,10 @@
 """The tree of a script's text: declarations and statements, with the rules S1 to S7."""
 from __future__ import annotations
 
-from typing import Callable, Dict, List, Optional, Tuple
+from typing import Callable, Dict, List, Optional, Tuple, Union
 
 from oracle.reader.cursor import LIMITS, Cursor
+from oracle.reader.tokens import Token, read_tokens
 from oracle.reader.tree import (
     Assign, Block, Body, Call, CrateCall, Cycle, Expression, For, If, Keep, Lam, LamCall, Lock, Put, Scan, Script, SetRegister, Statement, While,
 )
@@ -18,23 +19,27 @@ LAM_CALLS = ("cclm", "cclc", "ctlm")
 
 def read_script(text: bytes) -> Script:
     """The tree that a text spells, or the first fault (`Refused`)."""
-    grammar = Grammar(text)
-    while not grammar.sees("end"):
-        grammar.declaration()
-    return grammar.script
+    return Grammar(read_tokens(text)).whole()
 
 
 class Grammar(Cursor):
-    def __init__(self, text: bytes) -> None:
-        super().__init__(text)
+    def __init__(self, tokens: List[Token]) -> None:
+        super().__init__(tokens)
         self.procedure_registers = self.most_service_registers = 0
         self.parameters = 0
 
+    def whole(self) -> Script:
+        while not self.sees("end"):
+            self.declaration()
+        return self.script
+
     def declaration(self) -> None:
+        readers: Dict[str, Callable[[], Union[Lam, Body, None]]]
         readers = {"table": self.table, "cdlam": self.lam, "var": self.variables, "proc": self.procedure, "service": self.service}
         if self.token.kind not in readers:
             self.stop("S2")
-        readers[self.token.kind]()
+        start = self.token.start
+        self.script.starts[start] = readers[self.token.kind]()
 
     def declare(self) -> str:
         name = self.free()
@@ -54,12 +59,13 @@ class Grammar(Cursor):
             words.append(self.number(WORD))
         self.script.tables[name] = words
 
-    def lam(self) -> None:
+    def lam(self) -> Lam:
         self.within(len(self.script.lams), "lams")
         line = self.take("cdlam").line
         name = self.declare()
         self.branch()
-        self.script.lams[name] = Lam(line, self.number(), self.number(), self.number(SUB_ADDRESSES))
+        lam = self.script.lams[name] = Lam(line, self.number(), self.number(), self.number(SUB_ADDRESSES))
+        return lam
 
     def variable(self) -> str:
         """Takes the name of a variable or parameter."""
@@ -83,7 +89,7 @@ class Grammar(Cursor):
             self.take(after)
         return numbers
 
-    def procedure(self) -> None:
+    def procedure(self) -> Body:
         self.within(len(self.script.procedures), "procedures")
         line = self.take("proc").line
         name = self.declare()
@@ -106,6 +112,7 @@ class Grammar(Cursor):
         body = Body(line, name, False, parameters, cycles, words, steps, block)
         self.script.procedures[name] = body
         self.script.bodies.append(body)
+        return body
 
     def parameter(self, before: int) -> Keep:
         self.free()
@@ -114,7 +121,7 @@ class Grammar(Cursor):
         self.parameters += 1
         return self.range(name)
 
-    def service(self) -> None:
+    def service(self) -> Body:
         self.within(len(self.script.services()), "services")
         line = self.take("service").line
         name = self.known(self.script.lams)
@@ -122,7 +129,9 @@ class Grammar(Cursor):
         self.seen = set(self.script.variables)
         block = self.body_block()
         self.most_service_registers = max(self.most_service_registers, len(self.registers))
-        self.script.bodies.append(Body(line, name, True, [], cycles, words, 0, block))
+        body = Body(line, name, True, [], cycles, words, 0, block)
+        self.script.bodies.append(body)
+        return body
 
     def body_block(self) -> List[Statement]:
         self.registers = set()
@@ -145,10 +154,11 @@ class Grammar(Cursor):
             self.at -= 1
         self.within(self.statements, "statements")
         self.statements += 1
-        line = self.token.line
+        line, start = self.token.line, self.token.start
         if kind != "name":
             self.at += 1
-        return READERS[kind](self, line, kind)
+        statement = self.script.starts[start] = READERS[kind](self, line, kind)
+        return statement
 
     def read_assign(self, line: int, _kind: str) -> Statement:
         name = self.known(self.seen)

@@ -135,11 +135,13 @@ def read_module(table: Table, plan: Plan) -> Module:
     widths: Dict[Tuple[int, int], int] = {}
     probes = 0
     for values in commands:
-        command = Table(values, "f a to probe width")
+        command = Table(values, "f a to probe width clears")
         function, first = command.number("f", 0, 31), command.number("a", 0, 15)
         last = command.number("to", first, 15, first)
         is_probe = "probe" in command.values and command.value("probe", bool)
         width = command.number("width", WIDEST if is_probe else 1, WIDEST, WIDEST)
+        if "clears" in command.values and command.value("clears", bool) and is_probe:
+            raise Refused("P4")
         for sub in range(first, last + 1):
             if (function, sub) in widths:
                 raise Refused("P8")

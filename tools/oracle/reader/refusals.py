@@ -23,11 +23,14 @@ MOST = 4_294_967_295
 
 
 class Refused(Exception):
-    """A rule that is broken: its code, and the line (S, L, E, A) or byte (V) where, which a plan's refusal has not."""
+    """A rule that is broken: its code, and the line (S, L, E, A) or byte (V) where, which a plan's refusal has not.
 
-    def __init__(self, code: str, place: int = 0) -> None:
+    `what` is refused: the byte of a script's text at which the fault begins (S), a `cdlam` (L), a heading (L, E) or a statement (E).
+    """
+
+    def __init__(self, code: str, place: int = 0, what: object = None) -> None:
         super().__init__(code, place)
-        self.code, self.place = code, place
+        self.code, self.place, self.what = code, place, what
 
     def line(self) -> str:
         """The line that the program prints."""

@@ -15,12 +15,13 @@ PATTERN = re.compile(rb"([ \t\r\n]+|#[^\n]*)|([A-Za-z][A-Za-z0-9_]*)|([0-9]+)|(<
 
 
 class Token(NamedTuple):
-    """A token. `kind` is `name`, `number` or `end`, or a keyword or sign itself."""
+    """A token. `kind` is `name`, `number` or `end`, or a keyword or sign itself; `start` is the byte of the text at which it begins."""
 
     kind: str
     text: str
     value: int
     line: int
+    start: int
 
 
 def read_tokens(text: bytes) -> List[Token]:
@@ -29,26 +30,27 @@ def read_tokens(text: bytes) -> List[Token]:
     at, line = 0, 1
     while at < len(text):
         found = PATTERN.match(text, at)
+        start = at
         if not found:
-            raise Refused("S1", line)
+            raise Refused("S1", line, start)
         at, piece = found.end(), found.group()
         if found.group(2) and piece not in KEYWORDS:
             if len(piece) > LONGEST_NAME:
-                raise Refused("S6", line)
-            tokens.append(Token("name", piece.decode(), 0, line))
+                raise Refused("S6", line, start)
+            tokens.append(Token("name", piece.decode(), 0, line, start))
         elif found.group(3):
-            tokens.append(Token("number", "", number(piece, line), line))
+            tokens.append(Token("number", "", number(piece, line, start), line, start))
         elif found.group(1):
             line += piece.count(b"\n")
         else:
-            tokens.append(Token(piece.decode(), "", 0, line))
-    tokens.append(Token("end", "", 0, line))
+            tokens.append(Token(piece.decode(), "", 0, line, start))
+    tokens.append(Token("end", "", 0, line, at))
     return tokens
 
 
-def number(digits: bytes, line: int) -> int:
+def number(digits: bytes, line: int, start: int) -> int:
     """The number of these digits, however many there are."""
     digits = digits.lstrip(b"0") or b"0"
     if len(digits) > 10 or int(digits) > MOST:
-        raise Refused("S3", line)
+        raise Refused("S3", line, start)
     return int(digits)

@@ -177,6 +177,8 @@ class Script:
     procedures: Dict[str, Body] = field(default_factory=dict)
     # Procedures and services in text order.
     bodies: List[Body] = field(default_factory=list)
+    # What begins at a byte of the text: a statement, a `cdlam` or a heading, and None for another declaration.
+    starts: Dict[int, Union[Statement, Lam, Body, None]] = field(default_factory=dict)
 
     def services(self) -> List[Body]:
         return [it for it in self.bodies if it.is_service]

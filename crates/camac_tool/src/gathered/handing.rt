@@ -3,6 +3,8 @@
 ghost use Rattle.std.specs.Prelude.{◌≡◌, ◌≤◌, ◌<◌, ◌+◌, ◌||◌, ◌++◌, true, false, [], length, take, IfOk, IfErr, OnOk, is_err};
 ghost use Rattle.std.specs.Io.{WritesAtMost};
 ghost use Rattle.std.specs.Io.KnownBytes.{Keeps, Appends, WriteAppends};
+ghost use Rattle.camac_event.specs.Spelling.{header};
+ghost use Rattle.camac_event.specs.declared.event.Version.TheVariants.{Two};
 ghost use Rattle.camac_report.specs.Items.{item_text, unlock_texts};
 ghost use Rattle.camac_machine.specs.MachineState.{piece_of};
 ghost use Rattle.camac_tool.specs.Gathered.{device_of, given_to, has_stopped, held_in};
@@ -12,7 +14,7 @@ ghost use Rattle.camac_word.specs.Writing.{Writes};
 use super::Gathered;
 use super::room::{ROOM, Room};
 use camac_check::Checked;
-use camac_event::TextWriter;
+use camac_event::{TextWriter, write_header};
 use camac_report::{LONGEST_LINE, Line};
 use camac_run::Item;
 use camac_word::{CrateNo, Watched, WriteFault};
@@ -83,6 +85,16 @@ impl<W: Write + Drop> Gathered<W> {
             return Ok(());
         }
         self.write_held()
+    }
+
+    /// Takes the header of an event file, and hands it on at once, with what is held before it.
+    pub fn put_header(&mut self) -> Result<(), WriteFault>
+        requires works { has_stopped self.old ≡ false }
+        ensures text { Writes (given_to W.contents self.old) (given_to W.contents self.new) result (header Two) }
+        ensures failed { has_stopped self.new ≡ is_err result }
+    {
+        self.write_held()?;
+        write_header(&mut self.inner)
     }
 
     /// Takes the line of an item, and a line for each crate, at most seven, whose lockout was released after it: they are laid out where

@@ -1,0 +1,255 @@
+-- What is accepted of single actions and transfers makes only the commands that are told of it.
+use Rattle.std.proofs.Common.{◌≡◌, ℕ, ◌+◌, ◌<◌, ◌≤◌, Bool, true, false, List, [], ◌∷◌, ◌++◌, Option, Some, None, Result, Ok, Err, refl, sym, ap, subst, ◌∙◌, arith}
+use Rattle.std.specs.List.{list_any}
+use Rattle.std.specs.Prelude.{◌&&◌, nat_eq, nat_lt, option_map, slice_get}
+use Rattle.std.proofs.lemmas.Bool.{and_parts, cond_both, eqb-true, ltb-true}
+use Rattle.camac_lang.specs.declared.word.CrateCall.{CrateCall}
+use Rattle.camac_lang.specs.declared.word.LamCall.{LamCall}
+use Rattle.camac_lang.specs.declared.word.WordSize.{WordSize}
+use Rattle.camac_lang.specs.declared.word.WordSize.TheVariants.{Full}
+use Rattle.camac_lang.specs.Tree.{Expression, Move, no_data, into, from, single, address_scan, q_stop, q_repeat, crate_call, lam_call}
+use Rattle.camac_range.specs.Interval.{Interval, interval}
+use Rattle.camac_func.specs.declared.data.DataMove.TheVariants as moved
+use Rattle.camac_branch.specs.Address.{Address}
+use Rattle.camac_branch.specs.Allowed.{width}
+use Rattle.camac_branch.specs.Plan.{Layout}
+use Rattle.camac_esone.specs.Calls.{crate_address, crate_function, lam_function}
+use Rattle.camac_esone.specs.Transfers.{NextAddress, tally, successor, next_station, address_after, is_by, q_stop_next, q_repeat_next, scan_next}
+use Rattle.camac_esone.proofs.QStopLists as stop
+use Rattle.camac_esone.proofs.QRepeatLists as repeats
+use Rattle.camac_esone.proofs.ScanLists.{wanted_goes_on, by_station}
+use Rattle.camac_model.specs.State.{State, stepped, with_variable}
+use Rattle.camac_model.specs.Behaviour.{ends, Action, given, unless_wrong}
+use Rattle.camac_model.specs.Cycle.{cycle, sized, kept}
+use Rattle.camac_model.specs.Headline.{no_count, nothing}
+use Rattle.camac_model.specs.Meaning.{fits_size, act, transfer_to, sent, effect}
+use Rattle.camac_model.specs.Moments.{Any, AnyStop}
+use Rattle.camac_model.specs.Value.{value}
+use Rattle.camac_model.proofs.Rules.{cycle_meets, unless_meets, transfer_meets}
+use Rattle.camac_rules.specs.Fault.{Fault}
+use Rattle.camac_rules.specs.Known.{Region, region, region_at, Facts}
+use Rattle.camac_rules.specs.Costs.{Verdict}
+use Rattle.camac_rules.specs.Expressions.{range_of}
+use Rattle.camac_rules.specs.Calls.{is_crate, single_region, lam_region, crate_rule, lam_rule}
+use Rattle.camac_rules.specs.Cycles.{single_rule}
+use Rattle.camac_rules.specs.Transfers.{has_sub_addresses, block_region, scan_rule, q_stop_rule, q_repeat_rule}
+use Rattle.camac_rules.proofs.Allows.{Allows, allowed, then_allowed, required_allowed, given_allowed, allowed_more}
+use Rattle.camac_rules.proofs.Stores.{Place, around_of, InRegion, Inside}
+use Rattle.camac_rules.proofs.Values.{range_each, only_within}
+use Rattle.camac_rules.proofs.Actions.{Setting, of, seen, value_of, address_of}
+use Rattle.camac_commands.specs.Commands.{Command, is_told, IsListed, made_at, span, called_at}
+use Rattle.camac_commands.proofs.Listed.{Listed, told_at, listed_given, listed_any}
+
+-- what holds of any result
+pub always : {A : Type 0} {P : Type 0} (r : Result A Fault) → P → Allows r (λ _. P)
+always (Ok x) p = record { holds = p }
+always (Err f) p = record { holds = tt }
+
+-- what holds of a result, and which it is
+pub with_result : {A : Type 0} {r : Result A Fault} {P : A → Type 0} → Allows r P → Allows r (λ x. (r ≡ Ok x) × P x)
+with_result {r = Ok x} h = record { holds = (refl, h.holds) }
+with_result {r = Err f} h = record { holds = tt }
+
+alone : (at : Address) → InRegion (single_region at) at
+alone at = record { crate_no = only_within at.crate_no; station = only_within at.station; sub_address = only_within at.sub_address }
+
+-- ---- one cycle
+
+pub act_listed : (cs : List Command) (plan : Layout) (at : Address) (f : ℕ) (size : WordSize) (m : Move) (s : State) → list_any (is_told at f) cs ≡ true → Listed cs (act plan at f size m s)
+act_listed cs plan at f size no_data s told =
+    cycle_meets no_count (IsListed cs) AnyStop Any nothing plan at f moved.None s.answers (λ r. ends) s (λ _. tt) (λ _. tt) (λ waits a rest e g p. tt) (λ waits a rest e g p. (told, tt))
+act_listed cs plan at f size (into x) s told =
+    cycle_meets no_count (IsListed cs) AnyStop Any nothing plan at f moved.In s.answers (λ r t. ends (with_variable x (kept (sized size (width plan at f)) r) t)) s
+    (λ _. tt) (λ _. tt) (λ waits a rest e g p. tt) (λ waits a rest e g p. (told, tt))
+act_listed cs plan at f size (from e) s told =
+    let send : ℕ → Action = λ v t. cycle plan at f (moved.Out v) t.answers (λ r. ends) t in
+    listed_any cs (value e s.variables) (λ v. unless_wrong (fits_size size v) (send v)) s (λ v _.
+    unless_meets no_count (IsListed cs) AnyStop Any nothing (fits_size size v) (send v) s (λ _. tt) (λ _.
+    cycle_meets no_count (IsListed cs) AnyStop Any nothing plan at f (moved.Out v) s.answers (λ r. ends) s (λ _. tt) (λ _. tt) (λ waits a rest e g p. tt) (λ waits a rest e g p. (told, tt))))
+
+-- the register is set, and its addresses are known
+record IsSet (r : ℕ) (k : Facts) : Type 0 where
+  addresses : Region
+  is : region_at k.registers r ≡ Some addresses
+
+set_by : (r : ℕ) (k : Facts) (g : Region) → region_at k.registers r ≡ Some g → IsSet r k
+set_by r k g e = record { addresses = g; is = e }
+
+at_register : (around : Place) (line f r : ℕ) (k : Facts) → IsSet r k → (s : State) → Inside around k s → (go : Address → Action)
+    → ((at : Address) → list_any (is_told at f) (made_at line f (region_at k.registers r)) ≡ true → Listed (made_at line f (region_at k.registers r)) (go at (stepped s)))
+    → Listed (made_at line f (region_at k.registers r)) (given (s.registers r) go (stepped s))
+at_register around line f r k set s i go h =
+    let cs : List Command = made_at line f (region_at k.registers r) in
+    let a = address_of (region_at k.registers r) (s.registers r) set.addresses set.is (i.registers r) in
+    listed_given cs (s.registers r) go a.at (stepped s) a.is
+    (h a.at (subst (λ o. list_any (is_told a.at f) (made_at line f o) ≡ true) (sym set.is) (told_at line f set.addresses a.at a.inside)))
+
+single_set : (c : Setting) (around : Place) (line : ℕ) (size : WordSize) (f r : ℕ) (m : Move) (k : Facts) → Allows (single_rule (seen c) (around_of around) line size f r m k) (λ v. IsSet r k)
+single_set c around line size f r no_data k = then_allowed (given_allowed (region_at k.registers r) _ line _) (λ g set. always _ (set_by r k g set))
+single_set c around line size f r (into x) k =
+    required_allowed _ line _ (λ may. then_allowed (given_allowed (region_at k.registers r) _ line _) (λ g set. always _ (set_by r k g set)))
+single_set c around line size f r (from e) k =
+    then_allowed (range_each line e k.ranges) (λ v gives. then_allowed (given_allowed (region_at k.registers r) _ line _) (λ g set. always _ (set_by r k g set)))
+
+pub single_listed : (c : Setting) (around : Place) (n line : ℕ) (size : WordSize) (f r : ℕ) (m : Move) (k : Facts)
+    → Allows (single_rule (seen c) (around_of around) line size f r m k) (λ v. (s : State) → Inside around k s → Listed (made_at line f (region_at k.registers r)) (effect (of c) n (single line size f r m) (stepped s)))
+single_listed c around n line size f r m k =
+    allowed_more (single_set c around line size f r m k) (λ v set s i.
+    at_register around line f r k set s i (λ at. act c.plan at f size m) (λ at told. act_listed (made_at line f (region_at k.registers r)) c.plan at f size m (stepped s) told))
+
+-- ---- calls of the controller and of look-at-mes
+
+pub lam_listed : (c : Setting) (around : Place) (n line : ℕ) (which : LamCall) (l : ℕ) (k : Facts)
+    → Allows (lam_rule (seen c) (around_of around) line which l k) (λ v. (s : State) → Inside around k s → Listed (made_at line (lam_function which) (lam_region (seen c) l)) (effect (of c) n (lam_call line which l) (stepped s)))
+lam_listed c around n line which l k = always _ (λ s i. go (slice_get c.lams l) refl s)
+  where
+    go : (o : Option Address) → slice_get c.lams l ≡ o → (s : State) → Listed (made_at line (lam_function which) (option_map single_region o)) (given o (λ at. act c.plan at (lam_function which) Full no_data) (stepped s))
+    go None e s = tt
+    go (Some at) e s =
+        act_listed (made_at line (lam_function which) (Some (single_region at))) c.plan at (lam_function which) Full no_data (stepped s)
+        (told_at line (lam_function which) (single_region at) at (alone at))
+
+-- ---- transfers
+
+pub transfer_listed : (cs : List Command) (plan : Layout) (f : ℕ) (table : Option (List ℕ)) (next_address : NextAddress) (x : ℕ) (s : State)
+    → ((qs : List Bool) (at : Address) → next_address qs ≡ Some at → list_any (is_told at f) cs ≡ true) → Listed cs (transfer_to plan f table next_address x s)
+transfer_listed cs plan f table next_address x s told =
+    transfer_meets no_count (IsListed cs) AnyStop Any plan f table next_address (λ qs t. ends (with_variable x (tally qs) t)) (λ u qs t. Unit {0})
+    (record {
+      no_word = λ u qs t at i e none. tt;
+      no_crate = λ u qs t at i e none. tt;
+      no_answer = λ u qs t at i e none. tt;
+      no_wait = λ u qs t at waits a rest i e there l p. tt;
+      keeps = λ u qs t at d waits a rest i e data' there l p. (told qs at e, tt);
+    })
+    (λ u qs t i e. tt) s.answers nothing [] s refl tt
+
+block_set : (c : Setting) (around : Place) (line f r : ℕ) (t : Option ℕ) (most x : ℕ) (k : Facts) → Allows (block_region (seen c) (around_of around) line f r t most x k) (λ g. IsSet r k)
+block_set c around line f r t most x k =
+    required_allowed _ line _ (λ may. then_allowed (given_allowed (region_at k.registers r) _ line _) (λ g set. always _ (set_by r k g set)))
+
+pub q_stop_listed : (c : Setting) (around : Place) (n line f r : ℕ) (t : Option ℕ) (e : Expression) (x : ℕ) (k : Facts)
+    → Allows (q_stop_rule (seen c) (around_of around) line f r t e x k) (λ v. (s : State) → Inside around k s → Listed (made_at line f (region_at k.registers r)) (effect (of c) n (q_stop line f r t e x) (stepped s)))
+q_stop_listed c around n line f r t e x k =
+    then_allowed (range_each line e k.ranges) (λ most gives.
+    then_allowed (block_set c around line f r t most.hi x k) (λ g set. allowed (λ s i.
+    let cs : List Command = made_at line f (region_at k.registers r) in
+    let go : Option (List ℕ) → Address → Action = λ o at. given (value e s.variables) (λ m. transfer_to c.plan f o (q_stop_next at m) x) in
+    listed_any cs (sent (of c) t) (λ o. given (s.registers r) (go o)) (stepped s) (λ o _.
+    at_register around line f r k set s i (go o) (λ at told.
+    listed_any cs (value e s.variables) (λ m. transfer_to c.plan f o (q_stop_next at m) x) (stepped s) (λ m _.
+    transfer_listed cs c.plan f o (q_stop_next at m) x (stepped s) (λ qs to w.
+    subst (λ a. list_any (is_told a f) cs ≡ true) (sym (stop.wanted_goes_on at to m qs w).1) told)))))))
+
+pub q_repeat_listed : (c : Setting) (around : Place) (n line f r : ℕ) (t : Option ℕ) (e1 e2 : Expression) (x : ℕ) (k : Facts)
+    → Allows (q_repeat_rule (seen c) (around_of around) line f r t e1 e2 x k) (λ v. (s : State) → Inside around k s → Listed (made_at line f (region_at k.registers r)) (effect (of c) n (q_repeat line f r t e1 e2 x) (stepped s)))
+q_repeat_listed c around n line f r t e1 e2 x k =
+    then_allowed (range_each line e1 k.ranges) (λ most gives_m.
+    then_allowed (range_each line e2 k.ranges) (λ limit gives_l.
+    then_allowed (block_set c around line f r t most.hi x k) (λ g set. allowed (λ s i.
+    let cs : List Command = made_at line f (region_at k.registers r) in
+    let last : Option (List ℕ) → Address → ℕ → Action = λ o at m. given (value e2 s.variables) (λ l. transfer_to c.plan f o (q_repeat_next at m l) x) in
+    let go : Option (List ℕ) → Address → Action = λ o at. given (value e1 s.variables) (last o at) in
+    listed_any cs (sent (of c) t) (λ o. given (s.registers r) (go o)) (stepped s) (λ o _.
+    at_register around line f r k set s i (go o) (λ at told.
+    listed_any cs (value e1 s.variables) (last o at) (stepped s) (λ m _.
+    listed_any cs (value e2 s.variables) (λ l. transfer_to c.plan f o (q_repeat_next at m l) x) (stepped s) (λ l _.
+    transfer_listed cs c.plan f o (q_repeat_next at m l) x (stepped s) (λ qs to w.
+    subst (λ a. list_any (is_told a f) cs ≡ true) (sym (repeats.wanted_goes_on at to m l qs w).1) told)))))))))
+
+-- a scan stays in its crate, from the first station on, at sub-addresses that there are
+record HasGone (first at : Address) : Type 0 where
+  crate_no : at.crate_no ≡ first.crate_no
+  station : first.station ≤ at.station
+  sub_address : at.sub_address ≤ 15
+
+one_on : (at : Address) (q : Bool) → at.sub_address ≤ 15 → HasGone at (successor q at)
+one_on at false le = record { crate_no = refl; station = omega arith; sub_address = omega arith }
+one_on at true le =
+    cond_both (nat_lt at.sub_address 15) (record at { sub_address = at.sub_address + 1 }) (next_station at) (HasGone at)
+    (λ e. let lt : at.sub_address < 15 = ltb-true at.sub_address 15 e in record { crate_no = refl; station = omega arith; sub_address = omega arith })
+    (λ e. record { crate_no = refl; station = omega arith; sub_address = omega arith })
+
+gone_to : (at : Address) (qs : List Bool) → at.sub_address ≤ 15 → HasGone at (address_after at qs)
+gone_to at [] le = record { crate_no = refl; station = omega arith; sub_address = le }
+gone_to at (q ∷ qs) le =
+    let one = one_on at q le in
+    let all = gone_to (successor q at) qs one.sub_address in
+    record { crate_no = all.crate_no ∙ one.crate_no; station = omega (arith, one.station, all.station); sub_address = all.sub_address }
+
+record AreSet (r1 r2 : ℕ) (k : Facts) : Type 0 where
+  first : IsSet r1 k
+  last : IsSet r2 k
+  few : first.addresses.sub_addresses.hi < 16
+
+scan_set : (c : Setting) (around : Place) (line f r1 r2 : ℕ) (e : Expression) (x : ℕ) (k : Facts) → Allows (scan_rule (seen c) (around_of around) line f r1 r2 e x k) (λ v. AreSet r1 r2 k)
+scan_set c around line f r1 r2 e x k =
+    then_allowed (range_each line e k.ranges) (λ most gives.
+    required_allowed _ line _ (λ may.
+    then_allowed (given_allowed (region_at k.registers r1) _ line _) (λ g set1.
+    then_allowed (given_allowed (region_at k.registers r2) _ line _) (λ h set2.
+    required_allowed _ line _ (λ one.
+    required_allowed _ line _ (λ installed.
+    required_allowed _ line _ (λ declared.
+    always _ (record {
+      first = record { addresses = g; is = set1 };
+      last = record { addresses = h; is = set2 };
+      few = ltb-true g.sub_addresses.hi 16 (and_parts (has_sub_addresses g) _ declared).0;
+    }))))))))
+
+in_span : (g h : Region) (first last at : Address) (qs : List Bool) (m : ℕ) → InRegion g first → InRegion h last → g.sub_addresses.hi < 16 → scan_next first last m qs ≡ Some at
+    → InRegion (region g.crates (interval g.stations.lo h.stations.hi) (interval 0 15)) at
+in_span g h first last at qs m i j few e =
+    let w = wanted_goes_on first last at m qs e in
+    let gone = gone_to first qs (omega (arith, i.sub_address.high)) in
+    let until = by_station last (address_after first qs) w.0.by in
+    subst (InRegion (region g.crates (interval g.stations.lo h.stations.hi) (interval 0 15))) (sym w.1)
+    (record {
+      crate_no = record { low = omega (arith, gone.crate_no, i.crate_no.low); high = omega (arith, gone.crate_no, i.crate_no.high) };
+      station = record { low = omega (arith, gone.station, i.station.low); high = omega (arith, until, j.station.high) };
+      sub_address = record { low = omega arith; high = gone.sub_address };
+    })
+
+pub scan_listed : (c : Setting) (around : Place) (n line f r1 r2 : ℕ) (e : Expression) (x : ℕ) (k : Facts)
+    → Allows (scan_rule (seen c) (around_of around) line f r1 r2 e x k)
+    (λ v. (s : State) → Inside around k s → Listed (made_at line f (span (region_at k.registers r1) (region_at k.registers r2))) (effect (of c) n (address_scan line f r1 r2 e x) (stepped s)))
+scan_listed c around n line f r1 r2 e x k =
+    allowed_more (scan_set c around line f r1 r2 e x k) (λ v set s i.
+    let g = set.first.addresses in
+    let h = set.last.addresses in
+    let cs : List Command = made_at line f (span (region_at k.registers r1) (region_at k.registers r2)) in
+    let is : span (region_at k.registers r1) (region_at k.registers r2) ≡ span (Some g) (Some h) =
+    ap (λ o. span o (region_at k.registers r2)) set.first.is ∙ ap (span (Some g)) set.last.is in
+    let a = address_of (region_at k.registers r1) (s.registers r1) g set.first.is (i.registers r1) in
+    let b = address_of (region_at k.registers r2) (s.registers r2) h set.last.is (i.registers r2) in
+    let go : Address → Address → ℕ → Action = λ first last m. transfer_to c.plan f None (scan_next first last m) x in
+    let third : Address → Address → ℕ → Action = λ first last m. unless_wrong (nat_eq first.crate_no last.crate_no) (go first last m) in
+    let second : Address → Address → Action = λ first last. given (value e s.variables) (third first last) in
+    listed_given cs (s.registers r1) (λ first. given (s.registers r2) (second first)) a.at (stepped s) a.is
+    (listed_given cs (s.registers r2) (second a.at) b.at (stepped s) b.is
+    (listed_any cs (value e s.variables) (third a.at b.at) (stepped s) (λ m _.
+    unless_meets no_count (IsListed cs) AnyStop Any nothing (nat_eq a.at.crate_no b.at.crate_no) (go a.at b.at m) (stepped s) (λ _. tt) (λ _.
+    transfer_listed cs c.plan f None (scan_next a.at b.at m) x (stepped s) (λ qs to w.
+    subst (λ o. list_any (is_told to f) (made_at line f o) ≡ true) (sym is)
+    (told_at line f (region g.crates (interval g.stations.lo h.stations.hi) (interval 0 15)) to (in_span g h a.at b.at to qs m a.inside b.inside set.few w))))))))
+
+-- ---- a crate call, whose crate is one number
+
+pub crate_listed : (c : Setting) (around : Place) (n line : ℕ) (which : CrateCall) (e : Expression) (k : Facts)
+    → Allows (crate_rule (seen c) (around_of around) line e k)
+    (λ v. (s : State) → Inside around k s → Listed (made_at line (crate_function which) (called_at which (range_of line e k.ranges))) (effect (of c) n (crate_call line which e) (stepped s)))
+crate_listed c around n line which e k =
+    then_allowed (with_result (range_each line e k.ranges)) (λ r known.
+    required_allowed _ line _ (λ fit. allowed (λ s i.
+    let at : Address = crate_address which r.lo in
+    let f : ℕ = crate_function which in
+    let call : ℕ → Action = λ m. act c.plan (crate_address which m) f Full no_data in
+    let v = value_of (value e s.variables) r (known.1 s.variables i.variables) in
+    let one : r.lo ≡ r.hi = eqb-true r.lo r.hi (and_parts (nat_eq r.lo r.hi) _ fit).0 in
+    let low = v.fits.within.low in
+    let high = v.fits.within.high in
+    let same : v.number ≡ r.lo = omega arith in
+    let cs : List Command = made_at line f (Some (single_region at)) in
+    subst (λ q. Listed (made_at line f (called_at which q)) (given (value e s.variables) call (stepped s))) (sym known.0)
+    (listed_given cs (value e s.variables) call r.lo (stepped s) (v.is ∙ ap (λ m. Some m) same)
+    (act_listed cs c.plan at f Full no_data (stepped s) (told_at line f (single_region at) at (alone at)))))))

@@ -1,0 +1,6 @@
+pub mod Listed
+pub mod Actions
+pub mod Arguments
+pub mod Loops
+pub mod Statements
+pub mod Services

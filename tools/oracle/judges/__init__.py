@@ -1,0 +1,22 @@
+"""The judges, each of one thing that the program tells."""
+from __future__ import annotations
+
+from oracle.comparing import Judge
+from oracle.judges import also, answers, at, expected, keeps, mark, response
+from oracle.reader.refusals import TEXTS
+from oracle.reader.toml_text import READS_ALL
+
+CODES = tuple(it for it in (*TEXTS, "G4") if READS_ALL or it != "P1")
+LATE = "response", "E12", "words", "without a number", "above a promise", "end reached", "end reached by a later call"
+JUDGES = {
+    it.name: it
+    for it in (
+        Judge("answers", "what plan, check, bounds, costs, run, drive and events answer, and the event file", answers.judge, CODES),
+        Judge("at", "explain --at: what is known at a place", at.judge, ("reached", "locked", "not reached", "no statement", "refused")),
+        Judge("mark", "explain: the place of ^", mark.judge, ("L1", "E4", "no mark")),
+        Judge("also", "explain: the further refusals", also.judge, ("also L", "also E")),
+        Judge("expected", "explain: the words and signs that would fit in the place of the one found", expected.judge, ("set",)),
+        Judge("keeps", "camac-check --keeps: each proposal", keeps.judge, ("keep", "guard", "heading", "needed", "played")),
+        Judge("response", "response: its lines, and its law along runs", response.judge, LATE),
+    )
+}

@@ -1,0 +1,34 @@
+"""The further refusals that an explanation tells: of linking, or of each procedure and service judged alone."""
+from __future__ import annotations
+
+import re
+
+from oracle.cases import make_inputs
+from oracle.comparing import Comparison
+from oracle.maker.scripts import make_troubled
+from oracle.reader.checker import Checker
+from oracle.reader.engines import REFUSED, plan_of, told
+from oracle.reader.grammar import read_script
+from oracle.reader.refusals import Refused
+
+LINE = re.compile(r"^also (refused \w+ line (\d+): .*)$", re.M)
+
+
+def judge(it: Comparison) -> None:
+    inputs = make_inputs(it.dice(), make_troubled)
+    plan = plan_of(inputs)
+    try:
+        script = read_script(inputs.script)
+    except Refused:
+        return
+    refusals = list(Checker(script, plan).refusals())
+    # A service of a LAM at no station has no bit for the same reason: that may be told, or not.
+    absent = [one.what for one in refusals if one.code == "L1"]
+    same = [one.line for one in script.services() if script.lams[one.name] in absent]
+    wanted = [one.line() for one in refusals[1:] if one.place not in same]
+    answered = it.asked("explain", inputs)
+    found = [line for line, number in LINE.findall(answered.out.decode("latin-1")) if int(number) not in same] if answered else None
+    it.judged += bool(refusals)
+    it.seen.update(f"also {one.code[0]}" for one in refusals[1:])
+    if found != wanted:
+        it.differs("explain", inputs, told([f"also {one}" for one in wanted], REFUSED, "also"), answered)
