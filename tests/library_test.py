@@ -136,12 +136,14 @@ try:
 except camac.Refused as why:
     print(why.code)
 print(camac.drive("@sample", script, Recorded(answers), "two.events").line)
+open("bad", "w").write("hello")
+print([it.line for it in camac.run("@sample", script, "bad", "wrong")])
 try:
     list(camac.run("@sample", script, answers, "wrong"))
 except camac.ProgramFault as why:
     print(why, open("wrong").read())
 """
-PLAYS = "ended events 1\nS2\nended events 1\nfault write\n  wrong: it is no event file service\n"
+PLAYS = "ended events 1\nS2\nended events 1\n['refused A1 line 1: line shape']\nfault write\n  wrong: it is no event file service\n"
 
 
 def setUpModule():

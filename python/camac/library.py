@@ -166,14 +166,14 @@ def judged(command: str, *texts: Text, every: Iterable[str] = ()) -> Verdict:
 
 
 def _played(plan: File, script: File, answers: File, events: File) -> Verdict:
-    """The listing of `camac run`. If plan and script are accepted, the event file takes the place of an old one, or of no bytes."""
+    """The listing of `camac run`. Unless its first line refuses, the event file takes the place of an old one, or of no bytes."""
     try:
         with open(answers, "rb") as opened:
             given = opened.read()
     except OSError as why:
         raise file_fault("read", answers, why) from why
     listing, made = run(plan_text(plan), script_text(script), given)
-    if made:
+    if not listing.text.startswith("refused "):
         with _writes(events):
             if holds_bytes(events):
                 with open(events, "rb") as old:
