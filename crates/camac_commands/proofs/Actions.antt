@@ -1,20 +1,20 @@
 -- What is accepted of single actions and transfers makes only the commands that are told of it.
-use Rattle.std.proofs.Common.{◌≡◌, ℕ, ◌+◌, ◌<◌, ◌≤◌, Bool, true, false, List, [], ◌∷◌, ◌++◌, Option, Some, None, Result, Ok, Err, refl, sym, ap, subst, ◌∙◌, arith}
+use Rattle.std.proofs.Common.{◌≡◌, ℕ, ◌+◌, ◌<◌, ◌≤◌, Bool, true, false, List, [], ◌∷◌, Option, Some, None, Result, Ok, Err, refl, sym, ap, subst, ◌∙◌, arith}
 use Rattle.std.specs.List.{list_any}
-use Rattle.std.specs.Prelude.{◌&&◌, nat_eq, nat_lt, option_map, slice_get}
+use Rattle.std.specs.Prelude.{nat_eq, nat_lt, option_map, slice_get}
 use Rattle.std.proofs.lemmas.Bool.{and_parts, cond_both, eqb-true, ltb-true}
 use Rattle.camac_lang.specs.declared.word.CrateCall.{CrateCall}
 use Rattle.camac_lang.specs.declared.word.LamCall.{LamCall}
 use Rattle.camac_lang.specs.declared.word.WordSize.{WordSize}
 use Rattle.camac_lang.specs.declared.word.WordSize.TheVariants.{Full}
 use Rattle.camac_lang.specs.Tree.{Expression, Move, no_data, into, from, single, address_scan, q_stop, q_repeat, crate_call, lam_call}
-use Rattle.camac_range.specs.Interval.{Interval, interval}
+use Rattle.camac_range.specs.Interval.{interval}
 use Rattle.camac_func.specs.declared.data.DataMove.TheVariants as moved
 use Rattle.camac_branch.specs.Address.{Address}
 use Rattle.camac_branch.specs.Allowed.{width}
 use Rattle.camac_branch.specs.Plan.{Layout}
 use Rattle.camac_esone.specs.Calls.{crate_address, crate_function, lam_function}
-use Rattle.camac_esone.specs.Transfers.{NextAddress, tally, successor, next_station, address_after, is_by, q_stop_next, q_repeat_next, scan_next}
+use Rattle.camac_esone.specs.Transfers.{NextAddress, tally, successor, next_station, address_after, q_stop_next, q_repeat_next, scan_next}
 use Rattle.camac_esone.proofs.QStopLists as stop
 use Rattle.camac_esone.proofs.QRepeatLists as repeats
 use Rattle.camac_esone.proofs.ScanLists.{wanted_goes_on, by_station}
@@ -28,9 +28,8 @@ use Rattle.camac_model.specs.Value.{value}
 use Rattle.camac_model.proofs.Rules.{cycle_meets, unless_meets, transfer_meets}
 use Rattle.camac_rules.specs.Fault.{Fault}
 use Rattle.camac_rules.specs.Known.{Region, region, region_at, Facts}
-use Rattle.camac_rules.specs.Costs.{Verdict}
 use Rattle.camac_rules.specs.Expressions.{range_of}
-use Rattle.camac_rules.specs.Calls.{is_crate, single_region, lam_region, crate_rule, lam_rule}
+use Rattle.camac_rules.specs.Calls.{single_region, lam_region, crate_rule, lam_rule}
 use Rattle.camac_rules.specs.Cycles.{single_rule}
 use Rattle.camac_rules.specs.Transfers.{has_sub_addresses, block_region, scan_rule, q_stop_rule, q_repeat_rule}
 use Rattle.camac_rules.proofs.Allows.{Allows, allowed, then_allowed, required_allowed, given_allowed, allowed_more}

@@ -1,6 +1,6 @@
 -- The arguments of a call that is accepted are in the ranges of its procedure's parameters.
-use Rattle.std.proofs.Common.{◌≡◌, ℕ, ◌≤◌, true, List, [], ◌∷◌, Option, Some, None, refl, arith}
-use Rattle.std.specs.Prelude.{◌&&◌, nat_le}
+use Rattle.std.proofs.Common.{◌≡◌, ℕ, ◌≤◌, true, List, [], ◌∷◌, Option, Some, None, arith}
+use Rattle.std.specs.Prelude.{nat_le}
 use Rattle.std.proofs.lemmas.Bool.{and_parts, leb-true, false≢true}
 use Rattle.camac_lang.specs.Tree.{Expression, Parameter}
 use Rattle.camac_range.specs.Interval.{Interval, is_inside}

@@ -1,12 +1,10 @@
 -- The turns of loops, each of which makes only what its body may.
-use Rattle.std.proofs.Common.{◌≡◌, ℕ, ◌+◌, ◌-◌, ◌<◌, ◌≤◌, zero, suc, List, Option, Some, None, Bool, true, false, refl, sym, subst, arith}
-use Rattle.std.specs.Prelude.{nat_lt, if◌then◌else◌}
-use Rattle.std.proofs.lemmas.Bool.{ltb-true}
-use Rattle.camac_lang.specs.Tree.{Expression, Condition, Keep, Block}
+use Rattle.std.proofs.Common.{ℕ, ◌+◌, zero, suc, List, Option, Some, None, Bool, true, false, refl}
+use Rattle.camac_lang.specs.Tree.{Condition, Keep, Block}
 use Rattle.camac_branch.specs.Plan.{Layout}
 use Rattle.camac_model.specs.State.{State, stepped}
 use Rattle.camac_model.specs.Behaviour.{ends, stops, more, Action, decide, then_do}
-use Rattle.camac_model.specs.Meaning.{for_state, for_turns, for_from, turns}
+use Rattle.camac_model.specs.Meaning.{for_state, for_turns, turns}
 use Rattle.camac_model.specs.Value.{truth}
 use Rattle.camac_rules.specs.Known.{Facts, with_range}
 use Rattle.camac_rules.specs.Conditions.{Branches}

@@ -1,5 +1,5 @@
 -- Each service of an accepted script makes only the commands of its list.
-use Rattle.std.proofs.Common.{◌≡◌, ℕ, ◌≤◌, zero, suc, List, [], ◌∷◌, ◌++◌, Some, Ok, Bool, false, refl, sym, ap, subst, ◌∙◌, arith}
+use Rattle.std.proofs.Common.{◌≡◌, ℕ, ◌≤◌, zero, suc, List, [], ◌∷◌, ◌++◌, Some, Bool, false, refl, sym, subst, ◌∙◌, arith}
 use Rattle.std.specs.Prelude.{IfOk, slice_get}
 use Rattle.std.proofs.lemmas.Bool.{false≢true}
 use Rattle.camac_lang.specs.Tree.{Procedure, Service, Item, next_table, next_lam, next_variables, next_procedure, next_service, Script}
@@ -7,7 +7,7 @@ use Rattle.camac_branch.specs.Plan.{Layout}
 use Rattle.camac_branch.proofs.Allowed.{allowed-in_range}
 use Rattle.camac_model.specs.State.{State, fresh}
 use Rattle.camac_model.specs.Behaviour.{Action}
-use Rattle.camac_model.specs.Fine.{Bounds, most_turns}
+use Rattle.camac_model.specs.Fine.{most_turns}
 use Rattle.camac_model.specs.Meaning.{Context, context, with_procedure, routines_with, entered, block_meaning}
 use Rattle.camac_rules.specs.declared.case.Body.{Body}
 use Rattle.camac_rules.specs.declared.case.Body.TheVariants as body
@@ -16,14 +16,14 @@ use Rattle.camac_rules.specs.Procedures.{at_entry}
 use Rattle.camac_rules.specs.Costs.{Verdict, unreached}
 use Rattle.camac_rules.specs.Cycles.{alone_in}
 use Rattle.camac_rules.specs.Statements.{accept_block}
-use Rattle.camac_rules.specs.Accept.{sections, at_start, own_body, accept_procedure, accept_service, accept_items, accept}
+use Rattle.camac_rules.specs.Accept.{sections, at_start, own_body, accept_procedure, accept_service, accept_items}
 use Rattle.camac_rules.proofs.Allows.{Allows, allowed, then_allowed, for_each, if_reached_allowed}
 use Rattle.camac_rules.proofs.Stores.{Reaches}
 use Rattle.camac_rules.proofs.Sound.{SoundFor}
 use Rattle.camac_rules.proofs.Actions.{Setting, of, HasWidths, seen}
 use Rattle.camac_rules.proofs.Accepted.{lockless}
 use Rattle.camac_rules.proofs.Lockless.{block_has_lock}
-use Rattle.camac_rules.proofs.Routines.{AreSmall, called, RoutineSound, entry_reached, routine_sound, Serves}
+use Rattle.camac_rules.proofs.Routines.{called, RoutineSound, entry_reached, routine_sound, Serves}
 use Rattle.camac_rules.proofs.Services.{outermost, start_inside}
 use Rattle.camac_rules.proofs.Settings.{bare_with, setting, Matched, matched_push, serves_own, serves_all, AreLockless}
 use Rattle.camac_rules.proofs.Statements.{block_sound}

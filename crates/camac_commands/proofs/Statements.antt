@@ -8,9 +8,9 @@ use Rattle.camac_branch.specs.Plan.{crate_waits}
 use Rattle.camac_model.specs.State.{State, stepped, with_variable, with_register, with_word}
 use Rattle.camac_model.specs.Behaviour.{ends, Action, then_do, given, decide}
 use Rattle.camac_model.specs.Cycle.{after_lock, take_lock, release}
-use Rattle.camac_model.specs.Fine.{Bounds, most_turns, AreInRanges}
+use Rattle.camac_model.specs.Fine.{most_turns, AreInRanges}
 use Rattle.camac_model.specs.Headline.{no_count, nothing}
-use Rattle.camac_model.specs.Meaning.{for_turns, for_from, entered, returned, enter, effect, block_meaning}
+use Rattle.camac_model.specs.Meaning.{for_from, entered, enter, effect, block_meaning}
 use Rattle.camac_model.specs.Moments.{Any, AnyStop}
 use Rattle.camac_model.specs.Value.{value, values, truth}
 use Rattle.camac_model.proofs.Rules.{then_meets, enter_meets, lock_meets}
@@ -19,10 +19,9 @@ use Rattle.camac_rules.specs.Refusal.{go_on, if_reached}
 use Rattle.camac_rules.specs.Known.{Facts, Known, with_range}
 use Rattle.camac_rules.specs.Conditions.{Branches, branches, split}
 use Rattle.camac_rules.specs.Costs.{Verdict, unreached}
-use Rattle.camac_rules.specs.Cycles.{Context, Around, with_locked}
 use Rattle.camac_rules.specs.Calls.{lock_rule}
 use Rattle.camac_rules.specs.Procedures.{call_rule}
-use Rattle.camac_rules.specs.Loops.{Limits, with_fixed, for_limits, for_head, head, keeps_hold_after, turns_between, values_between, while_head, turn_bound}
+use Rattle.camac_rules.specs.Loops.{Limits, for_limits, for_head, head, keeps_hold_after, turns_between, values_between, while_head, turn_bound}
 use Rattle.camac_rules.specs.Statements.{accept_statement, accept_block}
 use Rattle.camac_rules.proofs.Allows.{Allows, allowed as allows, then_allowed, required_allowed, given_allowed, if_reached_allowed}
 use Rattle.camac_rules.proofs.Stores.{Place, around_of, fixing, holding, Inside, Reaches}
@@ -38,7 +37,7 @@ use Rattle.camac_rules.proofs.WhileLoops.{MayTurn, head_allowed}
 use Rattle.camac_rules.proofs.Lockless.{has_lock, block_has_lock}
 use Rattle.camac_rules.proofs.Routines.{AreSmall, Serves}
 use Rattle.camac_rules.proofs.Statements.{may_first, may_second, reached_sound, statement_sound, block_sound}
-use Rattle.camac_check_rows.specs.Rows.{found, Turning, turning_from, ways, for_turning, while_turning, taken, lock_inside, lock_head, statement_verdict}
+use Rattle.camac_check_rows.specs.Rows.{found, Turning, turning_from, lock_inside, lock_head}
 use Rattle.camac_commands.specs.Commands.{Command, IsListed, statement_commands, block_commands}
 use Rattle.camac_commands.proofs.Listed.{Listed, listed_first, listed_second, listed_then, listed_given, listed_any}
 use Rattle.camac_commands.proofs.Actions.{always, with_result, single_listed, scan_listed, q_stop_listed, q_repeat_listed, crate_listed, lam_listed}
