@@ -1,7 +1,9 @@
 // Answers in time, each law as the contract of a function that does nothing.
 
 ghost use Rattle.camac_response.specs.Checked.{CheckedRespond, Responds};
-ghost use Rattle.camac_response.specs.Laws.{AnswersInTime, LookAtMesAreAnswered, LowestAreCalled, StretchesEnd};
+ghost use Rattle.camac_response.specs.Reach.{DecidedServe};
+ghost use Rattle.camac_response.specs.Served.{ClearsAlways, HarmlessServe, ServicesServe};
+ghost use Rattle.camac_response.specs.Laws.{AnswersInTime, LamsAreAnswered, LamsAreRaised, LookAtMesAreAnswered, LowestAreCalled, StretchesEnd};
 
 use camac_checked::Checked;
 
@@ -22,9 +24,41 @@ pub fn lowest_are_called()
 {}
 
 /// Where modules keep to their rates, and each look-at-me stays until it is answered: a service is called, and has ended, within the cycles of
-/// its response after its look-at-me was raised.
+/// its response after its look-at-me was raised; and at each moment no look-at-me has waited longer.
 pub fn look_at_mes_are_answered()
     ensures { LookAtMesAreAnswered }
+{}
+
+/// Where services clear their own look-at-mes and hide none, and modules raise and show them: a service is called only for a look-at-me that was
+/// raised, and one that was raised stays until it is answered.
+pub fn lams_are_raised()
+    ensures { LamsAreRaised }
+{}
+
+/// So each look-at-me is answered in time, and none waits longer.
+pub fn lams_are_answered()
+    ensures { LamsAreAnswered }
+{}
+
+/// Where each service by itself clears its own look-at-me and no other, and hides none, all do so along every run.
+pub fn services_serve()
+    ensures { ServicesServe }
+{}
+
+/// A service whose tree has `cclc` for its look-at-me on every way has cleared it where it ends.
+pub fn clears_always()
+    ensures { ClearsAlways }
+{}
+
+/// Such a service, whose cycles clear no other look-at-me and hide none, does what is asked of it.
+pub fn harmless_serve()
+    ensures { HarmlessServe }
+{}
+
+/// Where each service makes only commands that clear no other look-at-me and hide none, and its tree clears its own, services do what is asked of
+/// them along every run.
+pub fn decided_serve()
+    ensures { DecidedServe }
 {}
 
 /// All of this of every checked script.
