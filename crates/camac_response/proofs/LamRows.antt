@@ -15,8 +15,8 @@ use Rattle.camac_model.specs.Run.{the_run}
 use Rattle.camac_response_times.specs.declared.source.Source.{Source}
 use Rattle.camac_response_times.specs.Response.{is_up_to}
 use Rattle.camac_response_times.specs.Rounds.{response, most_rounds}
-use Rattle.camac_response.specs.Modules.{Raises, Pauses, paused, IsOnce}
-use Rattle.camac_response.specs.Lams.{Clears, Moods, lams_of, of_lam, may_clear, Book, first_page, book_after, is_shown, NoneHidden, ClearsNoOther, services_watch, Wires, first_wires, wires_after, ShowsLams, RaisesAfter, lams_watch}
+use Rattle.camac_response.specs.Modules.{Raises, Pauses, IsApart, AreApart, paused}
+use Rattle.camac_response.specs.Lams.{Clears, Moods, lams_of, of_lam, may_clear, Book, first_page, book_after, is_shown, NoneHidden, ClearsNoOther, services_watch, Wires, first_wires, wires_after, IsOfLams, RaisesAfter, IsQuiet, ModulesKeep}
 use Rattle.camac_response.proofs.Rows.{source, plan, lam_at, served_by, both, of_both, first_answers}
 
 -- the services of bits 3 and 2: each clears its own look-at-me, in crate 1, which has up to 2 waits, and in crate 2
@@ -79,14 +79,18 @@ raises_after : (r : ℕ) (raises : Raises) (x : Wires) (at : Address) (f w : ℕ
 raises_after r raises x at f w p i t it up =
     of_one (λ j u. x.book.called ≡ Some j → of_lam (λ lam. may_clear no_others lam at f) (lams_of each j) ≡ true → x.clock.time + (1 + w) ≤ raises j (x.next j)) r i t it up p
 
-shows_one : (r : ℕ) (raises : Raises) (d : ℕ) (x : Wires) (p : ℕ) (v : Option ℕ) → (1 ≤ d → x.clock.time + d ≤ raises 1 (x.cleared 1)) → (raises 1 (x.cleared 1) < x.clock.time + d → IsSet p 2) → (IsSet p 2 → raises 1 (x.cleared 1) ≤ x.clock.time + d)
-    → IsOnce (at_rate r) 2 (paused d x.clock).stretch v → ShowsLams (at_rate r) (lams_of each) raises 2 d x (paused d x.clock) p v
-shows_one r raises d x p v quiet up only once = record {
-  quiet = λ i t at up'. of_one (λ j u. 1 ≤ d → x.clock.time + d ≤ raises j (x.cleared j)) r i t at up' quiet;
+shows_one : (r : ℕ) (raises : Raises) (d : ℕ) (x : Wires) (p : ℕ) → (raises 1 (x.cleared 1) < x.clock.time + d → IsSet p 2) → (IsSet p 2 → raises 1 (x.cleared 1) ≤ x.clock.time + d)
+    → IsOfLams (at_rate r) (lams_of each) raises 2 x (paused d x.clock) p
+shows_one r raises d x p up only = record {
   up = λ i t at up' shown. of_one (λ j u. raises j (x.cleared j) < x.clock.time + d → IsSet p u.bit) r i t at up' up;
   only = λ i t at up'. of_one (λ j u. IsSet p u.bit → raises j (x.cleared j) ≤ x.clock.time + d) r i t at up' only;
-  once = once;
 }
+
+quiet_one : (r : ℕ) (raises : Raises) (d : ℕ) (x : Wires) → (1 ≤ d → x.clock.time + d ≤ raises 1 (x.cleared 1)) → IsQuiet (at_rate r) raises 2 x d (paused d x.clock)
+quiet_one r raises d x quiet i t at up = of_one (λ j u. 1 ≤ d → x.clock.time + d ≤ raises j (x.cleared j)) r i t at up quiet
+
+apart_one : (r : ℕ) (raises : Raises) → 1 ≤ r → ((k : ℕ) → raises 1 k + r ≤ raises 1 (k + 1)) → AreApart (at_rate r) 2 raises
+apart_one r raises pos apart i t at up = of_one (λ j u. IsApart u.every (raises j)) r i t at up (pos, apart)
 
 -- Both are raised at the start. That of bit 2 is seen at the second operation, 4 cycles later: it waits as long as its response.
 abbrev raises : Raises
@@ -119,23 +123,31 @@ services_do = (
   ),
 )
 
-modules_do : Holds (lams_watch (at_rate 9) (lams_of each) no_others any_mood raises no_pause 2) first_wires (the_run plan each answers)
-modules_do = (
-  shows_one 9 raises 0 (wires 9 raises no_pause answers 0) 4 (Some 0) (λ pause. absurd (omega (arith, pause))) (λ less. absurd (omega (arith, less))) (λ set. omega arith) (λ t at up none. refl),
-  (
-    raises_after 9 raises (wires 9 raises no_pause answers 1) (address 2 30 11) 27 0 (λ e. absurd (cc)),
+modules_do : ModulesKeep (at_rate 9) (lams_of each) no_others any_mood raises no_pause 2 (the_run plan each answers)
+modules_do = record {
+  rates = record {
+    every = apart_one 9 raises (omega arith) (λ k. omega arith);
+    once = (λ t at up none. refl, (tt, (tt, (tt, (λ t at up none. refl, (tt, (tt, tt)))))));
+  };
+  again = (
+    tt,
     (
-      raises_after 9 raises (wires 9 raises no_pause answers 2) (address 1 5 12) 10 2 (λ e. absurd (cc)),
+      raises_after 9 raises (wires 9 raises no_pause answers 1) (address 2 30 11) 27 0 (λ e. absurd (cc)),
       (
-        tt,
-        (
-          shows_one 9 raises 0 (wires 9 raises no_pause answers 4) 2 (Some 1) (λ pause. absurd (omega (arith, pause))) (λ less. refl) (λ set. let h : 0 ≤ 4 = omega arith in h) (λ t at up none. refl),
-          (raises_after 9 raises (wires 9 raises no_pause answers 5) (address 2 5 12) 10 0 (λ e may. let h : 5 ≤ 100 = omega arith in h), (tt, tt)),
-        ),
+        raises_after 9 raises (wires 9 raises no_pause answers 2) (address 1 5 12) 10 2 (λ e. absurd (cc)),
+        (tt, (tt, (raises_after 9 raises (wires 9 raises no_pause answers 5) (address 2 5 12) 10 0 (λ e may. let h : 5 ≤ 100 = omega arith in h), (tt, tt)))),
       ),
     ),
-  ),
-)
+  );
+  shown = (
+    shows_one 9 raises 0 (wires 9 raises no_pause answers 0) 4 (λ less. absurd (omega (arith, less))) (λ set. omega arith),
+    (tt, (tt, (tt, (shows_one 9 raises 0 (wires 9 raises no_pause answers 4) 2 (λ less. refl) (λ set. let h : 0 ≤ 4 = omega arith in h), (tt, (tt, tt)))))),
+  );
+  alone = (
+    quiet_one 9 raises 0 (wires 9 raises no_pause answers 0) (λ pause. absurd (omega (arith, pause))),
+    (tt, (tt, (tt, (quiet_one 9 raises 0 (wires 9 raises no_pause answers 4) (λ pause. absurd (omega (arith, pause))), (tt, (tt, tt)))))),
+  );
+}
 
 -- A live run without an operation that calls no service: the driver leaves the branch alone until the clock calls, every 1,000 cycles.
 abbrev clock_raises : Raises
@@ -149,23 +161,43 @@ left_alone (suc (suc k)) = 0
 abbrev clock_answers : List Answer
 clock_answers = demand 2 ∷ answer true false 0 0 0 ∷ demand 2 ∷ answer true false 0 0 0 ∷ []
 
-clock_calls : Holds (lams_watch (at_rate 1000) (lams_of each) no_others any_mood clock_raises left_alone 2) first_wires (the_run plan each clock_answers)
-clock_calls = (
-  shows_one 1000 clock_raises 0 (wires 1000 clock_raises left_alone clock_answers 0) 2 (Some 1) (λ pause. absurd (omega (arith, pause))) (λ less. absurd (omega (arith, less))) (λ set. omega arith) (λ t at up none. refl),
-  (
-    raises_after 1000 clock_raises (wires 1000 clock_raises left_alone clock_answers 1) (address 2 5 12) 10 0 (λ e may. let h : 1 ≤ 1000 = omega arith in h),
+clock_calls : ModulesKeep (at_rate 1000) (lams_of each) no_others any_mood clock_raises left_alone 2 (the_run plan each clock_answers)
+clock_calls = record {
+  rates = record {
+    every = apart_one 1000 clock_raises (omega arith) (λ k. omega arith);
+    once = (λ t at up none. refl, (tt, (tt, (λ t at up none. refl, (tt, (tt, tt))))));
+  };
+  again = (
+    tt,
+    (
+      raises_after 1000 clock_raises (wires 1000 clock_raises left_alone clock_answers 1) (address 2 5 12) 10 0 (λ e may. let h : 1 ≤ 1000 = omega arith in h),
+      (
+        tt,
+        (tt, (raises_after 1000 clock_raises (wires 1000 clock_raises left_alone clock_answers 4) (address 2 5 12) 10 0 (λ e may. let h : 1001 ≤ 2000 = omega arith in h), (tt, tt))),
+      ),
+    ),
+  );
+  shown = (
+    shows_one 1000 clock_raises 0 (wires 1000 clock_raises left_alone clock_answers 0) 2 (λ less. absurd (omega (arith, less))) (λ set. omega arith),
     (
       tt,
       (
-        shows_one 1000 clock_raises 999 (wires 1000 clock_raises left_alone clock_answers 3) 2 (Some 1) (λ pause. let h : 1000 ≤ 1000 = omega arith in h) (λ less. refl) (λ set. let h : 1000 ≤ 1000 = omega arith in h) (λ t at up none. refl),
-        (
-          raises_after 1000 clock_raises (wires 1000 clock_raises left_alone clock_answers 4) (address 2 5 12) 10 0 (λ e may. let h : 1001 ≤ 2000 = omega arith in h),
-          (tt, tt),
-        ),
+        tt,
+        (shows_one 1000 clock_raises 999 (wires 1000 clock_raises left_alone clock_answers 3) 2 (λ less. refl) (λ set. let h : 1000 ≤ 1000 = omega arith in h), (tt, (tt, tt))),
       ),
     ),
-  ),
-)
+  );
+  alone = (
+    quiet_one 1000 clock_raises 0 (wires 1000 clock_raises left_alone clock_answers 0) (λ pause. absurd (omega (arith, pause))),
+    (
+      tt,
+      (
+        tt,
+        (quiet_one 1000 clock_raises 999 (wires 1000 clock_raises left_alone clock_answers 3) (λ pause. let h : 1000 ≤ 1000 = omega arith in h), (tt, (tt, tt))),
+      ),
+    ),
+  );
+}
 
 -- A service that does not clear its look-at-me does not do what is asked of it: seen at the operation after its call.
 not_cleared : Holds (services_watch of_both (lams_of both) no_others 3) first_page (the_run plan both first_answers) → ⊥

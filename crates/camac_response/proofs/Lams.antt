@@ -11,12 +11,13 @@ use Rattle.camac_model.specs.Headline.{no_count, nothing}
 use Rattle.camac_model.specs.Run.{the_run}
 use Rattle.camac_response_times.specs.declared.source.Source.{Source}
 use Rattle.camac_response_times.specs.Response.{is_up_to}
-use Rattle.camac_response.specs.Modules.{Raises, Pauses, paused, clock_after, IsRaised, AreRaised}
-use Rattle.camac_response.specs.Lams.{Clears, Moods, Lams, of_lam, clears, may_clear, book_after, IsAskedAgain, ServesWell, ClearsNoOther, Wires, first_wires, clears_now, cleared_by, wires_after, ShowsLams, RaisesAfter, AreLams, lams_of}
-use Rattle.camac_response.specs.Laws.{CallsLowest, IsLowest, LamsAreRaised, LamsAreAnswered}
+use Rattle.camac_response.specs.Modules.{Raises, Pauses, AreApart, paused, clock_after, at_start, IsOnce}
+use Rattle.camac_response.specs.Lams.{Clears, Moods, Lams, of_lam, clears, may_clear, book_after, IsAskedAgain, ServesWell, ClearsNoOther, Wires, first_wires, clears_now, cleared_by, wires_after, AtOperation, AtCycle, RaisesAfter, IsOfLams, IsQuiet, ModulesKeep, lams_of}
+use Rattle.camac_response.specs.Laws.{CallsLowest, IsLowest, LookAtMesAreAnswered}
 use Rattle.camac_response.proofs.Sources.{one_more_at}
 use Rattle.camac_response.proofs.Lowest.{lowest_are_called}
-use Rattle.camac_response.proofs.Waits.{look_at_mes_are_answered}
+use Rattle.camac_response.proofs.Raised.{IsRaised, AreRaised}
+use Rattle.camac_response.proofs.Waits.{raised_are_answered}
 
 -- the service that was called last, or another one
 by_call : (o : Option ℕ) (i : ℕ) (P : Type 0) → (o ≡ Some i → P) → ((o ≡ Some i → ⊥) → P) → P
@@ -110,17 +111,17 @@ module _ (ts : List Source) (lams : Lams) (by_plan : Clears) (moods : Moods) (ra
       subst (λ u. IsSet p u.bit) same lowest.asked
 
   -- what the law of look-at-mes asks of an operation
-  raised_at : (x : Wires) (p : ℕ) (v : Option ℕ) → Agrees x → IsAskedAgain ts lams g x.book
-      → ShowsLams ts lams raises g (pauses x.clock.operations) x (paused (pauses x.clock.operations) x.clock) p v
+  raised_at : (x : Wires) (p : ℕ) (v : Option ℕ) → Agrees x → IsAskedAgain ts lams g x.book → IsOnce ts g (paused (pauses x.clock.operations) x.clock).stretch v
+      → IsOfLams ts lams raises g x (paused (pauses x.clock.operations) x.clock) p → IsQuiet ts raises g x (pauses x.clock.operations) (paused (pauses x.clock.operations) x.clock)
       → ((i : ℕ) (t : Source) → v ≡ Some i → slice_get ts i ≡ Some t → IsSet p t.bit)
       → IsRaised ts raises g (pauses x.clock.operations) (paused (pauses x.clock.operations) x.clock) p v
-  raised_at x p v h care r in_pattern =
+  raised_at x p v h care once r quiet in_pattern =
       let n : ℕ = (paused (pauses x.clock.operations) x.clock).time in
       record {
-        quiet = λ i t at up pause. subst (λ k. n ≤ raises i k) (settled x h care i t at up) (r.quiet i t at up pause);
+        quiet = λ i t at up pause. subst (λ k. n ≤ raises i k) (settled x h care i t at up) (quiet i t at up pause);
         raised = λ i t e at up. subst (λ k. raises i k ≤ n) (settled x h care i t at up) (r.only i t at up (in_pattern i t e at));
         stays = λ i t at up less. r.up i t at up (care.shown i t at up) (subst (λ k. raises i k < n) (sym (settled x h care i t at up)) less);
-        once = r.once;
+        once = once;
       }
 
   after_none : (x : Wires) (p : ℕ) → Agrees x → IsAskedAgain ts lams g x.book → Agrees (wires_after ts lams by_plan moods raises pauses g x (demanded p None))
@@ -132,7 +133,7 @@ module _ (ts : List Source) (lams : Lams) (by_plan : Clears) (moods : Moods) (ra
   }
 
   after_call : (x : Wires) (p j : ℕ) → Agrees x → IsAskedAgain ts lams g x.book → IsLowest ts p j
-      → ShowsLams ts lams raises g (pauses x.clock.operations) x (paused (pauses x.clock.operations) x.clock) p (Some j)
+      → IsOfLams ts lams raises g x (paused (pauses x.clock.operations) x.clock) p
       → Agrees (wires_after ts lams by_plan moods raises pauses g x (demanded p (Some j)))
   after_call x p j h care lowest r = record {
     others = λ i t at up not. one_more_at j x.clock.calls i (λ n. x.cleared i ≡ n) (λ e. absurd (not (ap Some (sym e)))) (settled x h care i t at up);
@@ -228,29 +229,43 @@ module _ (ts : List Source) (lams : Lams) (by_plan : Clears) (moods : Moods) (ra
           inl (ap (λ k. k + 1) (cleared i) ∙ before.0 ∙ sym (ap (λ k. k i) calls), subst (λ k. raises i k ≤ x'.clock.time) (sym (cleared i)) later)
       as_before i (inr done) = inr (cleared i ∙ done ∙ sym (ap (λ k. k i) calls))
 
-  step : (x : Wires) (p : Piece) → Agrees x → CallsLowest ts nothing p → ServesWell ts lams by_plan g x.book p → AreLams ts lams by_plan raises pauses g x p
+  abbrev Once : Wires → Piece → Type 0
+  Once = AtOperation pauses (λ x d y p v. IsOnce ts g y.stretch v)
+
+  abbrev Again : Wires → Piece → Type 0
+  Again = AtCycle (RaisesAfter ts lams by_plan raises g)
+
+  abbrev Shown : Wires → Piece → Type 0
+  Shown = AtOperation pauses (λ x d y p v. IsOfLams ts lams raises g x y p)
+
+  abbrev Alone : Wires → Piece → Type 0
+  Alone = AtOperation pauses (λ x d y p v. IsQuiet ts raises g x d y)
+
+  step : (x : Wires) (p : Piece) → Agrees x → CallsLowest ts nothing p → ServesWell ts lams by_plan g x.book p → Once x p → Again x p → Shown x p → Alone x p
       → AreRaised ts raises pauses g x.clock p × Agrees (wires_after ts lams by_plan moods raises pauses g x p)
-  step x (demanded p None) h lowest care r = (raised_at x p None h care r (λ i t e at. absurd (cc)), after_none x p h care)
-  step x (demanded p (Some j)) h lowest care r =
-      (raised_at x p (Some j) h care r (λ i t e at. asked p j lowest i t at (same_Some j i e)), after_call x p j h care lowest r)
-  step x (cycled at f d q w) h lowest care r =
-      (tt, after_cycle x at f w h care r (wires_after ts lams by_plan moods raises pauses g x (cycled at f d q w)) refl refl refl refl refl (λ i. refl))
-  step x (lock_taken c w) h lowest care r =
+  step x (demanded p None) h lowest care once again r quiet = (raised_at x p None h care once r quiet (λ i t e at. absurd (cc)), after_none x p h care)
+  step x (demanded p (Some j)) h lowest care once again r quiet =
+      (raised_at x p (Some j) h care once r quiet (λ i t e at. asked p j lowest i t at (same_Some j i e)), after_call x p j h care lowest r)
+  step x (cycled at f d q w) h lowest care once again r quiet =
+      (tt, after_cycle x at f w h care again (wires_after ts lams by_plan moods raises pauses g x (cycled at f d q w)) refl refl refl refl refl (λ i. refl))
+  step x (lock_taken c w) h lowest care once again r quiet =
       (tt, after_other x (wires_after ts lams by_plan moods raises pauses g x (lock_taken c w)) h (omega arith) refl refl refl (λ i. refl))
-  step x (lock_released c) h lowest care r =
+  step x (lock_released c) h lowest care once again r quiet =
       (tt, after_other x (wires_after ts lams by_plan moods raises pauses g x (lock_released c)) h (omega arith) refl refl refl (λ i. refl))
-  step x (event_left e) h lowest care r =
+  step x (event_left e) h lowest care once again r quiet =
       (tt, after_other x (wires_after ts lams by_plan moods raises pauses g x (event_left e)) h (omega arith) refl refl refl (λ i. refl))
 
-  walk : {A : Type 0} (x : Wires) (b : Behaviour A) → Agrees x → Meets no_count (CallsLowest ts) AnyStop Any nothing b
-      → Meets (book_after lams by_plan) (ServesWell ts lams by_plan g) AnyStop Any x.book b
-      → Meets (wires_after ts lams by_plan moods raises pauses g) (AreLams ts lams by_plan raises pauses g) AnyStop Any x b
+  abbrev Each : (Wires → Piece → Type 0) → Wires → Behaviour (Unit {0}) → Type 0
+  Each says x b = Meets (wires_after ts lams by_plan moods raises pauses g) says AnyStop Any x b
+
+  walk : (x : Wires) (b : Behaviour (Unit {0})) → Agrees x → Meets no_count (CallsLowest ts) AnyStop Any nothing b
+      → Meets (book_after lams by_plan) (ServesWell ts lams by_plan g) AnyStop Any x.book b → Each Once x b → Each Again x b → Each Shown x b → Each Alone x b
       → Meets (clock_after ts pauses g) (AreRaised ts raises pauses g) AnyStop Any x.clock b
-  walk x (does p b) h l care r =
-      let n = step x p h l.0 care.0 r.0 in
-      (n.0, walk (wires_after ts lams by_plan moods raises pauses g x p) b n.1 l.1 care.1 r.1)
-  walk x (ends v) h l care r = tt
-  walk x (stops w v) h l care r = tt
+  walk x (does p b) h l care once again r quiet =
+      let n = step x p h l.0 care.0 once.0 again.0 r.0 quiet.0 in
+      (n.0, walk (wires_after ts lams by_plan moods raises pauses g x p) b n.1 l.1 care.1 once.1 again.1 r.1 quiet.1)
+  walk x (ends v) h l care once again r quiet = tt
+  walk x (stops w v) h l care once again r quiet = tt
 
   agrees_first : Agrees first_wires
   agrees_first = record {
@@ -260,12 +275,8 @@ module _ (ts : List Source) (lams : Lams) (by_plan : Clears) (moods : Moods) (ra
     closed = λ i t at up e yes. absurd (cc);
   }
 
-pub lams_are_raised : LamsAreRaised
-lams_are_raised plan is_plan script ks ts are by_plan moods raises pauses g answers care modules =
-    walk ts (lams_of script) by_plan moods raises pauses g first_wires (the_run plan script answers) (agrees_first ts (lams_of script) by_plan moods raises pauses g)
-    (lowest_are_called plan is_plan script ks ts are answers) care modules
-
-pub lams_are_answered : LamsAreAnswered
-lams_are_answered plan is_plan script ks safe ts are s source its start by by_plan moods raises apart pauses answers care modules =
-    look_at_mes_are_answered plan is_plan script ks safe ts are s source its start by raises apart pauses answers
-    (lams_are_raised plan is_plan script ks ts are by_plan moods raises pauses source.bit answers care modules)
+pub look_at_mes_are_answered : LookAtMesAreAnswered
+look_at_mes_are_answered plan is_plan script ks safe ts are s source its start by by_plan moods raises pauses answers care keep =
+    raised_are_answered plan is_plan script ks safe ts are s source its start by raises keep.rates.every pauses answers
+    (walk ts (lams_of script) by_plan moods raises pauses source.bit first_wires (the_run plan script answers) (agrees_first ts (lams_of script) by_plan moods raises pauses source.bit)
+    (lowest_are_called plan is_plan script ks ts are answers) care keep.rates.once keep.again keep.shown keep.alone)

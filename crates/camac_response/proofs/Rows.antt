@@ -1,11 +1,10 @@
 -- Worked rows: responses, and a run in which a service is called as late as its response allows.
-use Rattle.std.proofs.Common.{◌≡◌, ℕ, zero, suc, ◌*◌, ◌<◌, ◌≤◌, List, [], ◌∷◌, Option, Some, None, true, false, refl, subst, take, arith}
-use Rattle.std.specs.Prelude.{Ok, codes, slice_get}
-use Rattle.std.proofs.lemmas.Option.{same_Some}
+use Rattle.std.proofs.Common.{◌≡◌, ℕ, List, [], ◌∷◌, Option, Some, None, true, false, refl, take}
+use Rattle.std.specs.Prelude.{Ok, codes}
 use Rattle.camac_lang.specs.declared.word.CrateCall.TheVariants as crate_word
 use Rattle.camac_lang.specs.Tree.{number, Statement, crate_call, Script, Lam, Service, next_lam, next_service}
 use Rattle.camac_lang.specs.View.{block_of}
-use Rattle.camac_branch.specs.Branch.{Answer, IsSet}
+use Rattle.camac_branch.specs.Branch.{Answer}
 use Rattle.camac_branch.specs.Plan.{Layout}
 use Rattle.camac_model.specs.Behaviour.{pieces, Piece}
 use Rattle.camac_model.specs.Run.{the_run}
@@ -13,10 +12,7 @@ use Rattle.camac_model.specs.Sample.{gap, adc, reg, answer, demand}
 use Rattle.camac_rules.specs.Accept.{accept}
 use Rattle.camac_rules.specs.Refusal.{go_on, if_reached, required}
 use Rattle.camac_response_times.specs.declared.source.Source.{Source}
-use Rattle.camac_model.specs.Moments.{Holds}
-use Rattle.camac_response.specs.Stretch.{Stretch, no_stretch, one_more, stretch_after}
-use Rattle.camac_response.specs.Modules.{Raises, at_start, modules_watch}
-use Rattle.camac_response_times.specs.Response.{is_up_to}
+use Rattle.camac_response.specs.Stretch.{Stretch, no_stretch, stretch_after}
 use Rattle.camac_response_times.specs.Rounds.{response, most_rounds}
 
 abbrev pub source : ℕ → ℕ → Option ℕ → Source
@@ -127,37 +123,6 @@ called_again = refl
 too_early : (after 9).kept ≡ false
 too_early = refl
 
--- Modules that keep to what the law of look-at-mes asks, in a run in which bit 2 waits as long as its response: raised at the start, it is
--- called 4 cycles later.
-abbrev raises : Raises
-raises i k = k * 100
-
 abbrev pub first_answers : List Answer
 first_answers =
     demand 4 ∷ answer true false 0 0 0 ∷ answer true false 0 2 0 ∷ demand 2 ∷ answer true false 0 0 0 ∷ answer true false 0 2 0 ∷ []
-
-in_pattern : (i : ℕ) (t : Source) → slice_get of_both i ≡ Some t → is_up_to 2 t ≡ true → one_more 0 (λ j. 0) i * 100 < 4 → IsSet 2 t.bit
-in_pattern zero t at up less = absurd (omega (arith, less))
-in_pattern (suc zero) t at up less = subst (λ u. IsSet 2 u.bit) (same_Some (source 2 4 (Some 9)) t at) refl
-in_pattern (suc (suc i)) t at up less = absurd (cc)
-
-modules_keep : Holds (modules_watch of_both raises (λ k. 0) 2) at_start (the_run plan both first_answers)
-modules_keep = (
-  record { quiet = λ i t at up pause. absurd (omega (arith, pause)); raised = λ i t e at up. omega arith; stays = λ i t at up less. absurd (omega (arith, less)); once = λ t at up none. refl },
-  (
-    tt,
-    (
-      tt,
-      (
-        tt,
-        (
-          record { quiet = λ i t at up pause. absurd (omega (arith, pause)); raised = called; stays = in_pattern; once = λ t at up none. refl },
-          (tt, (tt, (tt, tt))),
-        ),
-      ),
-    ),
-  ),
-)
-  where
-    called : (i : ℕ) (t : Source) → Some 1 ≡ Some i → slice_get of_both i ≡ Some t → is_up_to 2 t ≡ true → one_more 0 (λ j. 0) i * 100 ≤ 4
-    called i t e at up = subst (λ j. one_more 0 (λ k. 0) j * 100 ≤ 4) (same_Some 1 i e) (omega arith)

@@ -23,8 +23,7 @@ use Rattle.camac_response_times.proofs.Rates.{stretches_are_least}
 use Rattle.camac_response.proofs.Answers.{answers_in_time}
 use Rattle.camac_response.proofs.Lowest.{lowest_are_called}
 use Rattle.camac_response.proofs.Stretches.{stretches_end}
-use Rattle.camac_response.proofs.Waits.{look_at_mes_are_answered}
-use Rattle.camac_response.proofs.Lams.{lams_are_answered}
+use Rattle.camac_response.proofs.Lams.{look_at_mes_are_answered}
 
 same_lam : (plan : Layout) (o : Option Lam) → option_and_then (λ at. gl plan at.crate_no at.station) (option_map lam_address o) ≡ option_and_then (lam_bit plan) o
 same_lam plan None = refl
@@ -75,8 +74,6 @@ checked_respond c is linked checked rates ts told =
     let many : length c.bounds ≡ length c.script.services = fine_length c.plan c.script c.bounds c.script.services checked.services in
     let are = told_are_sources c is linked rates ts told many in
     record {
-      lams = λ s source its start found.
-          lams_are_answered c.plan is c.script c.bounds checked.runs ts are s source its start (response_starts ts source most_rounds start found);
       look_at_mes = λ s source its start found.
           look_at_mes_are_answered c.plan is c.script c.bounds checked.runs ts are s source its start (response_starts ts source most_rounds start found);
       calls = λ s source its start found. answers_in_time c.plan c.script c.bounds checked.runs ts are s source its start (response_starts ts source most_rounds start found);

@@ -7,12 +7,12 @@ use Rattle.camac_lang.specs.declared.word.LamCall.TheVariants as lam_word
 use Rattle.camac_lang.specs.Tree.{Script}
 use Rattle.camac_branch.specs.Address.{Address}
 use Rattle.camac_branch.specs.Branch.{Branch, IsSet, start, branch_after}
-use Rattle.camac_model.specs.Behaviour.{Piece, demanded, cycled, lock_taken, lock_released, event_left}
+use Rattle.camac_model.specs.Behaviour.{Behaviour, Piece, demanded, cycled, lock_taken, lock_released, event_left}
 use Rattle.camac_model.specs.Meaning.{lam_address, crate_address, crate_function, lam_function}
-use Rattle.camac_model.specs.Moments.{Watch, Any, AnyStop}
+use Rattle.camac_model.specs.Moments.{Meets, Watch, Any, AnyStop}
 use Rattle.camac_response_times.specs.declared.source.Source.{Source}
 use Rattle.camac_response_times.specs.Response.{is_up_to}
-use Rattle.camac_response.specs.Modules.{Raises, Pauses, Clock, at_start, paused, clock_at, ticked, IsOnce}
+use Rattle.camac_response.specs.Modules.{Raises, Pauses, AreApart, Clock, at_start, paused, clock_at, ticked, IsOnce}
 
 -- What a command does to a look-at-me.
 
@@ -168,16 +168,21 @@ wires_after ts lams by_plan moods raises pauses g x p = let y = clock_at pauses 
   next = next_after x.cleared x.next p;
 }
 
--- an operation with this pattern and this call, at this clock after a pause of so many cycles
-pub record ShowsLams (ts : List Source) (lams : Lams) (raises : Raises) (g pause : ℕ) (x : Wires) (y : Clock) (pattern : ℕ) (v : Option ℕ) : Type 0 where
-  -- the branch is left alone only as long as no look-at-me is up
-  pub quiet : (i : ℕ) (t : Source) → slice_get ts i ≡ Some t → is_up_to g t ≡ true → 1 ≤ pause → y.time ≤ raises i (x.cleared i)
-  -- a look-at-me that is up is in the pattern, where it is not hidden; one that is raised at this very time may be
-  pub up : (i : ℕ) (t : Source) → slice_get ts i ≡ Some t → is_up_to g t ≡ true → is_shown lams x.book i ≡ true → raises i (x.cleared i) < y.time → IsSet pattern t.bit
-  -- and no other is
-  pub only : (i : ℕ) (t : Source) → slice_get ts i ≡ Some t → is_up_to g t ≡ true → IsSet pattern t.bit → raises i (x.cleared i) ≤ y.time
-  -- a module with no rate calls once at most while such look-at-mes are answered without a pause
-  pub once : IsOnce ts g y.stretch v
+-- What is said at an operation: by what is known before it, the pause before it and the clock after that, its pattern and its call.
+abbrev pub AtOperation : Pauses → (Wires → (pause : ℕ) → Clock → (pattern : ℕ) → Option ℕ → Type 0) → Wires → Piece → Type 0
+AtOperation pauses says x (demanded p v) = says x (pauses x.clock.operations) (paused (pauses x.clock.operations) x.clock) p v
+AtOperation pauses says x (cycled at f d r w) = Unit {0}
+AtOperation pauses says x (lock_taken c w) = Unit {0}
+AtOperation pauses says x (lock_released c) = Unit {0}
+AtOperation pauses says x (event_left e) = Unit {0}
+
+-- what is said at a cycle: by what is known before it, its command and its wait
+abbrev pub AtCycle : (Wires → Address → (function wait : ℕ) → Type 0) → Wires → Piece → Type 0
+AtCycle says x (demanded p v) = Unit {0}
+AtCycle says x (cycled at f d r w) = says x at f w
+AtCycle says x (lock_taken c w) = Unit {0}
+AtCycle says x (lock_released c) = Unit {0}
+AtCycle says x (event_left e) = Unit {0}
 
 -- while its service is in progress, a module raises its look-at-me again only after each command that may clear it
 abbrev pub RaisesAfter : List Source → Lams → Clears → Raises → (bit : ℕ) → Wires → Address → (function wait : ℕ) → Type 0
@@ -185,15 +190,36 @@ RaisesAfter ts lams by_plan raises g x at f w =
     (i : ℕ) (t : Source) → slice_get ts i ≡ Some t → is_up_to g t ≡ true → x.book.called ≡ Some i → of_lam (λ lam. may_clear by_plan lam at f) (lams i) ≡ true
     → x.clock.time + (1 + w) ≤ raises i (x.next i)
 
-abbrev pub AreLams : List Source → Lams → Clears → Raises → Pauses → (bit : ℕ) → Wires → Piece → Type 0
-AreLams ts lams by_plan raises pauses g x (demanded p v) =
-    ShowsLams ts lams raises g (pauses x.clock.operations) x (paused (pauses x.clock.operations) x.clock) p v
-AreLams ts lams by_plan raises pauses g x (cycled at f d r w) = RaisesAfter ts lams by_plan raises g x at f w
-AreLams ts lams by_plan raises pauses g x (lock_taken c w) = Unit {0}
-AreLams ts lams by_plan raises pauses g x (lock_released c) = Unit {0}
-AreLams ts lams by_plan raises pauses g x (event_left e) = Unit {0}
+-- the pattern of an operation
+pub record IsOfLams (ts : List Source) (lams : Lams) (raises : Raises) (g : ℕ) (x : Wires) (y : Clock) (pattern : ℕ) : Type 0 where
+  -- a look-at-me that is up is in it, where it is not hidden; one that is raised at this very time may be
+  pub up : (i : ℕ) (t : Source) → slice_get ts i ≡ Some t → is_up_to g t ≡ true → is_shown lams x.book i ≡ true → raises i (x.cleared i) < y.time → IsSet pattern t.bit
+  -- and no other is
+  pub only : (i : ℕ) (t : Source) → slice_get ts i ≡ Some t → is_up_to g t ≡ true → IsSet pattern t.bit → raises i (x.cleared i) ≤ y.time
 
--- the modules keep to this along a run
-abbrev pub lams_watch : List Source → Lams → Clears → Moods → Raises → Pauses → (bit : ℕ) → Watch Wires (Unit {0})
-lams_watch ts lams by_plan moods raises pauses g =
-    record { step = wires_after ts lams by_plan moods raises pauses g; at_piece = AreLams ts lams by_plan raises pauses g; at_stop = AnyStop; at_end = Any }
+-- after a pause no look-at-me was up before this time
+abbrev pub IsQuiet : List Source → Raises → (bit : ℕ) → Wires → (pause : ℕ) → Clock → Type 0
+IsQuiet ts raises g x pause y = (i : ℕ) (t : Source) → slice_get ts i ≡ Some t → is_up_to g t ≡ true → 1 ≤ pause → y.time ≤ raises i (x.cleared i)
+
+module _ (ts : List Source) (lams : Lams) (by_plan : Clears) (moods : Moods) (raises : Raises) (pauses : Pauses) (g : ℕ) where
+  -- what is said of a piece holds of each one of a run
+  abbrev pub AtEach : (Wires → Piece → Type 0) → Behaviour (Unit {0}) → Type 0
+  AtEach says run = Meets (wires_after ts lams by_plan moods raises pauses g) says AnyStop Any first_wires run
+
+  pub record KeepRates (run : Behaviour (Unit {0})) : Type 0 where
+    pub every : AreApart ts g raises
+    pub once : AtEach (AtOperation pauses (λ x d y p v. IsOnce ts g y.stretch v)) run
+
+  -- What the law of look-at-mes assumes of modules and of the driver, for the services up to a bit: a user has to believe it.
+  pub record ModulesKeep (run : Behaviour (Unit {0})) : Type 0 where
+    -- Modules keep the rates that you give, and `once` where you give none. These are rates of look-at-mes as they are raised, not of triggers. One
+    -- that is up when the run starts counts as raised then.
+    pub rates : KeepRates run
+    -- A module raises its look-at-me again only after its service has cleared it.
+    pub again : AtEach (AtCycle (RaisesAfter ts lams by_plan raises g)) run
+    -- A station sets its bit for the look-at-me of its service alone. This goes down only by F10 at its address, by what the plan says clears it, by
+    -- Z and C of its crate, and by F24 at its address. Till then it is in the pattern. Look-at-mes and demand outputs are enabled when the run
+    -- starts.
+    pub shown : AtEach (AtOperation pauses (λ x d y p v. IsOfLams ts lams raises g x y p)) run
+    -- The driver leaves the branch alone only while no look-at-me is up.
+    pub alone : AtEach (AtOperation pauses (λ x d y p v. IsQuiet ts raises g x d y)) run

@@ -12,8 +12,8 @@ use Rattle.camac_model.specs.Headline.{RunsSafely, no_count, nothing}
 use Rattle.camac_response_times.specs.declared.source.Source.{Source}
 use Rattle.camac_response_times.specs.Response.{stretch_wants, IsEnough, StartsBy}
 use Rattle.camac_response.specs.Stretch.{no_stretch, stretch_watch, answers_watch}
-use Rattle.camac_response.specs.Modules.{Raises, Pauses, AreApart, at_start, modules_watch, waits_watch}
-use Rattle.camac_response.specs.Lams.{Clears, Moods, lams_of, first_page, services_watch, first_wires, lams_watch}
+use Rattle.camac_response.specs.Modules.{Raises, Pauses, at_start, waits_watch}
+use Rattle.camac_response.specs.Lams.{Clears, Moods, lams_of, first_page, services_watch, ModulesKeep}
 
 -- these are the services of a script with their bounds, in their order, at any rates; each has a bit of its own
 pub record AreSources (plan : Layout) (script : Script) (ks : List Bounds) (ts : List Source) : Type 0 where
@@ -58,32 +58,13 @@ LowestAreCalled =
     (plan : Layout) → IsPlan plan → (script : Script) (ks : List Bounds) (ts : List Source) → AreSources plan script ks ts
     → (answers : List Answer) → Holds (lowest_watch ts) nothing (the_run plan script answers)
 
--- the law of look-at-mes: where modules keep to their rates, and a look-at-me stays until it is answered, each is answered in time, and none waits
--- longer; however long the branch is left alone where none is up
+-- the law of look-at-mes: where services clear their own look-at-mes and hide none, and modules do what a user believes of them, each look-at-me is
+-- answered in time, and none waits longer
 abbrev pub LookAtMesAreAnswered : Type 0
 LookAtMesAreAnswered =
     (plan : Layout) → IsPlan plan → (script : Script) (ks : List Bounds) → RunsSafely plan script ks → (ts : List Source) → AreSources plan script ks ts
     → (s : ℕ) (source : Source) → slice_get ts s ≡ Some source → (start : ℕ) → StartsBy ts source start
-    → (raises : Raises) → AreApart ts source.bit raises → (pauses : Pauses) → (answers : List Answer)
-    → Holds (modules_watch ts raises pauses source.bit) at_start (the_run plan script answers)
-    → Holds (waits_watch ts raises pauses s source start) at_start (the_run plan script answers)
-
--- the law of lines: where services clear their own look-at-mes and hide none, and modules raise and show them, a service is called only for one that
--- was raised, and one that was raised stays until it is answered
-abbrev pub LamsAreRaised : Type 0
-LamsAreRaised =
-    (plan : Layout) → IsPlan plan → (script : Script) (ks : List Bounds) (ts : List Source) → AreSources plan script ks ts
-    → (by_plan : Clears) (moods : Moods) (raises : Raises) (pauses : Pauses) (g : ℕ) (answers : List Answer)
-    → Holds (services_watch ts (lams_of script) by_plan g) first_page (the_run plan script answers)
-    → Holds (lams_watch ts (lams_of script) by_plan moods raises pauses g) first_wires (the_run plan script answers)
-    → Holds (modules_watch ts raises pauses g) at_start (the_run plan script answers)
-
--- so they are answered
-abbrev pub LamsAreAnswered : Type 0
-LamsAreAnswered =
-    (plan : Layout) → IsPlan plan → (script : Script) (ks : List Bounds) → RunsSafely plan script ks → (ts : List Source) → AreSources plan script ks ts
-    → (s : ℕ) (source : Source) → slice_get ts s ≡ Some source → (start : ℕ) → StartsBy ts source start
-    → (by_plan : Clears) (moods : Moods) (raises : Raises) → AreApart ts source.bit raises → (pauses : Pauses) → (answers : List Answer)
+    → (by_plan : Clears) (moods : Moods) (raises : Raises) (pauses : Pauses) (answers : List Answer)
     → Holds (services_watch ts (lams_of script) by_plan source.bit) first_page (the_run plan script answers)
-    → Holds (lams_watch ts (lams_of script) by_plan moods raises pauses source.bit) first_wires (the_run plan script answers)
+    → ModulesKeep ts (lams_of script) by_plan moods raises pauses source.bit (the_run plan script answers)
     → Holds (waits_watch ts raises pauses s source start) at_start (the_run plan script answers)

@@ -1,6 +1,5 @@
 -- Look-at-mes as modules raise them, and how long they wait.
 use Rattle.std.specs.Prelude.{◌≡◌, ℕ, zero, suc, ◌+◌, ◌-◌, ◌<◌, ◌≤◌, true, List, Option, Some, None, slice_get}
-use Rattle.camac_branch.specs.Branch.{IsSet}
 use Rattle.camac_model.specs.Behaviour.{Piece, demanded, cycled, lock_taken, lock_released, event_left}
 use Rattle.camac_model.specs.Moments.{Watch, Any, AnyStop}
 use Rattle.camac_response_times.specs.declared.source.Source.{Source}
@@ -91,29 +90,6 @@ abbrev pub IsOnce : List Source → (bit : ℕ) → Stretch → Option ℕ → T
 IsOnce ts g x None = Unit {0}
 IsOnce ts g x (Some i) = (t : Source) → slice_get ts i ≡ Some t → is_up_to g t ≡ true → t.every ≡ None → x.calls i ≡ 0
 
--- What the law asks of an operation with this pattern and this call, which is made at this clock after a pause of so many cycles. It is asked of
--- services up to the bit alone.
-pub record IsRaised (ts : List Source) (raises : Raises) (g pause : ℕ) (y : Clock) (pattern : ℕ) (v : Option ℕ) : Type 0 where
-  -- the branch is left alone only as long as no look-at-me is up
-  pub quiet : (i : ℕ) (t : Source) → slice_get ts i ≡ Some t → is_up_to g t ≡ true → 1 ≤ pause → y.time ≤ raises i (y.calls i)
-  -- a service is called only once its look-at-me was raised
-  pub raised : (i : ℕ) (t : Source) → v ≡ Some i → slice_get ts i ≡ Some t → is_up_to g t ≡ true → raises i (y.calls i) ≤ y.time
-  -- a look-at-me that was raised earlier and is not answered yet is in the pattern
-  pub stays : (i : ℕ) (t : Source) → slice_get ts i ≡ Some t → is_up_to g t ≡ true → raises i (y.calls i) < y.time → IsSet pattern t.bit
-  pub once : IsOnce ts g y.stretch v
-
-abbrev pub AreRaised : List Source → Raises → Pauses → (bit : ℕ) → Clock → Piece → Type 0
-AreRaised ts raises pauses g y (demanded p v) = IsRaised ts raises g (pauses y.operations) (paused (pauses y.operations) y) p v
-AreRaised ts raises pauses g y (cycled at f d r w) = Unit {0}
-AreRaised ts raises pauses g y (lock_taken c w) = Unit {0}
-AreRaised ts raises pauses g y (lock_released c) = Unit {0}
-AreRaised ts raises pauses g y (event_left e) = Unit {0}
-
--- the modules keep to this along a run
-abbrev pub modules_watch : List Source → Raises → Pauses → (bit : ℕ) → Watch Clock (Unit {0})
-modules_watch ts raises pauses g =
-    record { step = clock_after ts pauses g; at_piece = AreRaised ts raises pauses g; at_stop = AnyStop; at_end = Any }
-
 -- a piece that begins at this clock: service s is called at most `start` cycles after its look-at-me, and has ended at most `end` cycles after it
 abbrev pub WaitsBy : Raises → ℕ → Source → (start : ℕ) → Clock → Piece → Type 0
 WaitsBy raises s source start y (demanded p v) = v ≡ Some s → y.time ≤ raises s (y.calls s) + start
@@ -129,7 +105,8 @@ WaitsBy raises s source start y (event_left e) = IsServing s y.stretch → y.tim
 abbrev pub HasWaited : Raises → ℕ → Source → (start : ℕ) → Clock → Type 0
 HasWaited raises s source start y = (source.every ≡ None → y.stretch.calls s ≡ 0) → raises s (y.calls s) < y.time → y.time ≤ raises s (y.calls s) + start
 
--- service s is called, and has ended, in time; and at each moment, and where the run stops or ends, no look-at-me of it has waited longer
+-- Service s is called, and has ended, in time; and at each moment no look-at-me of it has waited longer.
+-- Auxiliary controllers keep their waits, and answers last. Else the run stops, and all this holds up to there.
 abbrev pub waits_watch : List Source → Raises → Pauses → ℕ → Source → (start : ℕ) → Watch Clock (Unit {0})
 waits_watch ts raises pauses s source start = record {
   step = clock_after ts pauses source.bit;

@@ -24,7 +24,7 @@ abbrev pub ServesItself : Layout → Script → List Source → Clears → (bit 
 ServesItself plan script ts by_plan g i v =
     (page : Book) → page.called ≡ Some i → NoneHidden ts (lams_of script) g page → (b : Branch) (answers : List Answer)
     → Meets (book_after (lams_of script) by_plan) (ServesWell ts (lams_of script) by_plan g) AnyStop (λ x s. IsAskedAgain ts (lams_of script) g x)
-      page (service_meaning (context plan script) 65535 v b answers)
+    page (service_meaning (context plan script) 65535 v b answers)
 
 -- the law of services: where each does this, all do what is asked of them along every run
 abbrev pub ServicesServe : Type 0

@@ -3,7 +3,7 @@
 ghost use Rattle.camac_response.specs.Checked.{CheckedRespond, Responds};
 ghost use Rattle.camac_response.specs.Reach.{DecidedServe};
 ghost use Rattle.camac_response.specs.Served.{ClearsAlways, HarmlessServe, ServicesServe};
-ghost use Rattle.camac_response.specs.Laws.{AnswersInTime, LamsAreAnswered, LamsAreRaised, LookAtMesAreAnswered, LowestAreCalled, StretchesEnd};
+ghost use Rattle.camac_response.specs.Laws.{AnswersInTime, LookAtMesAreAnswered, LowestAreCalled, StretchesEnd};
 
 use camac_checked::Checked;
 
@@ -23,21 +23,10 @@ pub fn lowest_are_called()
     ensures { LowestAreCalled }
 {}
 
-/// Where modules keep to their rates, and each look-at-me stays until it is answered: a service is called, and has ended, within the cycles of
-/// its response after its look-at-me was raised; and at each moment no look-at-me has waited longer.
+/// Where services clear their own look-at-mes and hide none, and modules do what a user believes of them: a service is called, and has ended, within
+/// the cycles of its response after its look-at-me was raised; and at each moment no look-at-me has waited longer.
 pub fn look_at_mes_are_answered()
     ensures { LookAtMesAreAnswered }
-{}
-
-/// Where services clear their own look-at-mes and hide none, and modules raise and show them: a service is called only for a look-at-me that was
-/// raised, and one that was raised stays until it is answered.
-pub fn lams_are_raised()
-    ensures { LamsAreRaised }
-{}
-
-/// So each look-at-me is answered in time, and none waits longer.
-pub fn lams_are_answered()
-    ensures { LamsAreAnswered }
 {}
 
 /// Where each service by itself clears its own look-at-me and no other, and hides none, all do so along every run.
