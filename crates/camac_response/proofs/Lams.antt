@@ -11,8 +11,8 @@ use Rattle.camac_model.specs.Headline.{no_count, nothing}
 use Rattle.camac_model.specs.Run.{the_run}
 use Rattle.camac_response_times.specs.declared.source.Source.{Source}
 use Rattle.camac_response_times.specs.Response.{is_up_to}
-use Rattle.camac_response.specs.Modules.{Raises, Pauses, AreApart, paused, clock_after, at_start, IsOnce}
-use Rattle.camac_response.specs.Lams.{Clears, Moods, Lams, of_lam, clears, may_clear, book_after, IsAskedAgain, ServesWell, ClearsNoOther, Wires, first_wires, clears_now, cleared_by, wires_after, AtOperation, AtCycle, RaisesAfter, IsOfLams, IsQuiet, ModulesKeep, lams_of}
+use Rattle.camac_response.specs.Modules.{Raises, Pauses, paused, clock_after, IsOnce}
+use Rattle.camac_response.specs.Lams.{Clears, Moods, Lams, of_lam, clears, may_clear, book_after, IsAskedAgain, ServesWell, ClearsNoOther, Wires, first_wires, clears_now, cleared_by, wires_after, AtOperation, AtCycle, RaisesAfter, IsOfLams, IsQuiet, lams_of}
 use Rattle.camac_response.specs.Laws.{CallsLowest, IsLowest, LookAtMesAreAnswered}
 use Rattle.camac_response.proofs.Sources.{one_more_at}
 use Rattle.camac_response.proofs.Lowest.{lowest_are_called}

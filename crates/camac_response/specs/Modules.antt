@@ -1,7 +1,7 @@
 -- Look-at-mes as modules raise them, and how long they wait.
 use Rattle.std.specs.Prelude.{◌≡◌, ℕ, zero, suc, ◌+◌, ◌-◌, ◌<◌, ◌≤◌, true, List, Option, Some, None, slice_get}
 use Rattle.camac_model.specs.Behaviour.{Piece, demanded, cycled, lock_taken, lock_released, event_left}
-use Rattle.camac_model.specs.Moments.{Watch, Any, AnyStop}
+use Rattle.camac_model.specs.Moments.{Watch}
 use Rattle.camac_response_times.specs.declared.source.Source.{Source}
 use Rattle.camac_response_times.specs.Response.{is_up_to}
 use Rattle.camac_response.specs.Stretch.{Stretch, no_stretch, one_more, stretch_after, IsServing}
