@@ -16,10 +16,11 @@ use Rattle.camac_model.specs.Meaning.{context, crate_address, crate_function, la
 use Rattle.camac_model.specs.Moments.{Meets, Any, AnyStop}
 use Rattle.camac_model.specs.Run.{service_meaning}
 use Rattle.camac_rules.specs.Known.{Region}
+use Rattle.camac_commands.specs.Commands.{Command, is_inside, lies_in, is_told, IsListed}
 use Rattle.camac_response_times.specs.declared.source.Source.{Source}
 use Rattle.camac_response.specs.Lams.{Clears, lams_of, of_lam, same_station, same_address, is_lam_call, is_crate_call, may_clear}
 use Rattle.camac_response.specs.Served.{hides, Harmless}
-use Rattle.camac_response.specs.Reach.{Command, is_inside, lies_in, is_told, ClearsIn, IsFor, may_call_lam, may_call_crate, may_be_at, could_clear, could_hide, AreCareful, IsListed, DecidedServe}
+use Rattle.camac_response.specs.Reach.{ClearsIn, IsFor, may_call_lam, may_call_crate, may_be_at, could_clear, could_hide, AreCareful, DecidedServe}
 use Rattle.camac_response.proofs.Lams.{or_false, or_first}
 use Rattle.camac_response.proofs.Served.{or_second, by_or, services_serve}
 use Rattle.camac_response.proofs.Harmless.{harmless_serve}

@@ -7,37 +7,19 @@ use Rattle.camac_lang.specs.declared.word.LamCall.{LamCall}
 use Rattle.camac_lang.specs.declared.word.LamCall.TheVariants as lam_word
 use Rattle.camac_lang.specs.Tree.{Service, Script}
 use Rattle.camac_branch.specs.Address.{Address}
-use Rattle.camac_branch.specs.Branch.{Branch, Answer}
+use Rattle.camac_branch.specs.Branch.{Answer}
 use Rattle.camac_branch.specs.Plan.{Layout, IsPlan}
-use Rattle.camac_model.specs.Behaviour.{Piece, demanded, cycled, lock_taken, lock_released, event_left}
 use Rattle.camac_model.specs.Fine.{Bounds}
-use Rattle.camac_model.specs.Headline.{no_count, nothing}
-use Rattle.camac_model.specs.Meaning.{context, lam_address, crate_address, crate_function, lam_function}
-use Rattle.camac_model.specs.Moments.{Meets, Holds, Any, AnyStop}
-use Rattle.camac_model.specs.Run.{service_meaning, the_run}
+use Rattle.camac_model.specs.Meaning.{lam_address, crate_address, crate_function, lam_function}
+use Rattle.camac_model.specs.Moments.{Holds}
+use Rattle.camac_model.specs.Run.{the_run}
 use Rattle.camac_rules.specs.Known.{Region}
+use Rattle.camac_commands.specs.Commands.{Command, lies_in, MakesOnly}
 use Rattle.camac_response_times.specs.declared.source.Source.{Source}
 use Rattle.camac_response_times.specs.Response.{is_up_to}
 use Rattle.camac_response.specs.Lams.{Clears, lams_of, of_lam, first_page, services_watch}
 use Rattle.camac_response.specs.Laws.{AreSources}
 use Rattle.camac_response.specs.Served.{block_clears}
-
--- A command that a service may make, as the checker knows it: its line, its function, and the addresses at which it may be made.
-pub record Command : Type 0 where
-  pub line : ℕ
-  pub function : ℕ
-  pub region : Region
-
-abbrev pub is_inside : Region → (crate_no station sub_address : ℕ) → Bool
-is_inside g c n a =
-    (nat_le g.crates.lo c && nat_le c g.crates.hi)
-    && ((nat_le g.stations.lo n && nat_le n g.stations.hi) && (nat_le g.sub_addresses.lo a && nat_le a g.sub_addresses.hi))
-
-abbrev pub lies_in : Region → Address → Bool
-lies_in g at = is_inside g at.crate_no at.station at.sub_address
-
-abbrev pub is_told : Address → (function : ℕ) → Command → Bool
-is_told at f c = nat_eq f c.function && lies_in c.region at
 
 -- whether the plan has a command of this function at one of these addresses that clears the look-at-me of its station
 abbrev pub ClearsIn : Type 0
@@ -70,19 +52,6 @@ could_hide lam c = may_call_lam lam_word.Disable lam c || (may_call_crate crate_
 pub record AreCareful (ts : List Source) (script : Script) (in_region : ClearsIn) (g i : ℕ) (cs : List Command) : Type 0 where
   pub clear_no_other : (j : ℕ) (t : Source) → slice_get ts j ≡ Some t → is_up_to g t ≡ true → (i ≡ j → ⊥) → of_lam (λ lam. list_any (could_clear in_region lam) cs) (lams_of script j) ≡ false
   pub hide_none : (j : ℕ) (t : Source) → slice_get ts j ≡ Some t → is_up_to g t ≡ true → of_lam (λ lam. list_any (could_hide lam) cs) (lams_of script j) ≡ false
-
--- each cycle is one of these commands
-abbrev pub IsListed : List Command → Unit {0} → Piece → Type 0
-IsListed cs u (demanded p v) = Unit {0}
-IsListed cs u (cycled at f d r w) = list_any (is_told at f) cs ≡ true
-IsListed cs u (lock_taken c w) = Unit {0}
-IsListed cs u (lock_released c) = Unit {0}
-IsListed cs u (event_left e) = Unit {0}
-
--- of a service, whatever the branch is like and answers
-abbrev pub MakesOnly : Layout → Script → Service → List Command → Type 0
-MakesOnly plan script v cs =
-    (b : Branch) (answers : List Answer) → Meets no_count (IsListed cs) AnyStop Any nothing (service_meaning (context plan script) 65535 v b answers)
 
 -- What is decided of a service: it makes only commands of this list, they are careful, and its tree clears its own look-at-me, if its bit is meant.
 pub record IsDecided (plan : Layout) (script : Script) (ts : List Source) (in_region : ClearsIn) (g i : ℕ) (v : Service) : Type 0 where
