@@ -338,12 +338,19 @@ class Sentences(unittest.TestCase):
         self.assertEqual(len(mine), 2)
         self.assertEqual({" ".join(it.split()) for it in mine} - {" ".join(it.split()) for it in its}, set())
 
-    def test_conditions_of_look_at_mes(self):
-        """There are as many as the pages say."""
-        listed = self.page("docs/RESPONSE.md").partition("## What has to hold\n")[2].partition("\n## ")[0]
-        number = ("four", "five", "six", "seven", "eight")[len(re.findall(r"(?m)^- \*\*", listed)) - 4]
-        told = [it for page in PAGES for it in re.findall(r"\[(\w+) conditions\]", page.read_text())]
-        self.assertEqual((len(told), {*told}), (3, {number}))
+    def test_sentences_of_look_at_mes(self):
+        """The pages that say the law of look-at-mes have a sentence for each field of the record that it assumes, and one on where a run stops."""
+        fields = self.page("crates/camac_response/specs/Lams.antt").partition("pub record ModulesKeep")[2]
+        ends = self.page("crates/camac_response/specs/Modules.antt").partition("abbrev pub waits_watch")[0].splitlines()[-1]
+        comments = re.findall(r"((?: +-- .*\n)+) +pub \w+ :", fields)
+        self.assertEqual(len(comments), len(re.findall(r"(?m)^ +pub \w+ :", fields)))
+        sentences = [" ".join(re.sub(r"(?m)^ *-- ", "", it).split()) for it in (*comments, ends)]
+        for page, heading in (("README.md", "> At the rates"), ("docs/RESPONSE.md", "## What has to hold"), ("docs/inside/PROMISES.md", "## Look-at-mes")):
+            listed = re.findall(r"(?m)^\d\. (.*(?:\n   .*)*)", self.page(page).partition(heading)[2].partition("\n## ")[0])
+            self.assertEqual([" ".join(it.split()) for it in listed], sentences, page)
+        number = ("four", "five", "six", "seven")[len(sentences) - 4]
+        told = [it for page in PAGES for it in re.findall(r"\[(\w+) sentences\]", page.read_text())]
+        self.assertEqual({*told}, {number})
 
     def test_time_of_a_step(self):
         """The page on the library gives the longest that the header does."""

@@ -1,5 +1,5 @@
 -- Each call of a service comes, and each service ends, in time.
-use Rattle.std.proofs.Common.{◌≡◌, ℕ, ◌+◌, ◌-◌, ◌*◌, ◌≤◌, List, Option, Some, None, Bool, true, false, refl, sym, ◌∙◌, ap, subst, arith}
+use Rattle.std.proofs.Common.{◌≡◌, ℕ, ◌+◌, ◌-◌, ◌*◌, ◌<◌, ◌≤◌, List, Option, Some, None, Bool, true, false, refl, sym, ◌∙◌, ap, subst, arith}
 use Rattle.std.specs.Prelude.{nat_le, slice_get, option_map, if◌then◌else◌}
 use Rattle.std.proofs.Math.Nat.{le_trans}
 use Rattle.std.proofs.lemmas.Nat.{mul-le}
@@ -18,6 +18,11 @@ use Rattle.camac_response.proofs.Sources.{spent_on, spent_within, spent_more, sp
 use Rattle.camac_response.proofs.Along.{AreCovered, Budget, Paid, within, paid_after, paid_first, follows}
 use Rattle.camac_response.proofs.Stretches.{covered, stretch_budget}
 
+-- the next call of the service, if it may come in the stretch, is not late yet; and the stretch is within the longest one
+pub record IsPending (s : ℕ) (source : Source) (longest start : ℕ) (x : Stretch) : Type 0 where
+  pub soon : x.kept ≡ true → x.calls s < calls_within source.every longest → x.elapsed ≤ x.calls s * period source.every + start
+  pub ended : x.kept ≡ true → x.elapsed ≤ longest
+
 up_to_itself : (t : Source) → is_up_to t.bit t ≡ true
 up_to_itself t = le-leb t.bit t.bit (omega arith)
 
@@ -28,7 +33,7 @@ module _ (ks : List Bounds) (ts : List Source) (cover : AreCovered ks ts)
   abbrev start_paid : (ℕ → ℕ) → ℕ
   start_paid a = a s * source.cycles + spent_on (is_below source.bit) a ts
 
-  start_pays : (a b : ℕ → ℕ) (i : ℕ) (t : Source) → slice_get ts i ≡ Some t → is_up_to source.bit t ≡ true → ((j : ℕ) → a j ≤ b j) → a i + 1 ≤ b i → start_paid a + t.cycles ≤ start_paid b
+  pub start_pays : (a b : ℕ → ℕ) (i : ℕ) (t : Source) → slice_get ts i ≡ Some t → is_up_to source.bit t ≡ true → ((j : ℕ) → a j ≤ b j) → a i + 1 ≤ b i → start_paid a + t.cycles ≤ start_paid b
   start_pays a b i t at up le more = go (is_below source.bit t) refl
     where
       go : (below : Bool) → is_below source.bit t ≡ below → start_paid a + t.cycles ≤ start_paid b
@@ -64,7 +69,7 @@ module _ (ks : List Bounds) (ts : List Source) (cover : AreCovered ks ts)
   }
 
   module _ (longest : ℕ) (holds : IsEnough (stretch_wants ts source.bit) longest) where
-    record Timed (o : Option Progress) (x : Stretch) : Type 0 where
+    pub record Timed (o : Option Progress) (x : Stretch) : Type 0 where
       pub stretch : Paid ks ts source.bit cover (stretch_budget ts source.bit longest holds) o x
       pub starts : (n f : ℕ) (wanted : IsEnough (start_wants ts source n) f) → Paid ks ts source.bit cover (start_budget n f wanted) o x
       pub served : (n f : ℕ) → 1 ≤ n → IsEnough (start_wants ts source n) f → x.kept ≡ true → x.calls s ≡ n → (q : Progress) → o ≡ Some q → q.service ≡ s → x.elapsed ≤ f + q.cost
@@ -150,7 +155,7 @@ module _ (ks : List Bounds) (ts : List Source) (cover : AreCovered ks ts)
     counted_after m x (lock_released c) h e = h.counted e
     counted_after m x (event_left v) h e = absurd (cc)
 
-    timed_after : (m : Moment) (x : Stretch) (p : Piece) → Timed m.progress x → CostStays ks m p → Timed (moment_after m p).progress (stretch_after ts source.bit x p)
+    pub timed_after : (m : Moment) (x : Stretch) (p : Piece) → Timed m.progress x → CostStays ks m p → Timed (moment_after m p).progress (stretch_after ts source.bit x p)
     timed_after m x p h c = record {
       stretch = paid_after ks ts source.bit cover (stretch_budget ts source.bit longest holds) m x p h.stretch c;
       starts = λ n f wanted. paid_after ks ts source.bit cover (start_budget n f wanted) m x p (h.starts n f wanted) c;
@@ -159,7 +164,7 @@ module _ (ks : List Bounds) (ts : List Source) (cover : AreCovered ks ts)
       counted = counted_after m x p h;
     }
 
-    timed_first : Timed None (no_stretch None)
+    pub timed_first : Timed None (no_stretch None)
     timed_first = record {
       stretch = paid_first ks ts source.bit cover (stretch_budget ts source.bit longest holds);
       starts = λ n f wanted. paid_first ks ts source.bit cover (start_budget n f wanted);
@@ -198,7 +203,7 @@ module _ (ks : List Bounds) (ts : List Source) (cover : AreCovered ks ts)
             omega (arith, fits, cycles, less, early, most);
       }
 
-      piece_in_time : (m : Moment) (x : Stretch) (p : Piece) → Timed m.progress x → Timed (moment_after m p).progress (stretch_after ts source.bit x p) → CostStays ks m p → AnswersBy ts s source start x p
+      pub piece_in_time : (m : Moment) (x : Stretch) (p : Piece) → Timed m.progress x → Timed (moment_after m p).progress (stretch_after ts source.bit x p) → CostStays ks m p → AnswersBy ts s source start x p
       piece_in_time m x (demanded p None) h after c = λ e. absurd (cc)
       piece_in_time m x (demanded p (Some i)) h after c = λ e. call_in_time i (m.left - 1) m.progress x (same_Some i s e) h after
       piece_in_time m x (cycled a g d r w) h after c =
@@ -209,6 +214,18 @@ module _ (ks : List Bounds) (ts : List Source) (cover : AreCovered ks ts)
           service_in_time m.progress x h c.progress c.bounds c.is_in_progress c.are_its c.holds
       piece_in_time m x (event_left e) h after c =
           service_in_time m.progress x h c.progress c.bounds c.is_in_progress c.are_its c.holds.most
+
+      pub pending_now : (o : Option Progress) (x : Stretch) → Timed o x → IsPending s source longest start x
+      pending_now o x h = record {
+        soon = λ kept few.
+            let at = starts (x.calls s + 1) (omega arith) (omega (arith, few)) in
+            let early = within ks ts source.bit cover (start_budget (x.calls s + 1) at.first at.enough) o x (h.starts (x.calls s + 1) at.first at.enough) kept (omega arith) in
+            let most = at.within in
+            let count : (x.calls s + 1) - 1 ≡ x.calls s = omega arith in
+            let most' : at.first ≤ x.calls s * period source.every + start = subst (λ n. at.first ≤ n * period source.every + start) count most in
+            le_trans early most';
+        ended = λ kept. within ks ts source.bit cover (stretch_budget ts source.bit longest holds) o x h.stretch kept tt;
+      }
 
       timed_step : (m : Moment) (x : Stretch) (p : Piece) → Timed m.progress x → CostStays ks m p → AnswersBy ts s source start x p × Timed (moment_after m p).progress (stretch_after ts source.bit x p)
       timed_step m x p h c = let after = timed_after m x p h c in (piece_in_time m x p h after c, after)

@@ -1,11 +1,10 @@
 -- Worked rows: responses, and a run in which a service is called as late as its response allows.
-use Rattle.std.proofs.Common.{◌≡◌, ℕ, zero, suc, ◌*◌, ◌<◌, ◌≤◌, List, [], ◌∷◌, Option, Some, None, true, false, refl, subst, take, arith}
-use Rattle.std.specs.Prelude.{Ok, codes, slice_get}
-use Rattle.std.proofs.lemmas.Option.{same_Some}
+use Rattle.std.proofs.Common.{◌≡◌, ℕ, List, [], ◌∷◌, Option, Some, None, true, false, refl, take}
+use Rattle.std.specs.Prelude.{Ok, codes}
 use Rattle.camac_lang.specs.declared.word.CrateCall.TheVariants as crate_word
 use Rattle.camac_lang.specs.Tree.{number, Statement, crate_call, Script, Lam, Service, next_lam, next_service}
 use Rattle.camac_lang.specs.View.{block_of}
-use Rattle.camac_branch.specs.Branch.{Answer, IsSet}
+use Rattle.camac_branch.specs.Branch.{Answer}
 use Rattle.camac_branch.specs.Plan.{Layout}
 use Rattle.camac_model.specs.Behaviour.{pieces, Piece}
 use Rattle.camac_model.specs.Run.{the_run}
@@ -13,12 +12,10 @@ use Rattle.camac_model.specs.Sample.{gap, adc, reg, answer, demand}
 use Rattle.camac_rules.specs.Accept.{accept}
 use Rattle.camac_rules.specs.Refusal.{go_on, if_reached, required}
 use Rattle.camac_response_times.specs.declared.source.Source.{Source}
-use Rattle.camac_model.specs.Moments.{Holds}
-use Rattle.camac_response.specs.Stretch.{Stretch, no_stretch, one_more, stretch_after}
-use Rattle.camac_response.specs.Modules.{Raises, at_start, modules_watch}
+use Rattle.camac_response.specs.Stretch.{Stretch, no_stretch, stretch_after}
 use Rattle.camac_response_times.specs.Rounds.{response, most_rounds}
 
-abbrev source : ℕ → ℕ → Option ℕ → Source
+abbrev pub source : ℕ → ℕ → Option ℕ → Source
 source bit cycles every = record { bit = bit; cycles = cycles; every = every }
 
 -- adc of bit 3 with bound 3, reg of bit 7 with bound 6
@@ -50,7 +47,7 @@ unfolding most_rounds
 reg_every_12 = refl
 
 -- the services of bits 3 and 2: each makes a cycle in crate 2, which has no waits, and one in crate 1, which has up to 2
-abbrev plan : Layout
+abbrev pub plan : Layout
 plan = record {
   buffer = 4096;
   types = adc ∷ reg ∷ [];
@@ -60,13 +57,13 @@ plan = record {
       gap 5 [];
 }
 
-abbrev lam_at : List ℕ → ℕ → Lam
+abbrev pub lam_at : List ℕ → ℕ → Lam
 lam_at name c = record { line = 1; name = name; crate_no = c; station = 5; sub_address = 12 }
 
-abbrev served_by : ℕ → List Statement → Service
+abbrev pub served_by : ℕ → List Statement → Service
 served_by l ss = record { line = 3; lam = l; cycles = 4; words = 0; registers = []; body = block_of ss }
 
-abbrev both : Script
+abbrev pub both : Script
 both = record {
   order = next_lam ∷ next_lam ∷ next_service ∷ next_service ∷ [];
   tables = [];
@@ -84,7 +81,7 @@ is_accepted : accept plan both ≡ Ok (record { cycles = 4; words = 0; steps = 2
 unfolding go_on required if_reached
 is_accepted = refl
 
-abbrev of_both : List Source
+abbrev pub of_both : List Source
 of_both = source 3 4 None ∷ source 2 4 (Some 9) ∷ []
 
 -- bit 2 comes while the service of bit 3 is in progress, and again during its own service
@@ -126,37 +123,6 @@ called_again = refl
 too_early : (after 9).kept ≡ false
 too_early = refl
 
--- Modules that keep to what the law of look-at-mes asks, in a run in which bit 2 waits as long as its response: raised at the start, it is
--- called 4 cycles later.
-abbrev raises : Raises
-raises i k = k * 100
-
-abbrev first_answers : List Answer
+abbrev pub first_answers : List Answer
 first_answers =
     demand 4 ∷ answer true false 0 0 0 ∷ answer true false 0 2 0 ∷ demand 2 ∷ answer true false 0 0 0 ∷ answer true false 0 2 0 ∷ []
-
-in_pattern : (i : ℕ) (t : Source) → slice_get of_both i ≡ Some t → one_more 0 (λ j. 0) i * 100 < 4 → IsSet 2 t.bit
-in_pattern zero t at less = absurd (omega (arith, less))
-in_pattern (suc zero) t at less = subst (λ u. IsSet 2 u.bit) (same_Some (source 2 4 (Some 9)) t at) refl
-in_pattern (suc (suc i)) t at less = absurd (cc)
-
-modules_keep : Holds (modules_watch of_both raises (λ k. 0) 2) at_start (the_run plan both first_answers)
-modules_keep = (
-  record { raised = λ i e. omega arith; stays = λ i t at less. absurd (omega (arith, less)); once = λ t at up none. refl },
-  (
-    tt,
-    (
-      tt,
-      (
-        tt,
-        (
-          record { raised = called; stays = in_pattern; once = λ t at up none. refl },
-          (tt, (tt, (tt, tt))),
-        ),
-      ),
-    ),
-  ),
-)
-  where
-    called : (i : ℕ) → Some 1 ≡ Some i → one_more 0 (λ j. 0) i * 100 ≤ 4
-    called i e = subst (λ j. one_more 0 (λ k. 0) j * 100 ≤ 4) (same_Some 1 i e) (omega arith)

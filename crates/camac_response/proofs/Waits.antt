@@ -5,18 +5,23 @@ use Rattle.std.proofs.lemmas.Nat.{le-div}
 use Rattle.std.proofs.lemmas.Bool.{and_from, le-leb, leb-true, leb-false, ltb-true, ltb-false, true≢false}
 use Rattle.std.proofs.lemmas.Option.{same_Some}
 use Rattle.camac_branch.specs.Branch.{IsSet}
-use Rattle.camac_model.specs.Behaviour.{Piece, demanded, cycled, lock_taken, lock_released, event_left, Behaviour, does, ends, stops}
+use Rattle.camac_model.specs.Behaviour.{Piece, demanded, cycled, lock_taken, lock_released, event_left, Behaviour, does, ends, stops, Stop}
+use Rattle.camac_model.specs.State.{State}
+use Rattle.camac_model.specs.Fine.{Bounds}
 use Rattle.camac_model.specs.Moments.{Meets, Any, AnyStop}
-use Rattle.camac_model.specs.Headline.{no_count, nothing}
+use Rattle.camac_model.specs.Headline.{no_count, nothing, Moment, Progress, first_moment, moment_after, InService, StepsFit, CostStays}
 use Rattle.camac_model.specs.Run.{the_run}
 use Rattle.camac_response_times.specs.declared.source.Source.{Source}
-use Rattle.camac_response_times.specs.Response.{calls_within, period, is_up_to}
-use Rattle.camac_response.specs.Stretch.{no_stretch, one_more, called, calling, stretch_after, AnswersBy}
-use Rattle.camac_response.specs.Modules.{Raises, Pauses, IsApart, AreApart, Clock, at_start, time_at, clock_after, AreRaised, IsRaised, WaitsBy}
-use Rattle.camac_response.specs.Laws.{CallsLowest, IsLowest, LookAtMesAreAnswered}
+use Rattle.camac_response_times.specs.Response.{calls_within, period, is_up_to, stretch_wants, IsEnough, StartsWithin}
+use Rattle.camac_response.specs.Stretch.{no_stretch, one_more, called, calling, AnswersBy}
+use Rattle.camac_response.specs.Modules.{Raises, Pauses, IsApart, AreApart, Clock, at_start, paused, clock_at, ticked, clock_after, WaitsBy, HasWaited}
+use Rattle.camac_response.specs.Laws.{CallsLowest, IsLowest}
 use Rattle.camac_response.proofs.Sources.{one_more_same, one_more_at}
-use Rattle.camac_response.proofs.Answers.{answers_in_time}
+use Rattle.camac_response.proofs.Along.{AreCovered}
+use Rattle.camac_response.proofs.Stretches.{covered}
+use Rattle.camac_response.proofs.Answers.{Timed, timed_after, timed_first, piece_in_time, pending_now, IsPending}
 use Rattle.camac_response.proofs.Lowest.{lowest_are_called}
+use Rattle.camac_response.proofs.Raised.{IsRaised, AreRaised, RaisedAreAnswered}
 
 not_less : (a b : ℕ) → (a < b → ⊥) → b ≤ a
 not_less a b h = go (nat_lt a b) refl
@@ -51,9 +56,9 @@ at_rate (Some t) raised base k n elapsed apart once from to =
     let fits = le-div n elapsed t apart.0 room in
     omega (arith, fits)
 
-module _ (ts : List Source) (s : ℕ) (source : Source) (its : slice_get ts s ≡ Some source) (start : ℕ) (raises : Raises) (apart : AreApart ts raises) (pauses : Pauses) where
+module _ (ts : List Source) (s : ℕ) (source : Source) (its : slice_get ts s ≡ Some source) (start : ℕ) (raises : Raises) (apart : AreApart ts source.bit raises) where
   -- the stretch has begun `base` cycles after the start of the run, with so many calls before it
-  record IsBegun (y : Clock) : Type 0 where
+  pub record IsBegun (y : Clock) : Type 0 where
     pub base : ℕ
     pub origin : ℕ → ℕ
     pub ticks : y.time ≡ base + y.stretch.elapsed
@@ -67,9 +72,9 @@ module _ (ts : List Source) (s : ℕ) (source : Source) (its : slice_get ts s �
   up_itself = le-leb source.bit source.bit (omega arith)
 
   -- outside of a stretch
-  begins : (time idle : ℕ) (calls : ℕ → ℕ) (v : Option ℕ) → ((i : ℕ) (t : Source) → slice_get ts i ≡ Some t → is_up_to source.bit t ≡ true → time ≤ raises i (calls i)) → (v ≡ Some s → ⊥)
-      → IsBegun (record { time = time; idle = idle; calls = calls; stretch = no_stretch v })
-  begins time idle calls v from other = record {
+  pub begins : (time operations : ℕ) (calls : ℕ → ℕ) (v : Option ℕ) → ((i : ℕ) (t : Source) → slice_get ts i ≡ Some t → is_up_to source.bit t ≡ true → time ≤ raises i (calls i)) → (v ≡ Some s → ⊥)
+      → IsBegun (record { time = time; operations = operations; calls = calls; stretch = no_stretch v })
+  begins time operations calls v from other = record {
     base = time;
     origin = calls;
     ticks = omega arith;
@@ -80,9 +85,9 @@ module _ (ts : List Source) (s : ℕ) (source : Source) (its : slice_get ts s �
     serves = λ e. absurd (other e);
   }
 
-  one_called : (y : Clock) (p i : ℕ) (t : Source) → IsBegun y → IsRaised ts raises pauses source.bit y p (Some i) → slice_get ts i ≡ Some t → is_up_to source.bit t ≡ true
-      → IsBegun (record { time = y.time; idle = y.idle; calls = one_more i y.calls; stretch = called i t y.stretch })
-  one_called y p i t h r at up = record {
+  one_called : (d : ℕ) (y : Clock) (p i : ℕ) (t : Source) → IsBegun y → IsRaised ts raises source.bit d y p (Some i) → slice_get ts i ≡ Some t → is_up_to source.bit t ≡ true
+      → IsBegun (record { time = y.time; operations = y.operations + 1; calls = one_more i y.calls; stretch = called i t y.stretch })
+  one_called d y p i t h r at up = record {
     base = h.base;
     origin = h.origin;
     ticks = let ticks = h.ticks in omega (arith, ticks);
@@ -110,26 +115,26 @@ module _ (ts : List Source) (s : ℕ) (source : Source) (its : slice_get ts s �
       rate =
           let count = h.counted i t at up in
           let ticks = h.ticks in
-          let raised : raises i (y.calls i) ≤ y.time = r.raised i refl in
+          let raised : raises i (y.calls i) ≤ y.time = r.raised i t refl at up in
           let raised' : raises i (h.origin i + y.stretch.calls i) ≤ y.time = subst (λ j. raises i j ≤ y.time) count raised in
-          at_rate t.every (raises i) h.base (h.origin i) (y.stretch.calls i) y.stretch.elapsed (apart i t at) (r.once t at up) (h.from i t at up) (omega (arith, raised', ticks))
+          at_rate t.every (raises i) h.base (h.origin i) (y.stretch.calls i) y.stretch.elapsed (apart i t at up) (r.once t at up) (h.from i t at up) (omega (arith, raised', ticks))
 
-  none_passed : (y : Clock) (p : ℕ) (v : Option ℕ) → IsRaised ts raises pauses source.bit y p v → (i : ℕ) (t : Source) → slice_get ts i ≡ Some t → (IsSet p t.bit → ⊥) → time_at pauses y v ≤ raises i (y.calls i)
-  none_passed y p v r i t at not = not_less (raises i (y.calls i)) (time_at pauses y v) (λ l. not (r.stays i t at l))
+  none_passed : (d : ℕ) (y : Clock) (p : ℕ) (v : Option ℕ) → IsRaised ts raises source.bit d y p v → (i : ℕ) (t : Source) → slice_get ts i ≡ Some t → is_up_to source.bit t ≡ true → (IsSet p t.bit → ⊥) → y.time ≤ raises i (y.calls i)
+  none_passed d y p v r i t at up not = not_less (raises i (y.calls i)) y.time (λ l. not (r.stays i t at up l))
 
-  one_demanded : (y : Clock) (p i : ℕ) → IsBegun y → IsRaised ts raises pauses source.bit y p (Some i) → IsLowest ts p i → (o : Option Source) → slice_get ts i ≡ o
-      → IsBegun (record { time = y.time; idle = y.idle; calls = one_more i y.calls; stretch = calling source.bit i o y.stretch })
-  one_demanded y p i h r lowest None e = let there = lowest.numbered in absurd (cc)
-  one_demanded y p i h r lowest (Some t) e = go (is_up_to source.bit t) refl
+  one_demanded : (d : ℕ) (y : Clock) (p i : ℕ) → IsBegun y → IsRaised ts raises source.bit d y p (Some i) → IsLowest ts p i → (o : Option Source) → slice_get ts i ≡ o
+      → IsBegun (record { time = y.time; operations = y.operations + 1; calls = one_more i y.calls; stretch = calling source.bit i o y.stretch })
+  one_demanded d y p i h r lowest None e = let there = lowest.numbered in absurd (cc)
+  one_demanded d y p i h r lowest (Some t) e = go (is_up_to source.bit t) refl
     where
-      go : (b : Bool) → is_up_to source.bit t ≡ b → IsBegun (record { time = y.time; idle = y.idle; calls = one_more i y.calls; stretch = if b then called i t y.stretch else no_stretch (Some i) })
-      go true up = one_called y p i t h r e up
+      go : (b : Bool) → is_up_to source.bit t ≡ b → IsBegun (record { time = y.time; operations = y.operations + 1; calls = one_more i y.calls; stretch = if b then called i t y.stretch else no_stretch (Some i) })
+      go true up = one_called d y p i t h r e up
       go false up =
-          begins y.time y.idle (one_more i y.calls) (Some i)
+          begins y.time (y.operations + 1) (one_more i y.calls) (Some i)
           (λ j u at_j up_j.
           one_more_at i y.calls j (λ n. y.time ≤ raises j n)
           (λ same. let one : t ≡ u = same_Some t u (sym e ∙ ap (slice_get ts) (sym same) ∙ at_j) in absurd (true≢false (sym up_j ∙ ap (is_up_to source.bit) (sym one) ∙ up)))
-          (none_passed y p (Some i) r j u at_j (λ set.
+          (none_passed d y p (Some i) r j u at_j up_j (λ set.
           let one : lowest.source ≡ t = same_Some lowest.source t (sym lowest.numbered ∙ e) in
           let bit : lowest.source.bit ≡ t.bit = ap (λ z. z.bit) one in
           let less = lowest.least j u at_j set in
@@ -141,7 +146,7 @@ module _ (ts : List Source) (s : ℕ) (source : Source) (its : slice_get ts s �
           let one : t ≡ source = same_Some t source (sym e ∙ ap (slice_get ts) own ∙ its) in
           true≢false (sym up_itself ∙ ap (is_up_to source.bit) (sym one) ∙ up))
 
-  longer_begun : (y : Clock) (d : ℕ) → IsBegun y → IsBegun (record { time = y.time + d; idle = y.idle; calls = y.calls; stretch = record y.stretch { elapsed = y.stretch.elapsed + d } })
+  longer_begun : (y : Clock) (d : ℕ) → IsBegun y → IsBegun (record { time = y.time + d; operations = y.operations; calls = y.calls; stretch = record y.stretch { elapsed = y.stretch.elapsed + d } })
   longer_begun y d h = record {
     base = h.base;
     origin = h.origin;
@@ -153,20 +158,43 @@ module _ (ts : List Source) (s : ℕ) (source : Source) (its : slice_get ts s �
     serves = h.serves;
   }
 
-  begun_after : (y : Clock) (p : Piece) → IsBegun y → CallsLowest ts nothing p → AreRaised ts raises pauses source.bit y p → IsBegun (clock_after ts pauses source.bit y p)
-  begun_after y (demanded p None) h lowest r = begins (y.time + pauses y.idle) (y.idle + 1) y.calls None (λ i t at up. none_passed y p None r i t at (lowest i t at)) (λ e. absurd (cc))
-  begun_after y (demanded p (Some i)) h lowest r = one_demanded y p i h r lowest (slice_get ts i) refl
-  begun_after y (cycled a f d q w) h lowest r = longer_begun y (1 + w) h
-  begun_after y (lock_taken c w) h lowest r = longer_begun y w h
-  begun_after y (lock_released c) h lowest r =
+  -- a pause begins anew
+  begun_paused : (d : ℕ) (y : Clock) → ((i : ℕ) (t : Source) → slice_get ts i ≡ Some t → is_up_to source.bit t ≡ true → 1 ≤ d → y.time + d ≤ raises i (y.calls i)) → IsBegun y → IsBegun (paused d y)
+  begun_paused zero y quiet h = record {
+    base = h.base;
+    origin = h.origin;
+    ticks = let ticks = h.ticks in omega (arith, ticks);
+    counted = h.counted;
+    from = h.from;
+    once = h.once;
+    kept = h.kept;
+    serves = h.serves;
+  }
+  begun_paused (suc d) y quiet h =
+      begins (y.time + suc d) y.operations y.calls None (λ i t at up. quiet i t at up (omega arith)) (λ e. absurd (cc))
+
+  -- what is asked of a piece at this clock
+  abbrev AskedOf : (d : ℕ) → Clock → Piece → Type 0
+  AskedOf d y (demanded p v) = IsRaised ts raises source.bit d y p v
+  AskedOf d y (cycled at f e q w) = Unit {0}
+  AskedOf d y (lock_taken c w) = Unit {0}
+  AskedOf d y (lock_released c) = Unit {0}
+  AskedOf d y (event_left e) = Unit {0}
+
+  begun_after : (d : ℕ) (y : Clock) (p : Piece) → IsBegun y → CallsLowest ts nothing p → AskedOf d y p → IsBegun (ticked ts source.bit y p)
+  begun_after d y (demanded p None) h lowest r = begins y.time (y.operations + 1) y.calls None (λ i t at up. none_passed d y p None r i t at up (lowest i t at)) (λ e. absurd (cc))
+  begun_after d y (demanded p (Some i)) h lowest r = one_demanded d y p i h r lowest (slice_get ts i) refl
+  begun_after d y (cycled a f e q w) h lowest r = longer_begun y (1 + w) h
+  begun_after d y (lock_taken c w) h lowest r = longer_begun y w h
+  begun_after d y (lock_released c) h lowest r =
       record { base = h.base; origin = h.origin; ticks = let ticks = h.ticks in omega (arith, ticks); counted = h.counted; from = h.from; once = h.once; kept = h.kept; serves = h.serves }
-  begun_after y (event_left e) h lowest r =
+  begun_after d y (event_left e) h lowest r =
       record { base = h.base; origin = h.origin; ticks = let ticks = h.ticks in omega (arith, ticks); counted = h.counted; from = h.from; once = h.once; kept = h.kept; serves = λ b. absurd (cc) }
 
   -- the call is in time
-  call_waits : (y : Clock) (p i : ℕ) → IsBegun y → IsRaised ts raises pauses source.bit y p (Some i) → IsBegun (clock_after ts pauses source.bit y (demanded p (Some i)))
+  call_waits : (d : ℕ) (y : Clock) (p i : ℕ) → IsBegun y → IsRaised ts raises source.bit d y p (Some i) → IsBegun (ticked ts source.bit y (demanded p (Some i)))
       → AnswersBy ts s source start y.stretch (demanded p (Some i)) → Some i ≡ Some s → y.time ≤ raises s (y.calls s) + start
-  call_waits y p i h r after answers e =
+  call_waits d y p i h r after answers e =
       let own : i ≡ s = same_Some i s e in
       let is : calling source.bit i (slice_get ts i) y.stretch ≡ called s source y.stretch =
       ap (λ j. calling source.bit j (slice_get ts j) y.stretch) own ∙ ap (λ t. calling source.bit s t y.stretch) its ∙ ap (λ b. if b then called s source y.stretch else no_stretch (Some s)) up_itself in
@@ -176,7 +204,7 @@ module _ (ts : List Source) (s : ℕ) (source : Source) (its : slice_get ts s �
       let elapsed : (calling source.bit i (slice_get ts i) y.stretch).elapsed ≡ y.stretch.elapsed = ap (λ z. z.elapsed) is in
       let most : (calling source.bit i (slice_get ts i) y.stretch).elapsed ≤ y.stretch.calls s * period source.every + start = subst (λ n. (calling source.bit i (slice_get ts i) y.stretch).elapsed ≤ n * period source.every + start) earlier in_time in
       let first : source.every ≡ None → y.stretch.calls s ≡ 0 = λ none. subst (λ j. y.stretch.calls j ≡ 0) own (r.once source (ap (slice_get ts) own ∙ its) up_itself none) in
-      let raised = raised_by source.every (raises s) h.base (h.origin s) (y.stretch.calls s) (apart s source its) first (h.from s source its up_itself) in
+      let raised = raised_by source.every (raises s) h.base (h.origin s) (y.stretch.calls s) (apart s source its up_itself) first (h.from s source its up_itself) in
       let count = h.counted s source its up_itself in
       let raised' : h.base + y.stretch.calls s * period source.every ≤ raises s (y.calls s) = subst (λ j. h.base + y.stretch.calls s * period source.every ≤ raises s j) (sym count) raised in
       let ticks = h.ticks in
@@ -188,36 +216,118 @@ module _ (ts : List Source) (s : ℕ) (source : Source) (its : slice_get ts s �
   service_waits y d h serving in_time =
       let pos = h.serves serving in
       let first : source.every ≡ None → y.stretch.calls s - 1 ≡ 0 = λ none. (let one = h.once s source its up_itself none in omega (arith, one)) in
-      let raised = raised_by source.every (raises s) h.base (h.origin s) (y.stretch.calls s - 1) (apart s source its) first (h.from s source its up_itself) in
+      let raised = raised_by source.every (raises s) h.base (h.origin s) (y.stretch.calls s - 1) (apart s source its up_itself) first (h.from s source its up_itself) in
       let count = h.counted s source its up_itself in
       let last : h.origin s + (y.stretch.calls s - 1) ≡ y.calls s - 1 = omega (arith, count, pos) in
       let raised' : h.base + (y.stretch.calls s - 1) * period source.every ≤ raises s (y.calls s - 1) = subst (λ j. h.base + (y.stretch.calls s - 1) * period source.every ≤ raises s j) last raised in
       let ticks = h.ticks in
       omega (arith, in_time, raised', ticks)
 
-  waits_at : (y : Clock) (p : Piece) → IsBegun y → IsBegun (clock_after ts pauses source.bit y p) → AreRaised ts raises pauses source.bit y p → AnswersBy ts s source start y.stretch p → WaitsBy raises s source start y p
-  waits_at y (demanded p None) h after r a = λ e. absurd (cc)
-  waits_at y (demanded p (Some i)) h after r a = call_waits y p i h r after a
-  waits_at y (cycled at f d q w) h after r a = λ e. service_waits y (1 + w) h e ((a e).within h.kept)
-  waits_at y (lock_taken c w) h after r a = λ e. service_waits y w h e ((a e).within h.kept)
-  waits_at y (lock_released c) h after r a =
+  waits_at : (d : ℕ) (y : Clock) (p : Piece) → IsBegun y → IsBegun (ticked ts source.bit y p) → AskedOf d y p → AnswersBy ts s source start y.stretch p → WaitsBy raises s source start y p
+  waits_at d y (demanded p None) h after r a = λ e. absurd (cc)
+  waits_at d y (demanded p (Some i)) h after r a = call_waits d y p i h r after a
+  waits_at d y (cycled at f e q w) h after r a = λ e. service_waits y (1 + w) h e ((a e).within h.kept)
+  waits_at d y (lock_taken c w) h after r a = λ e. service_waits y w h e ((a e).within h.kept)
+  waits_at d y (lock_released c) h after r a =
       λ e. let now = (a e).within h.kept in let most = service_waits y 0 h e (omega (arith, now)) in omega (arith, most)
-  waits_at y (event_left v) h after r a =
+  waits_at d y (event_left v) h after r a =
       λ e. let now = (a e).within h.kept in let most = service_waits y 0 h e (omega (arith, now)) in omega (arith, most)
 
-  walk : {A : Type 0} (y : Clock) (b : Behaviour A) → IsBegun y → Meets (stretch_after ts source.bit) (AnswersBy ts s source start) AnyStop Any y.stretch b → Meets no_count (CallsLowest ts) AnyStop Any nothing b
-      → Meets (clock_after ts pauses source.bit) (AreRaised ts raises pauses source.bit) AnyStop Any y b → Meets (clock_after ts pauses source.bit) (WaitsBy raises s source start) AnyStop Any y b
-  walk y (does p b) h a l r =
-      let after = begun_after y p h l.0 r.0 in
-      (waits_at y p h after r.0 a.0, walk (clock_after ts pauses source.bit y p) b after a.1 l.1 r.1)
-  walk y (ends v) h a l r = tt
-  walk y (stops w v) h a l r = tt
-
-  begun_first : IsBegun (record { time = 0; idle = 0; calls = λ i. 0; stretch = no_stretch None })
+  begun_first : IsBegun (record { time = 0; operations = 0; calls = λ i. 0; stretch = no_stretch None })
   begun_first = begins 0 0 (λ i. 0) None (λ i t at up. omega arith) (λ e. absurd (cc))
 
-pub look_at_mes_are_answered : LookAtMesAreAnswered
-look_at_mes_are_answered plan is_plan script ks safe ts are s source its start by raises apart pauses answers modules =
-    walk ts s source its start raises apart pauses at_start (the_run plan script answers)
-    (begun_first ts s source its start raises apart pauses) (answers_in_time plan script ks safe ts are s source its start by answers)
-    (lowest_are_called plan is_plan script ks ts are answers) modules
+  -- as long as the next look-at-me is not answered, it has not waited too long: one that can have no call in the longest stretch is not raised yet
+  pends : (longest : ℕ) (y : Clock) → IsBegun y → IsPending s source longest start y.stretch → HasWaited raises s source start y
+  pends longest y h p first passed = go source.every refl
+    where
+      raised : h.base + y.stretch.calls s * period source.every ≤ raises s (y.calls s)
+      raised =
+          let count = h.counted s source its up_itself in
+          let by = raised_by source.every (raises s) h.base (h.origin s) (y.stretch.calls s) (apart s source its up_itself) first (h.from s source its up_itself) in
+          subst (λ j. h.base + y.stretch.calls s * period source.every ≤ raises s j) (sym count) by
+
+      soon : y.stretch.calls s < calls_within source.every longest → y.time ≤ raises s (y.calls s) + start
+      soon few = let by = raised in let early = p.soon h.kept few in let ticks = h.ticks in omega (arith, by, early, ticks)
+
+      late : (t : ℕ) → source.every ≡ Some t → (l : Bool) → nat_le (y.stretch.calls s * t) longest ≡ l → y.time ≤ raises s (y.calls s) + start
+      late t e true l =
+          let least : IsApart (Some t) (raises s) = subst (λ o. IsApart o (raises s)) e (apart s source its up_itself) in
+          let fits = le-div (y.stretch.calls s) longest t least.0 (leb-true (y.stretch.calls s * t) longest l) in
+          let few : y.stretch.calls s < calls_within (Some t) longest = omega (arith, fits) in
+          soon (subst (λ o. y.stretch.calls s < calls_within o longest) (sym e) few)
+      late t e false l =
+          let by : h.base + y.stretch.calls s * t ≤ raises s (y.calls s) = subst (λ o. h.base + y.stretch.calls s * period o ≤ raises s (y.calls s)) e raised in
+          let over = leb-false (y.stretch.calls s * t) longest l in
+          let short = p.ended h.kept in
+          let ticks = h.ticks in
+          absurd (omega (arith, by, over, short, ticks, passed))
+
+      go : (o : Option ℕ) → source.every ≡ o → y.time ≤ raises s (y.calls s) + start
+      go None e = let none = first e in soon (subst (λ o. y.stretch.calls s < calls_within o longest) (sym e) (omega (arith, none)))
+      go (Some t) e = late t e (nat_le (y.stretch.calls s * t) longest) refl
+
+  -- along a run in which the costs of services stay
+  module _ (ks : List Bounds) (cover : AreCovered ks ts)
+      (own : (i j : ℕ) (t u : Source) → slice_get ts i ≡ Some t → slice_get ts j ≡ Some u → t.bit ≡ u.bit → i ≡ j)
+      (longest : ℕ) (holds : IsEnough (stretch_wants ts source.bit) longest)
+      (starts : (n : ℕ) → 1 ≤ n → n ≤ calls_within source.every longest → StartsWithin ts source n ((n - 1) * period source.every + start))
+      (pauses : Pauses) where
+    abbrev Known : Option Progress → Clock → Type 0
+    Known o y = Timed ks ts cover own s source its longest holds o y.stretch
+
+    -- the service in progress before a pause; there is none after it
+    abbrev before_pause : ℕ → Option Progress → Option Progress
+    before_pause zero o = o
+    before_pause (suc d) o = None
+
+    known_paused : (d : ℕ) (o : Option Progress) (y : Clock) → Known o y → Known (before_pause d o) (paused d y)
+    known_paused zero o y t = t
+    known_paused (suc d) o y t = timed_first ks ts cover own s source its longest holds
+
+    abbrev Waited : Clock → Type 0
+    Waited y = HasWaited raises s source start y
+
+    waited : (o : Option Progress) (y : Clock) → IsBegun y → Known o y → Waited y
+    waited o y h t = pends longest y h (pending_now ks ts cover own s source its longest holds start starts o y.stretch t)
+
+    -- a piece at this clock
+    on : (d : ℕ) (m : Moment) (y : Clock) (p : Piece) → IsBegun y → Known m.progress y → CostStays ks m p → CallsLowest ts nothing p → AskedOf d y p
+        → WaitsBy raises s source start y p × (IsBegun (ticked ts source.bit y p) × Known (moment_after m p).progress (ticked ts source.bit y p))
+    on d m y p h t c l r =
+        let after = begun_after d y p h l r in
+        let known = timed_after ks ts cover own s source its longest holds m y.stretch p t c in
+        let answers : AnswersBy ts s source start y.stretch p = piece_in_time ks ts cover own s source its longest holds start starts m y.stretch p t known c in
+        (waits_at d y p h after r answers, (after, known))
+
+    walk : {A : Type 0} (P : Moment → Stop → State → Type 0) (Q : Moment → A → Type 0) (m : Moment) (y : Clock) (b : Behaviour A) → IsBegun y → Known m.progress y
+        → Meets moment_after (CostStays ks) P Q m b
+        → Meets no_count (CallsLowest ts) AnyStop Any nothing b
+        → Meets (clock_after ts pauses source.bit) (AreRaised ts raises pauses source.bit) AnyStop Any y b
+        → Meets (clock_after ts pauses source.bit) (λ z p. Waited z × WaitsBy raises s source start (clock_at pauses z p) p) (λ z w t. Waited z) (λ z u. Waited z) y b
+    walk P Q m y (does (demanded p v) b) h t c l r =
+        let d : ℕ = pauses y.operations in
+        let z : Clock = paused d y in
+        let n = on d (record m { progress = before_pause d m.progress }) z (demanded p v) (begun_paused d y (r.0.quiet) h) (known_paused d m.progress y t) c.0 l.0 r.0 in
+        ((waited m.progress y h t, n.0), walk P Q (moment_after m (demanded p v)) (clock_after ts pauses source.bit y (demanded p v)) b n.1.0 n.1.1 c.1 l.1 r.1)
+    walk P Q m y (does (cycled a f d q w) b) h t c l r =
+        let n = on 0 m y (cycled a f d q w) h t c.0 l.0 tt in
+        ((waited m.progress y h t, n.0), walk P Q (moment_after m (cycled a f d q w)) (clock_after ts pauses source.bit y (cycled a f d q w)) b n.1.0 n.1.1 c.1 l.1 r.1)
+    walk P Q m y (does (lock_taken k w) b) h t c l r =
+        let n = on 0 m y (lock_taken k w) h t c.0 l.0 tt in
+        ((waited m.progress y h t, n.0), walk P Q (moment_after m (lock_taken k w)) (clock_after ts pauses source.bit y (lock_taken k w)) b n.1.0 n.1.1 c.1 l.1 r.1)
+    walk P Q m y (does (lock_released k) b) h t c l r =
+        let n = on 0 m y (lock_released k) h t c.0 l.0 tt in
+        ((waited m.progress y h t, n.0), walk P Q (moment_after m (lock_released k)) (clock_after ts pauses source.bit y (lock_released k)) b n.1.0 n.1.1 c.1 l.1 r.1)
+    walk P Q m y (does (event_left e) b) h t c l r =
+        let n = on 0 m y (event_left e) h t c.0 l.0 tt in
+        ((waited m.progress y h t, n.0), walk P Q (moment_after m (event_left e)) (clock_after ts pauses source.bit y (event_left e)) b n.1.0 n.1.1 c.1 l.1 r.1)
+    walk P Q m y (ends a) h t c l r = waited m.progress y h t
+    walk P Q m y (stops w z) h t c l r = waited m.progress y h t
+
+pub raised_are_answered : RaisedAreAnswered
+raised_are_answered plan is_plan script ks safe ts are s source its start by raises apart pauses answers modules =
+    let cover : AreCovered ks ts = covered ks ts are.cycles in
+    walk ts s source its start raises apart ks cover are.apart by.longest by.enough by.starts pauses
+    (λ m w z. InService ks m (StepsFit z)) Any (first_moment answers) at_start (the_run plan script answers)
+    (begun_first ts s source its start raises apart) (timed_first ks ts cover are.apart s source its by.longest by.enough)
+    (safe.cost_within answers) (lowest_are_called plan is_plan script ks ts are answers) modules

@@ -20,7 +20,8 @@ use Rattle.camac_response_times.specs.Rounds.{longest, response}
 use Rattle.camac_model.specs.Headline.{nothing}
 use Rattle.camac_response.specs.Stretch.{no_stretch, answers_watch, stretch_watch}
 use Rattle.camac_response.specs.Laws.{lowest_watch}
-use Rattle.camac_response.specs.Modules.{Raises, Pauses, AreApart, at_start, modules_watch, waits_watch}
+use Rattle.camac_response.specs.Modules.{Raises, Pauses, at_start, waits_watch}
+use Rattle.camac_response.specs.Lams.{Clears, Moods, lams_of, first_page, services_watch, ModulesKeep}
 
 -- a service has the name of its LAM
 abbrev pub service_name : Script → ℕ → Text
@@ -63,9 +64,12 @@ pub record AreTold (c : CheckedScript) (every : List Setting) (ts : List Source)
 
 -- What holds of every run of a checked script, at told rates, whatever the branch answers.
 pub record RunsRespond (c : CheckedScript) (ts : List Source) : Type 0 where
-  -- where modules keep to their rates, and a look-at-me stays until it is answered, each is answered in time
+  -- where services clear their own look-at-mes and hide none, and modules do what a user believes of them: each is answered in time, and none waits
+  -- longer
   pub look_at_mes : (s : ℕ) (source : Source) → slice_get ts s ≡ Some source → (start : ℕ) → response ts source ≡ Some start
-      → (raises : Raises) → AreApart ts raises → (pauses : Pauses) → (answers : List Answer) → Holds (modules_watch ts raises pauses source.bit) at_start (the_run c.plan c.script answers)
+      → (by_plan : Clears) (moods : Moods) (raises : Raises) (pauses : Pauses) (answers : List Answer)
+      → Holds (services_watch ts (lams_of c.script) by_plan source.bit) first_page (the_run c.plan c.script answers)
+      → ModulesKeep ts (lams_of c.script) by_plan moods raises pauses source.bit (the_run c.plan c.script answers)
       → Holds (waits_watch ts raises pauses s source start) at_start (the_run c.plan c.script answers)
   -- while the rates are kept by the calls, these and the ends of their services are in time
   pub calls : (s : ℕ) (source : Source) → slice_get ts s ≡ Some source → (start : ℕ) → response ts source ≡ Some start

@@ -12,7 +12,8 @@ use Rattle.camac_model.specs.Headline.{RunsSafely, no_count, nothing}
 use Rattle.camac_response_times.specs.declared.source.Source.{Source}
 use Rattle.camac_response_times.specs.Response.{stretch_wants, IsEnough, StartsBy}
 use Rattle.camac_response.specs.Stretch.{no_stretch, stretch_watch, answers_watch}
-use Rattle.camac_response.specs.Modules.{Raises, Pauses, AreApart, at_start, modules_watch, waits_watch}
+use Rattle.camac_response.specs.Modules.{Raises, Pauses, at_start, waits_watch}
+use Rattle.camac_response.specs.Lams.{Clears, Moods, lams_of, first_page, services_watch, ModulesKeep}
 
 -- these are the services of a script with their bounds, in their order, at any rates; each has a bit of its own
 pub record AreSources (plan : Layout) (script : Script) (ks : List Bounds) (ts : List Source) : Type 0 where
@@ -57,11 +58,13 @@ LowestAreCalled =
     (plan : Layout) → IsPlan plan → (script : Script) (ks : List Bounds) (ts : List Source) → AreSources plan script ks ts
     → (answers : List Answer) → Holds (lowest_watch ts) nothing (the_run plan script answers)
 
--- the law of look-at-mes: where modules keep to their rates, and a look-at-me stays until it is answered, each is answered in time, however long
--- the branch pauses where nothing is to be done
+-- the law of look-at-mes: where services clear their own look-at-mes and hide none, and modules do what a user believes of them, each look-at-me is
+-- answered in time, and none waits longer
 abbrev pub LookAtMesAreAnswered : Type 0
 LookAtMesAreAnswered =
     (plan : Layout) → IsPlan plan → (script : Script) (ks : List Bounds) → RunsSafely plan script ks → (ts : List Source) → AreSources plan script ks ts
     → (s : ℕ) (source : Source) → slice_get ts s ≡ Some source → (start : ℕ) → StartsBy ts source start
-    → (raises : Raises) → AreApart ts raises → (pauses : Pauses) → (answers : List Answer) → Holds (modules_watch ts raises pauses source.bit) at_start (the_run plan script answers)
+    → (by_plan : Clears) (moods : Moods) (raises : Raises) (pauses : Pauses) (answers : List Answer)
+    → Holds (services_watch ts (lams_of script) by_plan source.bit) first_page (the_run plan script answers)
+    → ModulesKeep ts (lams_of script) by_plan moods raises pauses source.bit (the_run plan script answers)
     → Holds (waits_watch ts raises pauses s source start) at_start (the_run plan script answers)

@@ -1,6 +1,9 @@
 pub mod Stretch
 pub mod Modules
+pub mod Lams
 pub mod Laws
+pub mod Served
+pub mod Reach
 pub mod Checked
 pub mod Lines
 pub mod Kept

@@ -1,6 +1,8 @@
 // Answers in time, each law as the contract of a function that does nothing.
 
 ghost use Rattle.camac_response.specs.Checked.{CheckedRespond, Responds};
+ghost use Rattle.camac_response.specs.Reach.{DecidedServe};
+ghost use Rattle.camac_response.specs.Served.{ClearsAlways, HarmlessServe, ServicesServe};
 ghost use Rattle.camac_response.specs.Laws.{AnswersInTime, LookAtMesAreAnswered, LowestAreCalled, StretchesEnd};
 
 use camac_checked::Checked;
@@ -21,10 +23,31 @@ pub fn lowest_are_called()
     ensures { LowestAreCalled }
 {}
 
-/// Where modules keep to their rates, and each look-at-me stays until it is answered: a service is called, and has ended, within the cycles of
-/// its response after its look-at-me was raised.
+/// Where services clear their own look-at-mes and hide none, and modules do what a user believes of them: a service is called, and has ended, within
+/// the cycles of its response after its look-at-me was raised; and at each moment no look-at-me has waited longer.
 pub fn look_at_mes_are_answered()
     ensures { LookAtMesAreAnswered }
+{}
+
+/// Where each service by itself clears its own look-at-me and no other, and hides none, all do so along every run.
+pub fn services_serve()
+    ensures { ServicesServe }
+{}
+
+/// A service whose tree has `cclc` for its look-at-me on every way has cleared it where it ends.
+pub fn clears_always()
+    ensures { ClearsAlways }
+{}
+
+/// Such a service, whose cycles clear no other look-at-me and hide none, does what is asked of it.
+pub fn harmless_serve()
+    ensures { HarmlessServe }
+{}
+
+/// Where each service makes only commands that clear no other look-at-me and hide none, and its tree clears its own, services do what is asked of
+/// them along every run.
+pub fn decided_serve()
+    ensures { DecidedServe }
 {}
 
 /// All of this of every checked script.

@@ -1,0 +1,212 @@
+-- A service whose tree clears its own look-at-me, and whose cycles are harmless, does what is asked of it.
+use Rattle.std.proofs.Common.{◌≡◌, ℕ, List, [], ◌∷◌, Option, Some, None, option_map, cond, find, Bool, true, false, refl, sym, ◌∙◌, ap, subst}
+use Rattle.std.specs.List.{list_all}
+use Rattle.std.specs.Prelude.{◌||◌, ◌&&◌, not, nat_eq, slice_get, if◌then◌else◌}
+use Rattle.std.proofs.lemmas.Bool.{and_parts, and_from, eq-eqb, eqb-true, true≢false}
+use Rattle.std.proofs.lemmas.Option.{same_Some}
+use Rattle.camac_lang.specs.declared.word.CrateCall.TheVariants as crate_word
+use Rattle.camac_lang.specs.declared.word.LamCall.TheVariants as lam_word
+use Rattle.camac_lang.specs.Tree.{Service, Script}
+use Rattle.camac_crate.specs.declared.command.ControllerOp.{ControllerOp}
+use Rattle.camac_crate.specs.declared.command.ControllerOp.TheVariants.{Initialise, Clear, ReadGl, InhibitOff, InhibitOn, TestInhibit, DemandOff, DemandOn, TestDemandOutput, TestDemand}
+use Rattle.camac_crate.specs.Controller.{ControllerCommand, controller_table, controller}
+use Rattle.camac_crate.specs.State.{CrateBits, effect}
+use Rattle.camac_branch.specs.Address.{Address}
+use Rattle.camac_branch.specs.Branch.{Branch, Answer, effect_in, branch_after}
+use Rattle.camac_branch.specs.Plan.{Layout}
+use Rattle.camac_model.specs.State.{State, fresh}
+use Rattle.camac_model.specs.Behaviour.{Piece, demanded, cycled, lock_taken, lock_released, event_left, Behaviour, does, ends, stops}
+use Rattle.camac_model.specs.Headline.{no_count, nothing}
+use Rattle.camac_model.specs.Meaning.{context}
+use Rattle.camac_model.specs.Moments.{Meets, Any, AnyStop}
+use Rattle.camac_model.specs.Run.{service_meaning}
+use Rattle.camac_model.proofs.Kept.{IsStepwise, Still, script_keeps}
+use Rattle.camac_model.proofs.Rounds.{meets_mapped}
+use Rattle.camac_response_times.specs.declared.source.Source.{Source}
+use Rattle.camac_response_times.specs.Response.{is_up_to}
+use Rattle.camac_response.specs.Lams.{Clears, Lams, lams_of, of_lam, is_lam_call, is_crate_call, enabled_by, Book, book_after, NoneHidden, IsAskedAgain, ServesWell}
+use Rattle.camac_response.specs.Served.{AnyPiece, hides, IsHarmless, Harmless, HarmlessServe}
+use Rattle.camac_response.proofs.Lams.{or_false}
+use Rattle.camac_response.proofs.Served.{block_done}
+
+-- what is found passes the test, and what all pass
+found_step : {X : Type 0} (test all : X → Bool) (x y : X) (rest : Option X) (b : Bool) → test x ≡ b → all x ≡ true
+    → (rest ≡ Some y → (test y ≡ true) × (all y ≡ true)) → cond b (Some x) rest ≡ Some y → (test y ≡ true) × (all y ≡ true)
+found_step test all x y rest true is every later e = let same : x ≡ y = same_Some x y e in (ap test (sym same) ∙ is, ap all (sym same) ∙ every)
+found_step test all x y rest false is every later e = later e
+
+found : {X : Type 0} (test all : X → Bool) (xs : List X) (y : X) → list_all all xs ≡ true → find test xs ≡ Some y → (test y ≡ true) × (all y ≡ true)
+found test all [] y every h = absurd (cc)
+found test all (x ∷ xs) y every h =
+    let both = and_parts (all x) (list_all all xs) every in found_step test all x y (find test xs) (test x) refl both.0 (found test all xs y both.1) h
+
+-- the numbers of the commands that hide
+is_own : ControllerOp → (station sub_address function : ℕ) → Bool
+is_own Initialise n a f = nat_eq 28 n && (nat_eq 8 a && nat_eq 26 f)
+is_own DemandOff n a f = nat_eq 30 n && (nat_eq 10 a && nat_eq 24 f)
+is_own op n a f = true
+
+has_own : ControllerCommand → Bool
+has_own c = is_own c.op c.station c.sub_address c.function
+
+all_have_own : list_all has_own controller_table ≡ true
+unfolding has_own is_own
+all_have_own = refl
+
+same_number : (m n : ℕ) → nat_eq m n ≡ true → nat_eq n m ≡ true
+same_number m n e = eq-eqb n m (sym (eqb-true m n e))
+
+-- a command of the controller has its numbers
+own_numbers : (n a f : ℕ) (op : ControllerOp) (o : Option ControllerCommand) → find (λ c. nat_eq c.station n && (nat_eq c.sub_address a && nat_eq c.function f)) controller_table ≡ o
+    → option_map (λ c. c.op) o ≡ Some op → is_own op n a f ≡ true
+unfolding has_own
+own_numbers n a f op None at e = absurd (cc)
+own_numbers n a f op (Some c) at e =
+    let test : ControllerCommand → Bool = λ c. nat_eq c.station n && (nat_eq c.sub_address a && nat_eq c.function f) in
+    let both = found test has_own controller_table c all_have_own at in
+    let parts = and_parts (nat_eq c.station n) (nat_eq c.sub_address a && nat_eq c.function f) both.0 in
+    let others = and_parts (nat_eq c.sub_address a) (nat_eq c.function f) parts.1 in
+    let op' : c.op ≡ op = same_Some c.op op e in
+    subst (λ k. is_own k n a f ≡ true) op'
+    (subst (λ k. is_own c.op k a f ≡ true) (eqb-true c.station n parts.0)
+    (subst (λ k. is_own c.op c.station k f ≡ true) (eqb-true c.sub_address a others.0)
+    (subst (λ k. is_own c.op c.station c.sub_address k ≡ true) (eqb-true c.function f others.1) both.1)))
+
+own_of : (n a f : ℕ) (op : ControllerOp) → controller n a f ≡ Some op → is_own op n a f ≡ true
+own_of n a f op e = own_numbers n a f op (find (λ c. nat_eq c.station n && (nat_eq c.sub_address a && nat_eq c.function f)) controller_table) refl e
+
+-- in the look-at-me's crate they are the calls that hide it
+initialises : (lam at : Address) (f : ℕ) → nat_eq lam.crate_no at.crate_no ≡ true → controller at.station at.sub_address f ≡ Some Initialise → is_crate_call crate_word.Initialise lam at f ≡ true
+unfolding is_own
+initialises lam at f same e =
+    let parts = and_parts (nat_eq 28 at.station) (nat_eq 8 at.sub_address && nat_eq 26 f) (own_of at.station at.sub_address f Initialise e) in
+    let others = and_parts (nat_eq 8 at.sub_address) (nat_eq 26 f) parts.1 in
+    and_from ((nat_eq lam.crate_no at.crate_no && nat_eq 28 at.station) && nat_eq 8 at.sub_address) (nat_eq f 26)
+    (and_from (nat_eq lam.crate_no at.crate_no && nat_eq 28 at.station) (nat_eq 8 at.sub_address) (and_from (nat_eq lam.crate_no at.crate_no) (nat_eq 28 at.station) same parts.0) others.0)
+    (same_number 26 f others.1)
+
+turns_off : (lam at : Address) (f : ℕ) → nat_eq lam.crate_no at.crate_no ≡ true → controller at.station at.sub_address f ≡ Some DemandOff → is_crate_call crate_word.DemandOff lam at f ≡ true
+unfolding is_own
+turns_off lam at f same e =
+    let parts = and_parts (nat_eq 30 at.station) (nat_eq 10 at.sub_address && nat_eq 24 f) (own_of at.station at.sub_address f DemandOff e) in
+    let others = and_parts (nat_eq 10 at.sub_address) (nat_eq 24 f) parts.1 in
+    and_from ((nat_eq lam.crate_no at.crate_no && nat_eq 30 at.station) && nat_eq 10 at.sub_address) (nat_eq f 24)
+    (and_from (nat_eq lam.crate_no at.crate_no && nat_eq 30 at.station) (nat_eq 10 at.sub_address) (and_from (nat_eq lam.crate_no at.crate_no) (nat_eq 30 at.station) same parts.0) others.0)
+    (same_number 24 f others.1)
+
+-- any other leaves the demand output on
+still_on : (op : ControllerOp) (bits : CrateBits) → (op ≡ Initialise → ⊥) → (op ≡ DemandOff → ⊥) → bits.demand ≡ true → (effect op bits).demand ≡ true
+still_on Initialise bits not_z not_off on = absurd (not_z refl)
+still_on DemandOff bits not_z not_off on = absurd (not_off refl)
+still_on Clear bits not_z not_off on = on
+still_on ReadGl bits not_z not_off on = on
+still_on InhibitOff bits not_z not_off on = on
+still_on InhibitOn bits not_z not_off on = on
+still_on TestInhibit bits not_z not_off on = on
+still_on DemandOn bits not_z not_off on = refl
+still_on TestDemandOutput bits not_z not_off on = on
+still_on TestDemand bits not_z not_off on = on
+
+stays_on : (lam at : Address) (f : ℕ) (crates : Branch) → (crates lam.crate_no).bits.demand ≡ true → is_crate_call crate_word.Initialise lam at f ≡ false → is_crate_call crate_word.DemandOff lam at f ≡ false
+    → (branch_after at f crates lam.crate_no).bits.demand ≡ true
+stays_on lam at f crates on not_z not_off = go (controller at.station at.sub_address f) refl
+  where
+    in_crate : (op : ControllerOp) → controller at.station at.sub_address f ≡ Some op → (b : Bool) → nat_eq lam.crate_no at.crate_no ≡ b
+        → (if b then record (crates at.crate_no) { bits = effect op (crates at.crate_no).bits } else crates lam.crate_no).bits.demand ≡ true
+    in_crate op e false other = on
+    in_crate op e true same =
+        still_on op (crates at.crate_no).bits (λ z. true≢false (sym (initialises lam at f same (e ∙ ap Some z)) ∙ not_z)) (λ z. true≢false (sym (turns_off lam at f same (e ∙ ap Some z)) ∙ not_off))
+        (subst (λ c. (crates c).bits.demand ≡ true) (eqb-true lam.crate_no at.crate_no same) on)
+
+    go : (o : Option ControllerOp) → controller at.station at.sub_address f ≡ o → (effect_in at.crate_no o crates lam.crate_no).bits.demand ≡ true
+    go None e = on
+    go (Some op) e = in_crate op e (nat_eq lam.crate_no at.crate_no) refl
+
+stays_enabled : (e x d z : Bool) → e ≡ true → d ≡ false → z ≡ false → ((e || x) && not (d || z)) ≡ true
+stays_enabled true x false false e d z = refl
+stays_enabled true x false true e d z = absurd (cc)
+stays_enabled true x true z' e d z = absurd (cc)
+stays_enabled false x d' z' e d z = absurd (cc)
+
+shown_after : (o : Option Address) (at : Address) (f : ℕ) (enabled : Bool) (crates : Branch) → of_lam (λ lam. enabled && (crates lam.crate_no).bits.demand) o ≡ true → of_lam (λ lam. hides lam at f) o ≡ false
+    → of_lam (λ lam. enabled_by o at f enabled && (branch_after at f crates lam.crate_no).bits.demand) o ≡ true
+shown_after None at f enabled crates shown not = shown
+shown_after (Some lam) at f enabled crates shown not =
+    let both = and_parts enabled (crates lam.crate_no).bits.demand shown in
+    let none = or_false (is_lam_call lam_word.Disable lam at f) (is_crate_call crate_word.Initialise lam at f || is_crate_call crate_word.DemandOff lam at f) not in
+    let neither = or_false (is_crate_call crate_word.Initialise lam at f) (is_crate_call crate_word.DemandOff lam at f) none.1 in
+    and_from (enabled_by (Some lam) at f enabled) (branch_after at f crates lam.crate_no).bits.demand
+    (stays_enabled enabled (is_lam_call lam_word.Enable lam at f) (is_lam_call lam_word.Disable lam at f) (is_crate_call crate_word.Initialise lam at f) both.0 none.0 neither.0)
+    (stays_on lam at f crates both.1 neither.0 neither.1)
+
+-- a service makes no operation
+abbrev NoOperation : Unit {0} → Piece → Type 0
+NoOperation u (demanded p v) = ⊥
+NoOperation u (cycled at f d r w) = Unit {0}
+NoOperation u (lock_taken c w) = Unit {0}
+NoOperation u (lock_released c) = Unit {0}
+NoOperation u (event_left e) = Unit {0}
+
+abbrev AnyState : Unit {0} → State → Type 0
+AnyState u s = Unit {0}
+
+stepwise : IsStepwise no_count NoOperation AnyState
+stepwise = record {
+  on_step = λ x s i. tt;
+  on_store = λ x env regs s i. tt;
+  on_word = λ x w s i. tt;
+  on_cycle = λ x at f d r a rest s e i. (tt, tt);
+  on_lock = λ x c a rest s e free i. (tt, tt);
+  on_release = λ x c s i. (tt, tt);
+}
+
+no_operation : (plan : Layout) (script : Script) (v : Service) (b : Branch) (answers : List Answer) → Meets no_count NoOperation AnyStop Any nothing (service_meaning (context plan script) 65535 v b answers)
+no_operation plan script v b answers =
+    meets_mapped no_count NoOperation (Still no_count NoOperation AnyState) NoOperation AnyStop AnyState Any (λ x p h. h) (λ x w s h. tt) (λ x s h. tt) nothing (service_meaning (context plan script) 65535 v b answers)
+    (script_keeps no_count NoOperation AnyState stepwise plan script v.body 65535 nothing (fresh b answers) tt)
+
+module _ (ts : List Source) (lams : Lams) (by_plan : Clears) (g i : ℕ) where
+  abbrev turn : Book → Piece → Book
+  turn = book_after lams by_plan
+
+  -- it has cleared its look-at-me, if its bit is meant
+  abbrev Cleared : Book → State → Type 0
+  Cleared x s = (t : Source) → slice_get ts i ≡ Some t → is_up_to g t ≡ true → x.has_cleared ≡ true
+
+  all_meet : (Q : Book → State → Type 0) → ((y : Book) (s : State) → Q y s) → (x : Book) (b : Behaviour State) → Meets turn AnyPiece AnyStop Q x b
+  all_meet Q h x (does p b) = (tt, all_meet Q h (turn x p) b)
+  all_meet Q h x (ends s) = h x s
+  all_meet Q h x (stops w s) = tt
+
+  cleared_if : (x : Book) (b : Behaviour State) (o : Option Source) → slice_get ts i ≡ o
+      → ((t : Source) → slice_get ts i ≡ Some t → is_up_to g t ≡ true → Meets turn AnyPiece AnyStop (λ y s. y.has_cleared ≡ true) x b) → Meets turn AnyPiece AnyStop Cleared x b
+  cleared_if x b None e h = all_meet Cleared (λ y s t it up. absurd (none_some t (sym e ∙ it))) x b
+    where
+      none_some : (t : Source) → None ≡ Some t → ⊥
+      none_some t f = absurd (cc)
+  cleared_if x b (Some t) e h = go (is_up_to g t) refl
+    where
+      go : (m : Bool) → is_up_to g t ≡ m → Meets turn AnyPiece AnyStop Cleared x b
+      go true up =
+          meets_mapped turn AnyPiece AnyStop AnyPiece AnyStop (λ y s. y.has_cleared ≡ true) Cleared (λ y p k. k) (λ y w s k. k) (λ y s k t' it' up'. k) x b (h t e up)
+      go false up = all_meet Cleared (λ y s t' it' up'. absurd (true≢false (sym up' ∙ ap (is_up_to g) (same_Some t' t (sym it' ∙ e)) ∙ up))) x b
+
+  combine : (x : Book) (b : Behaviour State) → x.called ≡ Some i → NoneHidden ts lams g x → Meets no_count NoOperation AnyStop Any nothing b → Meets no_count (Harmless ts lams by_plan g i) AnyStop Any nothing b
+      → Meets turn AnyPiece AnyStop Cleared x b → Meets turn (ServesWell ts lams by_plan g) AnyStop (λ y s. IsAskedAgain ts lams g y) x b
+  combine x (does (demanded p v) b) ours shown none harmless clear = absurd none.0
+  combine x (does (cycled at f d r w) b) ours shown none harmless clear =
+      let h : IsHarmless ts lams by_plan g i at f = harmless.0 in (
+        λ j t it up other. h.clears_no_other j t it up (λ e. other (ours ∙ ap Some e)),
+        combine (turn x (cycled at f d r w)) b ours (λ j t it up. shown_after (lams j) at f (x.enabled j) x.crates (shown j t it up) (h.hides_none j t it up)) none.1 harmless.1 clear.1,
+      )
+  combine x (does (lock_taken c w) b) ours shown none harmless clear = (tt, combine x b ours shown none.1 harmless.1 clear.1)
+  combine x (does (lock_released c) b) ours shown none harmless clear = (tt, combine x b ours shown none.1 harmless.1 clear.1)
+  combine x (does (event_left e) b) ours shown none harmless clear = (tt, combine x b ours shown none.1 harmless.1 clear.1)
+  combine x (ends s) ours shown none harmless clear = record { cleared = λ j t it up e. clear t (ap (slice_get ts) (same_Some i j (sym ours ∙ e)) ∙ it) up; shown = shown }
+  combine x (stops w s) ours shown none harmless clear = tt
+
+pub harmless_serve : HarmlessServe
+harmless_serve plan script ts by_plan g i v lam its clears harmless page called shown b answers =
+    combine ts (lams_of script) by_plan g i page (service_meaning (context plan script) 65535 v b answers) called shown (no_operation plan script v b answers) (harmless b answers)
+    (cleared_if ts (lams_of script) by_plan g i page (service_meaning (context plan script) 65535 v b answers) (slice_get ts i) refl
+    (λ t it up. block_done plan script by_plan i lam its 65535 v.body page (fresh b answers) (clears t it up) called))

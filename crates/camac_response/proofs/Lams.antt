@@ -1,0 +1,282 @@
+-- Where services clear their own look-at-mes and hide none, a call is for a look-at-me that was raised, and one that was raised stays until it is answered.
+use Rattle.std.proofs.Common.{◌≡◌, ℕ, ◌+◌, ◌<◌, ◌≤◌, List, Option, Some, None, Bool, true, false, refl, sym, ◌∙◌, ap, subst, arith, ◌⊎◌, inl, inr}
+use Rattle.std.specs.Prelude.{◌||◌, ◌&&◌, nat_eq, nat_lt, slice_get, option_and_then, if◌then◌else◌}
+use Rattle.std.proofs.lemmas.Bool.{and_parts, eq-eqb, eqb-true, ltb-true, ltb-false, true≢false}
+use Rattle.std.proofs.lemmas.Option.{same_Some}
+use Rattle.camac_branch.specs.Address.{Address}
+use Rattle.camac_branch.specs.Branch.{IsSet}
+use Rattle.camac_model.specs.Behaviour.{Piece, demanded, cycled, lock_taken, lock_released, event_left, Behaviour, does, ends, stops}
+use Rattle.camac_model.specs.Moments.{Meets, Any, AnyStop}
+use Rattle.camac_model.specs.Headline.{no_count, nothing}
+use Rattle.camac_model.specs.Run.{the_run}
+use Rattle.camac_response_times.specs.declared.source.Source.{Source}
+use Rattle.camac_response_times.specs.Response.{is_up_to}
+use Rattle.camac_response.specs.Modules.{Raises, Pauses, paused, clock_after, IsOnce}
+use Rattle.camac_response.specs.Lams.{Clears, Moods, Lams, of_lam, clears, may_clear, book_after, IsAskedAgain, ServesWell, ClearsNoOther, Wires, first_wires, clears_now, cleared_by, wires_after, AtOperation, AtCycle, RaisesAfter, IsOfLams, IsQuiet, lams_of}
+use Rattle.camac_response.specs.Laws.{CallsLowest, IsLowest, LookAtMesAreAnswered}
+use Rattle.camac_response.proofs.Sources.{one_more_at}
+use Rattle.camac_response.proofs.Lowest.{lowest_are_called}
+use Rattle.camac_response.proofs.Raised.{IsRaised, AreRaised}
+use Rattle.camac_response.proofs.Waits.{raised_are_answered}
+
+-- the service that was called last, or another one
+by_call : (o : Option ℕ) (i : ℕ) (P : Type 0) → (o ≡ Some i → P) → ((o ≡ Some i → ⊥) → P) → P
+by_call None i P own other = other (λ e. absurd (cc))
+by_call (Some j) i P own other = go (nat_eq j i) refl
+  where
+    go : (b : Bool) → nat_eq j i ≡ b → P
+    go true e = own (ap Some (eqb-true j i e))
+    go false e = other (λ same. true≢false (sym (eq-eqb j i (same_Some j i same)) ∙ e))
+
+pub by_bool : (b : Bool) (P : Type 0) → (b ≡ true → P) → (b ≡ false → P) → P
+by_bool true P if_true if_false = if_true refl
+by_bool false P if_true if_false = if_false refl
+
+pub or_false : (a b : Bool) → (a || b) ≡ false → (a ≡ false) × (b ≡ false)
+or_false true b e = absurd (cc)
+or_false false b e = (refl, e)
+
+or_rest : (a b : Bool) → (a || b) ≡ true → b ≡ false → a ≡ true
+or_rest true b e f = refl
+or_rest false b e f = absurd (true≢false (sym e ∙ f))
+
+first_false : (a b : Bool) → (a || b) ≡ false → a ≡ false
+first_false a b e = (or_false a b e).0
+
+pub or_first : (a b : Bool) → a ≡ true → (a || b) ≡ true
+or_first true b e = refl
+or_first false b e = absurd (cc)
+
+-- what clears a look-at-me may clear it
+cleared_may : (by_plan : Clears) (o : Option Address) (at : Address) (f : ℕ) → of_lam (λ lam. clears by_plan lam at f) o ≡ true → of_lam (λ lam. may_clear by_plan lam at f) o ≡ true
+cleared_may by_plan None at f e = e
+cleared_may by_plan (Some lam) at f e = or_first (clears by_plan lam at f) _ e
+
+kept_not : (by_plan : Clears) (o : Option Address) (at : Address) (f : ℕ) → of_lam (λ lam. may_clear by_plan lam at f) o ≡ false → of_lam (λ lam. clears by_plan lam at f) o ≡ false
+kept_not by_plan None at f e = e
+kept_not by_plan (Some lam) at f e = first_false (clears by_plan lam at f) _ e
+
+neither : (a b c : Bool) → a ≡ false → b ≡ false → (a || (b && c)) ≡ false
+neither true b c e e' = absurd (cc)
+neither false true c e e' = absurd (cc)
+neither false false c e e' = refl
+
+-- what clears it now may clear it
+some_way : (a b c : Bool) → (a ≡ true → b ≡ true) → (a || (b && c)) ≡ true → b ≡ true
+some_way true b c h e = h refl
+some_way false b c h e = (and_parts b c e).0
+
+-- a command that does not clear it, or comes before it was raised, leaves it
+cleared_none : (c : Bool) (raised : ℕ → ℕ) (n k : ℕ) → c ≡ false → cleared_by c raised n k ≡ k
+cleared_none true raised n k e = absurd (cc)
+cleared_none false raised n k e = refl
+
+cleared_early : (c : Bool) (raised : ℕ → ℕ) (n k : ℕ) → n ≤ raised k → cleared_by c raised n k ≡ k
+cleared_early false raised n k late = refl
+cleared_early true raised n k late = go (nat_lt (raised k) n) refl
+  where
+    go : (b : Bool) → nat_lt (raised k) n ≡ b → (if b then k + 1 else k) ≡ k
+    go true e = let less = ltb-true (raised k) n e in absurd (omega (arith, less, late))
+    go false e = refl
+
+cleared_one : (c : Bool) (raised : ℕ → ℕ) (n k : ℕ) → c ≡ true → raised k < n → cleared_by c raised n k ≡ k + 1
+cleared_one false raised n k e early = absurd (cc)
+cleared_one true raised n k e early = go (nat_lt (raised k) n) refl
+  where
+    go : (b : Bool) → nat_lt (raised k) n ≡ b → (if b then k + 1 else k) ≡ k + 1
+    go true e = refl
+    go false e = let most = ltb-false (raised k) n e in absurd (omega (arith, most, early))
+
+module _ (ts : List Source) (lams : Lams) (by_plan : Clears) (moods : Moods) (raises : Raises) (pauses : Pauses) (g : ℕ) where
+  -- the call in progress has not cleared its look-at-me yet, or has
+  abbrev Own : Wires → ℕ → Type 0
+  Own x i = ((x.cleared i + 1 ≡ x.clock.calls i) × (raises i (x.cleared i) ≤ x.clock.time)) ⊎ (x.cleared i ≡ x.clock.calls i)
+
+  -- Each call has cleared one look-at-me, but for the last one, which may not have cleared its own yet.
+  pub record Agrees (x : Wires) : Type 0 where
+    pub others : (i : ℕ) (t : Source) → slice_get ts i ≡ Some t → is_up_to g t ≡ true → (x.book.called ≡ Some i → ⊥) → x.cleared i ≡ x.clock.calls i
+    pub next : (i : ℕ) (t : Source) → slice_get ts i ≡ Some t → is_up_to g t ≡ true → x.book.called ≡ Some i → x.next i ≡ x.clock.calls i
+    pub own : (i : ℕ) (t : Source) → slice_get ts i ≡ Some t → is_up_to g t ≡ true → x.book.called ≡ Some i → Own x i
+    pub closed : (i : ℕ) (t : Source) → slice_get ts i ≡ Some t → is_up_to g t ≡ true → x.book.called ≡ Some i → x.book.has_cleared ≡ true → x.cleared i ≡ x.clock.calls i
+
+  -- where the branch is asked again, each call has
+  settled : (x : Wires) → Agrees x → IsAskedAgain ts lams g x.book → (i : ℕ) (t : Source) → slice_get ts i ≡ Some t → is_up_to g t ≡ true → x.cleared i ≡ x.clock.calls i
+  settled x h care i t at up =
+      by_call x.book.called i (x.cleared i ≡ x.clock.calls i) (λ e. h.closed i t at up e (care.cleared i t at up e)) (h.others i t at up)
+
+  -- the service that is called has its bit in the pattern
+  asked : (p j : ℕ) → IsLowest ts p j → (i : ℕ) (t : Source) → slice_get ts i ≡ Some t → j ≡ i → IsSet p t.bit
+  asked p j lowest i t at e =
+      let same : lowest.source ≡ t = same_Some lowest.source t (sym lowest.numbered ∙ ap (slice_get ts) e ∙ at) in
+      subst (λ u. IsSet p u.bit) same lowest.asked
+
+  -- what the law of look-at-mes asks of an operation
+  raised_at : (x : Wires) (p : ℕ) (v : Option ℕ) → Agrees x → IsAskedAgain ts lams g x.book → IsOnce ts g (paused (pauses x.clock.operations) x.clock).stretch v
+      → IsOfLams ts lams raises g x (paused (pauses x.clock.operations) x.clock) p → IsQuiet ts raises g x (pauses x.clock.operations) (paused (pauses x.clock.operations) x.clock)
+      → ((i : ℕ) (t : Source) → v ≡ Some i → slice_get ts i ≡ Some t → IsSet p t.bit)
+      → IsRaised ts raises g (pauses x.clock.operations) (paused (pauses x.clock.operations) x.clock) p v
+  raised_at x p v h care once r quiet in_pattern =
+      let n : ℕ = (paused (pauses x.clock.operations) x.clock).time in
+      record {
+        quiet = λ i t at up pause. subst (λ k. n ≤ raises i k) (settled x h care i t at up) (quiet i t at up pause);
+        raised = λ i t e at up. subst (λ k. raises i k ≤ n) (settled x h care i t at up) (r.only i t at up (in_pattern i t e at));
+        stays = λ i t at up less. r.up i t at up (care.shown i t at up) (subst (λ k. raises i k < n) (sym (settled x h care i t at up)) less);
+        once = once;
+      }
+
+  after_none : (x : Wires) (p : ℕ) → Agrees x → IsAskedAgain ts lams g x.book → Agrees (wires_after ts lams by_plan moods raises pauses g x (demanded p None))
+  after_none x p h care = record {
+    others = λ i t at up not. settled x h care i t at up;
+    next = λ i t at up e. absurd (cc);
+    own = λ i t at up e. absurd (cc);
+    closed = λ i t at up e yes. absurd (cc);
+  }
+
+  after_call : (x : Wires) (p j : ℕ) → Agrees x → IsAskedAgain ts lams g x.book → IsLowest ts p j
+      → IsOfLams ts lams raises g x (paused (pauses x.clock.operations) x.clock) p
+      → Agrees (wires_after ts lams by_plan moods raises pauses g x (demanded p (Some j)))
+  after_call x p j h care lowest r = record {
+    others = λ i t at up not. one_more_at j x.clock.calls i (λ n. x.cleared i ≡ n) (λ e. absurd (not (ap Some (sym e)))) (settled x h care i t at up);
+    next = λ i t at up e.
+        let own : nat_eq i j ≡ true = eq-eqb i j (sym (same_Some j i e)) in
+        let one : x.cleared i ≡ x.clock.calls i = settled x h care i t at up in
+        ap (λ b. if b then x.cleared i + 1 else x.next i) own ∙ ap (λ n. n + 1) one ∙ sym (ap (λ b. if b then x.clock.calls i + 1 else x.clock.calls i) own);
+    own = λ i t at up e.
+        let own : nat_eq i j ≡ true = eq-eqb i j (sym (same_Some j i e)) in
+        let one : x.cleared i ≡ x.clock.calls i = settled x h care i t at up in
+        inl (ap (λ n. n + 1) one ∙ sym (ap (λ b. if b then x.clock.calls i + 1 else x.clock.calls i) own), r.only i t at up (asked p j lowest i t at (same_Some j i e)));
+    closed = λ i t at up e yes. absurd (cc);
+  }
+
+  after_cycle : (x : Wires) (at : Address) (f w : ℕ) → Agrees x → ClearsNoOther ts lams by_plan g x.book at f → RaisesAfter ts lams by_plan raises g x at f w
+      → (x' : Wires) → x'.clock.time ≡ x.clock.time + (1 + w) → x'.clock.calls ≡ x.clock.calls → x'.book.called ≡ x.book.called
+      → x'.book.has_cleared ≡ (x.book.has_cleared || of_lam (λ lam. clears by_plan lam at f) (option_and_then lams x.book.called)) → x'.next ≡ x.next
+      → ((i : ℕ) → x'.cleared i ≡ cleared_by (clears_now lams by_plan moods at f (x.clock.time + (1 + w)) i) (raises i) (x.clock.time + (1 + w)) (x.cleared i)) → Agrees x'
+  after_cycle x at f w h care r x' time calls called has next cleared = record {
+    others = λ i t it up not.
+        let none = not_now i (care i t it up (λ e. not (called ∙ e))) in
+        cleared i ∙ cleared_none (now i) (raises i) n (x.cleared i) none ∙ h.others i t it up (λ e. not (called ∙ e)) ∙ sym (calls_at i);
+    next = λ i t it up e. ap (λ k. k i) next ∙ h.next i t it up (sym called ∙ e) ∙ sym (calls_at i);
+    own = λ i t it up e. let e' : x.book.called ≡ Some i = sym called ∙ e in goes_on i t it up e' (h.own i t it up e') (now i) refl;
+    closed = λ i t it up e yes.
+        let e' : x.book.called ≡ Some i = sym called ∙ e in
+        by_bool (test i) (x'.cleared i ≡ x'.clock.calls i)
+        (λ clear. done_now i t it up e' (or_first (test i) _ clear) (h.own i t it up e'))
+        (λ clear.
+        let done = h.closed i t it up e' (or_rest x.book.has_cleared (test i) (sym (has_at i e') ∙ yes) clear) in
+        by_bool (now i) (x'.cleared i ≡ x'.clock.calls i) (λ clear'. done_now i t it up e' clear' (inr done))
+        (λ clear'. cleared i ∙ cleared_none (now i) (raises i) n (x.cleared i) clear' ∙ done ∙ sym (calls_at i)));
+  }
+    where
+      n : ℕ
+      n = x.clock.time + (1 + w)
+
+      test : ℕ → Bool
+      test i = of_lam (λ lam. clears by_plan lam at f) (lams i)
+
+      may : ℕ → Bool
+      may i = of_lam (λ lam. may_clear by_plan lam at f) (lams i)
+
+      now : ℕ → Bool
+      now i = test i || (may i && moods i n)
+
+      not_now : (i : ℕ) → may i ≡ false → now i ≡ false
+      not_now i e = neither (test i) (may i) (moods i n) (kept_not by_plan (lams i) at f e) e
+
+      calls_at : (i : ℕ) → x'.clock.calls i ≡ x.clock.calls i
+      calls_at i = ap (λ k. k i) calls
+
+      has_at : (i : ℕ) → x.book.called ≡ Some i → x'.book.has_cleared ≡ (x.book.has_cleared || test i)
+      has_at i e = has ∙ ap (λ o. x.book.has_cleared || of_lam (λ lam. clears by_plan lam at f) (option_and_then lams o)) e
+
+      -- the module raises no other look-at-me before the end of this cycle
+      late : (i : ℕ) (t : Source) → slice_get ts i ≡ Some t → is_up_to g t ≡ true → x.book.called ≡ Some i → now i ≡ true → n ≤ raises i (x.clock.calls i)
+      late i t it up e clear = subst (λ k. n ≤ raises i k) (h.next i t it up e) (r i t it up e (some_way (test i) (may i) (moods i n) (cleared_may by_plan (lams i) at f) clear))
+
+      -- where it clears the look-at-me, that is cleared, once
+      done_now : (i : ℕ) (t : Source) → slice_get ts i ≡ Some t → is_up_to g t ≡ true → x.book.called ≡ Some i → now i ≡ true → Own x i → x'.cleared i ≡ x'.clock.calls i
+      done_now i t it up e clear (inl before) =
+          let most : raises i (x.cleared i) ≤ x.clock.time = before.1 in
+          let early : raises i (x.cleared i) < n = omega (arith, most) in
+          cleared i ∙ cleared_one (now i) (raises i) n (x.cleared i) clear early ∙ before.0 ∙ sym (calls_at i)
+      done_now i t it up e clear (inr done) =
+          cleared i ∙ cleared_early (now i) (raises i) n (x.cleared i) (subst (λ k. n ≤ raises i k) (sym done) (late i t it up e clear)) ∙ done ∙ sym (calls_at i)
+
+      goes_on : (i : ℕ) (t : Source) → slice_get ts i ≡ Some t → is_up_to g t ≡ true → x.book.called ≡ Some i → Own x i → (b : Bool) → now i ≡ b → Own x' i
+      goes_on i t it up e own true clear = inr (done_now i t it up e clear own)
+      goes_on i t it up e (inl before) false clear =
+          let same : x'.cleared i ≡ x.cleared i = cleared i ∙ cleared_none (now i) (raises i) n (x.cleared i) clear in
+          let most : raises i (x.cleared i) ≤ x.clock.time = before.1 in
+          let later : raises i (x.cleared i) ≤ x'.clock.time = omega (arith, most, time) in
+          inl (ap (λ k. k + 1) same ∙ before.0 ∙ sym (calls_at i), subst (λ k. raises i k ≤ x'.clock.time) (sym same) later)
+      goes_on i t it up e (inr done) false clear =
+          inr (cleared i ∙ cleared_none (now i) (raises i) n (x.cleared i) clear ∙ done ∙ sym (calls_at i))
+
+  -- a piece that clears nothing
+  after_other : (x x' : Wires) → Agrees x → x.clock.time ≤ x'.clock.time → x'.clock.calls ≡ x.clock.calls → x'.book ≡ x.book → x'.next ≡ x.next → ((i : ℕ) → x'.cleared i ≡ x.cleared i) → Agrees x'
+  after_other x x' h time calls book next cleared = record {
+    others = λ i t at up not. cleared i ∙ h.others i t at up (λ e. not (ap (λ b. b.called) book ∙ e)) ∙ sym (ap (λ k. k i) calls);
+    next = λ i t at up e. ap (λ k. k i) next ∙ h.next i t at up (sym (ap (λ b. b.called) book) ∙ e) ∙ sym (ap (λ k. k i) calls);
+    own = λ i t at up e. as_before i (h.own i t at up (sym (ap (λ b. b.called) book) ∙ e));
+    closed = λ i t at up e yes.
+        cleared i ∙ h.closed i t at up (sym (ap (λ b. b.called) book) ∙ e) (sym (ap (λ b. b.has_cleared) book) ∙ yes) ∙ sym (ap (λ k. k i) calls);
+  }
+    where
+      as_before : (i : ℕ) → Own x i → Own x' i
+      as_before i (inl before) =
+          let most : raises i (x.cleared i) ≤ x.clock.time = before.1 in
+          let later : raises i (x.cleared i) ≤ x'.clock.time = omega (arith, most, time) in
+          inl (ap (λ k. k + 1) (cleared i) ∙ before.0 ∙ sym (ap (λ k. k i) calls), subst (λ k. raises i k ≤ x'.clock.time) (sym (cleared i)) later)
+      as_before i (inr done) = inr (cleared i ∙ done ∙ sym (ap (λ k. k i) calls))
+
+  abbrev Once : Wires → Piece → Type 0
+  Once = AtOperation pauses (λ x d y p v. IsOnce ts g y.stretch v)
+
+  abbrev Again : Wires → Piece → Type 0
+  Again = AtCycle (RaisesAfter ts lams by_plan raises g)
+
+  abbrev Shown : Wires → Piece → Type 0
+  Shown = AtOperation pauses (λ x d y p v. IsOfLams ts lams raises g x y p)
+
+  abbrev Alone : Wires → Piece → Type 0
+  Alone = AtOperation pauses (λ x d y p v. IsQuiet ts raises g x d y)
+
+  step : (x : Wires) (p : Piece) → Agrees x → CallsLowest ts nothing p → ServesWell ts lams by_plan g x.book p → Once x p → Again x p → Shown x p → Alone x p
+      → AreRaised ts raises pauses g x.clock p × Agrees (wires_after ts lams by_plan moods raises pauses g x p)
+  step x (demanded p None) h lowest care once again r quiet = (raised_at x p None h care once r quiet (λ i t e at. absurd (cc)), after_none x p h care)
+  step x (demanded p (Some j)) h lowest care once again r quiet =
+      (raised_at x p (Some j) h care once r quiet (λ i t e at. asked p j lowest i t at (same_Some j i e)), after_call x p j h care lowest r)
+  step x (cycled at f d q w) h lowest care once again r quiet =
+      (tt, after_cycle x at f w h care again (wires_after ts lams by_plan moods raises pauses g x (cycled at f d q w)) refl refl refl refl refl (λ i. refl))
+  step x (lock_taken c w) h lowest care once again r quiet =
+      (tt, after_other x (wires_after ts lams by_plan moods raises pauses g x (lock_taken c w)) h (omega arith) refl refl refl (λ i. refl))
+  step x (lock_released c) h lowest care once again r quiet =
+      (tt, after_other x (wires_after ts lams by_plan moods raises pauses g x (lock_released c)) h (omega arith) refl refl refl (λ i. refl))
+  step x (event_left e) h lowest care once again r quiet =
+      (tt, after_other x (wires_after ts lams by_plan moods raises pauses g x (event_left e)) h (omega arith) refl refl refl (λ i. refl))
+
+  abbrev Each : (Wires → Piece → Type 0) → Wires → Behaviour (Unit {0}) → Type 0
+  Each says x b = Meets (wires_after ts lams by_plan moods raises pauses g) says AnyStop Any x b
+
+  walk : (x : Wires) (b : Behaviour (Unit {0})) → Agrees x → Meets no_count (CallsLowest ts) AnyStop Any nothing b
+      → Meets (book_after lams by_plan) (ServesWell ts lams by_plan g) AnyStop Any x.book b → Each Once x b → Each Again x b → Each Shown x b → Each Alone x b
+      → Meets (clock_after ts pauses g) (AreRaised ts raises pauses g) AnyStop Any x.clock b
+  walk x (does p b) h l care once again r quiet =
+      let n = step x p h l.0 care.0 once.0 again.0 r.0 quiet.0 in
+      (n.0, walk (wires_after ts lams by_plan moods raises pauses g x p) b n.1 l.1 care.1 once.1 again.1 r.1 quiet.1)
+  walk x (ends v) h l care once again r quiet = tt
+  walk x (stops w v) h l care once again r quiet = tt
+
+  agrees_first : Agrees first_wires
+  agrees_first = record {
+    others = λ i t at up not. refl;
+    next = λ i t at up e. absurd (cc);
+    own = λ i t at up e. absurd (cc);
+    closed = λ i t at up e yes. absurd (cc);
+  }
+
+pub look_at_mes_are_answered : LookAtMesAreAnswered
+look_at_mes_are_answered plan is_plan script ks safe ts are s source its start by by_plan moods raises pauses answers care keep =
+    raised_are_answered plan is_plan script ks safe ts are s source its start by raises keep.rates.every pauses answers
+    (walk ts (lams_of script) by_plan moods raises pauses source.bit first_wires (the_run plan script answers) (agrees_first ts (lams_of script) by_plan moods raises pauses source.bit)
+    (lowest_are_called plan is_plan script ks ts are answers) care keep.rates.once keep.again keep.shown keep.alone)

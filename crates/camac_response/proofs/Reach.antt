@@ -1,0 +1,131 @@
+-- Where the commands of each service are careful, all services do what is asked of them.
+use Rattle.std.proofs.Common.{◌≡◌, ℕ, List, [], ◌∷◌, Option, Some, None, Bool, true, false, refl, sym, ◌∙◌, subst}
+use Rattle.std.specs.List.{list_any}
+use Rattle.std.specs.Prelude.{◌||◌, ◌&&◌, nat_eq, nat_le}
+use Rattle.std.proofs.lemmas.Bool.{and_parts, and_from, eq-eqb, eqb-true, true≢false}
+use Rattle.camac_lang.specs.declared.word.CrateCall.{CrateCall}
+use Rattle.camac_lang.specs.declared.word.CrateCall.TheVariants as crate_word
+use Rattle.camac_lang.specs.declared.word.LamCall.{LamCall}
+use Rattle.camac_lang.specs.declared.word.LamCall.TheVariants as lam_word
+use Rattle.camac_lang.specs.Tree.{Script}
+use Rattle.camac_branch.specs.Address.{Address}
+use Rattle.camac_model.specs.State.{State}
+use Rattle.camac_model.specs.Behaviour.{Piece, demanded, cycled, lock_taken, lock_released, event_left, Behaviour, does, ends, stops}
+use Rattle.camac_model.specs.Headline.{no_count, nothing}
+use Rattle.camac_model.specs.Meaning.{context, crate_address, crate_function, lam_function}
+use Rattle.camac_model.specs.Moments.{Meets, Any, AnyStop}
+use Rattle.camac_model.specs.Run.{service_meaning}
+use Rattle.camac_rules.specs.Known.{Region}
+use Rattle.camac_commands.specs.Commands.{Command, is_inside, lies_in, is_told, IsListed}
+use Rattle.camac_response_times.specs.declared.source.Source.{Source}
+use Rattle.camac_response.specs.Lams.{Clears, lams_of, of_lam, same_station, same_address, is_lam_call, is_crate_call, may_clear}
+use Rattle.camac_response.specs.Served.{hides, Harmless}
+use Rattle.camac_response.specs.Reach.{ClearsIn, IsFor, may_call_lam, may_call_crate, may_be_at, could_clear, could_hide, AreCareful, DecidedServe}
+use Rattle.camac_response.proofs.Lams.{or_false, or_first}
+use Rattle.camac_response.proofs.Served.{or_second, by_or, services_serve}
+use Rattle.camac_response.proofs.Harmless.{harmless_serve}
+
+-- what two tests of a list tell of one and the same command
+any_of : (P : Type 0) (yes' none' : Command → Bool) (cs : List Command) → list_any yes' cs ≡ true → list_any none' cs ≡ false → ((c : Command) → yes' c ≡ true → none' c ≡ false → P) → P
+any_of P yes' none' [] e n go = absurd (cc)
+any_of P yes' none' (c ∷ cs) e n go =
+    let rest = or_false (none' c) (list_any none' cs) n in
+    by_or (yes' c) (list_any yes' cs) P e (λ here. go c here rest.0) (λ there. any_of P yes' none' cs there rest.1 go)
+
+-- an address that is another one is where that is
+moved : (g : Region) (lam at : Address) → same_address lam at ≡ true → lies_in g at ≡ true → lies_in g lam ≡ true
+moved g lam at same inside =
+    let parts = and_parts (same_station lam at) (nat_eq lam.sub_address at.sub_address) same in
+    let others = and_parts (nat_eq lam.crate_no at.crate_no) (nat_eq lam.station at.station) parts.0 in
+    let c = eqb-true lam.crate_no at.crate_no others.0 in
+    let n = eqb-true lam.station at.station others.1 in
+    let a = eqb-true lam.sub_address at.sub_address parts.1 in
+    subst (λ k. is_inside g k lam.station lam.sub_address ≡ true) (sym c)
+    (subst (λ k. is_inside g at.crate_no k lam.sub_address ≡ true) (sym n) (subst (λ k. is_inside g at.crate_no at.station k ≡ true) (sym a) inside))
+
+-- a call that is told may be made: for the look-at-me, for the crate, and by a command that the plan says clears
+called_at : (to at : Address) (f k : ℕ) (c : Command) → is_told at f c ≡ true → same_address to at ≡ true → nat_eq f k ≡ true → (nat_eq c.function k && lies_in c.region to) ≡ true
+called_at to at f k c told same is =
+    let parts = and_parts (nat_eq f c.function) (lies_in c.region at) told in
+    let function = eq-eqb c.function k (sym (eqb-true f c.function parts.0) ∙ eqb-true f k is) in
+    and_from (nat_eq c.function k) (lies_in c.region to) function (moved c.region to at same parts.1)
+
+lam_called : (k : LamCall) (lam at : Address) (f : ℕ) (c : Command) → is_told at f c ≡ true → is_lam_call k lam at f ≡ true → may_call_lam k lam c ≡ true
+lam_called k lam at f c told is =
+    let parts = and_parts (same_address lam at) (nat_eq f (lam_function k)) is in called_at lam at f (lam_function k) c told parts.0 parts.1
+
+crate_called : (k : CrateCall) (lam at : Address) (f : ℕ) (c : Command) → is_told at f c ≡ true → is_crate_call k lam at f ≡ true → may_call_crate k lam c ≡ true
+crate_called k lam at f c told is =
+    let parts = and_parts (same_address (crate_address k lam.crate_no) at) (nat_eq f (crate_function k)) is in
+    called_at (crate_address k lam.crate_no) at f (crate_function k) c told parts.0 parts.1
+
+by_plan_called : (by_plan : Clears) (in_region : ClearsIn) → IsFor by_plan in_region → (lam at : Address) (f : ℕ) (c : Command) → is_told at f c ≡ true → (same_station lam at && by_plan at f) ≡ true
+    → (may_be_at lam c && in_region c.region c.function) ≡ true
+by_plan_called by_plan in_region fits lam at f c told is =
+    let parts = and_parts (nat_eq f c.function) (lies_in c.region at) told in
+    let both = and_parts (same_station lam at) (by_plan at f) is in
+    let station = and_parts (nat_eq lam.crate_no at.crate_no) (nat_eq lam.station at.station) both.0 in
+    let crates = nat_le c.region.crates.lo at.crate_no && nat_le at.crate_no c.region.crates.hi in
+    let stations = nat_le c.region.stations.lo at.station && nat_le at.station c.region.stations.hi in
+    let subs = nat_le c.region.sub_addresses.lo at.sub_address && nat_le at.sub_address c.region.sub_addresses.hi in
+    let inside = and_parts crates (stations && subs) parts.1 in
+    let there = and_parts stations subs inside.1 in
+    let here : may_be_at at c ≡ true = and_from crates stations inside.0 there.0 in
+    let at_lam : may_be_at lam c ≡ true =
+    subst (λ k. ((nat_le c.region.crates.lo k && nat_le k c.region.crates.hi) && (nat_le c.region.stations.lo lam.station && nat_le lam.station c.region.stations.hi)) ≡ true) (sym (eqb-true lam.crate_no at.crate_no station.0))
+    (subst (λ k. (crates && (nat_le c.region.stations.lo k && nat_le k c.region.stations.hi)) ≡ true) (sym (eqb-true lam.station at.station station.1)) here) in
+    and_from (may_be_at lam c) (in_region c.region c.function) at_lam
+    (subst (λ k. in_region c.region k ≡ true) (eqb-true f c.function parts.0) (fits c.region at f parts.1 both.1))
+
+not_true : (a b : Bool) → (a ≡ true → b ≡ true) → b ≡ false → a ≡ false
+not_true true b h e = absurd (true≢false (sym (h refl) ∙ e))
+not_true false b h e = refl
+
+or_map : (a b c d : Bool) → (a ≡ true → c ≡ true) → (b ≡ true → d ≡ true) → (a || b) ≡ true → (c || d) ≡ true
+or_map a b c d f g e = by_or a b ((c || d) ≡ true) e (λ here. or_first c d (f here)) (λ there. or_second c d (g there))
+
+module _ (by_plan : Clears) (in_region : ClearsIn) (fits : IsFor by_plan in_region) where
+  clears_told : (lam at : Address) (f : ℕ) (c : Command) → is_told at f c ≡ true → may_clear by_plan lam at f ≡ true → could_clear in_region lam c ≡ true
+  clears_told lam at f c told =
+      or_map _ _ _ _ (or_map _ _ _ _ (lam_called lam_word.Clear lam at f c told) (by_plan_called by_plan in_region fits lam at f c told))
+      (or_map _ _ _ _ (crate_called crate_word.Initialise lam at f c told)
+      (or_map _ _ _ _ (crate_called crate_word.Clear lam at f c told) (lam_called lam_word.Disable lam at f c told)))
+
+  hides_told : (lam at : Address) (f : ℕ) (c : Command) → is_told at f c ≡ true → hides lam at f ≡ true → could_hide lam c ≡ true
+  hides_told lam at f c told =
+      or_map _ _ _ _ (lam_called lam_word.Disable lam at f c told)
+      (or_map _ _ _ _ (crate_called crate_word.Initialise lam at f c told) (crate_called crate_word.DemandOff lam at f c told))
+
+  clear_none : (o : Option Address) (at : Address) (f : ℕ) (cs : List Command) → list_any (is_told at f) cs ≡ true → of_lam (λ lam. list_any (could_clear in_region lam) cs) o ≡ false → of_lam (λ lam. may_clear by_plan lam at f) o ≡ false
+  clear_none None at f cs told none = refl
+  clear_none (Some lam) at f cs told none =
+      any_of (may_clear by_plan lam at f ≡ false) (is_told at f) (could_clear in_region lam) cs told none
+      (λ c is not. not_true (may_clear by_plan lam at f) (could_clear in_region lam c) (clears_told lam at f c is) not)
+
+  hide_none' : (o : Option Address) (at : Address) (f : ℕ) (cs : List Command) → list_any (is_told at f) cs ≡ true → of_lam (λ lam. list_any (could_hide lam) cs) o ≡ false → of_lam (λ lam. hides lam at f) o ≡ false
+  hide_none' None at f cs told none = refl
+  hide_none' (Some lam) at f cs told none =
+      any_of (hides lam at f ≡ false) (is_told at f) (could_hide lam) cs told none (λ c is not. not_true (hides lam at f) (could_hide lam c) (hides_told lam at f c is) not)
+
+  module _ (ts : List Source) (script : Script) (g i : ℕ) (cs : List Command) (careful : AreCareful ts script in_region g i cs) where
+    harmless_piece : (u : Unit {0}) (p : Piece) → IsListed cs u p → Harmless ts (lams_of script) by_plan g i u p
+    harmless_piece u (demanded p v) h = tt
+    harmless_piece u (cycled at f d r w) h = record {
+      clears_no_other = λ j t it up other. clear_none (lams_of script j) at f cs h (careful.clear_no_other j t it up other);
+      hides_none = λ j t it up. hide_none' (lams_of script j) at f cs h (careful.hide_none j t it up);
+    }
+    harmless_piece u (lock_taken c w) h = tt
+    harmless_piece u (lock_released c) h = tt
+    harmless_piece u (event_left e) h = tt
+
+    harmless_all : (b : Behaviour State) → Meets no_count (IsListed cs) AnyStop Any nothing b → Meets no_count (Harmless ts (lams_of script) by_plan g i) AnyStop Any nothing b
+    harmless_all (does p b) h = (harmless_piece nothing p h.0, harmless_all b h.1)
+    harmless_all (ends s) h = tt
+    harmless_all (stops w s) h = tt
+
+pub decided_serve : DecidedServe
+decided_serve plan is_plan script ks ts are by_plan in_region fits g decided =
+    services_serve plan is_plan script ks ts are by_plan g (λ i v at.
+    let d = decided i v at in
+    harmless_serve plan script ts by_plan g i v d.lam d.its d.clears (λ b answers.
+    harmless_all by_plan in_region fits ts script g i d.commands d.careful (service_meaning (context plan script) 65535 v b answers) (d.makes b answers)))

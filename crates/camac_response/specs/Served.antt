@@ -1,0 +1,85 @@
+-- What each service has to do with look-at-mes, said of it by itself; and a tree in which a service clears its own.
+use Rattle.std.specs.Prelude.{◌≡◌, ℕ, ◌&&◌, ◌||◌, Bool, true, false, List, Some, map, slice_get}
+use Rattle.camac_lang.specs.declared.word.CrateCall.TheVariants as crate_word
+use Rattle.camac_lang.specs.declared.word.LamCall.TheVariants as lam_word
+use Rattle.camac_lang.specs.Tree.{Statement, lam_call, choose_else, locked, Block, done, next, Service, Script}
+use Rattle.camac_branch.specs.Address.{Address}
+use Rattle.camac_branch.specs.Branch.{Branch, Answer}
+use Rattle.camac_branch.specs.Plan.{Layout, IsPlan}
+use Rattle.camac_model.specs.Behaviour.{Piece, demanded, cycled, lock_taken, lock_released, event_left}
+use Rattle.camac_model.specs.Fine.{Bounds}
+use Rattle.camac_model.specs.Meaning.{context, lam_address, block_meaning}
+use Rattle.camac_model.specs.Headline.{no_count, nothing}
+use Rattle.camac_model.specs.Moments.{Meets, Holds, Any, AnyStop}
+use Rattle.camac_model.specs.Run.{service_meaning, the_run}
+use Rattle.camac_model.specs.State.{State}
+use Rattle.camac_response_times.specs.declared.source.Source.{Source}
+use Rattle.camac_response_times.specs.Response.{is_up_to}
+use Rattle.camac_response.specs.Lams.{Clears, Lams, lams_of, of_lam, same_address, is_lam_call, is_crate_call, may_clear, Book, first_page, book_after, NoneHidden, IsAskedAgain, ServesWell, services_watch}
+use Rattle.camac_response.specs.Laws.{AreSources}
+
+-- Where it is called and no look-at-me is hidden, service number i clears no other look-at-me; and where it ends, it has cleared its own and hides
+-- none. Whatever the branch is like and answers.
+abbrev pub ServesItself : Layout → Script → List Source → Clears → (bit : ℕ) → ℕ → Service → Type 0
+ServesItself plan script ts by_plan g i v =
+    (page : Book) → page.called ≡ Some i → NoneHidden ts (lams_of script) g page → (b : Branch) (answers : List Answer)
+    → Meets (book_after (lams_of script) by_plan) (ServesWell ts (lams_of script) by_plan g) AnyStop (λ x s. IsAskedAgain ts (lams_of script) g x)
+    page (service_meaning (context plan script) 65535 v b answers)
+
+-- the law of services: where each does this, all do what is asked of them along every run
+abbrev pub ServicesServe : Type 0
+ServicesServe =
+    (plan : Layout) → IsPlan plan → (script : Script) (ks : List Bounds) (ts : List Source) → AreSources plan script ks ts → (by_plan : Clears) (g : ℕ)
+    → ((i : ℕ) (v : Service) → slice_get script.services i ≡ Some v → ServesItself plan script ts by_plan g i v)
+    → (answers : List Answer) → Holds (services_watch ts (lams_of script) by_plan g) first_page (the_run plan script answers)
+
+-- A block in which `cclc` is made for the look-at-me at this address, whatever modules answer.
+abbrev mutual
+  pub statement_clears : (lams : List Address) → (lam : Address) → Statement → Bool
+  statement_clears lams lam (lam_call line lam_word.Clear l) = of_lam (same_address lam) (slice_get lams l)
+  statement_clears lams lam (choose_else line test a b) = block_clears lams lam a && block_clears lams lam b
+  statement_clears lams lam (locked line e body) = block_clears lams lam body
+  statement_clears lams lam st = false
+
+  pub block_clears : (lams : List Address) → (lam : Address) → Block → Bool
+  block_clears lams lam done = false
+  block_clears lams lam (next st rest) = statement_clears lams lam st || block_clears lams lam rest
+
+-- nothing is said of a piece
+abbrev pub AnyPiece : Book → Piece → Type 0
+AnyPiece x p = Unit {0}
+
+-- where such a block of a service ends, the service has cleared its look-at-me
+abbrev pub ClearsAlways : Type 0
+ClearsAlways =
+    (plan : Layout) (script : Script) (by_plan : Clears) (i : ℕ) (lam : Address) → lams_of script i ≡ Some lam
+    → (b : Block) → block_clears (map lam_address script.lams) lam b ≡ true → (page : Book) → page.called ≡ Some i → (n : ℕ) (s : State)
+    → Meets (book_after (lams_of script) by_plan) AnyPiece AnyStop (λ x t. x.has_cleared ≡ true) page (block_meaning (context plan script) n b s)
+
+-- A command that hides the look-at-me at this address: F24 there, Z in its crate, and the demand output of its crate turned off.
+abbrev pub hides : (lam at : Address) → (function : ℕ) → Bool
+hides lam at f = is_lam_call lam_word.Disable lam at f || (is_crate_call crate_word.Initialise lam at f || is_crate_call crate_word.DemandOff lam at f)
+
+-- made by service number i, it clears no other look-at-me, and hides none
+pub record IsHarmless (ts : List Source) (lams : Lams) (by_plan : Clears) (g i : ℕ) (at : Address) (f : ℕ) : Type 0 where
+  pub clears_no_other : (j : ℕ) (t : Source) → slice_get ts j ≡ Some t → is_up_to g t ≡ true → (i ≡ j → ⊥) → of_lam (λ lam. may_clear by_plan lam at f) (lams j) ≡ false
+  pub hides_none : (j : ℕ) (t : Source) → slice_get ts j ≡ Some t → is_up_to g t ≡ true → of_lam (λ lam. hides lam at f) (lams j) ≡ false
+
+abbrev pub Harmless : List Source → Lams → Clears → (bit : ℕ) → ℕ → Unit {0} → Piece → Type 0
+Harmless ts lams by_plan g i u (demanded p v) = Unit {0}
+Harmless ts lams by_plan g i u (cycled at f d r w) = IsHarmless ts lams by_plan g i at f
+Harmless ts lams by_plan g i u (lock_taken c w) = Unit {0}
+Harmless ts lams by_plan g i u (lock_released c) = Unit {0}
+Harmless ts lams by_plan g i u (event_left e) = Unit {0}
+
+-- each cycle of a service, whatever the branch is like and answers
+abbrev pub IsHarmlessService : Layout → Script → List Source → Clears → (bit : ℕ) → ℕ → Service → Type 0
+IsHarmlessService plan script ts by_plan g i v =
+    (b : Branch) (answers : List Answer) → Meets no_count (Harmless ts (lams_of script) by_plan g i) AnyStop Any nothing (service_meaning (context plan script) 65535 v b answers)
+
+-- a service whose tree clears its own look-at-me, if its bit is meant, and whose cycles are harmless, does what is asked of it
+abbrev pub HarmlessServe : Type 0
+HarmlessServe =
+    (plan : Layout) (script : Script) (ts : List Source) (by_plan : Clears) (g i : ℕ) (v : Service) (lam : Address) → lams_of script i ≡ Some lam
+    → ((t : Source) → slice_get ts i ≡ Some t → is_up_to g t ≡ true → block_clears (map lam_address script.lams) lam v.body ≡ true)
+    → IsHarmlessService plan script ts by_plan g i v → ServesItself plan script ts by_plan g i v
