@@ -469,7 +469,7 @@ def rates_at(factor):
     rate, answered = 5000 * factor, 1000
     lost = round(answered * rate * 20 * 1.4e-6)
     waits = [20 + min(at * factor / 200, 13) for at in range(answered)]
-    return Simulation([Simulated("adc", 3, rate, 34, answered + lost, lost, 20 * answered, 0, waits)], 1.0, 0.5, None)
+    return Simulation([Simulated("adc", 3, rate, 20, 34, answered + lost, lost, 20 * answered, waits=waits)], 1.0, 0.5, None)
 
 
 def kept_pictures():
