@@ -256,16 +256,16 @@ class Histograms(unittest.TestCase):
                 self.assertTrue(end is not None or width == 1 or max(values) >= 64 * width)
 
     def test_series(self):
-        """A counter that nobody clears rises, also through its 24 bits; other numbers are values."""
-        its = Series()
-        its.add_all([1, 3, 4], [100, 150, 170])
-        self.assertEqual((its.is_counter(), its.means()), (True, {2: 50, 3: 20}))
-        its.add_all([6], [30])
-        self.assertEqual((its.is_counter(), its.means()), (False, {0: 100, 2: 150, 3: 170, 5: 30}))
-        its = Series()
+        """A counter is what its caller says is one, and rises through its last number; what only rises else is values."""
+        for full, wanted in ((None, {0: 100, 2: 150, 3: 170, 5: 30}), (200, {2: 50, 3: 20, 5: 60})):
+            its = Series(full)
+            its.add_all([1, 3], [100, 150])
+            its.add_all([4, 6], [170, 30])
+            self.assertEqual((its.means(), its.mean()), (wanted, sum(wanted.values()) / len(wanted)))
+        its = Series(1 << 24)
         numbers = list(range(1, 1001))
         its.add_all(numbers, [7 * number for number in numbers])
-        self.assertEqual((its.per, its.is_counter(), set(its.means().values())), (8, True, {7.0}))
+        self.assertEqual((its.per, set(its.means().values())), (8, {7.0}))
 
     def test_pairs(self):
         its = Pairs(4096, None)
@@ -303,11 +303,11 @@ class Columns(unittest.TestCase):
         """What `numbers` gives of many events is what `values` gives of each."""
         chance = random.Random(3)
         events = [camac.Event(at, chance.choice((3, 5, 9)), 9, 0, tuple(chance.getrandbits(24) for _ in range(chance.randint(0, 14)))) for at in range(1, 400)]
-        for names in (two_crates.WORDS, camac.Words([camac.Field("a", 3, places=(2, 3)), camac.Field("b", 3, bits=(3, 7), count=4), camac.Field("c", 9, of="place", places=(1, 4))])):
+        for names in (two_crates.WORDS, camac.Words([camac.Field("a", 3, places=(2, 3), kind="value"), camac.Field("b", 3, bits=(3, 7), count=4), camac.Field("c", 9, of="place", places=(1, 4))])):
             wanted = collections.defaultdict(collections.Counter)
             for event in events:
                 for value in names.values(event):
-                    wanted[value.column][event.number if value.column.field.bits == (0, 23) else 0, value.number] += 1
+                    wanted[value.column][event.number if value.column.field.kind != "spectrum" else 0, value.number] += 1
             found = collections.defaultdict(collections.Counter)
             for column, numbers, its in names.numbers(events):
                 found[column].update(zip(numbers or [0] * len(its), its))

@@ -11,6 +11,7 @@ import io
 import json
 import os
 import random
+import re
 import shutil
 import subprocess
 import sys
@@ -113,6 +114,36 @@ class OfFile(Case):
             text = f"[[ word ]]\ngl=1\nname = 'x'\nscale={value}"
             self.assertEqual(self.read(text).fields[0].scale, tomllib.loads(text)["word"][0]["scale"], value)
 
+    def test_what_a_number_is(self):
+        """By the register that the script reads there, and by `as`; never by the numbers."""
+        register = lambda place, bits, kind="spectrum": camac.Field(f"r{place}", 3, bits=(0, bits - 1), places=(place, place), kind=kind)
+        sources = camac.Words([register(1, 16), register(2, 12), register(3, 24, "value"), camac.Field("line 4: v", 3, places=(4, 4), is_expression=True)])
+        for keys, bits, kind in (
+            ("place = 1", 16, "spectrum"), ("place = '1..2'", 16, "spectrum"), ("place = 3", 24, "value"), ("place = 4", 24, "spectrum"),
+            ("place = '3..4'", 24, "spectrum"), ("place = 3\nbits = '0..11'", 12, "spectrum"), ("place = 1\nas = 'value'", 16, "value"),
+            ("place = 3\nas = 'counter'", 24, "counter"), ("place = 3\nas = 'spectrum'", 24, "spectrum"), ("place = 5", 24, "spectrum"), ("", 24, "spectrum"),
+            ("place = '1..3'\nof = 'place'", 24, "value"),
+        ):
+            its = parse_words(f"[[word]]\ngl = 3\nname = 'x'\n{keys}".encode(), "words.toml", SERVICES, sources).fields[0]
+            self.assertEqual((its.bits, its.kind), ((0, bits - 1), kind), keys)
+
+    def test_other_forms_of_toml(self):
+        try:
+            import tomllib
+        except ImportError:
+            self.skipTest("this Python has no tomllib")
+        forms = ('word = [ { gl = 3, name = "x", unit = "V" } ]', '[[word]]\ngl = 3\nname = """x"""\nunit = "V"', '[[word]]\n"gl" = 3\nname = "x"\nunit = """\nV"""')
+        for text in forms:
+            self.assertEqual([(it.name, it.unit) for it in self.read(text).fields], [("x", "V")], tomllib.loads(text))
+        for line, text, told in (
+            (3, "# mine\n\n[[word]]\ngl = 3\nname = \"\"\"x\"\"\"\nscale = [ 1 ]", "`scale` is a number"),
+            (1, "word = [ { gl = true, name = 'x' } ]", "`gl` is a number"),
+            (3, "[[word]]\ngl = 3\nname = \"\"\"x\"", "expected a string"),
+            (1, "[other]\n[[word]]\ngl = 3\nname = 'x'", "expected `[[word]]`"),
+        ):
+            with self.assertRaisesRegex(camac.WordsFault, f"words.toml:{line}: {re.escape(told)}", msg=text):
+                self.read(text)
+
     def test_faults_name_file_and_line(self):
         head = "[[word]]\nservice = 'adc'\n"
         for line, wrong, told in (
@@ -137,6 +168,7 @@ class OfFile(Case):
             (4, head + "name = 'x'\nscale = 0", "`scale` is a number, and not 0"),
             (4, head + "name = 'x'\nscale = 1e999", "`scale` is a number, and not 0"),
             (4, head + "name = 'x'\ncolour = 'red'", "`colour` is no key"),
+            (4, head + "name = 'x'\nas = 'scaler'", "`as` is spectrum, value or counter"),
             (4, head + "name = 'x'\nof = 'y'", "is named `y`"),
             (4, head + "name = 'x'\ntag = 3", "`of` is missing"),
             (4, head + "name = 'x'\nof = 'place'", "write `place`"),

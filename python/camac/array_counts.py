@@ -1,6 +1,6 @@
 """Counts events that are in arrays of numpy: what `camac.histograms` and `camac.runs` count of lists, in a small part of the time."""
 import importlib
-from typing import Any, Dict, Sequence, Tuple
+from typing import Any, Sequence, Tuple
 
 from camac.arrays import Array, EventArrays
 from camac.histograms import Pairs, Series, Spectrum
@@ -79,23 +79,21 @@ def add_line(series: Series, numbers: Array, values: Array) -> None:
     numpy = importlib.import_module("numpy")
     series.widen(int(numbers[-1]))
     values = values.astype("i8")
-    _add_sums(numpy, series, series.columns, numbers, values)
-    before = numpy.concatenate([[values[0] if series.last is None else series.last], values[:-1]])
-    is_known = slice(series.last is None, None)
-    series.falls += int((values < before).sum())
-    _add_sums(numpy, series, series.rises, numbers[is_known], ((values - before) % Series.FULL)[is_known])
-    series.last = int(values[-1])
-
-
-def _add_sums(numpy: Any, series: Series, columns: Dict[int, Tuple[int, int]], numbers: Array, values: Array) -> None:
+    if series.full is not None:
+        is_known = slice(series.last is None, None)
+        before = numpy.concatenate([[values[0] if series.last is None else series.last], values[:-1]])
+        numbers, values, last = numbers[is_known], ((values - before) % series.full)[is_known], values[-1]
+    else:
+        last = values[-1]
+    series.last = int(last)
     at = (numbers - 1) // series.per
     low = int(at.min()) if len(at) else 0
     # The sums are whole numbers below 2^53.
     sums = numpy.bincount(at - low, values).tolist()
     for number, (more, total) in enumerate(zip(numpy.bincount(at - low).tolist(), sums), low):
         if more:
-            count, before = columns.get(number, (0, 0))
-            columns[number] = count + more, before + int(total)
+            count, before = series.columns.get(number, (0, 0))
+            series.columns[number] = count + more, before + int(total)
 
 
 def add_pairs(pairs: Pairs, across: Array, up: Array) -> None:

@@ -23,10 +23,10 @@ def ask(naming: Naming, inputs: Inputs, plan: Plan, services: List[Service]) -> 
 
     Raises UsageFault if a name of the pair is none of a column, WordsFault, ProgramFault, and OSError if a file cannot be read."""
     names = Words()
-    if naming.file is not None:
-        names = read_words(naming.file, services)
-    elif naming.pair or is_event_file(inputs.source):
+    if naming.file is not None or naming.pair or is_event_file(inputs.source):
         names = words_of_script(plan, inputs.script, services)
+    if naming.file is not None:
+        names = read_words(naming.file, services, names)
     if naming.pair is None:
         return Asked(names)
     across, up = (_column(names, services, name) for name in naming.pair)

@@ -85,7 +85,7 @@ def learn(given: Given, program: Optional[File] = None) -> About:
         about = dataclasses.replace(about, services=tuple(services), sources=sources)
     if given.words is not None:
         text = script_text(given.words)
-        words = parse_words(text, given.words, about.services)
+        words = parse_words(text, given.words, about.services, about.sources)
         about = dataclasses.replace(about, words_text=Source(os.fsdecode(given.words), text), words=words)
     return about
 

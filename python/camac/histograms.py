@@ -95,52 +95,50 @@ class Spectrum(Totals):
 
 class Series:
     """Numbers over the services of a run, in at most `MOST` columns of equally many services: of each column how many numbers it has, and
-    their sum. `rises` are the sums of what each number is above the one before it: a counter that is not cleared only rises, but where
-    its 24 bits are full."""
+    their sum. Those of a counter are what it rose since the one before; `full` is the number at which it begins at 0 again."""
 
-    __slots__ = ("per", "columns", "rises", "last", "falls")
+    __slots__ = ("per", "columns", "full", "last")
     MOST = 240
-    FULL = 1 << 24
 
-    def __init__(self) -> None:
-        self.per, self.falls = 1, 0
+    def __init__(self, full: Optional[int] = None) -> None:
+        self.per, self.full = 1, full
         self.columns: Dict[int, Tuple[int, int]] = {}
-        self.rises: Dict[int, Tuple[int, int]] = {}
         self.last: Optional[int] = None
+
+    @property
+    def is_counter(self) -> bool:
+        return self.full is not None
 
     def add_all(self, numbers: Sequence[int], values: Sequence[int]) -> None:
         """Takes values of services with these numbers in the run, from 1, in the order of the run."""
         self.widen(numbers[-1] if numbers else 0)
         for number, value in zip(numbers, values):
+            last, self.last = self.last, value
+            if self.full is not None:
+                if last is None:
+                    continue
+                value = (value - last) % self.full
             at = (number - 1) // self.per
             count, total = self.columns.get(at, (0, 0))
             self.columns[at] = count + 1, total + value
-            if self.last is not None:
-                self.falls += value < self.last
-                count, total = self.rises.get(at, (0, 0))
-                self.rises[at] = count + 1, total + (value - self.last) % self.FULL
-            self.last = value
 
     def widen(self, last: int) -> None:
         while last > self.per * self.MOST:
             self.per *= 2
-            self.columns, self.rises = _halved(self.columns), _halved(self.rises)
+            halved: Dict[int, Tuple[int, int]] = {}
+            for at, (count, total) in self.columns.items():
+                before = halved.get(at // 2, (0, 0))
+                halved[at // 2] = before[0] + count, before[1] + total
+            self.columns = halved
 
-    def is_counter(self) -> bool:
-        """Whether the numbers only rise, as those of a counter that nobody clears: then what it counts is how much."""
-        return self.falls == 0 and sum(count for count, _ in self.rises.values()) > 1
+    def mean(self) -> float:
+        """The mean of all numbers; of a counter that of the differences."""
+        count = sum(count for count, _ in self.columns.values())
+        return sum(total for _, total in self.columns.values()) / count if count else 0.0
 
     def means(self) -> Dict[int, float]:
         """By column the mean of the numbers; of a counter that of the differences."""
-        return {at: total / count for at, (count, total) in sorted((self.rises if self.is_counter() else self.columns).items())}
-
-
-def _halved(columns: Dict[int, Tuple[int, int]]) -> Dict[int, Tuple[int, int]]:
-    halved: Dict[int, Tuple[int, int]] = {}
-    for at, (count, total) in columns.items():
-        before = halved.get(at // 2, (0, 0))
-        halved[at // 2] = before[0] + count, before[1] + total
-    return halved
+        return {at: total / count for at, (count, total) in sorted(self.columns.items())}
 
 
 class Pairs:

@@ -16,15 +16,15 @@ from camac.subcommands import costs, run
 from camac.texts import script_text
 from camac.transfers import transfer_commands
 from camac.values import Command, Cycle, Demand, Ending, Item, Lock, Move, Plan, Response, RunEnd, Service, Unlock
-from camac.words import Column, Words
+from camac.words import COUNTER, SPECTRUM, Column, Words
 
 Operation = Union[Cycle, Lock, Unlock]
 # The operations that are kept of a service that is shown cycle by cycle.
 KEPT_OPERATIONS = 150
 GREATEST_MISSED = 65_535
 CONTROLLER_STATIONS = (28, 30)
-# The bits of a register that is taken for a scaler.
-SCALER = (1 << 24) - 1
+# What a word of all its bits holds at most.
+FULL_WORD = (1 << 24) - 1
 
 
 class Inputs(NamedTuple):
@@ -93,7 +93,7 @@ class Sent:
         self.count = self.no_q = self.no_x = self.waits = 0
         self.words = Spectrum(1 << width)
         self.mask = (1 << width) - 1
-        self.series = Series() if self.mask == SCALER else None
+        self.series = Series() if self.mask == FULL_WORD else None
         self.recent: List[int] = []
         self.numbers: List[int] = []
 
@@ -121,15 +121,15 @@ class Asked:
 
 
 class Channel:
-    """The numbers of a column in the events of a run: a spectrum, and of a scaler a line over the run."""
+    """The numbers of a column in the events of a run: a spectrum, and of what is shown over the run its line."""
 
     __slots__ = ("column", "spectrum", "series")
 
     def __init__(self, column: Column) -> None:
         self.column = column
-        is_whole = column.greatest == SCALER
-        self.spectrum = Spectrum(None if is_whole else column.greatest + 1)
-        self.series = Series() if is_whole and not column.is_expression else None
+        self.spectrum = Spectrum(None if column.greatest == FULL_WORD else column.greatest + 1)
+        kind = column.field.kind
+        self.series = None if kind == SPECTRUM else Series(column.greatest + 1 if kind == COUNTER else None)
 
     def add_all(self, events: Sequence[int], numbers: Sequence[int]) -> None:
         self.spectrum.add_all(numbers)
@@ -189,7 +189,7 @@ class Run:
         self.kept: Dict[Tuple[Why, int], Kept] = {}
         self.by_place: Dict[Tuple[int, int], Spectrum] = {}
         self.asked = asked or Asked()
-        self.pairs = Pairs(*(None if it.greatest == SCALER else it.greatest + 1 for it in self.asked.pair)) if self.asked.pair else None
+        self.pairs = Pairs(*(None if it.greatest == FULL_WORD else it.greatest + 1 for it in self.asked.pair)) if self.asked.pair else None
         self.channels = Channels()
         self.seen: Dict[int, SeenOfBit] = {}
         self.late: Dict[int, Late] = {}

@@ -14,6 +14,8 @@ from camac.events import GREATEST_COUNT, Event
 Range = Tuple[int, int]
 Amount = Union[int, float]
 WHOLE: Range = (0, 23)
+# What a number is: counted by its value, shown over the run, or shown as what it rose since the event before.
+SPECTRUM, VALUE, COUNTER = KINDS = ("spectrum", "value", "counter")
 ANYWHERE: Range = (1, GREATEST_COUNT)
 # The tag that every word has: its place in the event.
 PLACE = "place"
@@ -31,6 +33,7 @@ class Field:
     of, tags       the name of the field of the same word, or PLACE, whose number chooses the column, and the first and last such number
     scale, offset  a number means scale * number + offset
     line           where it is in the file of the user, or in the script
+    kind           one of KINDS: how its numbers are shown
     is_expression  whether nothing is known of it but the expression in the script"""
 
     name: str
@@ -44,6 +47,7 @@ class Field:
     scale: Amount = 1
     offset: Amount = 0
     line: int = 0
+    kind: str = SPECTRUM
     is_expression: bool = False
 
     @property
@@ -83,11 +87,6 @@ class Column:
         return self.field.unit
 
     @property
-    def is_expression(self) -> bool:
-        """Whether it is a word of which only the expression in the script is known."""
-        return self.field.is_expression
-
-    @property
     def greatest(self) -> int:
         return self.field.greatest
 
@@ -104,7 +103,7 @@ class Value(NamedTuple):
 
 
 class Numbers(NamedTuple):
-    """The numbers of a column in many events, and, of a column of all 24 bits, for each the number of its event."""
+    """The numbers of a column in many events, and, of a column that is shown over the run, for each the number of its event."""
 
     column: Column
     events: Sequence[int]
@@ -123,7 +122,7 @@ class _Reader:
     """Reads the numbers of a field. `columns` are by tag; a field that has no tag has one at 0."""
 
     def __init__(self, field: Field, tag: Optional[Field]) -> None:
-        self.field, self.tag, self.is_whole = field, tag, field.bits == WHOLE
+        self.field, self.tag, self.is_line = field, tag, field.kind != SPECTRUM
         first, last = field.tags
         self.columns = {it: Column(field, it) for it in range(first, last + 1)} if field.of else {0: Column(field)}
 
@@ -142,7 +141,7 @@ class _Reader:
             return
         tag_low, tag_mask = self.tag.bits[0], self.tag.greatest
         found: Dict[int, Tuple[List[int], List[int]]] = {}
-        for event, word in zip(events if self.is_whole else itertools.repeat(0), words):
+        for event, word in zip(events if self.is_line else itertools.repeat(0), words):
             tag = word >> tag_low & tag_mask
             if tag not in found:
                 found[tag] = [], []
@@ -209,7 +208,7 @@ class Words:
                     if bucket not in gathered:
                         gathered[bucket] = [], []
                     gathered[bucket][1].extend(words)
-                    if it.is_whole:
+                    if it.is_line:
                         gathered[bucket][0].extend(at)
         for (reader, place), (numbers, words_of) in gathered.items():
             yield from reader.split(numbers, words_of, place)

@@ -237,23 +237,25 @@ def _draw_hit(canvas: Canvas, it: Shown, bins: Bins) -> None:
 
 
 def _draw_line(canvas: Canvas, it: Shown, series: Series) -> None:
-    """The numbers over the services of the run, from its first to its last; of a counter that only rises what it counted since the one before."""
-    means = {at: float(it.value(value)) for at, value in series.means().items()}
-    if series.is_counter():
-        means = {at: abs(it.meaning[0]) * value for at, value in series.means().items()}
-    what = "counted since the one before" if series.is_counter() else "values"
+    """The numbers over the services of the run, from its first to its last; of a counter what it counted since the one before."""
+    what = "counted since the one before" if series.is_counter else "values"
     canvas.text(0, 24, f"{count_of(it.spectrum.count, it.counts)}: {what}", "mute s10")
-    top, columns = max([*means.values(), 0]), max(max(means), 1) + 1
-    canvas.text(0, 36, f"mean {_decimal(sum(means.values()) / len(means))}" + (f" {it.meaning[2]}" if it.meaning[2] else ""), "mute s10")
+    scale, unit = abs(it.meaning[0]), f" {it.meaning[2]}" if it.meaning[2] else ""
+    means = {at: scale * value if series.is_counter else float(it.value(value)) for at, value in series.means().items()}
+    if not means:
+        return
+    mean = f"mean {_decimal(scale * series.mean() if series.is_counter else it.value(it.spectrum.mean()))}{unit}"
+    canvas.text(0, 36, mean if series.is_counter else f"{mean}, RMS {_decimal(scale * it.spectrum.rms())}{unit}", "mute s10")
+    top, low, columns = max([*means.values(), 0]), min([*means.values(), 0]), max(max(means), 1) + 1
+    each = HIGH / (top - low) if top > low else 0
     step = WIDE / columns
-    places = [(LEFT + (at + 0.5) * step, FOOT - (HIGH * value / top if top else 0)) for at, value in means.items()]
-    canvas.path("M" + "L".join(f"{number(x)} {number(max(y, TOP))}" for x, y in places), f"l-{it.kind}")
+    places = [(LEFT + (at + 0.5) * step, FOOT - each * (value - low)) for at, value in means.items()]
+    canvas.path("M" + "L".join(f"{number(x)} {number(y)}" for x, y in places), f"l-{it.kind}")
     if len(places) == 1:
         canvas.rect((places[0][0] - 1.5, places[0][1] - 1.5, 3, 3), it.kind)
     canvas.line((LEFT, FOOT + 0.5), (LEFT + WIDE, FOOT + 0.5), "l-mute thin")
-    for value in (0.0, top) if top else (0.0,):
-        y = FOOT - (HIGH if value else 0)
-        canvas.text(LEFT - 5, y + 4, short(round(value, 1)), "mute s10 r")
+    for value in sorted({0.0, low, top}):
+        canvas.text(LEFT - 5, FOOT - each * (value - low) + 4, short(round(value, 1)), "mute s10 r")
     last = columns * series.per
     for place in ticks(last, 4):
         _draw_number(canvas, LEFT + WIDE * place / last, short(place), place == last)
