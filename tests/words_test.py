@@ -23,6 +23,8 @@ from support.live import PROGRAM, Case, script
 import camac
 from camac.__main__ import main
 from camac.events import NEW_FILE, record
+from camac.export import Given
+from camac.watch import Watch
 from camac.word_file import parse_words
 
 try:
@@ -388,6 +390,41 @@ class Export(Case):
         self.assertIn("b.script is not the one of the record", told)
         self.write("bad.script", "service")
         self.assertTrue(self.call("run.events", "-o", "c.csv", "--plan", "@sample", "--script", "bad.script", status=1).startswith("refused "))
+
+    def test_events_of_another_script(self):
+        """Of the six events five are told to be of another script: by their words, or by their bit. All are written."""
+        text = self.write("a.script", script(["for i = 0 to 3 {", "cdreg r 1 1 5 i", "cfsa 0 r -> v", "put v", "}"], 12, 4))
+        files = ["--plan", "@sample", "--script", "a.script"]
+        os.environ["CAMAC_PROGRAM"] = PROGRAM
+        told = "events that this script can make, 1 of 6: another script or plan made them; event 1 has 40 words, those of adc at most 4\n"
+        for at, without in enumerate([["numpy"], []] if numpy else [["numpy"]]):
+            self.assertEqual(self.call("run.events", "-o", f"{at}.csv", *files, without=without, status=1), told)
+            self.assertEqual(len(self.rows(f"{at}.events.csv")), 6)
+        out = self.room / "words.svg"
+        with unittest.mock.patch("camac.commands.running.say") as said:
+            self.assertEqual(main(["draw", "words", "@sample", str(text), "run.events", "-o", str(out)]), 1)
+        self.assertEqual((said.call_args[0][0], out.exists()), (told, True))
+        watch = Watch(Given("run.events", "@sample", "a.script"))
+        while watch.poll():
+            pass
+        self.assertIn(f'<b class="bad">{told[:-1]}</b>', watch.notes())
+        (self.room / "run.events").write_bytes(text_of([camac.Event(1, 3, 13, 0, ())]))
+        self.assertIn("event 1 took 13 cycles, those of adc at most 12", self.call("run.events", "-o", "c.csv", *files, status=1))
+
+    def test_the_record_beside_the_events(self):
+        """It stands for plan and script, and tells if others are given."""
+        text = self.write("a.script", script(["for i = 0 to 3 {", "cdreg r 1 1 5 i", "cfsa 0 r -> v", "put v", "}"], 12, 4))
+        (self.room / "run.events").unlink()
+        os.environ["CAMAC_PROGRAM"] = PROGRAM
+        camac.drive("@sample", text, Told(4, 3, 12), self.room / "run.events", record=self.room / "run.json")
+        self.call("run.events", "-o", "a.csv")
+        self.assertEqual({it["source"] for it in self.rows("a.words.csv")}, {f"ADC crate 1 station 5 A{a}" for a in range(4)})
+        self.write("b.script", text.read_text() + "# changed\n")
+        self.call("run.events", "-o", "b.csv", "--plan", "@sample", "--script", "a.script")
+        told = self.call("run.events", "-o", "c.csv", "--plan", "@sample", "--script", "b.script", status=1)
+        self.assertIn("plan and script are those of the record beside the events; b.script is not the script", told)
+        self.write("run.json", "{}")
+        self.call("run.events", "-o", "d.csv", "--plan", "@sample", "--script", "b.script")
 
     def test_sources_of_scans(self):
         """Behind a scan they are named in whole events alone, with numpy as without it."""

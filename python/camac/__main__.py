@@ -8,7 +8,7 @@ from typing import Any, Callable, Dict, List, Mapping, Optional, Sequence, TextI
 
 from camac import pictures, tables
 from camac.annotate import FIRST_LINE, annotate
-from camac.columns import Naming, ask
+from camac.columns import Naming, ask, compare_record
 from camac.commands import check as check_command
 from camac.commands import diff, export, fmt, lsp, simulate, watch
 from camac.commands.options import add_every, add_overwrite, add_words, naming, read_every
@@ -16,7 +16,7 @@ from camac.commands.running import DONE, FAULT, REFUSED, STATUS, refuse_pipes
 from camac.commands.running import main as run_command
 from camac.drive import STATUS as STATUS_OF
 from camac.drive import ProgramFault, Refused
-from camac.events import EventFileFault
+from camac.fits import refuse
 from camac.output import anything, is_one_of, made_like, output, refuse_loss, write_made
 from camac.pictures import Canvas, spectra
 from camac.program import knows_command
@@ -67,6 +67,7 @@ class Source:
             inputs = Inputs(*files)
             asked = ask(naming, inputs, self.plan, self.services) if naming else None
             self.run = collect(inputs, self.plan, self.services, None, self.responses, asked)
+            self.run.checks += compare_record(inputs)
 
 
 def _need(command: str) -> None:
@@ -136,7 +137,8 @@ def draw(args: argparse.Namespace) -> int:
     root, end = os.path.splitext(args.out)
     every = args.every if args.picture == "response" else None
     its = naming(args) if args.picture == "words" else None
-    drawn = PICTURES[args.picture][0](Source(args.files, every, its, spectra.LOGARITHMIC if args.log else spectra.LINEAR))
+    source = Source(args.files, every, its, spectra.LOGARITHMIC if args.log else spectra.LINEAR)
+    drawn = PICTURES[args.picture][0](source)
     pictures_of = {f"{root}.{name}{end}" if name else args.out: canvas for name, canvas in drawn.items()}
     texts = {out: canvas.picture() for out, canvas in pictures_of.items()}
     for out, text in texts.items():
@@ -145,6 +147,7 @@ def draw(args: argparse.Namespace) -> int:
         refuse_loss(out, anything if args.overwrite else made_like(text))
     for out, text in texts.items():
         write_made(out, text, args.overwrite)
+    refuse(source.run.checks)
     return DONE
 
 
@@ -171,22 +174,9 @@ def make_annotated(args: argparse.Namespace) -> int:
 
 
 def make_csv(args: argparse.Namespace) -> int:
-    refusal = None
-    head = ",".join(tables.LISTING if args.what == "listing" else tables.EVENTS)
-    with output(args.out, anything if args.overwrite else made_like(head)) as out:
-        if args.what == "listing":
-            with open_listing(args.file) as listing:
-                tables.write_listing(listing, out)
-            return DONE
-        try:
-            tables.write_events(args.file, out)
-        except EventFileFault as found:
-            # The events before the fault are a table, too.
-            refusal = found
-            if found.code == "V1":
-                raise
-    if refusal:
-        raise refusal
+    with output(args.out, anything if args.overwrite else made_like(",".join(tables.LISTING))) as out:
+        with open_listing(args.file) as listing:
+            tables.write_listing(listing, out)
     return DONE
 
 
@@ -210,9 +200,9 @@ def parser() -> argparse.ArgumentParser:
     it.add_argument("-o", "--out", metavar="TEXT", help="the file to write; else standard output")
     add_overwrite(it)
     it.set_defaults(do=make_annotated)
-    it = commands.add_parser("csv", help="Makes a table of an event file or of a listing")
-    it.add_argument("what", choices=("events", "listing"), metavar="KIND", help="events or listing")
-    it.add_argument("file", metavar="FILE", help="an event file; or what `camac run` printed, - for standard input")
+    it = commands.add_parser("csv", help="Makes a table of a listing; `export` makes those of events")
+    it.add_argument("what", choices=("listing",), metavar="KIND", help="listing")
+    it.add_argument("file", metavar="FILE", help="what `camac run` printed, - for standard input")
     it.add_argument("-o", "--out", metavar="CSV", help="the file to write; else standard output")
     add_overwrite(it)
     it.set_defaults(do=make_csv)

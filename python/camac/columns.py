@@ -1,9 +1,13 @@
-"""The columns of the words of a run: those of the user's file, else those of its script."""
+"""The columns of the words of a run: those of the user's file, else those of its script; and whether that is the script of its record."""
+import os
 from dataclasses import dataclass
 from typing import List, Optional, Tuple
 
 from camac.drive import File, UsageFault
+from camac.fits import Check
+from camac.record import Source, record_checks
 from camac.runs import Asked, Inputs, is_event_file
+from camac.texts import plan_text, script_text
 from camac.values import Plan, Service
 from camac.word_file import read_words
 from camac.word_sources import words_of_script
@@ -39,3 +43,11 @@ def _column(names: Words, services: List[Service], name: str) -> Column:
         if it.name == name:
             return it
     raise UsageFault(f"no word has the name {name!r}; there are: {', '.join(it.name for it in columns[:40]) or 'none'}", 2)
+
+
+def compare_record(inputs: Inputs) -> List[Check]:
+    """Whether plan and script are those of the record that is beside an event file."""
+    if not is_event_file(inputs.source):
+        return []
+    texts = Source(os.fsdecode(inputs.plan), plan_text(inputs.plan)), Source(os.fsdecode(inputs.script), script_text(inputs.script))
+    return record_checks(inputs.source, *texts)

@@ -168,7 +168,7 @@ class _Fields:
 
     def amount(self, key: str, default: int) -> Amount:
         value = self.table.keys.get(key, (0, default))[1]
-        if type(value) not in (int, float) or not math.isfinite(value) or (key == "scale" and not value):
+        if not isinstance(value, (int, float)) or isinstance(value, bool) or not math.isfinite(value) or (key == "scale" and not value):
             self.fail(key, f"`{key}` is a number" + (", and not 0" if key == "scale" else ""))
         return value
 

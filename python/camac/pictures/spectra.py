@@ -15,6 +15,8 @@ PANEL = (WIDTH - GAP * (ACROSS - 1)) / ACROSS
 LEFT, WIDE, TOP, HIGH, ROW = 38, PANEL - 52, 46, 80, 164
 FOOT = TOP + HIGH
 MOST = 96
+# The most bins that are drawn in a panel.
+BINS = 128
 # The most characters in a title.
 TITLE = 32
 # On a logarithmic axis the foot is at this count, so that a count of one is seen.
@@ -148,7 +150,7 @@ def draw_panel(it: Shown, scale: str = LINEAR) -> Canvas:
     canvas.text(0, 24, entries, "mute s10")
     peak = it.spectrum.peak()
     canvas.text(0, 36, f"mean {_decimal(mean)}, RMS {_decimal(rms)}" + ("" if peak is None else f", peak at {short(it.value(peak))}"), "mute s10")
-    bins = it.spectrum.bins()
+    bins = it.spectrum.bins(most=BINS)
     _draw_axis(canvas, it, bins)
     for one in (LINEAR, LOGARITHMIC) if scale == BOTH else (scale,):
         canvas.parts.append(f'<g class="{one}">')

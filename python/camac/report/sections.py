@@ -118,7 +118,7 @@ def last_line(run: Run) -> str:
     out = f'<p>The run: <b class="{"good" if is_good else "bad"}">{escape(run.last_line())}</b> ({meaning}).</p>'
     if run.idle and not len(run.gl) and not run.kept:
         out += f'<p class="bad">{NO_DEMAND_WAS_SERVED}</p>'
-    return out
+    return out + "".join(f'<p class="bad">{escape(it.text)}</p>' for it in run.checks if not it.agrees)
 
 
 def bounds(facts: Facts) -> str:
