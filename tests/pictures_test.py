@@ -134,8 +134,8 @@ class Numbers(laboratory.BenchCase):
     def lines_of(self, at):
         """The lines above a spectrum of 12 bits."""
         words = [word & 0xFFF for word in self.sums.commands[at]["words"]]
-        counts = [sum(low <= word < low + 32 for word in words) for low in range(0, 4096, 32)]
-        figures = f"mean {statistics.mean(words):,.1f}, RMS {statistics.pstdev(words):,.1f}, peak at {32 * counts.index(max(counts)):,}"
+        peak = min(statistics.multimode(words))
+        figures = f"mean {statistics.mean(words):,.1f}, RMS {statistics.pstdev(words):,.1f}, peak at {peak:,}"
         return ["ADC-12 crate 1 station 5 A0", f"{len(words):,} words, F0", figures]
 
     def test_places_of_words(self):

@@ -5,10 +5,12 @@ usage: tests/words_test.py [-v] [TEST ..]     from any folder, over a built prog
 
 Tests with numpy or h5py are left out if these are not installed (Debian's packages python3-numpy and python3-h5py).
 """
+import collections
 import contextlib
 import csv
 import io
 import json
+import math
 import os
 import random
 import re
@@ -24,6 +26,7 @@ import camac
 from camac.__main__ import main
 from camac.events import NEW_FILE, record
 from camac.export import Given
+from camac.regions import measure
 from camac.watch import Watch
 from camac.word_file import parse_words
 
@@ -494,6 +497,59 @@ class Export(Case):
                 self.call(f"{name}.events", "-o", f"{name}.h5")
             if numpy:
                 self.call(f"{name}.events", "-o", f"{name}.npz")
+
+
+class Spectra(Case):
+    """Two lines 17 numbers apart in the spectrum of a converter of 12 bits, and a flag in the same event."""
+
+    def test_lines_and_gates(self):
+        chance, values = random.Random(2), []
+        for _ in range(200_000):
+            kind = chance.random()
+            value = chance.gauss(1173 if kind < 0.2 else 1190, 3.4) if kind < 0.4 else chance.expovariate(1 / 900)
+            values.append(min(round(value), 4095))
+        lines = ["cdreg r 1 1 5 0", "cfsa 0 r -> v", "put v", "cdreg s 1 1 6 0", "cfsa 0 s -> v", "put v"]
+        text = self.write("a.script", script(lines, 12, 2))
+        (self.room / "run.events").write_bytes(text_of(camac.Event(at, 3, 6, 0, (it, at % 2)) for at, it in enumerate(values, 1)))
+        os.environ["CAMAC_PROGRAM"] = PROGRAM
+        name, flag = (it.name for it in camac.words_of_script(camac.plan("@sample", PROGRAM), text, camac.check("@sample", text, PROGRAM)).fields)
+        regions = ["--region", name, "1163..1181", "--region", name, "1182..1200"]
+        drawn = {}
+        for without in [["numpy"], []] if numpy else [["numpy"]]:
+            for gate in ([], ["--gate", flag, "1..1"]):
+                with unittest.mock.patch.dict(sys.modules, dict.fromkeys(without)):
+                    out = self.room / "words.svg"
+                    status = main(["draw", "words", "@sample", str(text), str(self.room / "run.events"), "-o", str(out), *regions, *gate, "--range", "1100..1249", "--bins", "150"])
+                self.assertEqual(status, 0)
+                picture = out.read_text()
+                self.assertEqual(drawn.setdefault(bool(gate), picture), picture)
+                its = collections.Counter(values[::2] if gate else values)
+                counts = [int(it) for it in re.findall(r'data-first="1100" data-width="1" data-counts="([^"]*)"', picture)[0].split()]
+                self.assertEqual(counts, [its[at] for at in range(1100, 1250)])
+                peak = max(range(4096), key=lambda at: (its[at], -at))
+                self.assertIn(f"peak at {peak:,}<", picture)
+                found = re.findall(r">([0-9.,]+) ± ([0-9.]+)<", picture)
+                self.assertEqual(len(found), 6)
+                for (net, _), (place, unsure), (width, _), line, low in zip(found[0::3], found[1::3], found[2::3], (1173, 1190), (1163, 1182)):
+                    self.assertLess(abs(float(place.replace(",", "")) - line), 0.3)
+                    self.assertLess(float(unsure), 0.1)
+                    self.assertLess(abs(float(width) - 8), 0.5)
+                    self.assertIn(f">{sum(its[it] for it in range(low, low + 19)):,}<", picture)
+                    self.assertLess(abs(float(net.replace(",", "")) / sum(its.values()) - 0.16), 0.02)
+
+    def test_words_that_are_wrong(self):
+        for words in (["--gate", "x", "9..8"], ["--region", "x", "1..5"], ["--range", "a"], ["--bins", "0"], ["--gate", "x", "0..99999999"]):
+            with contextlib.redirect_stderr(io.StringIO()) as told:
+                self.assertEqual(main(["draw", "words", "a", "b", "c", "-o", "d", *words]), 2)
+            self.assertIn(words[0], told.getvalue().splitlines()[-1])
+
+    def test_a_region_without_a_peak(self):
+        self.assertEqual(measure(5, [4] * 12)[:2], (48, (0.0, math.sqrt(48 + 144 * 8 / 12))))
+        self.assertIsNone(measure(5, [4] * 12).centroid)
+        self.assertIsNone(measure(0, [0] * 6).width)
+        peak = [round(2 * at + 1000 * math.exp(-((at - 10.25) ** 2) / 18)) for at in range(24)]
+        self.assertAlmostEqual(measure(100, peak).centroid.value, 110.25, 2)
+        self.assertAlmostEqual(measure(100, peak).width.value, 3 * 2.35482, 2)
 
 
 @unittest.skipUnless(numpy, "numpy is not here")

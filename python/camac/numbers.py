@@ -3,7 +3,7 @@ import collections
 import importlib
 import itertools
 import operator
-from typing import Any, Dict, Iterable, List, NamedTuple, Optional, Tuple
+from typing import Any, Dict, Iterable, List, NamedTuple, Optional, Sequence, Set, Tuple
 
 # A list of whole numbers, or an array of numpy, which need not be here.
 Numbers = Any
@@ -73,6 +73,16 @@ def order(places: Numbers, numbers: Numbers) -> Tuple[Numbers, Numbers]:
         return places[its], numbers[its]
     pairs = sorted(zip(places, numbers), key=operator.itemgetter(0))
     return [at for at, _ in pairs], [number for _, number in pairs]
+
+
+def chosen(numbers: Numbers, its: Set[int], parts: Sequence[Numbers]) -> List[Numbers]:
+    """Of each part what stands where a number is one of these."""
+    if is_array(numbers):
+        numpy = importlib.import_module("numpy")
+        where = numpy.isin(numbers, numpy.fromiter(its, "i8", len(its)))
+        return [part[where] if len(part) else part for part in parts]
+    where = [number in its for number in numbers]
+    return [[*itertools.compress(part, where)] for part in parts]
 
 
 def split(tags: Numbers, parts: Iterable[Numbers]) -> Dict[int, List[Numbers]]:

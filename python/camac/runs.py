@@ -4,14 +4,14 @@ import enum
 import itertools
 import tempfile
 from array import array
-from typing import Dict, FrozenSet, Iterable, Iterator, List, NamedTuple, Optional, Sequence, Tuple, Union
+from typing import Dict, FrozenSet, Iterable, Iterator, List, NamedTuple, Optional, Sequence, Set, Tuple, Union
 
 from camac.arrays import BATCH, EventArrays, Events, Group, batches, event_pieces, groups
 from camac.drive import File
 from camac.events import Event, EventFileFault, read_events
 from camac.fits import Check, Fit
 from camac.histograms import Pairs, Series, Spectrum
-from camac.numbers import Numbers, join, order
+from camac.numbers import Numbers, chosen, join, order
 from camac.late import Late, Watch
 from camac.output import Progress
 from camac.program import knows_command
@@ -112,10 +112,33 @@ class Sent:
 
 @dataclasses.dataclass(frozen=True)
 class Asked:
-    """What is asked of the words of events: the columns that they have, and two of these that are wanted against each other."""
+    """What is asked of the words of events: the columns that they have, two of these that are wanted against each other, a gate that an event has to
+    pass, and regions that are measured."""
 
     names: Words = dataclasses.field(default_factory=Words)
     pair: Optional[Tuple[Column, Column]] = None
+    gate: Optional["Cut"] = None
+    regions: Tuple["Cut", ...] = ()
+
+
+class Cut(NamedTuple):
+    """The numbers of a column from the first to the last one."""
+
+    column: Column
+    low: int
+    last: int
+
+    def select(self, names: Words, of: Sequence[Group]) -> List[Group]:
+        """The events that have such a number."""
+        passed: Set[int] = set()
+        for column, events, numbers in names.numbers(of, {self.column.field}):
+            if column == self.column:
+                passed.update(int(event) for event, number in zip(events, numbers) if self.low <= number <= self.last)
+        found = []
+        for it in of:
+            numbers, cycles, missed, *words = chosen(it.numbers, passed, [it.numbers, it.cycles, it.missed, *it.words])
+            found.append(Group(it.gl, it.size, numbers, cycles, missed, words))
+        return [it for it in found if len(it.numbers)]
 
 
 class Channel:
@@ -233,7 +256,8 @@ class Run:
                 by_place.setdefault((it.gl, at), []).append(words)
         for key, parts in by_place.items():
             self.by_place.setdefault(key, Spectrum(None, PLACE_BINS)).add_all(join(parts))
-        pairs = self.channels.take(self.asked.names, of, self.asked.pair or ())
+        named = self.asked.gate.select(self.asked.names, of) if self.asked.gate else of
+        pairs = self.channels.take(self.asked.names, named, self.asked.pair or ())
         if pairs and self.pairs:
             self.pairs.add_all(pairs)
 

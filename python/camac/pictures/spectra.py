@@ -43,6 +43,18 @@ class Shown(NamedTuple):
         return scale * number + offset
 
 
+class View(NamedTuple):
+    """Which numbers are drawn, from the first to the last one, and in how many bins at most."""
+
+    low: int = 0
+    last: Optional[int] = None
+    most: int = BINS
+
+    def bins(self, its: Spectrum) -> Bins:
+        end = its.end if self.last is None else min(self.last + 1, its.end)
+        return its.bins(min(self.low, end - 1), end, self.most)
+
+
 class Group(NamedTuple):
     """Panels with one axis, and their title."""
 
@@ -93,25 +105,26 @@ def command_groups(run: Run, plan: Plan, scale: str = LINEAR) -> List[Group]:
     return _grouped(shown, scale)
 
 
-def channel_groups(channels: Sequence[Channel], scale: str = LINEAR) -> List[Group]:
+def channel_groups(channels: Sequence[Channel], scale: str = LINEAR, view: View = View()) -> List[Group]:
     """For each column of event words its numbers, or of a scaler a line over the run."""
     shown = []
     for it in channels:
         its = it.column.field
         meaning = its.scale, its.offset, its.unit
         shown.append(Shown(it.column.name, "", it.spectrum, "ours", "words", meaning=meaning, series=it.series))
-    return _grouped(shown, scale)
+    return _grouped(shown, scale, view)
 
 
-def _grouped(shown: Sequence[Shown], scale: str) -> List[Group]:
+def _grouped(shown: Sequence[Shown], scale: str, view: View = View()) -> List[Group]:
     """The panels by their axes: those of one width are beside each other, lines over the run last."""
     groups: Dict[Tuple[bool, int], List[Shown]] = {}
     for it in shown[:MOST]:
         groups.setdefault((it.series is not None, 0 if it.series else it.spectrum.end), []).append(it)
     made = []
     for (is_line, end), its in sorted(groups.items(), key=lambda group: group[0][0]):
-        title = "Over the run" if is_line else f"0 to {end - 1:,}"
-        made.append(Group(title, [draw_panel(it, scale) for it in its]))
+        last = end - 1 if view.last is None else min(view.last, end - 1)
+        title = "Over the run" if is_line else f"{min(view.low, last):,} to {last:,}"
+        made.append(Group(title, [draw_panel(it, scale, view) for it in its]))
     if len(shown) > MOST:
         made[-1] = made[-1]._replace(title=f"{made[-1].title} ({len(shown) - MOST:,} more are not drawn)")
     return made
@@ -134,7 +147,7 @@ def draw_groups(title: str, groups: Sequence[Group]) -> Canvas:
     return canvas
 
 
-def draw_panel(it: Shown, scale: str = LINEAR) -> Canvas:
+def draw_panel(it: Shown, scale: str = LINEAR, view: View = View()) -> Canvas:
     """A panel: title, entries, mean, RMS and the place of the greatest bin, and the spectrum, or a line over the run."""
     canvas = Canvas(it.of + it.what, PANEL)
     canvas.text(0, 11, cut(it.of, TITLE - len(it.what)) + it.what, "s11 b")
@@ -150,14 +163,14 @@ def draw_panel(it: Shown, scale: str = LINEAR) -> Canvas:
     canvas.text(0, 24, entries, "mute s10")
     peak = it.spectrum.peak()
     canvas.text(0, 36, f"mean {_decimal(mean)}, RMS {_decimal(rms)}" + ("" if peak is None else f", peak at {short(it.value(peak))}"), "mute s10")
-    bins = it.spectrum.bins(most=BINS)
+    bins = view.bins(it.spectrum)
     _draw_axis(canvas, it, bins)
     for one in (LINEAR, LOGARITHMIC) if scale == BOTH else (scale,):
         canvas.parts.append(f'<g class="{one}">')
         _draw_counts(canvas, it, bins, one == LOGARITHMIC)
         canvas.parts.append("</g>")
     if it.bound is not None:
-        x = LEFT + WIDE * (it.bound + 0.5) / _end(bins)
+        x = LEFT + WIDE * (it.bound + 0.5) / _length(bins)
         canvas.line((x, TOP), (x, FOOT), "l-ink dash")
         canvas.text(PANEL, 24, f"bound {it.bound:,}", "s10 r")
     _draw_hit(canvas, it, bins)
@@ -184,19 +197,19 @@ def _decimal(value: Number) -> str:
     return f"{value:,.1f}" if abs(value) >= 10 or value == 0 else f"{value:.3g}"
 
 
-def _end(bins: Bins) -> int:
+def _length(bins: Bins) -> int:
     return bins.width * len(bins.counts)
 
 
 def _draw_axis(canvas: Canvas, it: Shown, bins: Bins) -> None:
-    """The axis of numbers, with five ticks where its end is a power of two."""
-    end = _end(bins)
+    """The axis of numbers, with five ticks where it is cut into quarters."""
+    end = _length(bins)
     places = [end * quarter // 4 for quarter in range(5)] if end >= 4 and it.bound is None else ticks(end, 4)
     canvas.line((LEFT, FOOT + 0.5), (LEFT + WIDE, FOOT + 0.5), "l-mute thin")
     for place in places:
         x = LEFT + WIDE * place / end
         canvas.line((x, FOOT), (x, FOOT + 4), "l-mute thin")
-        _draw_number(canvas, x, short(it.value(place)), place == end)
+        _draw_number(canvas, x, short(it.value(bins.first + place)), place == end)
     if it.meaning[2]:
         canvas.text(PANEL, FOOT + 26, cut(it.meaning[2], 24), "mute s10 r")
 
