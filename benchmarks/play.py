@@ -32,7 +32,7 @@ class Branch:
 its = [f"%s/examples/{name}" for name in ("sample_plan.toml", "straight_line.script")]
 began = time.process_time()
 library.play(*its, Branch(), *([events] if events else []))
-print((time.process_time() - began) / (2 * int(services)) * 1e6)
+print((time.process_time() - began) / (3 * int(services)) * 1e6)
 """ % TOP
 
 

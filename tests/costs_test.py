@@ -99,7 +99,7 @@ class Made(Costs):
             self.assertEqual(status, 0, number)
             least = [(it.cycles, it.words) if it.is_service else (it.cycles, it.words, it.steps) for it in map(HEADING.read, headings)]
             self.assertEqual([body.most[: len(other)] for body, other in zip(read_bodies(printed), least)], least, number)
-        self.assertGreater(tried, 50)
+        self.assertGreater(tried, 40)
 
     def test_refusals(self):
         """They are those of `check`."""

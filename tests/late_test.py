@@ -102,9 +102,9 @@ class Lines(unittest.TestCase):
         """A service alone begins at once; and faults of the rates."""
         words = ("@sample", TOP / "examples/straight_line.script")
         with mock.patch.dict(os.environ, CAMAC_PROGRAM=PROGRAM):
-            self.assertEqual(camac.response(*words), [Response("adc", 3, 3, None, 0, 3, 3)])
-            self.assertEqual(camac.response(*words, {"adc": 4}), [Response("adc", 3, 3, 4, 0, 3, 3)])
-            self.assertEqual(camac.response(*words, {"adc": 3}), [Response("adc", 3, 3, 3, None, None, None)])
+            self.assertEqual(camac.response(*words), [Response("adc", 3, 6, None, 0, 6, 6)])
+            self.assertEqual(camac.response(*words, {"adc": 7}), [Response("adc", 3, 6, 7, 0, 6, 6)])
+            self.assertEqual(camac.response(*words, {"adc": 6}), [Response("adc", 3, 6, 6, None, None, None)])
             for every in ({"nobody": 4}, {"adc": 0}, {"--": 4}, {"": 4}):
                 with self.assertRaises(camac.UsageFault):
                     camac.response(*words, every)

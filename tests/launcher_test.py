@@ -25,7 +25,7 @@ from support.launcher import Case, call, copy, start, toolchain
 from support.needs import has
 from support.program import TOP
 
-VERDICT = "accepted\nservice adc gl 3 cycles 3 of 3 words 1 of 1 steps 3\n"
+VERDICT = "accepted\nservice adc gl 3 cycles 6 of 6 words 1 of 1 steps 4\n"
 NOT_PROVED = "It is not proved; to prove it (about an hour) and keep that: cd crates/camac && rt run\n"
 NEEDED = "bash env readlink find sort stat xargs sha256sum mkdir mv rm cat".split()
 ROOM = None
@@ -166,7 +166,8 @@ class Launcher(Case):
     def test_5_live_input(self):
         folder = self.folder()
         ran = start(self.launcher, "run", "@sample", COPY / "examples/straight_line.script", "@in", folder / "e")
-        for answer, line in (("0 0 000000 0 000004", "demand 000004 adc"), ("1 1 123fff 2 000000", "cycle 1 5 0 0 in 123fff x1 q1 wait 2")):
+        read, clear = "cycle 1 5 0 0 in 123fff x1 q1 wait 2", "cycle 1 5 12 10 none x1 q1 wait 0"
+        for answer, line in (("0 0 000000 0 000004", "demand 000004 adc"), ("1 1 123fff 2 000000", read), ("1 1 000000 0 000000", clear)):
             ran.stdin.write(f"{answer}\n")
             ran.stdin.flush()
             self.assertTrue(select.select([ran.stdout], [], [], 10)[0], "no line before the next answer")

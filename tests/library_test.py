@@ -314,7 +314,7 @@ class Calls(Case):
 
     def test_codes_sessions_and_threads(self):
         for static in (False, True):
-            self.assertEqual(call(self.program("calls", static=static), SAMPLE, EXAMPLES / "straight_line.script", 0), (0, ""))
+            self.assertEqual(call(self.program("calls", static=static), SAMPLE, self.write("its.script", STRAIGHT_LINE), 0), (0, ""))
 
     def test_what_a_session_tells(self):
         for its in ("straight_line", "lockout", "procedure"):
@@ -323,11 +323,11 @@ class Calls(Case):
     def test_response_in_cpp(self):
         program = of_c.compiled(self.room, "response", HERE / "response.cpp")
         told = ONE_SERVICE.format("once", "") + ONE_SERVICE.format("every 200", "of 3 ")
-        self.assertEqual(call(program, SAMPLE, EXAMPLES / "straight_line.script"), (library.MISUSE, told))
+        self.assertEqual(call(program, SAMPLE, self.write("its.script", STRAIGHT_LINE)), (library.MISUSE, told))
 
     def test_lists_in_cpp(self):
         program = of_c.compiled(self.room, "lists_in_cpp", HERE / "lists.cpp")
-        told = "".join(f"1 12\nevent {number} words 12\n" for number in (1, 2)) + "1 12\noverrun 1 wait 15\n"
+        told = "".join(f"1 12\n1 event {number} words 12\n" for number in (1, 2)) + "1 12\noverrun 1 wait 15\n"
         self.assertEqual(call(program, SAMPLE, EXAMPLES / "all_channels.script"), (0, told))
 
     def test_a_run_in_cpp(self):
@@ -348,7 +348,7 @@ class Calls(Case):
         self.assertLess(int(re.findall(r"(\d+) after", told)[0]), MOST_KIB)
 
     def test_each_allocation_refused(self):
-        status, told = call(self.program("refuse"), SAMPLE, EXAMPLES / "straight_line.script")
+        status, told = call(self.program("refuse"), SAMPLE, self.write("its.script", STRAIGHT_LINE))
         self.assertEqual(status, 0, told)
         self.assertGreater(int(told), 50)
 
@@ -367,7 +367,7 @@ class Calls(Case):
 class Examples(Case):
     def test_readouts(self):
         folder = EXAMPLES / "c"
-        wanted = "".join(f"event {number} gl 3 cycles 1 words 000100\n" for number in (1, 2, 3))
+        wanted = "".join(f"event {number} gl 3 cycles 2 words 000100\n" for number in (1, 2, 3))
         verdict = call(PROGRAM, "check", SAMPLE, EXAMPLES / "straight_line.script")[1]
         for name in ("readout.c", "readout.cpp"):
             program = of_c.compiled(self.room, name + ".program", folder / name, folder / "branch.c")
@@ -386,7 +386,7 @@ class Examples(Case):
         self.assertEqual(status, 0, told)
         print(f"\n{told}", end="", flush=True)
         one, lists = ([int(it) for it in re.findall(r"\d+", line)] for line in told.splitlines())
-        self.assertEqual((one[:2], lists[:2]), ([6500, 6500], [6500, 1000]))
+        self.assertEqual((one[:2], lists[:2]), ([7000, 7000], [7000, 1500]))
         self.assertGreater(lists[2], one[2])
 
 

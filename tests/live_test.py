@@ -314,7 +314,9 @@ class EndToEnd(Case):
         end, made, events = self.drive("@sample", "straight_line.script", self.sample())
         self.assertEqual(end, RunEnd(Ending.ENDED, "ended events 20", 20))
         reads = [it.answer for it in made if it.request == "cycle 1 5 0 0 in"]
-        self.assertEqual(events, [camac.Event(at, 3, 1 + it.wait, 0, (it.word,)) for at, it in enumerate(reads, 1)])
+        clears = [it.answer for it in made if it.request == "cycle 1 5 12 10 none"]
+        pairs = enumerate(zip(reads, clears), 1)
+        self.assertEqual(events, [camac.Event(at, 3, 2 + it.wait + clear.wait, 0, (it.word,)) for at, (it, clear) in pairs])
         self.assertTrue({it.wait for it in reads} == {0, 1, 2} and len({it.word for it in reads}) > 10)
         self.assertEqual(made[-1].answer, None)
 

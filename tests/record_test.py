@@ -72,12 +72,12 @@ class Record(Case):
         begin, last = (time.strptime(told[it].partition(".")[0], "%Y-%m-%dT%H:%M:%S") for it in ("begin", "end"))
         self.assertLess(abs(time.mktime(begin) - time.timezone - before), 60)
         self.assertLessEqual(begin, last)
-        # five demands of 20 ms, 4 services of four cycles of 10 ms
+        # five demands of 20 ms, 4 services of five cycles of 10 ms
         measured = told["measured_seconds"]
         self.assertGreaterEqual(measured["demands"], 0.1)
-        self.assertGreaterEqual(measured["services"], 0.16)
+        self.assertGreaterEqual(measured["services"], 0.2)
         self.assertLessEqual(measured["demands"] + measured["services"], took)
-        self.assertEqual([(it.name, it.cycles) for it in record.list_services()], [("adc", 6)])
+        self.assertEqual([(it.name, it.cycles) for it in record.list_services()], [("adc", 9)])
 
     def test_it_is_there_from_the_beginning_and_a_crash_leaves_it(self):
         program = f"""\

@@ -12,7 +12,7 @@ import subprocess
 import tempfile
 import unittest
 
-from support.program import PROGRAM, TOP
+from support.program import PROGRAM, STRAIGHT_LINE, TOP
 
 SHIM = r"""
 #define _GNU_SOURCE
@@ -104,7 +104,6 @@ BROKEN_PLANS = {
     "P11": b"a = " + 17 * b"[",
     "P9": b"[[type]]\nname = 'A'\ncommands = []\n[[crate]]\nnumber = 1\nstation = [{ n = 1, type = 'A', gl = 3 }, { n = 2, type = 'A', gl = 3 }]\n",
 }
-STRAIGHT_LINE = (TOP / "examples/straight_line.script").read_bytes()
 REFUSED = (TOP / "examples/too_few_cycles.script").read_bytes()
 UNREAD = b"cdlam adc 1 1 5 12\nput\n"
 LOCKED = (TOP / "examples/lockout.script").read_bytes()

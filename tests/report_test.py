@@ -336,7 +336,7 @@ class Pages(unittest.TestCase):
         return re.findall(r"^  (?:-(\w)(?: [A-Z]+)?, )?--(\w+)", told, re.M)
 
     def test_manual_pages(self):
-        for command, count in (("check", 7), ("fmt", 2), ("lsp", 1), ("report", 8), ("survey", 10)):
+        for command, count in (("check", 7), ("fmt", 2), ("lsp", 1), ("report", 10), ("survey", 10)):
             page = (TOP / f"man/camac-{command}.1").read_text()
             self.assertEqual(len(self.options(command)), count)
             for short, long in self.options(command):

@@ -141,6 +141,33 @@ class Simulations(Case):
         self.assertEqual(status, 0)
         self.assertIn("49 more services were called for a look-at-me that was answered before", out)
 
+    def test_one_that_is_never_answered(self):
+        """trig is called again and again for the look-at-me that it leaves up, and slow never."""
+        self.script.write_text(SCRIPT.replace("  cclc trig\n", ""))
+        made = self.simulate({"trig": 20_000, "slow": 10_000}, services=100)
+        slow = made.services[1]
+        self.assertEqual((slow.waits, slow.live()), ([], 0.0))
+        self.assertGreater(slow.waiting, 100)
+        status, out, _ = self.told("--rate", "trig=20000", "--rate", "slow=10000", "--services", "100")
+        self.assertEqual((status, f"one look-at-me was not answered: at the end it had waited {slow.waiting:.1f} cycles" in out), (0, True))
+
+    def test_worst(self):
+        """Each service takes its bound, though this one ends after one cycle if Q is 1; waits are the greatest."""
+        self.plan.write_text(PLAN.replace("waits = 0", "waits = 2"))
+        body = "cfsa 27 r if not q { cfsa 27 r cfsa 27 r } cclc trig"
+        self.script.write_text(f"cdlam trig 1 1 2 12\nservice trig within 12 cycles event 0 words {{ cdreg r 1 1 2 0 {body} }}\n")
+        (it,) = self.simulate({"trig": 100}, services=50, is_worst=True).services
+        self.assertEqual({round(wait, 6) for wait in it.waits}, {12})
+        (it,) = self.simulate({"trig": 100}, services=50).services
+        self.assertLess(min(it.waits), 12)
+        self.assertIn("assumed: each service takes its bound; Q is 1, but 0 of a probe", self.told("--rate", "trig=1", "--services", "9", "--worst")[1])
+
+    def test_single_modules(self):
+        """Those that the file does not name are as the plan declares."""
+        file = self.write("mine.py", "from camac.mock import Adc\nmodules = {(1, 2): Adc(hits=0, spread=0)}\n")
+        status, out, _ = self.told("--rate", "trig=1000", "--rate", "slow=1000", "--services", "20", "--modules", str(file))
+        self.assertEqual((status, out.count(" lost 0 ")), (0, 2))
+
     def test_least_rate_and_cycle(self):
         """The times are as exact there as elsewhere: to a tenth of a cycle."""
         status, out, _ = self.told("--rate", "trig=0.01", "--cycle-us", "0.1")
@@ -155,7 +182,6 @@ class Simulations(Case):
 
     def test_modules_that_are_wrong(self):
         for text, told in (
-            ("modules = {}", "there is no module in crate 1 at station 2, which calls for trig"),
             ("modules = 3", "has no dictionary `modules`"),
             ("\nmodules = adc", "mine.py:2: NameError: name 'adc' is not defined"),
             ("modules = {", "SyntaxError"),

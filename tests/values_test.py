@@ -85,11 +85,11 @@ class Values(Case):
 
     def test_verdict_and_bounds(self):
         services = camac.check("@sample", TOP / "examples/straight_line.script")
-        self.assertEqual(services, [camac.Service("adc", 3, 3, 3, 1, 1, 3)])
+        self.assertEqual(services, [camac.Service("adc", 3, 6, 6, 1, 1, 4)])
         self.assertEqual(read_services("accepted\n"), [])
         headings = camac.bounds("@sample", TOP / "examples/too_few_cycles.script")
-        line = "service adc within 3 cycles event 1 words"
-        self.assertEqual(headings, [camac.Heading("adc", True, 3, 1, None, line)])
+        line = "service adc within 6 cycles event 1 words"
+        self.assertEqual(headings, [camac.Heading("adc", True, 6, 1, None, line)])
         line = "proc read(channel in 0..15, b in 1..2) within 3 cycles event 1 words steps 3"
         self.assertEqual(read_headings(line + "\n"), [camac.Heading("read", False, 3, 1, 3, line)])
 
@@ -105,7 +105,7 @@ class Values(Case):
 
     def test_costs_of_the_program(self):
         read, adc = camac.costs("@sample", TOP / "examples/procedure.script")
-        self.assertEqual((read.most.cycles, read.waits(), adc.most.cycles, adc.waits(), adc.slack()), (3, 2, 20, 10, 5))
+        self.assertEqual((read.most.cycles, read.waits(), adc.most.cycles, adc.waits(), adc.slack()), (3, 2, 23, 12, 5))
 
     def test_listing(self):
         wanted = [
@@ -145,9 +145,10 @@ class Values(Case):
         self.assertEqual(str(raised.exception), f"line 1 is no line of a listing: '{'x' * 80}..'")
 
     def test_run(self):
-        answers = self.write("answers", "0 0 000000 0 000004\n1 1 123fff 2 000000\n")
+        answers = self.write("answers", "0 0 000000 0 000004\n1 1 123fff 2 000000\n1 1 000000 1 000000\n")
         words = ["@sample", TOP / "examples/straight_line.script", answers, self.room / "events"]
-        wanted = [Demand(4, "adc"), Cycle(Command(1, 5, 0, 0), Move.IN, 0x123FFF, 1, 1, 2), RunEnd(Ending.ENDED, "ended events 1", 1)]
+        its = Cycle(Command(1, 5, 0, 0), Move.IN, 0x123FFF, 1, 1, 2), Cycle(Command(1, 5, 12, 10), Move.NONE, 0, 1, 1, 1)
+        wanted = [Demand(4, "adc"), *its, RunEnd(Ending.ENDED, "ended events 1", 1)]
         self.assertEqual(list(camac.run(*words)), wanted)
         self.assertEqual([event.words for event in camac.read_events(words[3])], [(0xFFF,)])
         begun = camac.run(*words)

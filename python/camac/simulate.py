@@ -26,7 +26,7 @@ FACTORS = tuple(2.0**k for k in range(-3, 4))
 
 class Setting(NamedTuple):
     """What is simulated: triggers a second by service, the seconds of a cycle, whether triggers come regularly, after how many cycles a
-    module may call again, how many services are made, and the seed."""
+    module may call again, how many services are made, the seed, and whether each service takes its bound of cycles, with all waits."""
 
     rates: Mapping[str, float]
     cycle: float
@@ -34,27 +34,33 @@ class Setting(NamedTuple):
     every: Mapping[str, int] = {}
     services: int = 10_000
     seed: int = 1
+    is_worst: bool = False
 
 
 @dataclasses.dataclass
 class Simulated:
     """What was simulated of a service: the triggers that came, of them those that were lost, and for each look-at-me that was answered the cycles
     until its service had ended. `length` are the cycles of its services together; `again` of them were called once more for the same
-    look-at-me, which the service before had left up. `end` is the E of `camac response`, None if that has no number."""
+    look-at-me, which the service before had left up. `cycles` is the bound of a service, `end` the E of `camac response`, None if that has no
+    number. `waiting` are the cycles that a look-at-me has waited that was not answered at the end of the simulation; None if there is none."""
 
     name: str
     gl: int
     rate: float
+    cycles: int
     end: Optional[int]
     came: int = 0
     lost: int = 0
     length: int = 0
     again: int = 0
+    waiting: Optional[float] = None
     waits: List[float] = dataclasses.field(default_factory=list)
 
     def live(self) -> float:
-        """The share of the triggers that were answered."""
-        return 1 - self.lost / self.came if self.came else 1.0
+        """The share of the triggers that were answered; one that waits at the end counts as answered if others were."""
+        if not self.waits:
+            return 0.0 if self.came else 1.0
+        return 1 - self.lost / self.came
 
     def reckoned(self, cycle: float) -> float:
         """The live share of a dead time of the mean length of a service after each trigger that is taken: 1 / (1 + rate * dead time)."""
@@ -143,6 +149,8 @@ class _Clocked(MockBranch):
         """The service in progress, if there is one, has ended."""
         it, self.called = self.called, None
         if it:
+            if self.setting.is_worst:
+                self.pass_by(it.of.cycles - round((self.now - self.began) / self.setting.cycle))
             self.busy += self.now - self.began
             it.of.length += round((self.now - self.began) / self.setting.cycle)
             if self.rise is None:
@@ -163,7 +171,8 @@ class _Clocked(MockBranch):
         return None
 
     def wait(self, crate: int) -> int:
-        wait = super().wait(crate)
+        auxiliary = self.auxiliaries.get(crate)
+        wait = auxiliary.greatest if self.setting.is_worst and auxiliary and crate not in self.locked else super().wait(crate)
         self.pass_by(wait)
         return wait
 
@@ -181,10 +190,10 @@ def declared_modules(plan: Plan, seed: int = 1) -> Dict[Place, Module]:
 def simulate(
     plan: File, script: File, setting: Setting, modules: Optional[Mapping[Place, Module]] = None, events: Optional[File] = None
 ) -> Simulation:
-    """Simulates a script. If no modules are given, each one accepts what the plan declares of its type, as `declared_modules` makes it.
+    """Simulates a script. A module that is not among the given ones accepts what the plan declares of its type, as `declared_modules` makes it.
     The event file is written to `events`, which must not hold bytes.
 
-    Raises UsageFault if a rate is none of a service of the script, or no module is where one calls, and what `camac.check` and `camac.drive` raise."""
+    Raises UsageFault if a rate is none of a service of the script, and what `camac.check`, `camac.drive` and `MockBranch.of_plan` raise."""
     its = read_plan(plan)
     every = {name: _period(rate, setting) for name, rate in setting.rates.items()} if setting.is_regular else {}
     responses = response(plan, script, {**every, **setting.every})
@@ -192,19 +201,16 @@ def simulate(
     for name in setting.rates:
         if name not in by_name:
             raise UsageFault(f"a rate of {name}: the script has no such service, but {', '.join(by_name) or 'none'}", 2)
-    simulated = [Simulated(it.name, it.gl, setting.rates[it.name], it.end) for it in responses if it.name in setting.rates]
+    simulated = [Simulated(it.name, it.gl, setting.rates[it.name], it.cycles, it.end) for it in responses if it.name in setting.rates]
     places = {gl: (crate.number, station.number) for gl, crate, station in its.demands()}
     sources = [
         _Source(it, places[it.gl], setting.every.get(it.name, 0) * setting.cycle, random.Random(f"{setting.seed} {it.name}"), setting.is_regular)
         for it in simulated
     ]
-    there = declared_modules(its, setting.seed) if modules is None else modules
-    for it in sources:
-        if it.place not in there:
-            raise UsageFault(f"there is no module in crate {it.place[0]} at station {it.place[1]}, which calls for {it.of.name}", 2)
-    branch = _Clocked(MockBranch.of_plan(its, there), sources, setting)
+    branch = _Clocked(MockBranch.of_plan(its, {**declared_modules(its, setting.seed), **(modules or {})}), sources, setting)
     end = _run(plan, script, branch, events)
     for it in sources:
+        it.of.waiting = (branch.now - it.raised) / setting.cycle if it.is_waiting(branch) else None
         it.of.lost = it.of.came - len(it.of.waits) - it.is_waiting(branch)
     return Simulation(simulated, branch.now, branch.busy / branch.now if branch.now else 0.0, end)
 

@@ -16,14 +16,16 @@ LEAST_CYCLE, GREATEST_CYCLE, GREATEST_SERVICES = 0.1, 1e6, 10_000_000
 # The most services that are simulated for each rate of a curve.
 OF_A_CURVE = 500
 SHARES = ((0.5, "50 %"), (0.9, "90 %"), (0.99, "99 %"), (0.999, "99.9 %"), (1.0, "most"))
+ASSUMED = "Q is 1, but 0 of a probe and of half of the F27, where --modules has no other module"
 ABOUT = """\
 Each dataway cycle takes --cycle-us, and nothing else takes time. Triggers are random, with the rate as their mean; --every is the dead time
 of the trigger's logic. The line of a service has the triggers that came and were lost, the share that was answered (live), and
 1 / (1 + rate * mean length of a service) (reckoned). The next line has the cycles from a look-at-me to the end of its service, and then the E of
 `camac response`.
 
-Each module accepts what its type in the plan declares, with words that look random. --modules names a file of Python with others: it has
-a dictionary `modules`, with a module of camac.mock by (crate, station).
+Each module accepts what its type in the plan declares, with words that look random. Q is 1, but 0 of a probe and of half of the F27, at random.
+--modules names a file of Python with others for some stations: it has a dictionary `modules`, with a module of camac.mock by (crate, station).
+With --worst each service takes its bound of cycles, with all waits.
 
 Status: 0 done; 1 plan or script is refused; 2 usage; 3 a file or the program failed."""
 
@@ -37,6 +39,7 @@ def add_to(commands: Any) -> None:
     it.add_argument("--rate", action="append", required=True, metavar="SERVICE=RATE", help=text)
     text = f"how many microseconds a dataway cycle takes on your branch, {LEAST_CYCLE:g} to {GREATEST_CYCLE:,.0f}"
     it.add_argument("--cycle-us", required=True, type=float, metavar="TIME", help=text)
+    it.add_argument("--worst", action="store_true", help="each service takes its bound of cycles, with all waits")
     it.add_argument("--regular", action="store_true", help="triggers come regularly, not at random")
     add_every(it)
     it.add_argument("--services", type=int, default=10_000, metavar="COUNT", help="how many services are simulated (10,000)")
@@ -54,7 +57,7 @@ def do(args: argparse.Namespace) -> int:
         its.error(f"--cycle-us is {LEAST_CYCLE:g} to {GREATEST_CYCLE:,.0f}")
     if not 1 <= args.services <= GREATEST_SERVICES:
         its.error(f"--services is 1 to {GREATEST_SERVICES:,}")
-    setting = Setting(_read_rates(args.rate, its), args.cycle_us / 1e6, args.regular, read_every(args.every, its), args.services, args.seed)
+    setting = Setting(_read_rates(args.rate, its), args.cycle_us / 1e6, args.regular, read_every(args.every, its), args.services, args.seed, args.worst)
     made = simulate(args.plan, args.script, setting, _modules(args.modules), args.events)
     say("".join(f"{line}\n" for line in _lines(made, setting)))
     if args.out:
@@ -97,6 +100,7 @@ def _lines(made: Simulation, setting: Setting) -> Iterator[str]:
         yield f"  cycles from look-at-me to end: {quantiles}; at most {'-' if it.end is None else it.end}"
         yield from (f"  {line}" for line in _notes(it))
     yield f"{made.end.events} services in {made.seconds:.6g} s, {share(made.busy, 1)} of it in services"
+    yield f"assumed: {'each service takes its bound; ' if setting.is_worst else ''}{ASSUMED}"
     if made.end.how is not Ending.ENDED:
         yield made.end.line
     elif (made.end.events or 0) < setting.services:
@@ -109,4 +113,6 @@ def _notes(it: Simulated) -> List[str]:
         notes.append(f"{it.later()} ended later: the triggers do not keep the rates that the last number assumes (--every)")
     if it.again:
         notes.append(f"{it.again} more services were called for a look-at-me that was answered before: this service leaves it up (cclc {it.name} clears it)")
+    if it.waiting is not None and (not it.waits or it.waiting > (it.end or 0)):
+        notes.append(f"one look-at-me was not answered: at the end it had waited {it.waiting:.1f} cycles")
     return notes

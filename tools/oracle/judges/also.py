@@ -11,7 +11,7 @@ from oracle.reader.engines import REFUSED, plan_of, told
 from oracle.reader.grammar import read_script
 from oracle.reader.refusals import Refused
 
-LINE = re.compile(r"^also (refused \w+ line (\d+): .*)$", re.M)
+LINE = re.compile(r"^also (refused \w+ line \d+: .*)$", re.M)
 
 
 def judge(it: Comparison) -> None:
@@ -22,12 +22,12 @@ def judge(it: Comparison) -> None:
     except Refused:
         return
     refusals = list(Checker(script, plan).refusals())
-    # A service of a LAM at no station has no bit for the same reason: that may be told, or not.
+    # A service of a LAM at no station has no bit for the same reason, which is told once.
     absent = [one.what for one in refusals if one.code == "L1"]
     same = [one.line for one in script.services() if script.lams[one.name] in absent]
-    wanted = [one.line() for one in refusals[1:] if one.place not in same]
+    wanted = [one.line() for one in refusals[1:] if one.code != "L2" or one.place not in same]
     answered = it.asked("explain", inputs)
-    found = [line for line, number in LINE.findall(answered.out.decode("latin-1")) if int(number) not in same] if answered else None
+    found = LINE.findall(answered.out.decode("latin-1")) if answered else None
     it.judged += bool(refusals)
     it.seen.update(f"also {one.code[0]}" for one in refusals[1:])
     if found != wanted:
