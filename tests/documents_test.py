@@ -51,7 +51,7 @@ FILE = re.compile(r"(?:python|toml(?! P\d)|sh|c|cpp|camac (?:accepted|\w+ line \
 # Pages whose files are in a folder of examples too, and where the page makes them.
 KEPT = {"TUTORIAL.md": ("tutorial", "."), "RECIPES.md": ("benches", "benches")}
 COMPILER = re.compile(r"^\$ (?:cc|c\+\+) ", re.M)
-LIBRARY = re.compile(r"pkg-config|in_this_process\.py")
+LIBRARY = re.compile(r"pkg-config|in_this_process\.py|^\$ \./readout\b", re.M)
 ARRAYS = re.compile(r"^\$ .*(?:numpy|h5py|\.npz|\.h5)\b", re.M)
 CELL = re.compile(r"^\|(?:[^|\n]*\|)*([^|\n]*)\|$")
 # The places for a piece of a script: a statement, its begin, a condition, the end of one, an expression, the end of one.
