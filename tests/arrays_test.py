@@ -20,8 +20,8 @@ from camac.words import Column, Field, Words
 SERVICES = [Service("adc", 3, 20, 20, 6, 6, 9), Service("reg", 5, 9, 9, 2, 2, 3)]
 FIELDS = [
     Field("amplitude", 3, bits=(0, 11), places=(1, 3)), Field("time", 3, places=(2, 2)), Field("tag", 3, bits=(12, 15), places=(4, 9)),
-    Field("channel", 3, bits=(0, 11), places=(4, 9), of="tag", tags=(2, 9)), Field("of place", 5, of="place", tags=(1, 2)), Field("counted", 3, count=2),
-    Field("scaler", 5, places=(1, 1)),
+    Field("channel", 3, bits=(0, 11), places=(4, 9), of="tag", tags=(2, 9)), Field("of place", 5, of="place", tags=(1, 2)), Field("counted", 3, count=2, kind="value"),
+    Field("scaler", 5, places=(1, 1), kind="counter"),
 ]
 
 
@@ -37,7 +37,7 @@ def events_at_random(chance, count):
 def told(run):
     """All that a run has, as lists and numbers."""
     spectrum = lambda it: (it.count, it.total, it.squares, it.least, it.greatest, it.end, it.shift, it.overflow, dict(it.counts))
-    series = lambda it: it and (it.per, it.columns, it.rises, it.last, it.falls)
+    series = lambda it: it and (it.per, it.columns, it.full, it.last)
     return (
         [list(it) for it in (run.gl, run.cycles, run.no_x, run.words)], {at: spectrum(it) for at, it in run.by_place.items()},
         {column: (spectrum(it.spectrum), series(it.series)) for column, it in run.channels.items()}, str(run.fault), run.checks,

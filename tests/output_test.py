@@ -22,13 +22,17 @@ from support.needs import needed, skip
 from support.program import ANSWERS, EVENT_FILE, EVENT_FILE_ONE, LISTING, STRAIGHT_LINE, unwritten
 
 NIGHT_BEFORE = "$ of the night before\n"
-HEAD = "number,gl,cycles,missed,count,word_0\n"
+HEAD = "number,operation,service,pattern,crate,station,sub_address,function,move,word,x,q,wait\n"
 
 
 def event_file(count, words=1):
-    """An event file, every word of an event its number, and its table."""
-    records = (struct.pack(f">HHIIHH{words}I", 0xCA4D, 3, k, 5, 0, words, *[k] * words) for k in range(1, count + 1))
-    return b"CAMACEV2" + b"".join(records), HEAD + "".join(f"{k},3,5,0,1,{k}\n" for k in range(1, count + 1))
+    """An event file, every word of an event its number."""
+    return b"CAMACEV2" + b"".join(struct.pack(f">HHIIHH{words}I", 0xCA4D, 3, k, 5, 0, words, *[k] * words) for k in range(1, count + 1))
+
+
+def listing(count):
+    """A listing, and its table."""
+    return "unlock 1\n" * count, HEAD + "".join(f"{k},unlock,,,1,,,,,,,,\n" for k in range(1, count + 1))
 
 
 COMMAND = """
@@ -97,7 +101,7 @@ COMMANDS = {
     "python3 -m camac simulate -o": Command((*SIMULATE, "-o", "OUT")),
     "python3 -m camac simulate --events": Command((*SIMULATE, "--events", "OUT")),
     "python3 -m camac annotate -o": Command(("annotate", "@sample", "script", "answers", "-o", "OUT")),
-    "python3 -m camac csv -o": Command(("csv", "events", "run.events", "-o", "OUT")),
+    "python3 -m camac csv -o": Command(("csv", "listing", "run.listing", "-o", "OUT")),
     "python3 -m camac export -o": Command(("export", "run.events", "-o", "OUT.csv"), "OUT.events.csv"),
     "camac.drive(.., record=..)": Command(("OUT",), program=RECORDED),
 }
@@ -157,7 +161,8 @@ class Written(Called):
         super().setUp()
         (self.room / "script").write_bytes(STRAIGHT_LINE)
         (self.room / "answers").write_bytes(ANSWERS)
-        (self.room / "run.events").write_bytes(event_file(3)[0])
+        (self.room / "run.events").write_bytes(event_file(3))
+        self.write("run.listing", listing(3)[0])
 
     @staticmethod
     def words(its, out):
@@ -174,7 +179,7 @@ class Written(Called):
                 new, made = (read(its.file.replace("OUT", "fresh")) for read in (self.timeless, self.text))
                 self.known[name] = "" if replaced == NOTHING else made if "record" in name or "survey" in name else made[:56] + NIGHT_BEFORE, new
             yield its, REASONS.get(replaced, FOREIGN), *self.known[name]
-            for it in {*self.room.iterdir()} - {self.room / name for name in ("script", "answers", "run.events")}:
+            for it in {*self.room.iterdir()} - {self.room / name for name in ("script", "answers", "run.events", "run.listing")}:
                 shutil.rmtree(it) if it.is_dir() and not it.is_symlink() else it.unlink()
 
     def timeless(self, file):
@@ -317,8 +322,8 @@ class Written(Called):
 class Outputs(Called):
     def setUp(self):
         super().setUp()
-        data, self.table = event_file(3)
-        (self.room / "run.events").write_bytes(data)
+        data, self.table = listing(3)
+        self.write("run.listing", data)
 
     CSV = f'csv() {{ {shlex.quote(sys.executable)} -m camac csv "$@" --overwrite; }}\n'
 
@@ -327,11 +332,11 @@ class Outputs(Called):
         return self.ran(["bash", "-c", f"{self.CSV}{line}"])
 
     def write_table(self, out, status=0, told=""):
-        self.assertEqual(self.shell(f"csv events run.events -o {out}"), (status, "", told))
+        self.assertEqual(self.shell(f"csv listing run.listing -o {out}"), (status, "", told))
 
     def test_files_of_others(self):
         """A file of another kind is replaced by --overwrite alone. What is behind standard output is written into."""
-        csv = f"{shlex.quote(sys.executable)} -m camac csv events run.events -o"
+        csv = f"{shlex.quote(sys.executable)} -m camac csv listing run.listing -o"
         (self.room / "mine.csv").write_text(NIGHT_BEFORE)
         self.assertEqual(self.shell(f"{csv} mine.csv"), (3, "", "camac: another command made it; --overwrite replaces it: mine.csv\n"))
         self.assertEqual(self.text("mine.csv"), NIGHT_BEFORE)
@@ -343,11 +348,11 @@ class Outputs(Called):
 
     def test_new_and_old_files(self):
         """A new file has the mode that the umask leaves, an old one keeps its own."""
-        self.assertEqual(self.shell("umask 027; csv events run.events -o new"), (0, "", ""))
+        self.assertEqual(self.shell("umask 027; csv listing run.listing -o new"), (0, "", ""))
         self.assertEqual((self.text("new"), self.mode("new")), (self.table, 0o640))
         self.write("old", NIGHT_BEFORE).chmod(0o604)
         self.write_table("old")
-        self.assertEqual((self.text("old"), self.mode("old"), self.there()), (self.table, 0o604, ["new", "old", "run.events"]))
+        self.assertEqual((self.text("old"), self.mode("old"), self.there()), (self.table, 0o604, ["new", "old", "run.listing"]))
 
     def test_link_to_nothing(self):
         (self.room / "far").mkdir()
@@ -357,9 +362,9 @@ class Outputs(Called):
 
     def test_pipes(self):
         os.mkfifo(self.room / "pipe")
-        self.assertEqual(self.shell("csv events run.events -o pipe & cat pipe; wait $!"), (0, self.table, ""))
+        self.assertEqual(self.shell("csv listing run.listing -o pipe & cat pipe; wait $!"), (0, self.table, ""))
         self.assertTrue(stat.S_ISFIFO((self.room / "pipe").stat().st_mode))
-        self.assertEqual(self.shell("csv events run.events -o >(cat)| cat"), (0, self.table, ""))
+        self.assertEqual(self.shell("csv listing run.listing -o >(cat)| cat"), (0, self.table, ""))
         told = "camac: it is no regular file: pipe\n"
         self.assertEqual(self.shell("printf 'var a  var b' >pipe & camac() { python3 -m camac fmt pipe; }; camac; s=$?; wait; exit $s"), (3, "", told))
 
@@ -373,15 +378,15 @@ class Outputs(Called):
                 skip(f"a device node ({why.strerror})")
             self.write_table(name, status, told)
             self.assertTrue(stat.S_ISCHR((self.room / name).stat().st_mode))
-        self.assertEqual(self.there(), ["full", "null", "run.events"])
+        self.assertEqual(self.there(), ["full", "null", "run.listing"])
 
     def test_standard_streams_by_name(self):
         """What is in the file behind them stays. The links are those of /dev, here where a wrong program can spoil them."""
         self.link_streams()
-        self.assertEqual(self.shell("csv events run.events -o stdout"), (0, self.table, ""))
-        self.assertEqual(self.shell("csv events run.events -o stderr"), (0, "", self.table))
-        self.assertEqual(self.shell("{ echo first; csv events run.events -o stdout; } >both")[0], 0)
-        self.assertEqual((self.text("both"), self.there()), (f"first\n{self.table}", ["both", "run.events", "stderr", "stdout"]))
+        self.assertEqual(self.shell("csv listing run.listing -o stdout"), (0, self.table, ""))
+        self.assertEqual(self.shell("csv listing run.listing -o stderr"), (0, "", self.table))
+        self.assertEqual(self.shell("{ echo first; csv listing run.listing -o stdout; } >both")[0], 0)
+        self.assertEqual((self.text("both"), self.there()), (f"first\n{self.table}", ["both", "run.listing", "stderr", "stdout"]))
 
     def link_streams(self):
         for stream, name in ((1, "stdout"), (2, "stderr")):
@@ -389,19 +394,19 @@ class Outputs(Called):
 
     def test_neighbours(self):
         """No file beside OUT is touched, whatever its name, an input neither."""
-        os.rename(self.room / "run.events", self.room / "out.new")
-        self.assertEqual(self.shell("csv events out.new -o out")[0], 0)
-        self.assertEqual((self.file("out.new"), self.text("out"), self.there()), (event_file(3)[0], self.table, ["out", "out.new"]))
+        os.rename(self.room / "run.listing", self.room / "out.new")
+        self.assertEqual(self.shell("csv listing out.new -o out")[0], 0)
+        self.assertEqual((self.text("out.new"), self.text("out"), self.there()), (listing(3)[0], self.table, ["out", "out.new"]))
 
     def test_inputs(self):
         """An input is no OUT, under another name neither, nor if it is standard input."""
-        (self.room / "link").symlink_to("run.events")
+        (self.room / "link").symlink_to("run.listing")
         self.write("listing", "unlock 1\n")
-        for line in ("events run.events -o link", "events link -o run.events", "listing - -o listing <listing"):
+        for line in ("listing run.listing -o link", "listing link -o run.listing", "listing - -o listing <listing"):
             status, out, told = self.shell(f"csv {line}")
             self.assertEqual((status, out), (2, ""))
             self.assertIn(" is an input: it would be lost\n", told)
-        self.assertEqual((self.file("run.events"), self.text("listing")), (event_file(3)[0], "unlock 1\n"))
+        self.assertEqual((self.text("run.listing"), self.text("listing")), (listing(3)[0], "unlock 1\n"))
 
     def test_two_at_once(self):
         """Both write before one of them ends: each table is whole when it comes to its place."""
@@ -415,50 +420,46 @@ class Outputs(Called):
         for it, count, more in zip(its, rows, (b"", b"unlock 1\n")):
             it.communicate(more, timeout=60)
             self.assertEqual((it.returncode, self.text("out").count("\n")), (0, count + 1))
-        self.assertEqual(self.there(), ["out", "run.events"])
+        self.assertEqual(self.there(), ["out", "run.listing"])
 
     def test_faults(self):
-        """After a fault OUT is as it was. Of an event file that breaks, the events before the fault are a table."""
+        """After a fault OUT is as it was."""
         self.write("out", NIGHT_BEFORE)
         self.write("bad.listing", "demand 000004 adc\nhello\n")
-        self.write("no.events", "hello\n")
-        for line, status in (("listing bad.listing", 3), ("events no.events", 1), ("events none", 3)):
+        for line, status in (("listing bad.listing", 3), ("listing none", 3)):
             with self.subTest(line):
                 self.assertEqual(self.shell(f"csv {line} -o out")[0], status)
-                self.assertEqual((self.text("out"), self.there()), (NIGHT_BEFORE, ["bad.listing", "no.events", "out", "run.events"]))
-        (self.room / "run.events").write_bytes(event_file(3)[0][:-1])
-        self.assertEqual(self.shell("csv events run.events -o out"), (1, "refused V7 byte 64: truncated\n", ""))
-        self.assertEqual(self.text("out"), event_file(2)[1])
+                self.assertEqual((self.text("out"), self.there()), (NIGHT_BEFORE, ["bad.listing", "out", "run.listing"]))
 
     def test_places_that_take_no_file(self):
         (self.room / "folder").mkdir()
         for out, why in (("folder", "Is a directory"), ("name/", "Is a directory"), ("none/out", "No such file or directory")):
             self.write_table(out, 3, f"camac: {why}: {out}\n")
-        self.assertEqual(self.there(), ["folder", "run.events"])
+        self.assertEqual(self.there(), ["folder", "run.listing"])
 
     def test_a_disk_that_has_room_once(self):
         """The file of two names stays whole, where the new one has room beside it and not in its place."""
-        (self.room / "run.events").write_bytes(event_file(3000)[0])
-        line = f"printf '{NIGHT_BEFORE}' >small/out; ln small/out small/other; csv events run.events -o small/out; status=$?; cat small/*; exit $status"
+        self.write("run.listing", listing(3000)[0])
+        line = f"printf '{NIGHT_BEFORE}' >small/out; ln small/out small/other; csv listing run.listing -o small/out; status=$?; cat small/*; exit $status"
         ran = self.on_small_disk(f"{self.CSV}{line}")
         self.assertEqual(ran, (3, NIGHT_BEFORE * 2, "camac: No space left on device: small/out\n"))
 
     def test_a_reader_that_is_gone(self):
         """The command ends without a word, by the signal by which `cat` ends."""
-        (self.room / "run.events").write_bytes(event_file(20_000)[0])
+        self.write("run.listing", listing(20_000)[0])
         self.link_streams()
-        for line in ("csv events run.events", "csv events run.events -o stdout", "csv --help"):
+        for line in ("csv listing run.listing", "csv listing run.listing -o stdout", "csv --help"):
             self.assertEqual(self.shell(f"sleep 0.1 | {{ {line}; echo $? >&2; }} | true; exit 0")[2], "141\n", line)
-        self.assertEqual(self.shell("csv events run.events | head -n 1; exit ${PIPESTATUS[0]}"), (141, HEAD, ""))
+        self.assertEqual(self.shell("csv listing run.listing | head -n 1; exit ${PIPESTATUS[0]}"), (141, HEAD, ""))
 
     def test_closed_streams(self):
         fault = "camac: Bad file descriptor: standard"
         for line, status, told in (
-            ("csv events run.events >&-", 3, f"{fault} output\n"),
+            ("csv listing run.listing >&-", 3, f"{fault} output\n"),
             ("csv --help >&-", 3, f"{fault} output\n"),
-            ("csv events run.events -o out >&-", 0, ""),
-            ("csv events none -o out 2>&-", 3, ""),
-            ("csv events run.events -o out >&- 2>&- <&-", 0, ""),
+            ("csv listing run.listing -o out >&-", 0, ""),
+            ("csv listing none -o out 2>&-", 3, ""),
+            ("csv listing run.listing -o out >&- 2>&- <&-", 0, ""),
             ("csv listing - -o out <&-", 3, f"{fault} input\n"),
             ("csv nothing 2>&-", 2, ""),
             ("csv nothing >&- 2>&-", 2, ""),
@@ -469,8 +470,8 @@ class Outputs(Called):
 
     def test_flat_memory(self):
         """A table is written as it is made."""
-        (self.room / "run.events").write_bytes(event_file(100_000, 20)[0])
-        code = "import resource; from camac.__main__ import main; status = main(['csv', 'events', 'run.events', '-o', 'out'])"
+        self.write("run.listing", listing(300_000)[0])
+        code = "import resource; from camac.__main__ import main; status = main(['csv', 'listing', 'run.listing', '-o', 'out'])"
         code += "; print(status, resource.getrusage(resource.RUSAGE_SELF).ru_maxrss // 1024)"
         # a shell between: else the memory of this process would count
         status, out, _ = self.shell(f"{shlex.quote(sys.executable)} -c {shlex.quote(code)}; exit $?")

@@ -134,8 +134,8 @@ class Numbers(laboratory.BenchCase):
     def lines_of(self, at):
         """The lines above a spectrum of 12 bits."""
         words = [word & 0xFFF for word in self.sums.commands[at]["words"]]
-        counts = [sum(low <= word < low + 32 for word in words) for low in range(0, 4096, 32)]
-        figures = f"mean {statistics.mean(words):,.1f}, RMS {statistics.pstdev(words):,.1f}, peak at {32 * counts.index(max(counts)):,}"
+        peak = min(statistics.multimode(words))
+        figures = f"mean {statistics.mean(words):,.1f}, RMS {statistics.pstdev(words):,.1f}, peak at {peak:,}"
         return ["ADC-12 crate 1 station 5 A0", f"{len(words):,} words, F0", figures]
 
     def test_places_of_words(self):
@@ -206,9 +206,9 @@ class Numbers(laboratory.BenchCase):
         tick = [event[4] for event in self.sums.events if event[0] == 5]
         texts = laboratory.Page(report(self.inputs).text).parts["Event words by their names"]["texts"]
         for place in range(12):
-            mean = statistics.mean(words[place] for words in tick)
+            numbers = [words[place] for words in tick]
             at = texts.index(f"SCALER-12 crate 2 station 2 A{place}")
-            self.assertEqual(texts[at + 1 : at + 3], [f"{len(tick)} words: values", f"mean {mean:,.1f}"])
+            self.assertEqual(texts[at + 1 : at + 3], [f"{len(tick)} words: values", f"mean {statistics.mean(numbers):,.1f}, RMS {statistics.pstdev(numbers):,.1f}"])
         words = self.write("words.toml", WORDS)
         page = laboratory.Page(report(self.inputs, naming=Naming(words, ("time", "count"))).text)
         packed = [word for event in self.sums.events if event[0] == 3 for word in event[4] if word >> 16 == 3]

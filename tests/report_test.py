@@ -150,7 +150,9 @@ class Ends(laboratory.BenchCase):
     def test_event_file_of_another_script(self):
         data = bytes.fromhex("43414d4143455632 ca4d 0007 00000001 00000003 0000 0001 00000fff")
         _, page = self.report(source=data, status=1)
-        self.assertIn(["DIFFERS", "events of a service of the script: 0 of 1"], page.parts["Checks of this page"]["tables"][0])
+        told = "events that this script can make, 0 of 1: another script or plan made them; event 1 is of GL 7, which has no service"
+        self.assertIn(["DIFFERS", told], page.parts["Checks of this page"]["tables"][0])
+        self.assertIn(told, page.parts[""]["paragraphs"])
 
     def test_largest(self):
         """The largest plan, 24 services, 100,000 answers."""
@@ -243,7 +245,7 @@ class Commands(laboratory.BenchCase):
             ("report", self.room / "none", script, answers),
             ("report", plan, script, self.room),
             ("draw", "plan", self.room / "none"),
-            ("csv", "events", self.room / "none"),
+            ("csv", "listing", self.room / "none"),
         ]:
             printed, err = self.call(*words, "-o", out, status=3)
             self.assertEqual(printed, "")
@@ -334,7 +336,7 @@ class Pages(unittest.TestCase):
         return re.findall(r"^  (?:-(\w)(?: [A-Z]+)?, )?--(\w+)", told, re.M)
 
     def test_manual_pages(self):
-        for command, count in (("check", 7), ("fmt", 2), ("lsp", 1), ("report", 8), ("survey", 10)):
+        for command, count in (("check", 7), ("fmt", 2), ("lsp", 1), ("report", 10), ("survey", 10)):
             page = (TOP / f"man/camac-{command}.1").read_text()
             self.assertEqual(len(self.options(command)), count)
             for short, long in self.options(command):
@@ -361,7 +363,7 @@ class Pages(unittest.TestCase):
             self.assertEqual(offered(command, "sample_p"), ["sample_plan.toml"])
             self.assertEqual(offered(command, "@sample", "stra"), ["straight_line.script"])
             self.assertEqual(offered(command, "@sample", "@"), [])
-        self.assertEqual(offered("report", "@sample", "-"), ["--every", "--help", "--out", "--overwrite", "--pair", "--record", "--survey", "--words", "-h", "-o"])
+        self.assertEqual(offered("report", "@sample", "-"), ["--every", "--gate", "--help", "--out", "--overwrite", "--pair", "--record", "--region", "--survey", "--words", "-h", "-o"])
         self.assertEqual(offered("survey", "@sample", "--driver", "m"), ["mock", "modules"])
         self.assertEqual(offered("check", "@sample", "--f"), ["--format"])
         self.assertEqual(offered("check", "--format", "g"), ["github"])

@@ -21,7 +21,8 @@ from camac.annotate import annotate
 from camac.histograms import Bins, Pairs, Series, Spectrum
 from camac.printed import read_headings, read_plan, read_services
 from camac.program import knows_command, lines_of, version
-from camac.tables import write_events, write_listing
+from camac.arrays import groups
+from camac.tables import write_listing
 from camac.transfers import transfer_commands
 from camac.values import BodyKind, Command, Cost, Declaration, Station
 
@@ -230,7 +231,7 @@ class Histograms(unittest.TestCase):
         its = Spectrum(8)
         self.assertEqual((its.bins(), its.mean(), its.rms(), its.least, its.peak()), (Bins(0, 1, [0] * 8), 0.0, 0.0, None, None))
         for value in (5, 7, 5, 8):
-            its.add(value)
+            its.add_all([value])
         self.assertEqual((its.bins(), its.count, its.integral(), its.overflow, its.peak()), (Bins(0, 1, [0, 0, 0, 0, 0, 2, 0, 1]), 4, 3, 1, 5))
         self.assertEqual((its.mean(), its.least, its.greatest), (25 / 4, 5, 8))
         self.assertAlmostEqual(its.rms(), statistics.pstdev([5, 7, 5, 8]))
@@ -245,35 +246,39 @@ class Histograms(unittest.TestCase):
                 its.add_all(values[:100])
                 its.add_all(values[100:])
                 for value in values:
-                    one_by_one.add(value)
+                    one_by_one.add_all([value])
                 first, width, counts = its.bins()
                 self.assertEqual((first, one_by_one.bins()), (0, (0, width, counts)))
-                self.assertLessEqual(len(counts), 128)
+                self.assertEqual(width, max(1, (its.end if end is None else 1 << (end - 1).bit_length()) >> 16))
                 self.assertEqual(width & (width - 1), 0)
                 last = max(values) if end is None else end - 1
-                for at, count in enumerate(counts):
-                    self.assertEqual(count, sum(at * width <= value < (at + 1) * width and value <= last for value in values))
+                for low, most in ((0, None), (0, 128), (100, 7)):
+                    bins = its.bins(low, most=most) if low < its.end else Bins(low, 1, [])
+                    self.assertTrue(most is None or len(bins.counts) <= most)
+                    wanted = collections.Counter((value // width * width - low) // bins.width for value in values if low <= value // width * width and value <= last)
+                    self.assertEqual(bins.counts, [wanted[at] for at in range(len(bins.counts))])
                 self.assertEqual((sum(counts), its.overflow), (its.integral(), sum(value > last for value in values)))
-                self.assertTrue(end is not None or width == 1 or max(values) >= 64 * width)
+                most = collections.Counter(value // width * width for value in values if value <= last).most_common()
+                self.assertEqual(its.peak(), min((at for at, count in most if count == most[0][1]), default=None))
 
     def test_series(self):
-        """A counter that nobody clears rises, also through its 24 bits; other numbers are values."""
-        its = Series()
-        its.add_all([1, 3, 4], [100, 150, 170])
-        self.assertEqual((its.is_counter(), its.means()), (True, {2: 50, 3: 20}))
-        its.add_all([6], [30])
-        self.assertEqual((its.is_counter(), its.means()), (False, {0: 100, 2: 150, 3: 170, 5: 30}))
-        its = Series()
+        """A counter is what its caller says is one, and rises through its last number; what only rises else is values."""
+        for full, wanted in ((None, {0: 100, 2: 150, 3: 170, 5: 30}), (200, {2: 50, 3: 20, 5: 60})):
+            its = Series(full)
+            its.add_all([1, 3], [100, 150])
+            its.add_all([4, 6], [170, 30])
+            self.assertEqual((its.means(), its.mean()), (wanted, sum(wanted.values()) / len(wanted)))
+        its = Series(1 << 24)
         numbers = list(range(1, 1001))
         its.add_all(numbers, [7 * number for number in numbers])
-        self.assertEqual((its.per, its.is_counter(), set(its.means().values())), (8, True, {7.0}))
+        self.assertEqual((its.per, set(its.means().values())), (8, {7.0}))
 
     def test_pairs(self):
         its = Pairs(4096, None)
         chance = random.Random(2)
         pairs = [(chance.randint(0, 4095), chance.randint(0, 99_999)) for _ in range(500)]
-        for pair in pairs:
-            its.add(*pair)
+        its.add_all(pairs[:1])
+        its.add_all(pairs[1:])
         self.assertEqual((its.ends, its.count), ([4096, 1 << 17], 500))
         wanted = collections.Counter((across // 64, up // 2048) for across, up in pairs)
         self.assertEqual(its.cells, wanted)
@@ -304,36 +309,19 @@ class Columns(unittest.TestCase):
         """What `numbers` gives of many events is what `values` gives of each."""
         chance = random.Random(3)
         events = [camac.Event(at, chance.choice((3, 5, 9)), 9, 0, tuple(chance.getrandbits(24) for _ in range(chance.randint(0, 14)))) for at in range(1, 400)]
-        for names in (two_crates.WORDS, camac.Words([camac.Field("a", 3, places=(2, 3)), camac.Field("b", 3, bits=(3, 7), count=4), camac.Field("c", 9, of="place", places=(1, 4))])):
+        for names in (two_crates.WORDS, camac.Words([camac.Field("a", 3, places=(2, 3), kind="value"), camac.Field("b", 3, bits=(3, 7), count=4), camac.Field("c", 9, of="place", places=(1, 4))])):
             wanted = collections.defaultdict(collections.Counter)
             for event in events:
                 for value in names.values(event):
-                    wanted[value.column][event.number if value.column.field.bits == (0, 23) else 0, value.number] += 1
+                    wanted[value.column][event.number if value.column.field.kind != "spectrum" else 0, value.number] += 1
             found = collections.defaultdict(collections.Counter)
-            for column, numbers, its in names.numbers(events):
+            for column, numbers, its in names.numbers(groups(events, 1)):
                 found[column].update(zip(numbers or [0] * len(its), its))
             self.assertEqual({it: sum(found[it].values()) for it in found}, {it: sum(wanted[it].values()) for it in wanted})
             self.assertEqual(found, wanted)
 
 
 class Tables(Case):
-    def test_events(self):
-        data = bytes.fromhex("43414d4143455632 ca4d 0003 00000001 00000003 0000 0002 00000fff 00ffffff ca4d 0018 00000002 00010000 ffff 0000")
-        file = self.room / "run.events"
-        file.write_bytes(data)
-        out = io.StringIO()
-        write_events(file, out)
-        self.assertEqual(out.getvalue(), "number,gl,cycles,missed,count,word_0,word_1\n1,3,3,0,2,4095,16777215\n2,24,65536,65535,0,,\n")
-        file.write_bytes(data[:-1])
-        out = io.StringIO()
-        with self.assertRaises(camac.EventFileFault):
-            write_events(file, out)
-        self.assertEqual(out.getvalue(), "number,gl,cycles,missed,count,word_0,word_1\n1,3,3,0,2,4095,16777215\n")
-        file.write_bytes(bytes.fromhex("43414d4143455631 ca4d 0003 00000001 0000"))
-        out = io.StringIO()
-        write_events(file, out)
-        self.assertEqual(out.getvalue(), "number,gl,cycles,missed,count\n1,3,,,0\n")
-
     def test_listing(self):
         out = io.StringIO()
         write_listing((LISTING + "ended events 1\n").splitlines(True), out)

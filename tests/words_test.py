@@ -5,12 +5,15 @@ usage: tests/words_test.py [-v] [TEST ..]     from any folder, over a built prog
 
 Tests with numpy or h5py are left out if these are not installed (Debian's packages python3-numpy and python3-h5py).
 """
+import collections
 import contextlib
 import csv
 import io
 import json
+import math
 import os
 import random
+import re
 import subprocess
 import sys
 import unittest
@@ -22,6 +25,9 @@ from support.needs import has, needed, skip
 import camac
 from camac.__main__ import main
 from camac.events import NEW_FILE, record
+from camac.export import Given
+from camac.regions import measure
+from camac.watch import Watch
 from camac.word_file import parse_words
 
 try:
@@ -113,6 +119,36 @@ class OfFile(Case):
             text = f"[[ word ]]\ngl=1\nname = 'x'\nscale={value}"
             self.assertEqual(self.read(text).fields[0].scale, tomllib.loads(text)["word"][0]["scale"], value)
 
+    def test_what_a_number_is(self):
+        """By the register that the script reads there, and by `as`; never by the numbers."""
+        register = lambda place, bits, kind="spectrum": camac.Field(f"r{place}", 3, bits=(0, bits - 1), places=(place, place), kind=kind)
+        sources = camac.Words([register(1, 16), register(2, 12), register(3, 24, "value"), camac.Field("line 4: v", 3, places=(4, 4), is_expression=True)])
+        for keys, bits, kind in (
+            ("place = 1", 16, "spectrum"), ("place = '1..2'", 16, "spectrum"), ("place = 3", 24, "value"), ("place = 4", 24, "spectrum"),
+            ("place = '3..4'", 24, "spectrum"), ("place = 3\nbits = '0..11'", 12, "spectrum"), ("place = 1\nas = 'value'", 16, "value"),
+            ("place = 3\nas = 'counter'", 24, "counter"), ("place = 3\nas = 'spectrum'", 24, "spectrum"), ("place = 5", 24, "spectrum"), ("", 24, "spectrum"),
+            ("place = '1..3'\nof = 'place'", 24, "value"),
+        ):
+            its = parse_words(f"[[word]]\ngl = 3\nname = 'x'\n{keys}".encode(), "words.toml", SERVICES, sources).fields[0]
+            self.assertEqual((its.bits, its.kind), ((0, bits - 1), kind), keys)
+
+    def test_other_forms_of_toml(self):
+        try:
+            import tomllib
+        except ImportError:
+            self.skipTest("this Python has no tomllib")
+        forms = ('word = [ { gl = 3, name = "x", unit = "V" } ]', '[[word]]\ngl = 3\nname = """x"""\nunit = "V"', '[[word]]\n"gl" = 3\nname = "x"\nunit = """\nV"""')
+        for text in forms:
+            self.assertEqual([(it.name, it.unit) for it in self.read(text).fields], [("x", "V")], tomllib.loads(text))
+        for line, text, told in (
+            (3, "# mine\n\n[[word]]\ngl = 3\nname = \"\"\"x\"\"\"\nscale = [ 1 ]", "`scale` is a number"),
+            (1, "word = [ { gl = true, name = 'x' } ]", "`gl` is a number"),
+            (3, "[[word]]\ngl = 3\nname = \"\"\"x\"", "expected a string"),
+            (1, "[other]\n[[word]]\ngl = 3\nname = 'x'", "expected `[[word]]`"),
+        ):
+            with self.assertRaisesRegex(camac.WordsFault, f"words.toml:{line}: {re.escape(told)}", msg=text):
+                self.read(text)
+
     def test_faults_name_file_and_line(self):
         head = "[[word]]\nservice = 'adc'\n"
         for line, wrong, told in (
@@ -137,6 +173,7 @@ class OfFile(Case):
             (4, head + "name = 'x'\nscale = 0", "`scale` is a number, and not 0"),
             (4, head + "name = 'x'\nscale = 1e999", "`scale` is a number, and not 0"),
             (4, head + "name = 'x'\ncolour = 'red'", "`colour` is no key"),
+            (4, head + "name = 'x'\nas = 'scaler'", "`as` is spectrum, value or counter"),
             (4, head + "name = 'x'\nof = 'y'", "is named `y`"),
             (4, head + "name = 'x'\ntag = 3", "`of` is missing"),
             (4, head + "name = 'x'\nof = 'place'", "write `place`"),
@@ -357,6 +394,41 @@ class Export(Case):
         self.write("bad.script", "service")
         self.assertTrue(self.call("run.events", "-o", "c.csv", "--plan", "@sample", "--script", "bad.script", status=1).startswith("refused "))
 
+    def test_events_of_another_script(self):
+        """Of the six events five are told to be of another script: by their words, or by their bit. All are written."""
+        text = self.write("a.script", script(["for i = 0 to 3 {", "cdreg r 1 1 5 i", "cfsa 0 r -> v", "put v", "}"], 12, 4))
+        files = ["--plan", "@sample", "--script", "a.script"]
+        os.environ["CAMAC_PROGRAM"] = PROGRAM
+        told = "events that this script can make, 1 of 6: another script or plan made them; event 1 has 40 words, those of adc at most 4\n"
+        for at, without in enumerate([["numpy"], []] if numpy else [["numpy"]]):
+            self.assertEqual(self.call("run.events", "-o", f"{at}.csv", *files, without=without, status=1), told)
+            self.assertEqual(len(self.rows(f"{at}.events.csv")), 6)
+        out = self.room / "words.svg"
+        with unittest.mock.patch("camac.commands.running.say") as said:
+            self.assertEqual(main(["draw", "words", "@sample", str(text), "run.events", "-o", str(out)]), 1)
+        self.assertEqual((said.call_args[0][0], out.exists()), (told, True))
+        watch = Watch(Given("run.events", "@sample", "a.script"))
+        while watch.poll():
+            pass
+        self.assertIn(f'<b class="bad">{told[:-1]}</b>', watch.notes())
+        (self.room / "run.events").write_bytes(text_of([camac.Event(1, 3, 13, 0, ())]))
+        self.assertIn("event 1 took 13 cycles, those of adc at most 12", self.call("run.events", "-o", "c.csv", *files, status=1))
+
+    def test_the_record_beside_the_events(self):
+        """It stands for plan and script, and tells if others are given."""
+        text = self.write("a.script", script(["for i = 0 to 3 {", "cdreg r 1 1 5 i", "cfsa 0 r -> v", "put v", "}"], 12, 4))
+        (self.room / "run.events").unlink()
+        os.environ["CAMAC_PROGRAM"] = PROGRAM
+        camac.drive("@sample", text, Told(4, 3, 12), self.room / "run.events", record=self.room / "run.json")
+        self.call("run.events", "-o", "a.csv")
+        self.assertEqual({it["source"] for it in self.rows("a.words.csv")}, {f"ADC crate 1 station 5 A{a}" for a in range(4)})
+        self.write("b.script", text.read_text() + "# changed\n")
+        self.call("run.events", "-o", "b.csv", "--plan", "@sample", "--script", "a.script")
+        told = self.call("run.events", "-o", "c.csv", "--plan", "@sample", "--script", "b.script", status=1)
+        self.assertIn("plan and script are those of the record beside the events; b.script is not the script", told)
+        self.write("run.json", "{}")
+        self.call("run.events", "-o", "d.csv", "--plan", "@sample", "--script", "b.script")
+
     def test_sources_of_scans(self):
         """Behind a scan they are named in whole events alone, with numpy as without it."""
         text = self.write("a.script", script(["cdreg r 1 1 5 0", "cfsa 0 r -> v", "put v", "cdreg s 1 1 5 11", "cfmad 0 r s max 12 tally t", "put t"], 99, 14))
@@ -425,6 +497,59 @@ class Export(Case):
                 self.call(f"{name}.events", "-o", f"{name}.h5")
             if numpy:
                 self.call(f"{name}.events", "-o", f"{name}.npz")
+
+
+class Spectra(Case):
+    """Two lines 17 numbers apart in the spectrum of a converter of 12 bits, and a flag in the same event."""
+
+    def test_lines_and_gates(self):
+        chance, values = random.Random(2), []
+        for _ in range(200_000):
+            kind = chance.random()
+            value = chance.gauss(1173 if kind < 0.2 else 1190, 3.4) if kind < 0.4 else chance.expovariate(1 / 900)
+            values.append(min(round(value), 4095))
+        lines = ["cdreg r 1 1 5 0", "cfsa 0 r -> v", "put v", "cdreg s 1 1 6 0", "cfsa 0 s -> v", "put v"]
+        text = self.write("a.script", script(lines, 12, 2))
+        (self.room / "run.events").write_bytes(text_of(camac.Event(at, 3, 6, 0, (it, at % 2)) for at, it in enumerate(values, 1)))
+        os.environ["CAMAC_PROGRAM"] = PROGRAM
+        name, flag = (it.name for it in camac.words_of_script(camac.plan("@sample", PROGRAM), text, camac.check("@sample", text, PROGRAM)).fields)
+        regions = ["--region", name, "1163..1181", "--region", name, "1182..1200"]
+        drawn = {}
+        for without in [["numpy"], []] if numpy else [["numpy"]]:
+            for gate in ([], ["--gate", flag, "1..1"]):
+                with unittest.mock.patch.dict(sys.modules, dict.fromkeys(without)):
+                    out = self.room / "words.svg"
+                    status = main(["draw", "words", "@sample", str(text), str(self.room / "run.events"), "-o", str(out), *regions, *gate, "--range", "1100..1249", "--bins", "150"])
+                self.assertEqual(status, 0)
+                picture = out.read_text()
+                self.assertEqual(drawn.setdefault(bool(gate), picture), picture)
+                its = collections.Counter(values[::2] if gate else values)
+                counts = [int(it) for it in re.findall(r'data-first="1100" data-width="1" data-counts="([^"]*)"', picture)[0].split()]
+                self.assertEqual(counts, [its[at] for at in range(1100, 1250)])
+                peak = max(range(4096), key=lambda at: (its[at], -at))
+                self.assertIn(f"peak at {peak:,}<", picture)
+                found = re.findall(r">([0-9.,]+) ± ([0-9.]+)<", picture)
+                self.assertEqual(len(found), 6)
+                for (net, _), (place, unsure), (width, _), line, low in zip(found[0::3], found[1::3], found[2::3], (1173, 1190), (1163, 1182)):
+                    self.assertLess(abs(float(place.replace(",", "")) - line), 0.3)
+                    self.assertLess(float(unsure), 0.1)
+                    self.assertLess(abs(float(width) - 8), 0.5)
+                    self.assertIn(f">{sum(its[it] for it in range(low, low + 19)):,}<", picture)
+                    self.assertLess(abs(float(net.replace(",", "")) / sum(its.values()) - 0.16), 0.02)
+
+    def test_words_that_are_wrong(self):
+        for words in (["--gate", "x", "9..8"], ["--region", "x", "1..5"], ["--range", "a"], ["--bins", "0"], ["--gate", "x", "0..99999999"]):
+            with contextlib.redirect_stderr(io.StringIO()) as told:
+                self.assertEqual(main(["draw", "words", "a", "b", "c", "-o", "d", *words]), 2)
+            self.assertIn(words[0], told.getvalue().splitlines()[-1])
+
+    def test_a_region_without_a_peak(self):
+        self.assertEqual(measure(5, [4] * 12)[:2], (48, (0.0, math.sqrt(48 + 144 * 8 / 12))))
+        self.assertIsNone(measure(5, [4] * 12).centroid)
+        self.assertIsNone(measure(0, [0] * 6).width)
+        peak = [round(2 * at + 1000 * math.exp(-((at - 10.25) ** 2) / 18)) for at in range(24)]
+        self.assertAlmostEqual(measure(100, peak).centroid.value, 110.25, 2)
+        self.assertAlmostEqual(measure(100, peak).width.value, 3 * 2.35482, 2)
 
 
 @needed("python3-numpy")

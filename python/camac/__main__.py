@@ -8,17 +8,18 @@ from typing import Any, Callable, Dict, List, Mapping, Optional, Sequence, TextI
 
 from camac import pictures, tables
 from camac.annotate import FIRST_LINE, annotate
-from camac.columns import Naming, ask
+from camac.columns import Naming, ask, compare_record
 from camac.commands import check as check_command
 from camac.commands import diff, export, fmt, lsp, simulate, survey, watch
-from camac.commands.options import add_every, add_overwrite, add_words, naming, read_every
+from camac.commands.options import add_every, add_overwrite, add_view, add_words, naming, read_cuts, read_every
 from camac.commands.running import DONE, FAULT, REFUSED, STATUS, refuse_pipes
 from camac.commands.running import main as run_command
 from camac.drive import STATUS as STATUS_OF
 from camac.drive import ProgramFault, Refused
-from camac.events import EventFileFault
+from camac.fits import refuse
 from camac.output import anything, is_one_of, made_like, output, refuse_loss, write_made
 from camac.pictures import Canvas, spectra
+from camac.pictures.regions import draw_regions, names_title
 from camac.program import knows_command
 from camac.record import refuse_foreign, write_played
 from camac.report import report
@@ -52,9 +53,14 @@ class Source:
     how counts are drawn."""
 
     def __init__(
-        self, files: Sequence[str], every: Optional[Mapping[str, int]] = None, naming: Optional[Naming] = None, scale: str = spectra.LINEAR
+        self,
+        files: Sequence[str],
+        every: Optional[Mapping[str, int]] = None,
+        naming: Optional[Naming] = None,
+        scale: str = spectra.LINEAR,
+        view: spectra.View = spectra.View(),
     ) -> None:
-        self.files, self.scale = files, scale
+        self.files, self.scale, self.view = files, scale, view
         self.plan = plan(files[0])
         self.services = check(*files[:2]) if len(files) > 1 else []
         self.responses: List[Response] = []
@@ -67,6 +73,7 @@ class Source:
             inputs = Inputs(*files)
             asked = ask(naming, inputs, self.plan, self.services) if naming else None
             self.run = collect(inputs, self.plan, self.services, None, self.responses, asked)
+            self.run.checks += compare_record(inputs)
 
 
 def _need(command: str) -> None:
@@ -111,9 +118,11 @@ def _draw_words(of: Source) -> Dict[str, Canvas]:
         stacked.append(("By channel: the words that modules gave with Q = 1, and the words that were sent", groups))
     channels = run.list_channels()
     if channels:
-        stacked.append(("Event words by their names", pictures.channel_groups(channels, of.scale)))
+        stacked.append((names_title(run.asked), pictures.channel_groups(channels, of.scale, of.view)))
     for title, groups in stacked:
         canvas.stack(title, pictures.draw_groups(title, groups))
+    if run.asked.regions:
+        canvas.stack("Regions", draw_regions(run))
     if run.asked.pair and run.pairs:
         canvas.stack("Two numbers of an event", pictures.draw_pairs(*run.asked.pair, run.pairs))
     for service in of.services:
@@ -136,7 +145,10 @@ def draw(args: argparse.Namespace) -> int:
     root, end = os.path.splitext(args.out)
     every = args.every if args.picture == "response" else None
     its = naming(args) if args.picture == "words" else None
-    drawn = PICTURES[args.picture][0](Source(args.files, every, its, spectra.LOGARITHMIC if args.log else spectra.LINEAR))
+    low, last = args.range or (0, None)
+    view = spectra.View(low, last, args.bins or spectra.BINS)
+    source = Source(args.files, every, its, spectra.LOGARITHMIC if args.log else spectra.LINEAR, view)
+    drawn = PICTURES[args.picture][0](source)
     pictures_of = {f"{root}.{name}{end}" if name else args.out: canvas for name, canvas in drawn.items()}
     texts = {out: canvas.picture() for out, canvas in pictures_of.items()}
     for out, text in texts.items():
@@ -145,6 +157,7 @@ def draw(args: argparse.Namespace) -> int:
         refuse_loss(out, anything if args.overwrite else made_like(text))
     for out, text in texts.items():
         write_made(out, text, args.overwrite)
+    refuse(source.run.checks)
     return DONE
 
 
@@ -171,22 +184,9 @@ def make_annotated(args: argparse.Namespace) -> int:
 
 
 def make_csv(args: argparse.Namespace) -> int:
-    refusal = None
-    head = ",".join(tables.LISTING if args.what == "listing" else tables.EVENTS)
-    with output(args.out, anything if args.overwrite else made_like(head)) as out:
-        if args.what == "listing":
-            with open_listing(args.file) as listing:
-                tables.write_listing(listing, out)
-            return DONE
-        try:
-            tables.write_events(args.file, out)
-        except EventFileFault as found:
-            # The events before the fault are a table, too.
-            refusal = found
-            if found.code == "V1":
-                raise
-    if refusal:
-        raise refusal
+    with output(args.out, anything if args.overwrite else made_like(",".join(tables.LISTING))) as out:
+        with open_listing(args.file) as listing:
+            tables.write_listing(listing, out)
     return DONE
 
 
@@ -210,9 +210,9 @@ def parser() -> argparse.ArgumentParser:
     it.add_argument("-o", "--out", metavar="TEXT", help="the file to write; else standard output")
     add_overwrite(it)
     it.set_defaults(do=make_annotated)
-    it = commands.add_parser("csv", help="Makes a table of an event file or of a listing")
-    it.add_argument("what", choices=("events", "listing"), metavar="KIND", help="events or listing")
-    it.add_argument("file", metavar="FILE", help="an event file; or what `camac run` printed, - for standard input")
+    it = commands.add_parser("csv", help="Makes a table of a listing; `export` makes those of events")
+    it.add_argument("what", choices=("listing",), metavar="KIND", help="listing")
+    it.add_argument("file", metavar="FILE", help="what `camac run` printed, - for standard input")
     it.add_argument("-o", "--out", metavar="CSV", help="the file to write; else standard output")
     add_overwrite(it)
     it.set_defaults(do=make_csv)
@@ -233,6 +233,7 @@ def _add_draw(commands: Any) -> None:
     it.add_argument("-o", "--out", required=True, metavar="SVG", help="the file to write")
     add_every(it)
     add_words(it)
+    add_view(it)
     it.add_argument("--log", action="store_true", help="counts on a logarithmic axis")
     add_overwrite(it)
     it.set_defaults(do=draw)
@@ -262,8 +263,10 @@ def parse(words: List[str]) -> argparse.Namespace:
             its.error(f"draw {args.picture} takes {least} to {most} files" if least < most else f"draw {args.picture} takes {least} files")
         if args.every and args.picture != "response":
             its.error("--every is an option of draw response and of report")
-        if (args.words or args.pair or args.log) and args.picture != "words":
-            its.error("--words, --pair and --log are options of draw words")
+        if (args.words or args.pair or args.log or args.gate or args.region or args.range or args.bins) and args.picture != "words":
+            its.error("--words, --pair, --gate, --region, --range, --bins and --log are options of draw words")
+    if args.command in ("draw", "report"):
+        read_cuts(args, its)
     if args.command in ("draw", "report", "diff"):
         args.every = read_every(args.every, its)
     inputs = getattr(args, "files", []) + getattr(args, "scripts", []) + [getattr(args, name, "") or "" for name in INPUTS]

@@ -1,12 +1,14 @@
 """Event files as arrays of numpy, if numpy is there: an extra, which nothing else of this package needs."""
 import importlib
 import io
+import itertools
 import os
-from typing import Any, Iterable, Iterator, List, NamedTuple, Optional, Tuple, Union
+from typing import Any, Callable, Dict, Iterable, Iterator, List, NamedTuple, Optional, Tuple, Union
 
 from camac.events import (
     GREATEST_COUNT, GREATEST_GL, GREATEST_WORD, HEADER, MARKER, NEW_FILE, TWO, Event, EventFileFault, File, Path, read_events, read_from,
 )
+from camac.numbers import Numbers
 
 # The events that are counted at once as a list, and the bytes of a file as arrays; a shorter file is counted as lists.
 BATCH, PIECE, LONG = 4096, 1 << 22, 1 << 20
@@ -25,6 +27,58 @@ class EventArrays(NamedTuple):
     words: Array
 
 
+# Events that follow each other.
+Events = Union[EventArrays, List[Event]]
+
+
+class Group(NamedTuple):
+    """Events of one bit that have `size` words each, in the order of the file: their numbers in it, cycles and missed, and of each place the words
+    there. A file of version one has no cycles and no missed."""
+
+    gl: int
+    size: int
+    numbers: Numbers
+    cycles: Numbers
+    missed: Numbers
+    words: List[Numbers]
+
+
+def groups(events: Events, number: int) -> List[Group]:
+    """The groups of events, of which the first has this number in the file."""
+    if not isinstance(events, EventArrays):
+        alike: Dict[Tuple[int, int], List[Event]] = {}
+        for it in events:
+            alike.setdefault((it.gl, len(it.words)), []).append(it)
+        return [_group(gl, count, its) for (gl, count), its in alike.items()]
+    numpy = importlib.import_module("numpy")
+    counts = numpy.diff(events.first)
+    kinds = events.gl.astype("i8") << 32 | counts
+    found = []
+    for kind in numpy.unique(kinds).tolist():
+        its = numpy.flatnonzero(kinds == kind)
+        at = events.first[its]
+        usage = (events.cycles[its], events.missed[its]) if events.cycles is not None and events.missed is not None else ([], [])
+        found.append(Group(kind >> 32, kind & 0xFFFF, its + number, *usage, [events.words[at + place] for place in range(kind & 0xFFFF)]))
+    return found
+
+
+def _group(gl: int, count: int, its: List[Event]) -> Group:
+    has_usage = its[0].cycles is not None
+    usage = ([it.cycles for it in its], [it.missed for it in its]) if has_usage else ([], [])
+    return Group(gl, count, [it.number for it in its], *usage, [*zip(*(it.words for it in its))])
+
+
+def as_events(events: Events, number: int, most: Optional[int] = None) -> List[Event]:
+    """Events one by one, or the last ones of them alone; the first of all has this number in the file."""
+    if not isinstance(events, EventArrays):
+        return events if most is None else events[-most:]
+    begin = 0 if most is None else max(len(events.gl) - most, 0)
+    first, words = events.first[begin:].tolist(), events.words[events.first[begin] :].tolist()
+    usage = [[None] * (len(first) - 1) if it is None else it[begin:].tolist() for it in (events.cycles, events.missed)]
+    rows = zip(itertools.count(number + begin), events.gl[begin:].tolist(), *usage, first, first[1:])
+    return [Event(at, gl, cycles, missed, tuple(words[low - first[0] : end - first[0]])) for at, gl, cycles, missed, low, end in rows]
+
+
 def event_arrays(file: File) -> EventArrays:
     """Reads an event file, named by its path or open for reading bytes, into arrays.
 
@@ -35,33 +89,38 @@ def event_arrays(file: File) -> EventArrays:
     else:
         with open(file, "rb") as opened:
             data = opened.read()
-    found = _records(numpy, memoryview(data)[HEADER:], 1) if data[:HEADER] == NEW_FILE else None
-    return found[0] if found and found[1] == len(data) - HEADER else _one_by_one(numpy, data)
+    found = whole_records(numpy, memoryview(data)[HEADER:], 1) if data[:HEADER] == NEW_FILE else None
+    return found[0] if found and found[1] == len(data) - HEADER else arrays_of([*read_events(io.BytesIO(data))], data[:HEADER] != b"CAMACEV1")
 
 
-def event_pieces(path: Path) -> Iterator[Union[EventArrays, List[Event]]]:
+def event_pieces(path: Path, tell: Callable[[float], None] = lambda _: None) -> Iterator[Events]:
     """The events of a file, many at once: in arrays if numpy is there, and the file is of version two, good so far, and long enough that
-    numpy pays for its loading; else in lists. What comes before a fault is given before it is raised.
+    numpy pays for its loading; else in lists. What comes before a fault is given before it is raised. `tell` is told which part of the file is read.
 
     Raises EventFileFault at the first wrong field, and OSError if the file cannot be read."""
     with open(path, "rb") as file:
-        numpy = _numpy() if os.fstat(file.fileno()).st_size >= LONG and file.read(HEADER) == NEW_FILE else None
+        size = os.fstat(file.fileno()).st_size
+        numpy = find_numpy() if size >= LONG and file.read(HEADER) == NEW_FILE else None
         if numpy is None:
             file.seek(0)
-            yield from batches(read_events(file))
+            for batch in batches(read_events(file)):
+                yield batch
+                tell(file.tell() / max(size, 1))
             return
         number, place, data = 1, HEADER, b""
         while True:
             data += file.read(PIECE)
-            found = _records(numpy, data, number) if data else None
+            found = whole_records(numpy, data, number) if data else None
             if found is None:
                 yield from batches(read_from(file, TWO, data, number, place))
                 return
             yield found[0]
+            tell((place + found[1]) / size)
             number, place, data = number + len(found[0].gl), place + found[1], data[found[1] :]
 
 
-def _numpy() -> Any:
+def find_numpy() -> Any:
+    """numpy, or None if it is not here."""
     try:
         return importlib.import_module("numpy")
     except ImportError:
@@ -83,7 +142,7 @@ def batches(events: Iterable[Event]) -> Iterator[List[Event]]:
     yield batch
 
 
-def _records(numpy: Any, data: Any, number: int) -> Optional[Tuple[EventArrays, int]]:
+def whole_records(numpy: Any, data: Any, number: int) -> Optional[Tuple[EventArrays, int]]:
     """The whole records of version two at the begin of these bytes, the first of this number, and how many bytes they take. A record begins where a
     number of four bytes begins with the marker: no word does. None if there is none, or that is not the whole truth: the file is wrong, or
     another number looks like a marker."""
@@ -115,10 +174,15 @@ def _records(numpy: Any, data: Any, number: int) -> Optional[Tuple[EventArrays, 
     return EventArrays(gl.astype("u1"), cycles, missed.astype("u2"), numpy.concatenate([[0], numpy.cumsum(counts)]), words), int(ends[-1]) * 4
 
 
-def _one_by_one(numpy: Any, data: bytes) -> EventArrays:
-    """Reads any file, event by event."""
-    events = list(read_events(io.BytesIO(data)))
-    has_usage = data[:HEADER] != b"CAMACEV1"
+def is_new(path: Path) -> bool:
+    """Whether the events of a file have cycles and missed."""
+    with open(path, "rb") as file:
+        return file.read(HEADER) == NEW_FILE
+
+
+def arrays_of(events: List[Event], has_usage: bool) -> EventArrays:
+    """Events as arrays. Raises ImportError if numpy is not there."""
+    numpy = importlib.import_module("numpy")
     return EventArrays(
         numpy.array([event.gl for event in events], "u1"),
         numpy.array([event.cycles for event in events], "u4") if has_usage else None,

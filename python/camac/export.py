@@ -3,20 +3,22 @@ without numpy there are tables of comma-separated values alone."""
 import contextlib
 import dataclasses
 import importlib
-import io
 import itertools
 import json
 import os
+import shutil
 import tempfile
+import zipfile
 from dataclasses import dataclass
 from typing import Any, BinaryIO, Dict, Iterator, List, NamedTuple, Optional, Sequence, Set, Tuple
 
 from camac import export_csv
-from camac.arrays import Array, EventArrays, event_arrays
+from camac.arrays import Array, EventArrays, Events, arrays_of, event_pieces, groups, is_new
 from camac.drive import File, ProgramFault
-from camac.events import GREATEST_COUNT, GREATEST_GL, EventFileFault, whole_size
-from camac.output import anything, bytes_output, nothing, refuse_loss
-from camac.record import Record, Source, read_record
+from camac.events import GREATEST_COUNT, GREATEST_GL, EventFileFault
+from camac.fits import Check, Fit, refuse
+from camac.output import anything, bytes_output, nothing, Progress, refuse_loss
+from camac.record import Record, Source, beside, read_record, record_checks
 from camac.subcommands import check, plan as read_plan
 from camac.texts import plan_text, script_text
 from camac.values import Service
@@ -27,6 +29,8 @@ from camac.words import Words
 FORM = "camac export 1"
 # The value in a column of whole numbers of a word that has none; in one of fractions it is NaN.
 MISSING = -1
+# The values of a chunk of HDF5, and the bytes that are copied at once.
+CHUNK, COPIED = 1 << 16, 1 << 20
 
 
 @dataclass(frozen=True)
@@ -35,6 +39,7 @@ class About:
     whose place the script fixes, `words` what the user says of them."""
 
     events: str
+    events_file: str = ""
     plan: Optional[Source] = None
     script: Optional[Source] = None
     words_text: Optional[Source] = None
@@ -66,13 +71,16 @@ class Given(NamedTuple):
 
 
 def learn(given: Given, program: Optional[File] = None) -> About:
-    """Reads what is known of the events. If plan and script are not given, those of the record count; if they are, they have to be the same.
+    """Reads what is known of the events. If plan and script are not given, those of the record count, which may be beside the events; if they are
+    given, they have to be those of a record that is given.
 
     Raises WordsFault and ValueError for a file that cannot be read so, Refused if plan or script is refused, ProgramFault and OSError as
     `camac.check`."""
-    about = About(os.path.basename(os.fsdecode(given.events)))
+    about = About(os.path.basename(os.fsdecode(given.events)), os.fsdecode(given.events))
+    record = beside(given.events) if given.plan is None and given.record is None else None
     if given.record is not None:
         record = read_record(given.record)
+    if record is not None:
         about = dataclasses.replace(about, record=record, plan=record.plan, script=record.script)
     if given.plan is not None and given.script is not None:
         plan, script = Source(os.fsdecode(given.plan), plan_text(given.plan)), Source(os.fsdecode(given.script), script_text(given.script))
@@ -85,7 +93,7 @@ def learn(given: Given, program: Optional[File] = None) -> About:
         about = dataclasses.replace(about, services=tuple(services), sources=sources)
     if given.words is not None:
         text = script_text(given.words)
-        words = parse_words(text, given.words, about.services)
+        words = parse_words(text, given.words, about.services, about.sources)
         about = dataclasses.replace(about, words_text=Source(os.fsdecode(given.words), text), words=words)
     return about
 
@@ -103,8 +111,7 @@ def _judge(plan: Source, script: Source, program: Optional[File]) -> Tuple[List[
 
 
 class Series(NamedTuple):
-    """A column: its table and name, its values, its unit, and what it means. `title` is the name that the user gave it, `texts` are those that the
-    values number."""
+    """A column: its table and name, its values, its unit, and what it means. `title` is the name that the user gave it."""
 
     table: str
     name: str
@@ -112,14 +119,20 @@ class Series(NamedTuple):
     unit: str = ""
     meaning: str = ""
     title: str = ""
-    texts: Sequence[str] = ()
 
 
-def tables(events: EventArrays, about: About) -> List[Series]:
-    """The columns of an event file: those of its events, then those of its words."""
+class Begin(NamedTuple):
+    """Where a piece of a file begins: the number of its first event, and the row of its first word."""
+
+    event: int = 1
+    row: int = 0
+
+
+def tables(events: EventArrays, about: About, begin: Begin = Begin()) -> List[Series]:
+    """The columns of an event file, or of a piece of one: those of its events, then those of its words."""
     numpy = importlib.import_module("numpy")
     counts = numpy.diff(events.first)
-    numbers = numpy.arange(1, len(counts) + 1, dtype="u4")
+    numbers = numpy.arange(begin.event, begin.event + len(counts), dtype="u4")
     found = [Series("events", "event", numpy.copy(numbers), "", NUMBER), Series("events", "gl", events.gl, "", GL)]
     if events.cycles is not None:
         found.append(Series("events", "cycles", events.cycles, "dataway cycles", "with those of auxiliary controllers"))
@@ -127,7 +140,7 @@ def tables(events: EventArrays, about: About) -> List[Series]:
     places = numpy.arange(len(events.words), dtype="i8")
     places -= numpy.repeat(events.first[:-1] - 1, counts)
     found += [
-        Series("events", "first", events.first[:-1].astype("i8"), "", "the row of its first word, from 0"),
+        Series("events", "first", events.first[:-1].astype("i8") + begin.row, "", "the row of its first word, from 0"),
         Series("events", "count", counts.astype("u2"), "", "how many words it has"),
         Series("words", "event", numpy.repeat(numbers, counts), "", NUMBER),
         Series("words", "gl", numpy.repeat(events.gl, counts), "", GL),
@@ -135,7 +148,7 @@ def tables(events: EventArrays, about: About) -> List[Series]:
         Series("words", "word", events.words, "", "all 24 bits"),
     ]
     if about.sources.fields:
-        found.append(Series("words", "source", _sources(numpy, events, places, about.sources), "", SOURCE, "", about.source_names()))
+        found.append(Series("words", "source", _sources(numpy, events, places, about.sources), "", SOURCE))
     return found + list(_named(numpy, events, about.words, {it.name for it in found if it.table == "words"}))
 
 
@@ -177,15 +190,32 @@ def _free(title: str, taken: Set[str]) -> str:
     return next(name for name in itertools.chain([plain], (f"{plain}_{number}" for number in itertools.count(2))) if name not in taken)
 
 
-def read_all(events: File) -> Tuple[EventArrays, Optional[EventFileFault]]:
-    """All events of a file, or those before its first fault, and this fault. Raises EventFileFault if it is none at all."""
-    try:
-        return event_arrays(events), None
-    except EventFileFault as fault:
-        if fault.code == "V1":
-            raise
-        with open(events, "rb") as file:
-            return event_arrays(io.BytesIO(file.read(whole_size(events)))), fault
+class Reading:
+    """A file that is read in pieces of whole events. `fit` says whether they are of the script, `fault` is the first fault of the file."""
+
+    def __init__(self, events: File, services: Sequence[Service]) -> None:
+        self.events, self.fit = events, Fit(services)
+        self.fault: Optional[EventFileFault] = None
+
+    def pieces(self) -> Iterator[Events]:
+        """Raises EventFileFault if it is no event file at all."""
+        try:
+            for events in event_pieces(self.events, Progress()):
+                self.fit.take(groups(events, self.fit.count + 1))
+                yield events
+        except EventFileFault as fault:
+            if fault.code == "V1":
+                raise
+            self.fault = fault
+
+    def series(self, about: About) -> Iterator[List[Series]]:
+        """The columns of each piece; there is one at least."""
+        begin = Begin()
+        for events in self.pieces():
+            arrays = events if isinstance(events, EventArrays) else arrays_of(events, is_new(self.events))
+            if len(arrays.gl) or begin == Begin():
+                yield tables(arrays, about, begin)
+            begin = Begin(begin.event + len(arrays.gl), begin.row + len(arrays.words))
 
 
 def files_of(out: str) -> List[str]:
@@ -198,66 +228,92 @@ def export(given: Given, out: str, may_replace: bool = False, program: Optional[
     """Writes the events of a file as columns; the ending of `out` says how: .h5, .npz or .csv. Of the last there are three files, as
     run.events.csv, run.words.csv and run.about.json. What holds bytes is replaced only where `may_replace`.
 
-    Raises EventFileFault at the first wrong field, behind the events before it; FileExistsError if a file would be lost; ProgramFault if numpy
-    or h5py is not there; and what `learn` raises."""
+    Raises EventFileFault at the first wrong field, behind the events before it; Refused, when all is written, if the events are not of the script or of
+    the record beside them; FileExistsError if a file would be lost; ProgramFault if numpy or h5py is not there; and what `learn` raises."""
     files, rule = files_of(out), anything if may_replace else nothing
     for file in files:
         refuse_loss(file, rule)
     about = learn(given, program)
     with contextlib.ExitStack() as opened:
         outs = [opened.enter_context(bytes_output(it, rule)) for it in files]
-        fault = ENDINGS[os.path.splitext(out)[1]](given, about, outs)
+        reading = Reading(given.events, about.services)
+        ENDINGS[os.path.splitext(out)[1]](reading, about, outs)
         # No file takes its place before all are whole.
         for it in outs:
             it.flush()
-    if fault:
-        raise fault
+    if reading.fault:
+        raise reading.fault
+    refuse(checks_of(reading.fit, about))
 
 
-def _write_csv(given: Given, about: About, outs: Sequence[BinaryIO]) -> Optional[EventFileFault]:
-    to_events, to_words, to_about = outs
-    try:
-        arrays, fault = read_all(given.events)
-    except ImportError:
-        fault = export_csv.write_events(export_csv.Without(given.events, about.sources, about.words), to_events, to_words)
-    else:
-        series = tables(arrays, about)
-        for table, out in (("events", to_events), ("words", to_words)):
-            export_csv.write_series([it for it in series if it.table == table], out)
+def checks_of(fit: Fit, about: About) -> List[Check]:
+    """Whether events are of what is known of them."""
+    return [Check(fit.text(), fit.is_good()), *record_checks(about.events_file, about.plan, about.script)]
+
+
+def _write_csv(reading: Reading, about: About, outs: Sequence[BinaryIO]) -> None:
+    *to_tables, to_about = outs
+    export_csv.write_events(reading.pieces(), export_csv.Table(is_new(reading.events), about.sources, about.words), *to_tables)
     units = {name: fields[0].unit for name, fields in about.words.by_name().items()}
     to_about.write((json.dumps({**about.value(), "units": units}, indent=1) + "\n").encode())
-    return fault
 
 
-def _write_npz(given: Given, about: About, outs: Sequence[BinaryIO]) -> Optional[EventFileFault]:
+def _write_npz(reading: Reading, about: About, outs: Sequence[BinaryIO]) -> None:
+    """As `numpy.savez` does; a column is kept in a file of its own until its length is known."""
     numpy = _needed("numpy")
-    events, fault = read_all(given.events)
-    series = tables(events, about)
-    arrays = {f"{it.table}/{it.name}": it.values for it in series}
-    values = {**about.value(), "columns": {f"{it.table}/{it.name}": _about(it) for it in series}, "sources": about.source_names()}
-    numpy.savez(outs[0], about=numpy.array(json.dumps(values)), **arrays)
-    return fault
+    with contextlib.ExitStack() as opened, zipfile.ZipFile(outs[0], "w", allowZip64=True) as archive:
+        files: Dict[str, Tuple[Any, Series]] = {}
+        for series in reading.series(about):
+            for it in series:
+                name = f"{it.table}/{it.name}"
+                if name not in files:
+                    files[name] = opened.enter_context(tempfile.TemporaryFile()), it._replace(values=it.values[:0])
+                files[name][0].write(it.values.tobytes())
+        values = {**about.value(), "columns": {name: _about(it) for name, (_, it) in files.items()}, "sources": about.source_names()}
+        with archive.open("about.npy", "w") as out:
+            numpy.save(out, numpy.array(json.dumps(values)))
+        for name, (file, it) in files.items():
+            head = {"descr": it.values.dtype.str, "fortran_order": False, "shape": (file.tell() // it.values.dtype.itemsize,)}
+            file.seek(0)
+            with archive.open(f"{name}.npy", "w", force_zip64=True) as out:
+                numpy.lib.format.write_array_header_1_0(out, head)
+                shutil.copyfileobj(file, out, COPIED)
 
 
-def _write_h5(given: Given, about: About, outs: Sequence[BinaryIO]) -> Optional[EventFileFault]:
+def _write_h5(reading: Reading, about: About, outs: Sequence[BinaryIO]) -> None:
     h5py = _needed("h5py")
-    events, fault = read_all(given.events)
-    with h5py.File("export", "w", driver="core", backing_store=False) as file:
-        for it in tables(events, about):
-            data = file.create_dataset(f"{it.table}/{it.name}", data=it.values, compression="gzip", compression_opts=1, shuffle=True)
-            data.attrs.update(_about(it))
-        file["sources"] = about.source_names()
-        for name, values in about.value().items():
-            if "sha256" in values:
-                its = {name: values.get("text", values.get("base64")), f"{name}_name": values["name"], f"{name}_sha256": values["sha256"]}
-            else:
-                its = {name: values if isinstance(values, str) else json.dumps(values)}
-            # A name of a file may hold bytes that are no text.
-            file.attrs.update({name: text.encode("utf-8", "replace").decode() for name, text in its.items()})
-        file.flush()
-        image = file.id.get_file_image()
-    outs[0].write(image)
-    return fault
+    with tempfile.TemporaryDirectory(prefix="camac-") as room:
+        path = os.path.join(room, "export")
+        with h5py.File(path, "w") as file:
+            for series in reading.series(about):
+                for it in series:
+                    _append(file, it)
+            file["sources"] = about.source_names()
+            _note(file, about)
+        with open(path, "rb") as made:
+            shutil.copyfileobj(made, outs[0], COPIED)
+
+
+def _append(file: Any, it: Series) -> None:
+    """Adds values to a column of a file of HDF5."""
+    name = f"{it.table}/{it.name}"
+    if name not in file:
+        data = file.create_dataset(name, (0,), it.values.dtype, maxshape=(None,), chunks=(CHUNK,), compression="gzip", compression_opts=1, shuffle=True)
+        data.attrs.update(_about(it))
+    data = file[name]
+    before = len(data)
+    data.resize((before + len(it.values),))
+    data[before:] = it.values
+
+
+def _note(file: Any, about: About) -> None:
+    for name, values in about.value().items():
+        if "sha256" in values:
+            its = {name: values.get("text", values.get("base64")), f"{name}_name": values["name"], f"{name}_sha256": values["sha256"]}
+        else:
+            its = {name: values if isinstance(values, str) else json.dumps(values)}
+        # A name of a file may hold bytes that are no text.
+        file.attrs.update({name: text.encode("utf-8", "replace").decode() for name, text in its.items()})
 
 
 def _about(its: Series) -> Dict[str, str]:

@@ -5,8 +5,10 @@ import os
 import time
 from typing import Callable, Deque, Dict, List, NamedTuple, Optional, Sequence, Tuple
 
+from camac.arrays import LONG, Events, Group, as_events, find_numpy, groups, whole_records
 from camac.drive import File
-from camac.events import FORMS, HEADER, Event, EventFileFault, Form, read_further, record_size
+from camac.events import FORMS, HEADER, TWO, Event, EventFileFault, Form, read_further, record_size
+from camac.fits import Fit
 from camac.histograms import Spectrum
 from camac.regular import open_regular
 from camac.runs import Channel, Channels, Seen, SeenOfBit
@@ -28,12 +30,11 @@ class _Bit:
         self.cycles, self.words = (Spectrum(end) for end in ends)
         self.count = self.missed = 0
 
-    def take(self, events: Sequence[Event]) -> None:
-        self.count += len(events)
-        self.words.add_all([len(it.words) for it in events])
-        if events[0].cycles is not None:
-            self.cycles.add_all([it.cycles or 0 for it in events])
-            self.missed += sum(it.missed or 0 for it in events)
+    def take(self, its: Group) -> None:
+        self.count += len(its.numbers)
+        self.words.add_all([its.size] * len(its.numbers))
+        self.cycles.add_all(its.cycles)
+        self.missed += int(sum(its.missed))
 
 
 class Counts:
@@ -47,16 +48,19 @@ class Counts:
             self.ends = max(it.cycles for it in services) + 1, max(it.words for it in services) + 1
         self.bits: Dict[int, _Bit] = {it.gl: _Bit(self.ends) for it in services}
         self.channels = Channels()
+        self.fit = Fit(services)
         self.last: Deque[Event] = collections.deque(maxlen=SHOWN_EVENTS)
 
-    def take(self, events: Sequence[Event]) -> None:
-        self.events += len(events)
-        self.last.extend(events[-SHOWN_EVENTS:])
-        for gl in {it.gl for it in events}:
-            if gl not in self.bits:
-                self.bits[gl] = _Bit(self.ends)
-            self.bits[gl].take([it for it in events if it.gl == gl])
-        self.channels.take(self.names, events)
+    def take(self, events: Events) -> None:
+        its = groups(events, self.events + 1)
+        self.last.extend(as_events(events, self.events + 1, SHOWN_EVENTS))
+        self.events += sum(len(it.numbers) for it in its)
+        for it in its:
+            if it.gl not in self.bits:
+                self.bits[it.gl] = _Bit(self.ends)
+            self.bits[it.gl].take(it)
+        self.fit.take(its)
+        self.channels.take(self.names, its)
 
     def seen(self) -> Dict[int, SeenOfBit]:
         """By bit, the counts of its services."""
@@ -142,6 +146,11 @@ class Follower:
             self.advance(data[:HEADER])
             data = data[HEADER:]
         assert self.form
+        numpy = find_numpy() if self.form is TWO and len(data) >= LONG else None
+        found = whole_records(numpy, data, self.counts.events + 1) if numpy else None
+        if found:
+            self.take_events(found[0], data[: found[1]], age)
+            data = data[found[1] :]
         events: List[Event] = []
         try:
             for event in read_further(self.form, data, self.counts.events + 1, self.place):
@@ -149,9 +158,12 @@ class Follower:
         except EventFileFault as fault:
             self.fault = fault
         if events:
-            self.counts.take(events)
-            self.advance(data[: sum(map(record_size, events))])
-            self.arrived = self.clock() - (0.0 if self.is_there_yet else max(age, 0.0))
+            self.take_events(events, data[: sum(map(record_size, events))], age)
+
+    def take_events(self, events: Events, data: bytes, age: float) -> None:
+        self.counts.take(events)
+        self.advance(data)
+        self.arrived = self.clock() - (0.0 if self.is_there_yet else max(age, 0.0))
 
     def advance(self, data: bytes) -> None:
         self.place += len(data)

@@ -1,8 +1,9 @@
 """Histograms, lines over a run, and maps of two numbers: each of a fixed size, however many numbers come."""
 import collections
 import math
-import operator
 from typing import Counter, Dict, List, NamedTuple, Optional, Sequence, Tuple
+
+from camac.numbers import Numbers, below, column_sums, differences, scaled, sums, tally
 
 
 class Bins(NamedTuple):
@@ -40,31 +41,31 @@ class Totals:
 
 
 class Spectrum(Totals):
-    """Counts on an axis from 0 to `end`, in at most `MOST` bins of one width, a power of two. Numbers from `end` on are counted as overflow.
-    If no end is given the axis doubles until it holds all numbers."""
+    """Counts on an axis from 0 to `end`, by the number itself, or, of more than `most` numbers, in bins of one width, a power of two. Numbers
+    from `end` on are counted as overflow. If no end is given the axis doubles until it holds all numbers."""
 
-    __slots__ = ("end", "is_open", "shift", "counts", "overflow")
-    MOST = 128
+    __slots__ = ("end", "is_open", "most", "shift", "counts", "overflow")
+    CHANNELS = 1 << 16
+    # The end of an axis that doubles.
+    LEAST = 128
 
-    def __init__(self, end: Optional[int] = None) -> None:
+    def __init__(self, end: Optional[int] = None, most: int = CHANNELS) -> None:
         super().__init__()
-        self.end, self.is_open, self.overflow = end or self.MOST, end is None, 0
-        self.shift = max((self.end - 1).bit_length() - self.MOST.bit_length() + 1, 0)
+        self.end, self.is_open, self.overflow, self.most = end or self.LEAST, end is None, 0, most
+        self.shift = max((self.end - 1).bit_length() - most.bit_length() + 1, 0)
         self.counts: Counter[int] = collections.Counter()
 
-    def add(self, value: int) -> None:
-        self.add_all((value,))
-
-    def add_all(self, values: Sequence[int]) -> None:
-        """Counts many numbers at once, which is far quicker than one after another."""
-        if not values:
+    def add_all(self, numbers: Numbers) -> None:
+        """Counts many numbers, in a list or an array."""
+        if not len(numbers):
             return
-        self.note(len(values), sum(values), sum(map(operator.mul, values, values)), min(values), max(values))
-        if max(values) >= self.end:
-            inside = [value for value in values if value < self.end]
-            self.overflow += len(values) - len(inside)
-            values = inside
-        self.counts.update([value >> self.shift for value in values] if self.shift else values)
+        its = sums(numbers)
+        self.note(*its)
+        if its.greatest >= self.end:
+            inside = below(numbers, self.end)
+            self.overflow += len(numbers) - len(inside)
+            numbers = inside
+        self.counts.update(tally(numbers, self.shift))
 
     def note(self, count: int, total: int, squares: int, least: int, greatest: int) -> None:
         super().note(count, total, squares, least, greatest)
@@ -73,74 +74,90 @@ class Spectrum(Totals):
 
     def _double(self) -> None:
         self.end *= 2
-        self.shift += 1
-        halved: Counter[int] = collections.Counter()
-        for at, count in self.counts.items():
-            halved[at >> 1] += count
-        self.counts = halved
+        if self.end >> self.shift > self.most:
+            self.shift += 1
+            self.counts = _halved(self.counts)
 
     def integral(self) -> int:
         """How many numbers are on the axis."""
         return self.count - self.overflow
 
-    def bins(self) -> Bins:
-        return Bins(0, 1 << self.shift, [self.counts[at] for at in range(((self.end - 1) >> self.shift) + 1)])
+    def bins(self, low: int = 0, end: Optional[int] = None, most: Optional[int] = None) -> Bins:
+        """The counts from `low` to `end`, in at most so many bins, as wide as that needs."""
+        end = self.end if end is None else end
+        width = 1 << self.shift
+        while most is not None and -(-(end - low) // width) > most:
+            width *= 2
+        counts = [0] * -(-(end - low) // width)
+        for at, count in self.counts.items():
+            if low <= at << self.shift < end:
+                counts[((at << self.shift) - low) // width] += count
+        return Bins(low, width, counts)
 
     def peak(self) -> Optional[int]:
-        """Where the bin of the greatest count begins; None of an empty spectrum."""
+        """The number that is there most often, the least of several; of wide bins where that of the greatest count begins. None of an empty spectrum."""
         if not self.counts:
             return None
         return min(self.counts, key=lambda at: (-self.counts[at], at)) << self.shift
 
 
+def _halved(counts: Counter[int]) -> "Counter[int]":
+    halved: Counter[int] = collections.Counter()
+    for at, count in counts.items():
+        halved[at >> 1] += count
+    return halved
+
+
 class Series:
     """Numbers over the services of a run, in at most `MOST` columns of equally many services: of each column how many numbers it has, and
-    their sum. `rises` are the sums of what each number is above the one before it: a counter that is not cleared only rises, but where
-    its 24 bits are full."""
+    their sum. Those of a counter are what it rose since the one before; `full` is the number at which it begins at 0 again."""
 
-    __slots__ = ("per", "columns", "rises", "last", "falls")
+    __slots__ = ("per", "columns", "full", "last")
     MOST = 240
-    FULL = 1 << 24
 
-    def __init__(self) -> None:
-        self.per, self.falls = 1, 0
+    def __init__(self, full: Optional[int] = None) -> None:
+        self.per, self.full = 1, full
         self.columns: Dict[int, Tuple[int, int]] = {}
-        self.rises: Dict[int, Tuple[int, int]] = {}
         self.last: Optional[int] = None
 
-    def add_all(self, numbers: Sequence[int], values: Sequence[int]) -> None:
-        """Takes values of services with these numbers in the run, from 1, in the order of the run."""
-        self.widen(numbers[-1] if numbers else 0)
-        for number, value in zip(numbers, values):
-            at = (number - 1) // self.per
-            count, total = self.columns.get(at, (0, 0))
-            self.columns[at] = count + 1, total + value
-            if self.last is not None:
-                self.falls += value < self.last
-                count, total = self.rises.get(at, (0, 0))
-                self.rises[at] = count + 1, total + (value - self.last) % self.FULL
-            self.last = value
+    @property
+    def is_counter(self) -> bool:
+        return self.full is not None
+
+    def add_all(self, services: Numbers, numbers: Numbers) -> None:
+        """Takes numbers of services, of which each has its number in the run from 1, in the order of the run."""
+        if not len(numbers):
+            return
+        self.widen(int(services[-1]))
+        if self.full is not None:
+            services, numbers = self._rises(services, numbers, self.full)
+        self._add(column_sums(scaled(services, 1, self.per), numbers))
+
+    def _rises(self, services: Numbers, numbers: Numbers, full: int) -> Tuple[Numbers, Numbers]:
+        last, self.last = self.last, int(numbers[-1])
+        found = differences(numbers, last, full)
+        return services[len(services) - len(found) :], found
+
+    def _add(self, sums_of: Dict[int, Tuple[int, int]]) -> None:
+        for at, (count, total) in sums_of.items():
+            before = self.columns.get(at, (0, 0))
+            self.columns[at] = before[0] + count, before[1] + total
 
     def widen(self, last: int) -> None:
         while last > self.per * self.MOST:
             self.per *= 2
-            self.columns, self.rises = _halved(self.columns), _halved(self.rises)
+            columns, self.columns = self.columns, {}
+            for at, its in columns.items():
+                self._add({at // 2: its})
 
-    def is_counter(self) -> bool:
-        """Whether the numbers only rise, as those of a counter that nobody clears: then what it counts is how much."""
-        return self.falls == 0 and sum(count for count, _ in self.rises.values()) > 1
+    def mean(self) -> float:
+        """The mean of all numbers; of a counter that of the differences."""
+        count = sum(count for count, _ in self.columns.values())
+        return sum(total for _, total in self.columns.values()) / count if count else 0.0
 
     def means(self) -> Dict[int, float]:
         """By column the mean of the numbers; of a counter that of the differences."""
-        return {at: total / count for at, (count, total) in sorted((self.rises if self.is_counter() else self.columns).items())}
-
-
-def _halved(columns: Dict[int, Tuple[int, int]]) -> Dict[int, Tuple[int, int]]:
-    halved: Dict[int, Tuple[int, int]] = {}
-    for at, (count, total) in columns.items():
-        before = halved.get(at // 2, (0, 0))
-        halved[at // 2] = before[0] + count, before[1] + total
-    return halved
+        return {at: total / count for at, (count, total) in sorted(self.columns.items())}
 
 
 class Pairs:
@@ -156,15 +173,16 @@ class Pairs:
         self.cells: Counter[Tuple[int, int]] = collections.Counter()
         self.count = 0
 
-    def add(self, across: int, up: int) -> None:
-        self.widen(across, up)
-        self.count += 1
-        self.cells[across >> self.shifts[0], up >> self.shifts[1]] += 1
+    def add_all(self, pairs: Sequence[Tuple[int, int]]) -> None:
+        """Counts pairs, of which there is one at least."""
+        for axis, numbers in enumerate(zip(*pairs)):
+            self.widen_to(axis, max(numbers))
+        self.count += len(pairs)
+        self.cells.update([(across >> self.shifts[0], up >> self.shifts[1]) for across, up in pairs])
 
-    def widen(self, *numbers: int) -> None:
-        for axis, number in enumerate(numbers):
-            while number >= self.ends[axis]:
-                self._double(axis)
+    def widen_to(self, axis: int, number: int) -> None:
+        while number >= self.ends[axis]:
+            self._double(axis)
 
     def _double(self, axis: int) -> None:
         self.ends[axis] *= 2

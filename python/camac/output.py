@@ -3,10 +3,12 @@ in its place once it is whole, if what is there may be replaced."""
 import contextlib
 import errno
 import io
+import math
 import os
 import signal
 import stat
 import sys
+import time
 from typing import Any, BinaryIO, Callable, ContextManager, Iterator, NamedTuple, Optional, Sequence, TextIO, Tuple
 
 STANDARD_OUTPUT = "standard output"
@@ -276,6 +278,25 @@ def say(text: str) -> None:
     if text:
         with output(None, anything) as out:
             out.write(text)
+
+
+class Progress:
+    """Says on standard error which part of a long work is done, where a terminal shows it."""
+
+    # The seconds before it says something, and between two lines.
+    PATIENCE, STEP = 2.0, 0.5
+
+    def __init__(self) -> None:
+        self.due = time.monotonic() + self.PATIENCE if sys.stderr and sys.stderr.isatty() else math.inf
+        self.is_shown = False
+
+    def __call__(self, part: float) -> None:
+        if part >= 1 and self.is_shown:
+            sys.stderr.write("\r    \r")
+        elif time.monotonic() >= self.due:
+            sys.stderr.write(f"\r{min(part, 1):4.0%}")
+            self.is_shown, self.due = True, time.monotonic() + self.STEP
+        sys.stderr.flush()
 
 
 def end_by(number: signal.Signals) -> int:

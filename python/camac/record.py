@@ -18,6 +18,7 @@ from typing import Any, Callable, Dict, List, NamedTuple, Optional, Set, Tuple, 
 from camac import native
 from camac.drive import Answer, Branch, File, ProgramFault, UsageFault, add_note, file_fault, one_line
 from camac.events import EventFileFault, read_events
+from camac.fits import Check
 from camac.output import Rule, anything, holds_bytes, output
 from camac.printed import read_services
 from camac.program import output_of
@@ -202,6 +203,27 @@ def describe(of: Played, number: Optional[int] = None, title: str = "", survey: 
 
 def now() -> str:
     return datetime.datetime.now(datetime.timezone.utc).isoformat(timespec="milliseconds").replace("+00:00", "Z")
+
+
+def beside(events: File) -> Optional[Record]:
+    """The record of an event file that is beside it, as run.json of run.events; None if there is none."""
+    path = os.path.splitext(os.fsdecode(events))[0] + ".json"
+    try:
+        record = read_record(path)
+    except (OSError, ValueError):
+        return None
+    name = os.path.basename(os.fsdecode(events))
+    return record if record.events is None or os.path.basename(record.events) == name else None
+
+
+def record_checks(events: File, plan_of: Optional[Source], script: Optional[Source]) -> List[Check]:
+    """Whether plan and script are those of the record beside an event file; nothing if there is none, or they are not known."""
+    record = beside(events)
+    if record is None or plan_of is None or script is None:
+        return []
+    pairs = (("plan", record.plan, plan_of), ("script", record.script, script))
+    wrong = [f"{mine.name} is not the {kind} {its.name} of SHA-256 {its.sha256[:12]}" for kind, its, mine in pairs if its.sha256 != mine.sha256]
+    return [Check(f"plan and script are those of the record beside the events{''.join(f'; {it}' for it in wrong)}", not wrong)]
 
 
 def count_events(events: File, services: List[Service]) -> Dict[str, int]:

@@ -4,27 +4,32 @@ import enum
 import itertools
 import tempfile
 from array import array
-from typing import Dict, FrozenSet, Iterable, Iterator, List, NamedTuple, Optional, Sequence, Tuple, Union
+from typing import Dict, FrozenSet, Iterable, Iterator, List, NamedTuple, Optional, Sequence, Set, Tuple, Union
 
-from camac.arrays import BATCH, EventArrays, batches, event_pieces
+from camac.arrays import BATCH, EventArrays, Events, Group, batches, event_pieces, groups
 from camac.drive import File
 from camac.events import Event, EventFileFault, read_events
+from camac.fits import Check, Fit
 from camac.histograms import Pairs, Series, Spectrum
+from camac.numbers import Numbers, chosen, join, order
 from camac.late import Late, Watch
+from camac.output import Progress
 from camac.program import knows_command
 from camac.subcommands import costs, run
 from camac.texts import script_text
 from camac.transfers import transfer_commands
 from camac.values import Command, Cycle, Demand, Ending, Item, Lock, Move, Plan, Response, RunEnd, Service, Unlock
-from camac.words import Column, Words
+from camac.words import COUNTER, SPECTRUM, Column, Words
 
 Operation = Union[Cycle, Lock, Unlock]
 # The operations that are kept of a service that is shown cycle by cycle.
 KEPT_OPERATIONS = 150
 GREATEST_MISSED = 65_535
 CONTROLLER_STATIONS = (28, 30)
-# The bits of a register that is taken for a scaler.
-SCALER = (1 << 24) - 1
+# The bins of the words at a place: enough for a map.
+PLACE_BINS = 128
+# What a word of all its bits holds at most.
+FULL_WORD = (1 << 24) - 1
 
 
 class Inputs(NamedTuple):
@@ -33,13 +38,6 @@ class Inputs(NamedTuple):
     plan: File
     script: File
     source: File
-
-
-class Check(NamedTuple):
-    """Numbers that have to agree, and whether they do."""
-
-    text: str
-    agrees: bool
 
 
 class Why(enum.Enum):
@@ -93,7 +91,7 @@ class Sent:
         self.count = self.no_q = self.no_x = self.waits = 0
         self.words = Spectrum(1 << width)
         self.mask = (1 << width) - 1
-        self.series = Series() if self.mask == SCALER else None
+        self.series = Series() if self.mask == FULL_WORD else None
         self.recent: List[int] = []
         self.numbers: List[int] = []
 
@@ -114,38 +112,68 @@ class Sent:
 
 @dataclasses.dataclass(frozen=True)
 class Asked:
-    """What is asked of the words of events: the columns that they have, and two of these that are wanted against each other."""
+    """What is asked of the words of events: the columns that they have, two of these that are wanted against each other, a gate that an event has to
+    pass, and regions that are measured."""
 
     names: Words = dataclasses.field(default_factory=Words)
     pair: Optional[Tuple[Column, Column]] = None
+    gate: Optional["Cut"] = None
+    regions: Tuple["Cut", ...] = ()
+
+
+class Cut(NamedTuple):
+    """The numbers of a column from the first to the last one."""
+
+    column: Column
+    low: int
+    last: int
+
+    def select(self, names: Words, of: Sequence[Group]) -> List[Group]:
+        """The events that have such a number."""
+        passed: Set[int] = set()
+        for column, events, numbers in names.numbers(of, {self.column.field}):
+            if column == self.column:
+                passed.update(int(event) for event, number in zip(events, numbers) if self.low <= number <= self.last)
+        found = []
+        for it in of:
+            numbers, cycles, missed, *words = chosen(it.numbers, passed, [it.numbers, it.cycles, it.missed, *it.words])
+            found.append(Group(it.gl, it.size, numbers, cycles, missed, words))
+        return [it for it in found if len(it.numbers)]
 
 
 class Channel:
-    """The numbers of a column in the events of a run: a spectrum, and of a scaler a line over the run."""
+    """The numbers of a column in the events of a run: a spectrum, and of what is shown over the run its line."""
 
     __slots__ = ("column", "spectrum", "series")
 
     def __init__(self, column: Column) -> None:
         self.column = column
-        is_whole = column.greatest == SCALER
-        self.spectrum = Spectrum(None if is_whole else column.greatest + 1)
-        self.series = Series() if is_whole and not column.is_expression else None
+        self.spectrum = Spectrum(None if column.greatest == FULL_WORD else column.greatest + 1)
+        kind = column.field.kind
+        self.series = None if kind == SPECTRUM else Series(column.greatest + 1 if kind == COUNTER else None)
 
-    def add_all(self, events: Sequence[int], numbers: Sequence[int]) -> None:
+    def add_all(self, events: Numbers, numbers: Numbers) -> None:
         self.spectrum.add_all(numbers)
         if self.series:
-            order = sorted(zip(events, numbers), key=lambda pair: pair[0])
-            self.series.add_all([event for event, _ in order], [value for _, value in order])
+            self.series.add_all(*order(events, numbers))
 
 
 class Channels(Dict[Column, Channel]):
     """The channels of a run, by their columns."""
 
-    def take(self, names: Words, events: Sequence[Event]) -> None:
-        for column, numbers, values in names.numbers(events):
+    def take(self, names: Words, of: Sequence[Group], pair: Sequence[Column] = ()) -> List[Tuple[int, int]]:
+        """Takes the words of events. Returns of each event that has both columns of a pair the first number of both."""
+        first: Dict[Column, Dict[int, int]] = {it: {} for it in pair}
+        for column, events, numbers in names.numbers(of, {it.field for it in pair}):
             if column not in self:
                 self[column] = Channel(column)
-            self[column].add_all(numbers, values)
+            self[column].add_all(events, numbers)
+            if column in first:
+                first[column] = {int(event): int(number) for event, number in zip(reversed(events), reversed(numbers))}
+        if not pair:
+            return []
+        across, up = (first[it] for it in pair)
+        return [(number, up[event]) for event, number in across.items() if event in up]
 
     def listed(self, names: Words, bits: Iterable[int]) -> List[Channel]:
         """Those that have a number, in the order of the columns of these bits."""
@@ -189,7 +217,7 @@ class Run:
         self.kept: Dict[Tuple[Why, int], Kept] = {}
         self.by_place: Dict[Tuple[int, int], Spectrum] = {}
         self.asked = asked or Asked()
-        self.pairs = Pairs(*(None if it.greatest == SCALER else it.greatest + 1 for it in self.asked.pair)) if self.asked.pair else None
+        self.pairs = Pairs(*(None if it.greatest == FULL_WORD else it.greatest + 1 for it in self.asked.pair)) if self.asked.pair else None
         self.channels = Channels()
         self.seen: Dict[int, SeenOfBit] = {}
         self.late: Dict[int, Late] = {}
@@ -208,19 +236,30 @@ class Run:
     def agrees(self) -> bool:
         return all(check.agrees for check in self.checks)
 
-    def take_words(self, events: Sequence[Event]) -> None:
-        """Takes the words of events, which follow those that were taken before."""
-        self.words.extend(len(it.words) for it in events)
-        for gl in {it.gl for it in events}:
-            for at, words in enumerate(itertools.zip_longest(*(it.words for it in events if it.gl == gl))):
-                spectrum = self.by_place.setdefault((gl, at), Spectrum())
-                spectrum.add_all([word for word in words if word is not None])
-        self.channels.take(self.asked.names, events)
-        if self.asked.pair and self.pairs:
-            for it in events:
-                first = {value.column: value.number for value in reversed(list(self.asked.names.values(it)))}
-                if all(column in first for column in self.asked.pair):
-                    self.pairs.add(*(first[column] for column in self.asked.pair))
+    def take_events(self, events: Events) -> None:
+        """Takes what an event file has of its events but their words."""
+        if not isinstance(events, EventArrays):
+            self.has_cycles &= all(it.cycles is not None for it in events)
+            rows = zip(*((it.gl, it.cycles or 0, it.missed or 0, len(it.words)) for it in events))
+            for numbers, its in zip((self.gl, self.cycles, self.no_x, self.words), rows):
+                numbers.extend(its)
+            return
+        counts = events.first[1:] - events.first[:-1]
+        for numbers, column in ((self.gl, events.gl), (self.cycles, events.cycles), (self.no_x, events.missed), (self.words, counts)):
+            numbers.frombytes(column.astype(numbers.typecode).tobytes())
+
+    def take_words(self, of: Sequence[Group]) -> None:
+        """Takes the words of events."""
+        by_place: Dict[Tuple[int, int], List[Numbers]] = {}
+        for it in of:
+            for at, words in enumerate(it.words):
+                by_place.setdefault((it.gl, at), []).append(words)
+        for key, parts in by_place.items():
+            self.by_place.setdefault(key, Spectrum(None, PLACE_BINS)).add_all(join(parts))
+        named = self.asked.gate.select(self.asked.names, of) if self.asked.gate else of
+        pairs = self.channels.take(self.asked.names, named, self.asked.pair or ())
+        if pairs and self.pairs:
+            self.pairs.add_all(pairs)
 
     def list_channels(self) -> List[Channel]:
         return self.channels.listed(self.asked.names, {*self.gl})
@@ -363,10 +402,13 @@ class _Collector:
 
 def _compare(collector: _Collector, path: File, services: List[Service]) -> Run:
     """Reads the event file of a run beside its listing. An event is there once its service ended."""
-    run, of = collector.run, {it.gl: it for it in services}
-    count = alike = missed = within = 0
+    run, fit = collector.run, Fit(services)
+    count = alike = missed = 0
     for batch in batches(read_events(path)):
-        run.take_words(batch)
+        of = groups(batch, count + 1)
+        run.words.extend(len(it.words) for it in batch)
+        run.take_words(of)
+        fit.take(of)
         for at, event in enumerate(batch, count):
             count += 1
             if at == len(run.gl):
@@ -374,7 +416,6 @@ def _compare(collector: _Collector, path: File, services: List[Service]) -> Run:
             if at < len(run.gl):
                 alike += event.gl == run.gl[at] and event.cycles == run.cycles[at]
                 missed += event.missed == min(run.no_x[at], GREATEST_MISSED)
-                within += _is_within(event, of)
     run.words.extend([0] * (len(run.gl) - len(run.words)))
     for sent in run.commands.values():
         sent.settle()
@@ -387,7 +428,7 @@ def _compare(collector: _Collector, path: File, services: List[Service]) -> Run:
         Check(f"events in the file: {count:,}; services in the listing: {total:,}{last}", count == total and said in (None, total)),
         Check(f"cycles of the listing are those of the event file, {alike:,} of {count:,}", alike == count),
         Check(f"cycles with X = 0 are those of the event file, {missed:,} of {count:,}", missed == count),
-        Check(f"no service above its bound of cycles or words, {within:,} of {count:,}", within == count),
+        Check(fit.text(), fit.is_good()),
     ]
     return run
 
@@ -401,38 +442,17 @@ def _tell_late(run: Run, late: Dict[int, Late], responses: Sequence[Response]) -
     run.checks.append(Check(text, is_within))
 
 
-def _is_within(event: Event, of: Dict[int, Service]) -> bool:
-    service = of.get(event.gl)
-    return service is not None and (event.cycles or 0) <= service.cycles and len(event.words) <= service.words
-
-
 def _read_event_file(path: File, services: List[Service], asked: Optional[Asked]) -> Run:
-    run, of = Run(False, asked), {it.gl: it for it in services}
-    served = within = 0
+    run, fit = Run(False, asked), Fit(services)
     try:
-        for batch in event_pieces(path):
-            if isinstance(batch, EventArrays):
-                # It needs this module, and few runs are so long.
-                from camac.array_counts import take
-
-                more = take(run, batch, services)
-                served, within = served + more[0], within + more[1]
-                continue
-            run.take_words(batch)
-            for event in batch:
-                run.gl.append(event.gl)
-                run.cycles.append(event.cycles or 0)
-                run.no_x.append(event.missed or 0)
-                run.has_cycles = event.cycles is not None
-                served += event.gl in of
-                within += event.gl in of and _is_within(event, of)
+        for events in event_pieces(path, Progress()):
+            run.take_events(events)
+            of = groups(events, fit.count + 1)
+            run.take_words(of)
+            fit.take(of)
     except EventFileFault as fault:
         run.fault = fault
     nothing = array("I", [0]) * len(run.gl)
     run.waits, run.no_q, run.of_transfers, run.locked = nothing, nothing, nothing, nothing
-    total = len(run.gl)
-    run.checks = [
-        Check(f"events of a service of the script: {served:,} of {total:,}", served == total),
-        Check(f"no service above its bound of cycles or words, {within:,} of {served:,}", within == served),
-    ]
+    run.checks = [Check(fit.text(), fit.is_good())]
     return run

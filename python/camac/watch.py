@@ -9,7 +9,7 @@ from typing import Any, Dict, List, NamedTuple, Optional, Tuple
 
 from camac.drive import File, one_line
 from camac.events import Event
-from camac.export import About, Given, learn
+from camac.export import About, Given, checks_of, learn
 from camac.follow import STEP, Counts, Follower, State
 from camac.pictures.bounds import draw_seen
 from camac.pictures.spectra import BOTH, channel_groups, seen_groups
@@ -143,13 +143,17 @@ class Watch:
     def notes(self) -> str:
         state = self.follower.state
         lines = [f'<b class="{"bad" if state.is_bad else "good"}">{escape(state.text)}</b>']
-        lines += [f'<b class="bad">{escape(it)}</b>' for it in (*self.follower.restarts, self.refused) if it]
+        lines += [f'<b class="bad">{escape(it)}</b>' for it in (*self.follower.restarts, self.refused, *self.misfits()) if it]
         its = self.record
         if its and its.line:
             lines.append(f'The record: <b class="{"good" if its.how == "ended" else "bad"}">{escape(its.line)}</b>, {escape(its.end or "")}')
         elif its:
             lines.append(f"The record: run in progress since {escape(its.begin or '')}, told {escape(its.told or '')}")
         return "".join(f"<p>{it}</p>" for it in lines)
+
+    def misfits(self) -> List[str]:
+        """Why the file is not of the script."""
+        return [it.text for it in checks_of(self.follower.counts.fit, self.known.about) if not it.agrees]
 
     def tiles(self) -> str:
         follower, age = self.follower, self.follower.age()

@@ -1,18 +1,19 @@
 """Reads words.toml, in which a user says what the words of his events mean.
 
-The file is TOML of one kind: tables `[[word]]` with lines `KEY = VALUE`, whose values are strings of one line and numbers. It is read here, and
-not by Python's `tomllib`, since a fault has to name its line, and since Python has that from 3.11 on alone."""
+It is TOML. Tables `[[word]]` with lines `KEY = VALUE`, whose values are strings of one line and numbers, are read here, so that a fault names its
+line. Other forms are read where Python has `tomllib`."""
+import importlib
 import math
 import os
 import re
 from dataclasses import replace
-from typing import Dict, List, NamedTuple, NoReturn, Sequence, Tuple, Union
+from typing import Any, Dict, List, NamedTuple, NoReturn, Optional, Sequence, Tuple, Union
 
 from camac.drive import File
 from camac.events import GREATEST_COUNT, GREATEST_GL
 from camac.texts import script_text
 from camac.values import Service
-from camac.words import ANYWHERE, PLACE, WHOLE, Amount, Field, Range, Words
+from camac.words import ANYWHERE, KINDS, PLACE, SPECTRUM, VALUE, WHOLE, Amount, Field, Range, Words
 
 TomlValue = Union[str, int, float]
 HEADER = re.compile(r"\[\[[ \t]*word[ \t]*\]\]")
@@ -26,7 +27,7 @@ ESCAPE = re.compile(r"\\(?:u([0-9A-Fa-f]{4})|U([0-9A-Fa-f]{8})|(.))")
 ESCAPED = {"b": "\b", "t": "\t", "n": "\n", "f": "\f", "r": "\r", '"': '"', "\\": "\\"}
 RANGE = re.compile(r"([0-9]{1,4})(?:\.\.([0-9]{1,4}))?")
 GREATEST_NAME, GREATEST_TAG_BITS, GREATEST_COLUMNS, GREATEST_FIELDS = 64, 12, 4096, 1024
-KEYS = ("service", "gl", "name", "unit", "bits", "place", "of", "tag", "scale", "offset")
+KEYS = ("service", "gl", "name", "unit", "bits", "place", "of", "tag", "scale", "offset", "as")
 
 
 class WordsFault(ValueError):
@@ -44,23 +45,47 @@ class _Table(NamedTuple):
     keys: Dict[str, Tuple[int, TomlValue]]
 
 
-def read_words(file: File, services: Sequence[Service] = ()) -> Words:
+def read_words(file: File, services: Sequence[Service] = (), sources: Words = Words()) -> Words:
     """Reads a file of words. `services` are those of the script whose events they are, as `camac.check` gives them: by them it is known which bit the name
-    of a service stands for.
+    of a service stands for. `sources` are what `words_of_script` gives: the bits of a word are those of its register, if the file does not say them.
 
     Raises WordsFault at the first line that cannot be read, and ProgramFault if the file cannot be."""
-    return parse_words(script_text(file), file, services)
+    return parse_words(script_text(file), file, services, sources)
 
 
-def parse_words(text: bytes, file: File, services: Sequence[Service] = ()) -> Words:
+def parse_words(text: bytes, file: File, services: Sequence[Service] = (), sources: Words = Words()) -> Words:
     """Reads the text of a file of words; `file` is its name in a fault. Raises WordsFault as `read_words`."""
-    reader = _Fields(file, services)
+    reader = _Fields(file, services, sources)
     for table in _tables(text, file):
         reader.take(table)
     return reader.words()
 
 
 def _tables(text: bytes, file: File) -> List[_Table]:
+    try:
+        return _by_lines(text, file)
+    except WordsFault:
+        tables = _by_tomllib(text)
+        if tables is None:
+            raise
+        return tables
+
+
+def _by_tomllib(text: bytes) -> Optional[List[_Table]]:
+    """The tables of any form of TOML; None where Python cannot read it, or there is more in it. A key has the line of its table."""
+    try:
+        read: Any = importlib.import_module("tomllib").loads(text.decode())
+    except (ImportError, ValueError):
+        return None
+    words = read.get("word")
+    if len(read) != 1 or not isinstance(words, list) or not all(isinstance(it, dict) for it in words):
+        return None
+    lines = [number for number, line in enumerate(text.decode().split("\n"), 1) if HEADER.match(line.strip())]
+    lines = lines if len(lines) == len(words) else [1] * len(words)
+    return [_Table(line, {key: (line, value) for key, value in it.items()}) for line, it in zip(lines, words)]
+
+
+def _by_lines(text: bytes, file: File) -> List[_Table]:
     tables: List[_Table] = []
     for number, data in enumerate(text.split(b"\n"), 1):
         try:
@@ -112,8 +137,8 @@ def _escaped(found: "re.Match[str]") -> str:
 class _Fields:
     """Makes fields of tables, one after another."""
 
-    def __init__(self, file: File, services: Sequence[Service]) -> None:
-        self.file = file
+    def __init__(self, file: File, services: Sequence[Service], sources: Words) -> None:
+        self.file, self.sources = file, sources.fields
         self.bits = {it.name: it.gl for it in services}
         self.most = {it.gl: it.words for it in services}
         self.fields: List[Field] = []
@@ -143,7 +168,7 @@ class _Fields:
 
     def amount(self, key: str, default: int) -> Amount:
         value = self.table.keys.get(key, (0, default))[1]
-        if isinstance(value, str) or not math.isfinite(value) or (key == "scale" and not value):
+        if not isinstance(value, (int, float)) or isinstance(value, bool) or not math.isfinite(value) or (key == "scale" and not value):
             self.fail(key, f"`{key}` is a number" + (", and not 0" if key == "scale" else ""))
         return value
 
@@ -173,12 +198,26 @@ class _Fields:
         if not name:
             self.fail("name", "`name` is missing")
         places = self.range("place", 1, self.most.get(gl, GREATEST_COUNT) or GREATEST_COUNT, ANYWHERE)
-        its = Field(name, gl, unit, self.range("bits", *WHOLE, WHOLE), places, line=table.line)
+        widest = self.widest(gl, places)
+        its = Field(name, gl, unit, self.range("bits", *WHOLE, widest or WHOLE), places, line=table.line)
+        its = replace(its, kind=self.kind(VALUE if widest == its.bits == WHOLE else SPECTRUM))
         self.test_name(its)
         its = replace(its, scale=self.amount("scale", 1), offset=self.amount("offset", 0))
         self.fields.append(self.tagged(its))
         if sum(it.tags[1] - it.tags[0] + 1 for it in self.fields if it.gl == gl) > GREATEST_COLUMNS:
             self.fail("of", f"a service has more than {GREATEST_COLUMNS} columns")
+
+    def widest(self, gl: int, places: Range) -> Optional[Range]:
+        """The bits of the registers that the script read into words at these places; None if one of them may be anything else."""
+        places = places[0], min(places[1], self.most.get(gl, GREATEST_COUNT))
+        its = [it for it in self.sources if it.gl == gl and not it.is_expression and _meet(it.places, places)]
+        known = {at for it in its for at in range(max(it.places[0], places[0]), min(it.places[1], places[1]) + 1)}
+        return max(it.bits for it in its) if known and len(known) == places[1] - places[0] + 1 else None
+
+    def kind(self, default: str) -> str:
+        if "as" in self.table.keys and self.text("as") not in KINDS:
+            self.fail("as", f"`as` is {', '.join(KINDS[:-1])} or {KINDS[-1]}")
+        return self.text("as") or default
 
     def tagged(self, its: Field) -> Field:
         """The field with what chooses its column."""

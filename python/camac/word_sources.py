@@ -17,7 +17,7 @@ from camac.values import Plan, Service
 from camac.tree import (
     Assign, Body, Cycle, Expression, For, If, Lock, Loop, Name, Number, Plain, Script, SetRegister, Statement, Transfer, all_in, written_by,
 )
-from camac.words import WHOLE, Field, Words
+from camac.words import SPECTRUM, VALUE, WHOLE, Field, Words
 
 COMMENT = re.compile("#[^\n]*")
 # The most characters of an expression in a name.
@@ -205,7 +205,9 @@ class _Walk:
             end = place + len(list(alike)) - 1
             name, bits = self.name(it), (0, it.origin.bits - 1) if it.origin else WHOLE
             if name:
-                fields.append(Field(name, gl, "", bits, (place, end), len(self.puts) if it.is_behind else None, line=it.line, is_expression=it.origin is None))
+                kind = VALUE if it.origin and bits == WHOLE else SPECTRUM
+                count = len(self.puts) if it.is_behind else None
+                fields.append(Field(name, gl, "", bits, (place, end), count, line=it.line, kind=kind, is_expression=it.origin is None))
             place = end + 1
         counts = Counter(it.name for it in fields)
         return [it if counts[it.name] == 1 else replace(it, name=f"{it.name}, place {it.places[0]}") for it in fields]

@@ -4,16 +4,18 @@ A column is a number that is in words of a service: at a place in the event, in 
 `read_words` reads columns from a file of the user's (words.toml); `words_of_script` takes them from a script, where the place of a word is
 fixed."""
 import importlib
-import itertools
 from dataclasses import dataclass
-from typing import Any, Dict, Iterator, List, NamedTuple, Optional, Sequence, Tuple, Union
+from typing import Any, Collection, Dict, Iterator, List, NamedTuple, Optional, Sequence, Tuple, Union
 
-from camac.arrays import Array, EventArrays
+from camac.arrays import Array, EventArrays, Group
 from camac.events import GREATEST_COUNT, Event
+from camac.numbers import Numbers, each, join, split
 
 Range = Tuple[int, int]
 Amount = Union[int, float]
 WHOLE: Range = (0, 23)
+# What a number is: counted by its value, shown over the run, or shown as what it rose since the event before.
+SPECTRUM, VALUE, COUNTER = KINDS = ("spectrum", "value", "counter")
 ANYWHERE: Range = (1, GREATEST_COUNT)
 # The tag that every word has: its place in the event.
 PLACE = "place"
@@ -31,6 +33,7 @@ class Field:
     of, tags       the name of the field of the same word, or PLACE, whose number chooses the column, and the first and last such number
     scale, offset  a number means scale * number + offset
     line           where it is in the file of the user, or in the script
+    kind           one of KINDS: how its numbers are shown
     is_expression  whether nothing is known of it but the expression in the script"""
 
     name: str
@@ -44,6 +47,7 @@ class Field:
     scale: Amount = 1
     offset: Amount = 0
     line: int = 0
+    kind: str = SPECTRUM
     is_expression: bool = False
 
     @property
@@ -83,11 +87,6 @@ class Column:
         return self.field.unit
 
     @property
-    def is_expression(self) -> bool:
-        """Whether it is a word of which only the expression in the script is known."""
-        return self.field.is_expression
-
-    @property
     def greatest(self) -> int:
         return self.field.greatest
 
@@ -103,12 +102,12 @@ class Value(NamedTuple):
     number: int
 
 
-class Numbers(NamedTuple):
-    """The numbers of a column in many events, and, of a column of all 24 bits, for each the number of its event."""
+class Gathered(NamedTuple):
+    """The numbers of a column in many events, and of each the number of its event, where that was asked for."""
 
     column: Column
-    events: Sequence[int]
-    numbers: List[int]
+    events: Numbers
+    numbers: Numbers
 
 
 class Values(NamedTuple):
@@ -123,7 +122,7 @@ class _Reader:
     """Reads the numbers of a field. `columns` are by tag; a field that has no tag has one at 0."""
 
     def __init__(self, field: Field, tag: Optional[Field]) -> None:
-        self.field, self.tag, self.is_whole = field, tag, field.bits == WHOLE
+        self.field, self.tag = field, tag
         first, last = field.tags
         self.columns = {it: Column(field, it) for it in range(first, last + 1)} if field.of else {0: Column(field)}
 
@@ -132,25 +131,18 @@ class _Reader:
             return self.columns.get(self.tag.number(word))
         return self.columns.get(place if self.field.of else 0)
 
-    def split(self, events: Sequence[int], words: Sequence[int], place: int) -> Iterator[Numbers]:
+    def split(self, events: Numbers, words: Numbers, place: int) -> Iterator[Gathered]:
         """The numbers in the words of many events, by column. They are at this place, where the place chooses the column."""
         low, mask = self.field.bits[0], self.field.greatest
         if self.tag is None:
             column = self.column(0, place)
             if column is not None:
-                yield Numbers(column, events, [word >> low & mask for word in words])
+                yield Gathered(column, events, each(words, low, mask))
             return
-        tag_low, tag_mask = self.tag.bits[0], self.tag.greatest
-        found: Dict[int, Tuple[List[int], List[int]]] = {}
-        for event, word in zip(events if self.is_whole else itertools.repeat(0), words):
-            tag = word >> tag_low & tag_mask
-            if tag not in found:
-                found[tag] = [], []
-            found[tag][0].append(event)
-            found[tag][1].append(word >> low & mask)
-        for tag, (its_events, numbers) in found.items():
+        tags = each(words, self.tag.bits[0], self.tag.greatest)
+        for tag, parts in split(tags, [words, events] if len(events) else [words]).items():
             if tag in self.columns:
-                yield Numbers(self.columns[tag], its_events, numbers)
+                yield Gathered(self.columns[tag], parts[1] if len(events) else [], each(parts[0], low, mask))
 
     def stands_at(self, count: int, place: int) -> bool:
         """Whether the word at a place of an event of so many words has this field."""
@@ -195,24 +187,19 @@ class Words:
                 if column is not None:
                     yield Value(column, place, it.field.number(word))
 
-    def numbers(self, events: Sequence[Event]) -> Iterator[Numbers]:
-        """The numbers in many events, by column: what `values` gives of each, far quicker."""
-        alike: Dict[Tuple[int, int], List[Event]] = {}
-        for event in events:
-            alike.setdefault((event.gl, len(event.words)), []).append(event)
-        gathered: Dict[Tuple[_Reader, int], Tuple[List[int], List[int]]] = {}
-        for key, its in alike.items():
-            at = [it.number for it in its]
-            for place, (words, readers) in enumerate(zip(zip(*(it.words for it in its)), self._layout(*key)), 1):
+    def numbers(self, of: Sequence[Group], asked: Collection[Field] = ()) -> Iterator[Gathered]:
+        """The numbers in groups of events, by column: what `values` gives of each event, far quicker. Those of fields that are shown over the run, and of
+        fields that are asked for, have the numbers of their events."""
+        gathered: Dict[Tuple[_Reader, int], Tuple[List[Numbers], List[Numbers]]] = {}
+        for group in of:
+            for place, (words, readers) in enumerate(zip(group.words, self._layout(group.gl, group.size)), 1):
                 for it in readers:
-                    bucket = it, place if it.field.of == PLACE else 0
-                    if bucket not in gathered:
-                        gathered[bucket] = [], []
-                    gathered[bucket][1].extend(words)
-                    if it.is_whole:
-                        gathered[bucket][0].extend(at)
-        for (reader, place), (numbers, words_of) in gathered.items():
-            yield from reader.split(numbers, words_of, place)
+                    events, numbers = gathered.setdefault((it, place if it.field.of == PLACE else 0), ([], []))
+                    numbers.append(words)
+                    if it.field.kind != SPECTRUM or it.field in asked:
+                        events.append(group.numbers)
+        for (reader, place), (events, numbers) in gathered.items():
+            yield from reader.split(join(events) if events else [], join(numbers), place)
 
     def _layout(self, gl: int, count: int) -> List[Tuple[_Reader, ...]]:
         """What reads the word at each place of an event of so many words. It is kept, since it is asked for each event."""

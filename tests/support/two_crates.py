@@ -79,7 +79,7 @@ WORDS = Words(
     [
         Field("channel", 3, bits=(16, 19)),
         Field("pulse height", 3, "keV", (0, 11), of="channel", tags=(1, 11), scale=0.5, offset=-10),
-        Field("rate", 5, places=(1, 12), of=PLACE, tags=(1, 12)),
+        Field("rate", 5, places=(1, 12), of=PLACE, tags=(1, 12), kind="value"),
     ]
 )
 # Three services by hand. For veto the 7 cycles of spill may be in progress. Call 1 of strip begins at 7 + 5 = 12; call 2, whose look-at-me

@@ -15,6 +15,8 @@ PANEL = (WIDTH - GAP * (ACROSS - 1)) / ACROSS
 LEFT, WIDE, TOP, HIGH, ROW = 38, PANEL - 52, 46, 80, 164
 FOOT = TOP + HIGH
 MOST = 96
+# The most bins that are drawn in a panel.
+BINS = 128
 # The most characters in a title.
 TITLE = 32
 # On a logarithmic axis the foot is at this count, so that a count of one is seen.
@@ -39,6 +41,18 @@ class Shown(NamedTuple):
     def value(self, number: Number) -> Number:
         scale, offset, _ = self.meaning
         return scale * number + offset
+
+
+class View(NamedTuple):
+    """Which numbers are drawn, from the first to the last one, and in how many bins at most."""
+
+    low: int = 0
+    last: Optional[int] = None
+    most: int = BINS
+
+    def bins(self, its: Spectrum) -> Bins:
+        end = its.end if self.last is None else min(self.last + 1, its.end)
+        return its.bins(min(self.low, end - 1), end, self.most)
 
 
 class Group(NamedTuple):
@@ -91,25 +105,26 @@ def command_groups(run: Run, plan: Plan, scale: str = LINEAR) -> List[Group]:
     return _grouped(shown, scale)
 
 
-def channel_groups(channels: Sequence[Channel], scale: str = LINEAR) -> List[Group]:
+def channel_groups(channels: Sequence[Channel], scale: str = LINEAR, view: View = View()) -> List[Group]:
     """For each column of event words its numbers, or of a scaler a line over the run."""
     shown = []
     for it in channels:
         its = it.column.field
         meaning = its.scale, its.offset, its.unit
         shown.append(Shown(it.column.name, "", it.spectrum, "ours", "words", meaning=meaning, series=it.series))
-    return _grouped(shown, scale)
+    return _grouped(shown, scale, view)
 
 
-def _grouped(shown: Sequence[Shown], scale: str) -> List[Group]:
+def _grouped(shown: Sequence[Shown], scale: str, view: View = View()) -> List[Group]:
     """The panels by their axes: those of one width are beside each other, lines over the run last."""
     groups: Dict[Tuple[bool, int], List[Shown]] = {}
     for it in shown[:MOST]:
         groups.setdefault((it.series is not None, 0 if it.series else it.spectrum.end), []).append(it)
     made = []
     for (is_line, end), its in sorted(groups.items(), key=lambda group: group[0][0]):
-        title = "Over the run" if is_line else f"0 to {end - 1:,}"
-        made.append(Group(title, [draw_panel(it, scale) for it in its]))
+        last = end - 1 if view.last is None else min(view.last, end - 1)
+        title = "Over the run" if is_line else f"{min(view.low, last):,} to {last:,}"
+        made.append(Group(title, [draw_panel(it, scale, view) for it in its]))
     if len(shown) > MOST:
         made[-1] = made[-1]._replace(title=f"{made[-1].title} ({len(shown) - MOST:,} more are not drawn)")
     return made
@@ -132,7 +147,7 @@ def draw_groups(title: str, groups: Sequence[Group]) -> Canvas:
     return canvas
 
 
-def draw_panel(it: Shown, scale: str = LINEAR) -> Canvas:
+def draw_panel(it: Shown, scale: str = LINEAR, view: View = View()) -> Canvas:
     """A panel: title, entries, mean, RMS and the place of the greatest bin, and the spectrum, or a line over the run."""
     canvas = Canvas(it.of + it.what, PANEL)
     canvas.text(0, 11, cut(it.of, TITLE - len(it.what)) + it.what, "s11 b")
@@ -148,14 +163,14 @@ def draw_panel(it: Shown, scale: str = LINEAR) -> Canvas:
     canvas.text(0, 24, entries, "mute s10")
     peak = it.spectrum.peak()
     canvas.text(0, 36, f"mean {_decimal(mean)}, RMS {_decimal(rms)}" + ("" if peak is None else f", peak at {short(it.value(peak))}"), "mute s10")
-    bins = it.spectrum.bins()
+    bins = view.bins(it.spectrum)
     _draw_axis(canvas, it, bins)
     for one in (LINEAR, LOGARITHMIC) if scale == BOTH else (scale,):
         canvas.parts.append(f'<g class="{one}">')
         _draw_counts(canvas, it, bins, one == LOGARITHMIC)
         canvas.parts.append("</g>")
     if it.bound is not None:
-        x = LEFT + WIDE * (it.bound + 0.5) / _end(bins)
+        x = LEFT + WIDE * (it.bound + 0.5) / _length(bins)
         canvas.line((x, TOP), (x, FOOT), "l-ink dash")
         canvas.text(PANEL, 24, f"bound {it.bound:,}", "s10 r")
     _draw_hit(canvas, it, bins)
@@ -182,19 +197,19 @@ def _decimal(value: Number) -> str:
     return f"{value:,.1f}" if abs(value) >= 10 or value == 0 else f"{value:.3g}"
 
 
-def _end(bins: Bins) -> int:
+def _length(bins: Bins) -> int:
     return bins.width * len(bins.counts)
 
 
 def _draw_axis(canvas: Canvas, it: Shown, bins: Bins) -> None:
-    """The axis of numbers, with five ticks where its end is a power of two."""
-    end = _end(bins)
+    """The axis of numbers, with five ticks where it is cut into quarters."""
+    end = _length(bins)
     places = [end * quarter // 4 for quarter in range(5)] if end >= 4 and it.bound is None else ticks(end, 4)
     canvas.line((LEFT, FOOT + 0.5), (LEFT + WIDE, FOOT + 0.5), "l-mute thin")
     for place in places:
         x = LEFT + WIDE * place / end
         canvas.line((x, FOOT), (x, FOOT + 4), "l-mute thin")
-        _draw_number(canvas, x, short(it.value(place)), place == end)
+        _draw_number(canvas, x, short(it.value(bins.first + place)), place == end)
     if it.meaning[2]:
         canvas.text(PANEL, FOOT + 26, cut(it.meaning[2], 24), "mute s10 r")
 
@@ -237,23 +252,25 @@ def _draw_hit(canvas: Canvas, it: Shown, bins: Bins) -> None:
 
 
 def _draw_line(canvas: Canvas, it: Shown, series: Series) -> None:
-    """The numbers over the services of the run, from its first to its last; of a counter that only rises what it counted since the one before."""
-    means = {at: float(it.value(value)) for at, value in series.means().items()}
-    if series.is_counter():
-        means = {at: abs(it.meaning[0]) * value for at, value in series.means().items()}
-    what = "counted since the one before" if series.is_counter() else "values"
+    """The numbers over the services of the run, from its first to its last; of a counter what it counted since the one before."""
+    what = "counted since the one before" if series.is_counter else "values"
     canvas.text(0, 24, f"{count_of(it.spectrum.count, it.counts)}: {what}", "mute s10")
-    top, columns = max([*means.values(), 0]), max(max(means), 1) + 1
-    canvas.text(0, 36, f"mean {_decimal(sum(means.values()) / len(means))}" + (f" {it.meaning[2]}" if it.meaning[2] else ""), "mute s10")
+    scale, unit = abs(it.meaning[0]), f" {it.meaning[2]}" if it.meaning[2] else ""
+    means = {at: scale * value if series.is_counter else float(it.value(value)) for at, value in series.means().items()}
+    if not means:
+        return
+    mean = f"mean {_decimal(scale * series.mean() if series.is_counter else it.value(it.spectrum.mean()))}{unit}"
+    canvas.text(0, 36, mean if series.is_counter else f"{mean}, RMS {_decimal(scale * it.spectrum.rms())}{unit}", "mute s10")
+    top, low, columns = max([*means.values(), 0]), min([*means.values(), 0]), max(max(means), 1) + 1
+    each = HIGH / (top - low) if top > low else 0
     step = WIDE / columns
-    places = [(LEFT + (at + 0.5) * step, FOOT - (HIGH * value / top if top else 0)) for at, value in means.items()]
-    canvas.path("M" + "L".join(f"{number(x)} {number(max(y, TOP))}" for x, y in places), f"l-{it.kind}")
+    places = [(LEFT + (at + 0.5) * step, FOOT - each * (value - low)) for at, value in means.items()]
+    canvas.path("M" + "L".join(f"{number(x)} {number(y)}" for x, y in places), f"l-{it.kind}")
     if len(places) == 1:
         canvas.rect((places[0][0] - 1.5, places[0][1] - 1.5, 3, 3), it.kind)
     canvas.line((LEFT, FOOT + 0.5), (LEFT + WIDE, FOOT + 0.5), "l-mute thin")
-    for value in (0.0, top) if top else (0.0,):
-        y = FOOT - (HIGH if value else 0)
-        canvas.text(LEFT - 5, y + 4, short(round(value, 1)), "mute s10 r")
+    for value in sorted({0.0, low, top}):
+        canvas.text(LEFT - 5, FOOT - each * (value - low) + 4, short(round(value, 1)), "mute s10 r")
     last = columns * series.per
     for place in ticks(last, 4):
         _draw_number(canvas, LEFT + WIDE * place / last, short(place), place == last)

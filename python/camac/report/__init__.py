@@ -2,14 +2,15 @@
 import hashlib
 from typing import List, Mapping, NamedTuple, Optional
 
-from camac.columns import Naming, ask
+from camac.columns import Naming, ask, compare_record
 from camac.drive import File, Refused
 from camac.program import knows_command
 from camac.proof import told
 from camac.report import sections
 from camac.report.page import page
 from camac.report.refused import refused_page
-from camac.runs import Check, Inputs, collect
+from camac.fits import Check
+from camac.runs import Inputs, collect
 from camac.subcommands import check, costs, plan as read_plan, response
 from camac.surveys.summary import read_summary
 from camac.texts import plan_text, source_lines
@@ -45,6 +46,7 @@ def report(
         run = collect(inputs, plan, services, program, responses or (), ask(naming, inputs, plan, services))
     except Refused as refusal:
         return Report(refused_page(inputs, str(refusal), program), 1)
+    run.checks += compare_record(inputs)
     bodies = costs(inputs.plan, inputs.script, program) if knows_command("costs", program) else None
     if bodies is not None:
         run.checks.append(_shares_check(bodies))

@@ -10,6 +10,7 @@ from camac.values import Body, Ending, Plan, Response, Service
 from camac.pictures import (
     channel_groups, command_groups, draw_bounds, draw_calls, draw_costs, draw_pairs, draw_places, draw_plan, draw_response, draw_run, draw_strip, event_groups,
 )
+from camac.pictures.regions import draw_regions, names_title
 from camac.pictures.spectra import BOTH
 from camac.pictures.svg import count, escape, share
 from camac.report.page import Cell, Column, Row, figure, folded, header, panels, table
@@ -117,7 +118,7 @@ def last_line(run: Run) -> str:
     out = f'<p>The run: <b class="{"good" if is_good else "bad"}">{escape(run.last_line())}</b> ({meaning}).</p>'
     if run.idle and not len(run.gl) and not run.kept:
         out += f'<p class="bad">{NO_DEMAND_WAS_SERVED}</p>'
-    return out
+    return out + "".join(f'<p class="bad">{escape(it.text)}</p>' for it in run.checks if not it.agrees)
 
 
 def bounds(facts: Facts) -> str:
@@ -269,7 +270,9 @@ def histograms(facts: Facts) -> str:
         out.append(panels(command_groups(run, facts.plan, BOTH)))
     channels = run.list_channels()
     if channels:
-        out += ["<h3>Event words by their names</h3>", panels(channel_groups(channels, BOTH))]
+        out += [f"<h3>{escape(names_title(run.asked))}</h3>", panels(channel_groups(channels, BOTH))]
+    if run.asked.regions:
+        out += ["<h3>Regions</h3>", figure(draw_regions(run))]
     if run.asked.pair and run.pairs:
         out += ["<h3>Two numbers of an event</h3>", figure(draw_pairs(*run.asked.pair, run.pairs))]
     out.append("<h3>By the place of the word in its event</h3>")
