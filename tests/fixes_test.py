@@ -111,7 +111,8 @@ class Refused:
         if "--keeps` finds" in advice and its.code in OF_LOOPS and self.is_of_a_loop():
             found = propose(self.judge.file, self.data, self.judge.program)
             edits = tuple(edit for one in found.proposals for edit in one.edits)
-            yield f"{its.code} --keeps", edits
+            if edits:
+                yield f"{its.code} --keeps", edits
 
     def of_text(self, text, advice):
         """What fixes a fault of the text."""

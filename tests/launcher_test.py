@@ -382,7 +382,7 @@ class Install(Case):
         path = {"PATH": f"{place}/bin:/usr/bin:/bin"}
         script = COPY / "examples/straight_line.script"
         self.assertEqual(call("camac", "check", "@sample", script, cwd=elsewhere, env=path), (0, VERDICT, ""))
-        (elsewhere / "answers").write_text("0 0 000000 0 000004\n1 1 123fff 2 000000\n")
+        (elsewhere / "answers").write_text("0 0 000000 0 000004\n1 1 123fff 2 000000\n1 1 000000 0 000000\n")
         words = ["@sample", script, "answers", "-o", "run.html"]
         self.assertEqual(call("camac-report", *words, cwd=elsewhere, env=path), (0, "", ""))
         self.assertEqual(call(place / "bin/camac-report", *words, cwd=elsewhere, env={"PATH": "/usr/bin:/bin"}), (0, "", ""))

@@ -98,7 +98,7 @@ cam_lam_read 2 -> 1 1 000000 0 800004
 cam_lam_read 2 -> 1 1 000000 0 800004
 """
 # the rate of a script's only service, of 3 cycles, and what `response` says of its end
-ONE_SERVICE = "service adc gl 3 cycles 3 {} start 0 end 3 {}longest 3\n"
+ONE_SERVICE = "service adc gl 3 cycles 6 {} start 0 end 6 {}longest 6\n"
 # test_where_a_session_stands has the numbers of these lines
 PLACES = """cdlam adc 1 1 5 12   cdlam reg 1 1 6 0
 var v n i
@@ -143,6 +143,11 @@ try:
 except camac.ProgramFault as why:
     print(why, open("wrong").read())
 """
+CYCLES_BESIDE = [
+    "      2  1 1 123fff 2 000000    cycle 1 5 0 0 in 123fff x1 q1 wait 2",
+    "      3  1 1 000000 0 000000    cycle 1 5 12 10 none x1 q1 wait 0",
+    " " * 30 + "ended events 1",
+]
 PLAYS = "ended events 1\nS2\nended events 1\n['refused A1 line 1: line shape']\nfault write\n  wrong: it is no event file service\n"
 
 
@@ -431,7 +436,7 @@ class Python(Case):
             first, second = (found.exception.text.partition("\n")[0] for found in (by_program, by_library))
             self.assertEqual((first, by_program.exception.status), (second, by_library.exception.status))
         with self.assertRaises(UsageFault):
-            output_of("run", "--", *its[0], "a", "e", program="@library")
+            output_of("drive", "--", *its[0], "e", program="@library")
 
     def test_check(self):
         """`camac-check` says the same by the library as by the program, in each format."""
@@ -445,8 +450,8 @@ class Python(Case):
 
     def test_response(self):
         its = self.sample(), (EXAMPLES / "straight_line.script").read_text()
-        told = library.response(*its, every={"adc": 200}, within={"adc": 3})
-        self.assertEqual(told, (True, ONE_SERVICE.format("every 200", "of 3 ")))
+        told = library.response(*its, every={"adc": 200}, within={"adc": 6})
+        self.assertEqual(told, (True, ONE_SERVICE.format("every 200", "of 6 ")))
         self.assertEqual(library.response(*its, within={"adc": 2}), (False, ONE_SERVICE.format("once", "of 2 ")))
         for wrong in ({"adc": 0}, {"adc": 1 << 32}, {"adc": -1}, {"nobody": 3}, {"": 3}, {"adc=3 nobody": 3}, {"adc ": 3}):
             with self.subTest(wrong), self.assertRaises(UsageFault) as found:
@@ -500,6 +505,7 @@ class Python(Case):
         self.assertEqual(runs[0][0][-3:], [("unlock", 2), ("unlock", 1), ("demand",)])
 
     def test_the_event_of_a_service_whose_unlock_fails(self):
+        script = self.write("locked.script", (EXAMPLES / "lockout.script").read_text().replace("  cclc adc\n", ""))
         for failing in (1, 2):
             runs = []
             for by in (camac.drive, camac.play):
@@ -512,7 +518,7 @@ class Python(Case):
                         raise Broken
 
                 branch.unlock = unlock
-                runs.append(self.asked_and_left(by, "@sample", EXAMPLES / "lockout.script", branch))
+                runs.append(self.asked_and_left(by, "@sample", script, branch))
             self.assertEqual([it[::2] for it in runs[:1]], [it[::2] for it in runs[1:]])
             self.assertIsInstance(runs[1][1], Broken)
             self.assertEqual(library.events(runs[1][2]).text.splitlines()[-1], f"events {failing}")
@@ -624,8 +630,8 @@ class Python(Case):
             session.next(DEMAND)
             self.assertEqual([(it.c, it.n, it.a, it.f, it.data) for it in session.ahead()], [(1, 5, a, 0, library.READ) for a in range(12)])
             self.assertEqual((len(session.ahead(5)), session.ahead(0)), (5, []))
-            did = session.next_many([Answer(1, 1, a) for a in range(12)] + [DEMAND])
-            self.assertEqual(([it.word for it in did], did[-1].event, session.words()), (list(range(12)), 1, tuple(range(12))))
+            did = session.next_many([Answer(1, 1, a) for a in range(12)] + [Answer(1, 1), DEMAND])
+            self.assertEqual(([it.word for it in did], did[-1].event, session.words()), ([*range(12), 0], 1, tuple(range(12))))
             session.next(DEMAND)
             did = session.next_many([CYCLE, Answer(wait=15), CYCLE])
             self.assertEqual(([it.kind for it in did], session.ahead()), ([library.CYCLE, library.STOPPED], []))
@@ -710,12 +716,12 @@ class Package(Case):
         made = (["draw", "costs", "@sample", its], ["draw", "plan", "@sample", its], late, ["report", "@sample", its, event_file])
         for at, words in enumerate(made):
             self.assertEqual(call(*calls, *words, "-o", self.room / f"it{at}.svg", env=env), (0, ""))
-        straight, answers = EXAMPLES / "straight_line.script", self.write("answers", "0 0 000000 0 000004\n1 1 123fff 2 000000\n")
+        straight, answers = EXAMPLES / "straight_line.script", self.write("answers", "0 0 000000 0 000004\n1 1 123fff 2 000000\n1 1 000000 0 000000\n")
         for at, words in enumerate((["report"], ["draw", "run"], ["draw", "words"])):
             self.assertEqual(call(*calls, *words, "@sample", straight, answers, "-o", self.room / f"of_answers{at}.svg", env=env), (0, ""))
         self.assertIn("ended events 1", (self.room / "of_answers0.svg").read_text())
         status, told = call(*calls, "annotate", "@sample", straight, answers, env=env)
-        self.assertEqual((status, told.splitlines()[1:]), (0, ["      2  1 1 123fff 2 000000    cycle 1 5 0 0 in 123fff x1 q1 wait 2", " " * 30 + "ended events 1"]), told)
+        self.assertEqual((status, told.splitlines()[1:]), (0, CYCLES_BESIDE), told)
         self.assertEqual(call(*calls, "survey", "@sample", "--driver", "mock", env=env), (3, "camac: the library does not list what a plan declares: this needs the program camac\n"))
         self.assertEqual(call(sys.executable, self.write("run.py", PLAYED), straight, answers, cwd=self.room, env=env), (0, PLAYS))
         self.assertEqual((self.room / "one.events").read_bytes(), EVENT_FILE)

@@ -233,6 +233,11 @@ class Files(Case):
             self.assertEqual(self.file("e") if (self.room / "e").exists() else None, there)
             (self.room / "e").write_bytes(EVENT_FILE)
 
+    def test_an_older_event_file(self):
+        (self.room / "e").write_bytes(EVENT_FILE)
+        self.call("run", "@sample", "@in", "answers", "e", given=b"!")
+        self.assertEqual(self.file("e"), EVENT_FILE)
+
     def test_events_where_no_answer_is_given(self):
         """The end of the answers begins an event file, too."""
         self.assertEqual(self.call("run", "@sample", "straight.script", "/dev/null", "e"), (0, b"ended events 0\n", b""))

@@ -136,7 +136,7 @@ class OfFile(Case):
         try:
             import tomllib
         except ImportError:
-            self.skipTest("this Python has no tomllib")
+            skip("a Python with tomllib")
         forms = ('word = [ { gl = 3, name = "x", unit = "V" } ]', '[[word]]\ngl = 3\nname = """x"""\nunit = "V"', '[[word]]\n"gl" = 3\nname = "x"\nunit = """\nV"""')
         for text in forms:
             self.assertEqual([(it.name, it.unit) for it in self.read(text).fields], [("x", "V")], tomllib.loads(text))
