@@ -202,7 +202,8 @@ class DebianPackage(Case):
 
     def test_what_is_proved(self):
         for program, library, lacking, said, last in (("yes", "no", "", "proved", "not proved"), ("no", "yes", "", "not proved", "proved"), ("yes", "", "gcc", "proved", None)):
-            line = f'source tools/debian.bash; folder={self.folder()} is_proved={program} is_library_proved={library} lacking={lacking} debian_control'
+            line = 'eval "$(sed -n "/^proved_or_not()/,/^}/p" install)"; '
+            line += f'source tools/debian.bash; folder={self.folder()} is_proved={program} is_library_proved={library} lacking={lacking} debian_control'
             told = call("bash", "-c", line, cwd=COPY)[1]
             self.assertRegex(told, f"(?m)^Description: checker and simulator for CAMAC readout scripts, {said}$")
             self.assertEqual(re.findall("library for C in this package is (.*)[.]$", told), [last] if last else [])

@@ -724,7 +724,7 @@ class Package(Case):
         self.assertEqual((status, told.splitlines()[1:]), (0, CYCLES_BESIDE), told)
         self.assertEqual(call(*calls, "survey", "@sample", "--driver", "mock", env=env), (3, "camac: the library does not list what a plan declares: this needs the program camac\n"))
         self.assertEqual(call(sys.executable, self.write("run.py", PLAYED), straight, answers, cwd=self.room, env=env), (0, PLAYS))
-        self.assertEqual((self.room / "one.events").read_bytes(), EVENT_FILE)
+        self.assertEqual((self.room / "one.events").read_bytes(), bytes([*EVENT_FILE[:19], 4, *EVENT_FILE[20:]]))
         self.assertEqual((self.room / "two.events").read_bytes(), EVENT_FILE)
 
     @needed("python3-pip")

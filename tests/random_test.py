@@ -241,7 +241,7 @@ class Files(Seeded):
         self.assertEqual((its.count, its.missed, its.cycles.total), (len(events), sum(it.missed for it in events), sum(it.cycles for it in events)))
         parts = self.shown()
         self.assertIn(f"<b class=\"\">{len(events):,}</b><span>events</span>", parts["tiles"])
-        self.assertNotIn('class="bad"', parts["notes"])
+        self.assertIn('<b class="good">follows</b>', parts["notes"])
         self.assertIn(json.loads(self.record.read_text())["line"], parts["notes"])
         self.assertEqual(self.watch.record.title, "two")
 
