@@ -98,7 +98,7 @@ cam_lam_read 2 -> 1 1 000000 0 800004
 cam_lam_read 2 -> 1 1 000000 0 800004
 """
 # the rate of a script's only service, of 3 cycles, and what `response` says of its end
-ONE_SERVICE = "service adc gl 3 cycles 6 {} start 0 end 6 {}longest 6\n"
+ONE_SERVICE = "service adc gl 3 cycles 3 {} start 0 end 3 {}longest 3\n"
 # test_where_a_session_stands has the numbers of these lines
 PLACES = """cdlam adc 1 1 5 12   cdlam reg 1 1 6 0
 var v n i
@@ -449,9 +449,9 @@ class Python(Case):
                     self.assertEqual(*(judge.text_of(it, form) for it in judged))
 
     def test_response(self):
-        its = self.sample(), (EXAMPLES / "straight_line.script").read_text()
-        told = library.response(*its, every={"adc": 200}, within={"adc": 6})
-        self.assertEqual(told, (True, ONE_SERVICE.format("every 200", "of 6 ")))
+        its = self.sample(), STRAIGHT_LINE
+        told = library.response(*its, every={"adc": 200}, within={"adc": 3})
+        self.assertEqual(told, (True, ONE_SERVICE.format("every 200", "of 3 ")))
         self.assertEqual(library.response(*its, within={"adc": 2}), (False, ONE_SERVICE.format("once", "of 2 ")))
         for wrong in ({"adc": 0}, {"adc": 1 << 32}, {"adc": -1}, {"nobody": 3}, {"": 3}, {"adc=3 nobody": 3}, {"adc ": 3}):
             with self.subTest(wrong), self.assertRaises(UsageFault) as found:
