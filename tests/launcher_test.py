@@ -122,7 +122,7 @@ class Launcher(Case):
                 self.assertEqual((it.stdout.read(), it.wait()), (VERDICT, 0))
         print(f"\nthe first call took {time.monotonic() - began:.0f} s", flush=True)
         first, second = (it.close() for it in terminals)
-        self.assertTrue(first.startswith("camac: the program is built now, once, in about a minute\r\n"), first)
+        self.assertTrue(first.startswith("camac: the program is built now, once, in one to five minutes\r\n"), first)
         self.assertTrue(first.endswith(NOT_PROVED.replace("\n", "\r\n")), first)
         for said in (first, second):
             told = [tuple(map(int, it)) for it in re.findall(r"compiling, (\d+) of (\d+) crates", said)]
