@@ -19,6 +19,7 @@ from rounds import repository
 from rounds.bodies import bodies_of, packed
 from rounds.prover import Round
 from rounds.refusals import Refusals
+from rounds.trials import Report
 
 # Functions beside one another, functions that call one another, and a conversion, which `?` calls.
 SOURCE = """\
@@ -184,6 +185,15 @@ class Parts(Tool):
             ("fn sample::half: no proof: `search` did not prove `returns`\nfn sample::weak: not proved\n", "not"),
         ):
             self.assertEqual(Round(body.crate, [body]).verdicts(f"only=1 holes=0\n{said}")[body][0], kind, said)
+
+    def test_others_go_on_where_one_does_not_compile(self):
+        bodies = [self.body(f"sample/{name}") for name in ("half_of_nothing", "weak_is_half", "sum_and_one")]
+        verdicts = Round(bodies[0].crate, bodies).verdicts("src/lib.rt:6:57: error[unknown-name]: cannot find value `nothing` in this scope\n")
+        with mock.patch("builtins.print"):
+            again = Report(True, False).tell_tried(bodies[0].crate, bodies, verdicts)
+        self.assertEqual(([kind for kind, _ in verdicts.values()], again), (["not", "again", "again"], [bodies[1:]]))
+        elsewhere = Round(bodies[0].crate, bodies).verdicts("src/lib.rt:1:1: error: of no body\n")
+        self.assertEqual({kind for kind, _ in elsewhere.values()}, {"alone"})
 
     def test_the_rounds_of_this_repository_can_be_planned(self):
         with mock.patch.object(repository, "TOP", TOP):
