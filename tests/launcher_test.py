@@ -326,7 +326,7 @@ class Proved(Case):
 class Install(Case):
     """The library for C that is put in place is a stand-in, where gcc is there to make one."""
 
-    lacking = [it for it in ("gcc", "ld", "ar", "nm", "objcopy") if not shutil.which(it)]
+    lacking = [] if has("gcc", "binutils") else [it for it in ("gcc", "ld", "ar", "nm", "objcopy") if not shutil.which(it)]
     of_c = "include/camac/camac.h include/camac/camac.hpp include/camac/camac_esone.h include/camac/camac_mcstd.h lib/libcamac.a lib/libcamac.so lib/libcamac.so.0" \
         " share/man/man3/camac.3 lib/pkgconfig/camac.pc lib/cmake/camac/camac-config.cmake lib/cmake/camac/camac-config-version.cmake"
 

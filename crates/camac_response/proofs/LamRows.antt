@@ -9,7 +9,7 @@ use Rattle.camac_lang.specs.Tree.{number, crate_call, lam_call, Script, next_lam
 use Rattle.camac_branch.specs.Address.{Address, address}
 use Rattle.camac_branch.specs.Branch.{Answer, IsSet}
 use Rattle.camac_model.specs.Behaviour.{Piece, pieces}
-use Rattle.camac_model.specs.Sample.{answer, demand}
+use Rattle.camac_model.proofs.SampleScripts.{answer, demand}
 use Rattle.camac_model.specs.Moments.{Holds}
 use Rattle.camac_model.specs.Run.{the_run}
 use Rattle.camac_response_times.specs.declared.source.Source.{Source}
