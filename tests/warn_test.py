@@ -77,7 +77,7 @@ class Warnings(Case):
     def test_unkept(self):
         """Each line `unkept` of `response` is a warning at its line."""
         plan = self.write("plan", TWO)
-        left = "this service does not clear its look-at-me on every way: write `cclc {0}` there, or in the plan `clears = true` at a command that does"
+        left = "this service does not clear its look-at-me on every way: write `cclc {0}`"
         cleared, hidden = "`{1}` may clear the look-at-me of `{0}`: leave that to `{0}`", "`{1}` may hide the look-at-me of `{0}`: leave it enabled, and the demand output on"
         for adc, reg, wanted in [
             ("cclc adc", "cclc reg", []),
@@ -241,7 +241,7 @@ class Command(Case):
         self.write("bad", script(["put w"]))
         self.write("two", "proc p() within 0 cycles event 1 words steps 1 {\n  put 16777216\n}\n\nproc later() within 0 cycles event 0 words steps 9 { cdreg r 1 1 6 0  cfsa 27 r }\n")
         self.write("plan", "[[types]]\n")
-        calling = "odd:3: warning W3: this service does not clear its look-at-me on every way: write `cclc adc` there, or in the plan `clears = true` at a command that does\n"
+        calling = "odd:3: warning W3: this service does not clear its look-at-me on every way: write `cclc adc`\n"
         for words, status, printed in [
             (["@sample", "good"], 0, ""),
             (["@sample", "odd"], 0, calling),
@@ -278,7 +278,7 @@ class Command(Case):
         self.write("bad", script(["put w  # 5%"]))
         status, printed = self.command("--format", "github", "@sample", "100%,a:b", "bad", "none")
         odd, bad, none = printed.splitlines()
-        calling = "this service does not clear its look-at-me on every way: write `cclc adc` there, or in the plan `clears = true` at a command that does"
+        calling = "this service does not clear its look-at-me on every way: write `cclc adc`"
         self.assertEqual((status, odd), (3, f"::warning file=100%25%2Ca%3Ab,line=3,title=warning W3::{calling}"))
         self.assertTrue(bad.startswith("::error file=bad,line=4,col=5,title=refused S5::name not declared%0A    4 | put w  # 5%25%0A"), bad)
         self.assertEqual(none, "::error file=none,title=fault::No such file or directory")

@@ -46,7 +46,7 @@ class Told(NamedTuple):
 
 # What is said of a service, whose name is first, and of the one that clears or hides its look-at-me.
 UNKEPT = {
-    Harm.LEFT: "this service does not clear its look-at-me on every way: write `cclc {0}` there, or in the plan `clears = true` at a command that does",
+    Harm.LEFT: "this service does not clear its look-at-me on every way: write `cclc {0}`",
     Harm.CLEARED: "`{1}` may clear the look-at-me of `{0}`: leave that to `{0}`",
     Harm.HIDDEN: "`{1}` may hide the look-at-me of `{0}`: leave it enabled, and the demand output on",
 }
