@@ -42,13 +42,13 @@ READ = "cfsa 0 r -> v "
 # What clears a service's own look-at-me on every way; {0} is its name, {1} its crate.
 CLEARS = ("cclc {0} ", "cclc {0} ", "if q {{ cclc {0} }} else {{ cclc {0} }} ", "lock {1} {{ cclc {0} }} ", "for k = 1 to 2 {{ cclc {0} }} ")
 LEAVES = ("", "if q {{ cclc {0} }} ", "if x {{ }} else {{ cclc {0} }} ")
-Z, C, DEMAND_OFF = (28, 8, 26), (28, 9, 26), (30, 10, 24)
+Z, C = (28, 8, 26), (28, 9, 26)
 # What is wrong in a service, by what it may do to the look-at-me of {0}, whose crate and station are {1} and {2}: it clears it if it is another's, or
 # hides it. Those of the crate are for all of its look-at-mes.
 WRONGS = {
-    "cclc": ("cclc {0} ", True, False), "F9": ("cdreg s 1 {1} {2} 0 cfsa 9 s ", True, False), "F24": ("cclm {0} off cclm {0} on ", True, True),
-    "Z": ("cccz {1} cccd {1} on cclm {0} on ", True, True), "C": ("cccc {1} ", True, False), "demand off": ("cccd {1} off ", False, True),
-    "F24 at last": ("cclm {0} off ", True, True), "if q": ("if q {{ cclc {0} }} ", True, False),
+    "cclc": ("cclc {0} ", True, False), "cclc if q": ("if q {{ cclc {0} }} ", True, False), "F9": ("cdreg s 1 {1} {2} 0 cfsa 9 s ", True, False),
+    "F24": ("cclm {0} off ", True, True), "F24 and F26": ("cclm {0} off cclm {0} on ", True, True), "C": ("cccc {1} ", True, False),
+    "Z": ("cccz {1} cccd {1} on cclm {0} on ", True, True), "demand off": ("cccd {1} off ", False, True),
 }
 OF_CRATE = ("Z", "C", "demand off")
 

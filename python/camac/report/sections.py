@@ -136,7 +136,7 @@ def late(facts: Facts) -> str:
         return out[0] + '<p class="mute">This program has no <code>response</code>: how late each service can be is not known.</p>'
     out.append(
         "<p>From a look-at-me to the end of its service no more cycles pass than these, whatever the modules answer, if modules and driver do "
-        "what RESPONSE.md says; so modules keep the given rates (<code>--every</code>).</p>"
+        "what RESPONSE.md asks of them: that modules keep the given rates (<code>--every</code>), for one.</p>"
     )
     out += [f'<p class="bad">No number from bit {it.gl} on: {escape(one.text())}.</p>' for it in facts.responses for one in it.unkept]
     out.append(figure(draw_response(facts.responses, run)))
