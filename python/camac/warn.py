@@ -55,8 +55,8 @@ SHORT = 10
 
 
 def warnings(plan: File, script: File, program: Optional[File] = None) -> List[Warned]:
-    """Returns what is probably not meant in an accepted script, by lines. If the program has no `costs`, W1 and W2 are not looked for
-    (`looks_for_all`), and W3 if it has no `response`.
+    """Returns what is probably not meant in an accepted script, by lines. If the program has no `costs` or no `response`, W1 to W3 are not looked
+    for (`looks_for_all`).
 
     Raises as `camac.check`."""
     return look(plan, script, program)[1]
@@ -65,10 +65,12 @@ def warnings(plan: File, script: File, program: Optional[File] = None) -> List[W
 def look(plan: File, script: File, program: Optional[File] = None) -> Tuple[List[Service], List[Warned]]:
     """Returns the services of an accepted script, and what `warnings` does: one judgement serves both."""
     script = script if isinstance(script, TextFile) else TextFile(script)
-    bodies = costs(plan, script, program) if looks_for_all(program) else []
-    services = services_of(bodies) if bodies else check(plan, script, program)
-    responses = response(plan, script, program=program) if knows_command("response", program) else []
-    return services, warnings_of(plan, script.text(), Told(services, bodies, responses), program)
+    if looks_for_all(program):
+        bodies = costs(plan, script, program)
+        told = Told(services_of(bodies), bodies, response(plan, script, program=program))
+    else:
+        told = Told(check(plan, script, program), [], [])
+    return told.services, warnings_of(plan, script.text(), told, program)
 
 
 def warnings_of(plan: File, text: bytes, told: Told, program: Optional[File] = None) -> List[Warned]:
@@ -82,8 +84,8 @@ def warnings_of(plan: File, text: bytes, told: Told, program: Optional[File] = N
 
 
 def looks_for_all(program: Optional[File] = None) -> bool:
-    """Whether the program has `costs`, which W1 and W2 need."""
-    return knows_command("costs", program)
+    """Whether the program has `costs` and `response`, which W1 to W3 need."""
+    return knows_command("costs", program) and knows_command("response", program)
 
 
 def _of_costs(bodies: List[Body]) -> Iterator[Warned]:

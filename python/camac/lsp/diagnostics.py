@@ -8,7 +8,6 @@ from camac.lsp.documents import Range, Text
 from camac.lsp.refusals import Placed, refusals
 from camac.lsp.workspace import Judge, Judged
 from camac.printed import read_explanation, read_responses, read_services
-from camac.program import knows_command
 from camac.toml_places import place_of
 from camac.warn import Code, Told, Warned, looks_for_all, warnings_of
 
@@ -81,10 +80,10 @@ def warned(judged: Judged) -> List[Warned]:
     verdict = judged.ask("check")
     if not verdict.accepted:
         return []
-    its, program = judged.judge, judged.judge.program
-    bodies = parse_costs(judged.ask("costs").text) if looks_for_all(program) else []
-    responses = read_responses(judged.ask("response").text) if knows_command("response", program) else []
-    return warnings_of(its.file, judged.text.data, Told(read_services(verdict.text), bodies, responses), program)
+    its, told = judged.judge, Told(read_services(verdict.text), [], [])
+    if looks_for_all(its.program):
+        told = Told(told.services, parse_costs(judged.ask("costs").text), read_responses(judged.ask("response").text))
+    return warnings_of(its.file, judged.text.data, told, its.program)
 
 
 def of_warning(it: Warned, text: Text) -> Diagnostic:
