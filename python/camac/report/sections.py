@@ -135,10 +135,10 @@ def late(facts: Facts) -> str:
     if facts.responses is None:
         return out[0] + '<p class="mute">This program has no <code>response</code>: how late each service can be is not known.</p>'
     out.append(
-        "<p>From a look-at-me to the end of its service no more cycles pass than these, whatever the modules answer. This holds if "
-        "auxiliary controllers keep to the waits of the plan, each look-at-me stays until its own service clears it, none is hidden and seen "
-        "later, and modules keep the given rates (<code>--every</code>).</p>"
+        "<p>From a look-at-me to the end of its service no more cycles pass than these, whatever the modules answer, if modules and driver do "
+        "what RESPONSE.md asks of them: that modules keep the given rates (<code>--every</code>), for one.</p>"
     )
+    out += [f'<p class="bad">No number from bit {it.gl} on: {escape(one.text())}.</p>' for it in facts.responses for one in it.unkept]
     out.append(figure(draw_response(facts.responses, run)))
     if not run.has_listing:
         return "".join(out) + '<p class="mute">An event file does not show how late a service was: answers do.</p>'
