@@ -4,6 +4,7 @@ use Rattle.std.specs.Prelude.{nat_eq, nat_le, slice_get, option_map, if◌then�
 use Rattle.std.proofs.lemmas.Bool.{le-leb, leb-true, leb-false}
 use Rattle.std.proofs.lemmas.Option.{same_Some}
 use Rattle.camac_branch.specs.Address.{Address}
+use Rattle.camac_branch.specs.Branch.{Answer}
 use Rattle.camac_model.specs.Behaviour.{Piece, demanded, cycled, lock_taken, lock_released, event_left, Behaviour, does, ends, stops, Stop}
 use Rattle.camac_model.specs.State.{State}
 use Rattle.camac_model.specs.Fine.{Bounds}
@@ -28,9 +29,9 @@ use Rattle.camac_response.proofs.Waits as waits
 use Rattle.camac_response.proofs.Lams.{Agrees, agrees_first, RaisesLate, Once, Shown, Alone}
 use Rattle.camac_response.proofs.Lams as lines
 
--- a service is in time, or it is not
-by_time : (ts : List Source) (t : Source) (P : Type 0) → (EndsByRate ts t → P) → ((EndsByRate ts t → ⊥) → P) → P
-by_time ts t P early late = go (response ts t) refl t.every refl
+-- a service ends by its rate, or it does not
+by_rate : (ts : List Source) (t : Source) (P : Type 0) → (EndsByRate ts t → P) → ((EndsByRate ts t → ⊥) → P) → P
+by_rate ts t P early late = go (response ts t) refl t.every refl
   where
     go : (o : Option ℕ) → response ts t ≡ o → (e : Option ℕ) → t.every ≡ e → P
     go None found e given = late (λ h. let none = sym h.found ∙ found in absurd (cc))
@@ -62,7 +63,11 @@ lies_paused : (d : ℕ) (z x : Stretch) → LiesIn z x → LiesIn (stretch_at d 
 lies_paused zero z x h = h
 lies_paused (suc d) z x h = λ j. omega arith
 
-module _ (ts : List Source) (g : ℕ) (t : Source) (up : is_up_to g t ≡ true) where
+-- this clock with the stretch of a lower bit
+abbrev own_clock : Clock → Stretch → Clock
+own_clock y z = record y { stretch = z }
+
+module _ (ts : List Source) (pauses : Pauses) (g : ℕ) (t : Source) (up : is_up_to g t ≡ true) where
   pub up_more : (u : Source) → is_up_to t.bit u ≡ true → is_up_to g u ≡ true
   up_more u below =
       let first = leb-true t.bit g up in
@@ -77,80 +82,74 @@ module _ (ts : List Source) (g : ℕ) (t : Source) (up : is_up_to g t ≡ true) 
       go true below = subst (λ c. one_more i z.calls j ≤ (if c then called i u x else no_stretch (Some i)).calls j) (sym (up_more u below)) (more_calls i z.calls x.calls j (h j))
       go false above = omega arith
 
-  module _ (pauses : Pauses) where
-    -- the clock with the stretch of the lower bit
-    abbrev own_clock : Clock → Stretch → Clock
-    own_clock y z = record y { stretch = z }
+  same_clock : (y : Clock) (z : Stretch) (p : Piece) → clock_after ts pauses t.bit (own_clock y z) p ≡ own_clock (clock_after ts pauses g y p) (clock_after ts pauses t.bit (own_clock y z) p).stretch
+  same_clock y z (demanded p v) = refl
+  same_clock y z (cycled at f d r w) = refl
+  same_clock y z (lock_taken c w) = refl
+  same_clock y z (lock_released c) = refl
+  same_clock y z (event_left e) = refl
 
-    abbrev own_after : Clock → Stretch → Piece → Stretch
-    own_after y z p = (clock_after ts pauses t.bit (own_clock y z) p).stretch
+  lies_after : (y : Clock) (z : Stretch) (p : Piece) → LiesIn z y.stretch → LiesIn (clock_after ts pauses t.bit (own_clock y z) p).stretch (clock_after ts pauses g y p).stretch
+  lies_after y z (demanded p None) h = λ j. omega arith
+  lies_after y z (demanded p (Some i)) h =
+      let d : ℕ = pauses y.operations in
+      lies_called i (slice_get ts i) (stretch_at d z) (stretch_at d y.stretch) (lies_paused d z y.stretch h)
+  lies_after y z (cycled at f d r w) h = h
+  lies_after y z (lock_taken c w) h = h
+  lies_after y z (lock_released c) h = h
+  lies_after y z (event_left e) h = h
 
-    same_clock : (y : Clock) (z : Stretch) (p : Piece) → clock_after ts pauses t.bit (own_clock y z) p ≡ own_clock (clock_after ts pauses g y p) (own_after y z p)
-    same_clock y z (demanded p v) = refl
-    same_clock y z (cycled at f d r w) = refl
-    same_clock y z (lock_taken c w) = refl
-    same_clock y z (lock_released c) = refl
-    same_clock y z (event_left e) = refl
+  once_below : (z x : Stretch) (v : Option ℕ) → LiesIn z x → IsOnce ts g x v → IsOnce ts t.bit z v
+  once_below z x None h once = tt
+  once_below z x (Some i) h once = λ u at below none. let most = h i in let none_yet = once u at (up_more u below) none in omega (arith, most, none_yet)
 
-    lies_after : (y : Clock) (z : Stretch) (p : Piece) → LiesIn z y.stretch → LiesIn (own_after y z p) (clock_after ts pauses g y p).stretch
-    lies_after y z (demanded p None) h = λ j. omega arith
-    lies_after y z (demanded p (Some i)) h =
-        let d : ℕ = pauses y.operations in
-        lies_called i (slice_get ts i) (stretch_at d z) (stretch_at d y.stretch) (lies_paused d z y.stretch h)
-    lies_after y z (cycled at f d r w) h = h
-    lies_after y z (lock_taken c w) h = h
-    lies_after y z (lock_released c) h = h
-    lies_after y z (event_left e) h = h
-
-    once_below : (z x : Stretch) (v : Option ℕ) → LiesIn z x → IsOnce ts g x v → IsOnce ts t.bit z v
-    once_below z x None h once = tt
-    once_below z x (Some i) h once = λ u at below none. let most = h i in let none_yet = once u at (up_more u below) none in omega (arith, most, none_yet)
-
-    raised_below : (raises : Raises) (y : Clock) (z : Stretch) (p : Piece) → LiesIn z y.stretch → AreRaised ts raises pauses g y p → AreRaised ts raises pauses t.bit (own_clock y z) p
-    raised_below raises y z (demanded p v) h r =
-        let d : ℕ = pauses y.operations in
-        record {
-          quiet = λ i u at below. r.quiet i u at (up_more u below);
-          raised = λ i u e at below. r.raised i u e at (up_more u below);
-          stays = λ i u at below. r.stays i u at (up_more u below);
-          once = once_below (stretch_at d z) (stretch_at d y.stretch) v (lies_paused d z y.stretch h) r.once;
-        }
-    raised_below raises y z (cycled at f d a w) h r = tt
-    raised_below raises y z (lock_taken c w) h r = tt
-    raised_below raises y z (lock_released c) h r = tt
-    raised_below raises y z (event_left e) h r = tt
+  raised_below : (raises : Raises) (y : Clock) (z : Stretch) (p : Piece) → LiesIn z y.stretch → AreRaised ts raises pauses g y p → AreRaised ts raises pauses t.bit (own_clock y z) p
+  raised_below raises y z (demanded p v) h r =
+      let d : ℕ = pauses y.operations in
+      record {
+        quiet = λ i u at below. r.quiet i u at (up_more u below);
+        raised = λ i u e at below. r.raised i u e at (up_more u below);
+        stays = λ i u at below. r.stays i u at (up_more u below);
+        once = once_below (stretch_at d z) (stretch_at d y.stretch) v (lies_paused d z y.stretch h) r.once;
+      }
+  raised_below raises y z (cycled at f d a w) h r = tt
+  raised_below raises y z (lock_taken c w) h r = tt
+  raised_below raises y z (lock_released c) h r = tt
+  raised_below raises y z (event_left e) h r = tt
 
 module _ (ts : List Source) (lams : Lams) (by_plan : Clears) (moods : Moods) (raises : Raises) (pauses : Pauses) (g : ℕ) (apart : AreApart ts g raises)
     (ks : List Bounds) (cover : AreCovered ks ts) (own : (i j : ℕ) (t u : Source) → slice_get ts i ≡ Some t → slice_get ts j ≡ Some u → t.bit ≡ u.bit → i ≡ j) where
   abbrev after : Wires → Piece → Wires
   after x p = wires_after ts lams by_plan moods raises pauses g x p
 
-  -- a service that is in time, by the clock of its own bit
+  -- a service that ends by its rate, by the clock of its own bit
   module _ (i : ℕ) (t : Source) (its : slice_get ts i ≡ Some t) (up : is_up_to g t ≡ true) (fits : EndsByRate ts t) where
     abbrev by : StartsBy ts t fits.start
     by = response_starts ts t most_rounds fits.start fits.found
 
     abbrev apart_below : AreApart ts t.bit raises
-    apart_below j u at below = apart j u at (up_more ts g t up u below)
+    apart_below j u at below = apart j u at (up_more ts pauses g t up u below)
 
     pub record Follows (m : Moment) (x : Wires) : Type 0 where
       pub stretch : Stretch
-      pub begun : IsBegun ts i t its fits.start raises apart_below (own_clock ts g t up pauses x.clock stretch)
+      pub begun : IsBegun ts i t its fits.start raises apart_below (own_clock x.clock stretch)
       pub known : Timed ks ts cover own i t its by.longest by.enough m.progress stretch
       pub lies : LiesIn stretch x.clock.stretch
       pub serves : (j : ℕ) → stretch.serving ≡ Some j → x.book.called ≡ Some j
 
-    -- a piece, by that clock
-    step : (m : Moment) (x : Wires) (p : Piece) (h : Follows m x) → CostStays ks m p → CallsLowest ts nothing p
-        → AreRaised ts raises pauses t.bit (own_clock ts g t up pauses x.clock h.stretch) p
-        → WaitsBy raises i t fits.start (clock_at pauses (own_clock ts g t up pauses x.clock h.stretch) p) p
-        × (IsBegun ts i t its fits.start raises apart_below (clock_after ts pauses t.bit (own_clock ts g t up pauses x.clock h.stretch) p)
-        × Timed ks ts cover own i t its by.longest by.enough (moment_after m p).progress (own_after ts g t up pauses x.clock h.stretch p))
-    step m x p h c l r =
-        waits.step ts i t its fits.start raises apart_below ks cover own by.longest by.enough by.starts pauses m (own_clock ts g t up pauses x.clock h.stretch) p h.begun h.known c l r
+    abbrev own_after : (m : Moment) (x : Wires) → Piece → Follows m x → Clock
+    own_after m x p h = clock_after ts pauses t.bit (own_clock x.clock h.stretch) p
 
-    serves_after : (m : Moment) (x : Wires) (p : Piece) (h : Follows m x) → (own_after ts g t up pauses x.clock h.stretch p).serving ≡ option_map (λ q. q.service) (moment_after m p).progress
-        → (j : ℕ) → (own_after ts g t up pauses x.clock h.stretch p).serving ≡ Some j → (after x p).book.called ≡ Some j
+    -- a piece, by that clock
+    step : (m : Moment) (x : Wires) (p : Piece) (h : Follows m x) → CostStays ks m p → CallsLowest ts nothing p → AreRaised ts raises pauses t.bit (own_clock x.clock h.stretch) p
+        → WaitsBy raises i t fits.start (clock_at pauses (own_clock x.clock h.stretch) p) p
+        × (IsBegun ts i t its fits.start raises apart_below (own_after m x p h)
+        × Timed ks ts cover own i t its by.longest by.enough (moment_after m p).progress (own_after m x p h).stretch)
+    step m x p h c l r =
+        waits.step ts i t its fits.start raises apart_below ks cover own by.longest by.enough by.starts pauses m (own_clock x.clock h.stretch) p h.begun h.known c l r
+
+    serves_after : (m : Moment) (x : Wires) (p : Piece) (h : Follows m x) → (own_after m x p h).stretch.serving ≡ option_map (λ q. q.service) (moment_after m p).progress
+        → (j : ℕ) → (own_after m x p h).stretch.serving ≡ Some j → (after x p).book.called ≡ Some j
     serves_after m x (demanded p None) h same j e = absurd (cc)
     serves_after m x (demanded p (Some k)) h same j e = sym same ∙ e
     serves_after m x (cycled at f d r w) h same j e = h.serves j e
@@ -160,20 +159,20 @@ module _ (ts : List Source) (lams : Lams) (by_plan : Clears) (moods : Moods) (ra
 
     follows_after : (m : Moment) (x : Wires) (p : Piece) → Follows m x → CostStays ks m p → CallsLowest ts nothing p → AreRaised ts raises pauses g x.clock p → Follows (moment_after m p) (after x p)
     follows_after m x p h c l r =
-        let n = step m x p h c l (raised_below ts g t up pauses raises x.clock h.stretch p h.lies r) in
+        let n = step m x p h c l (raised_below ts pauses g t up raises x.clock h.stretch p h.lies r) in
         record {
-          stretch = own_after ts g t up pauses x.clock h.stretch p;
-          begun = subst (IsBegun ts i t its fits.start raises apart_below) (same_clock ts g t up pauses x.clock h.stretch p) n.1.0;
+          stretch = (own_after m x p h).stretch;
+          begun = subst (IsBegun ts i t its fits.start raises apart_below) (same_clock ts pauses g t up x.clock h.stretch p) n.1.0;
           known = n.1.1;
-          lies = lies_after ts g t up pauses x.clock h.stretch p h.lies;
+          lies = lies_after ts pauses g t up x.clock h.stretch p h.lies;
           serves = serves_after m x p h n.1.1.same;
         }
 
-    follows_first : (m : Moment) → m.progress ≡ None → Follows m first_wires
-    follows_first m e = record {
+    follows_first : (answers : List Answer) → Follows (first_moment answers) first_wires
+    follows_first answers = record {
       stretch = no_stretch None;
       begun = begun_first ts i t its fits.start raises apart_below;
-      known = subst (λ o. Timed ks ts cover own i t its by.longest by.enough o (no_stretch None)) (sym e) (timed_first ks ts cover own i t its by.longest by.enough);
+      known = timed_first ks ts cover own i t its by.longest by.enough;
       lies = λ j. omega arith;
       serves = λ j e. absurd (cc);
     }
@@ -209,7 +208,7 @@ module _ (ts : List Source) (lams : Lams) (by_plan : Clears) (moods : Moods) (ra
       → AtCycle (RaisesAfter ts lams by_plan raises g) x p → AtCycle (RaisesLate ts lams by_plan moods raises pauses g) x p
   late_at m x (demanded p v) h all c again = tt
   late_at m x (cycled at f d r w) h all c again =
-      λ i t its up called may. by_time ts t (x.clock.time + (1 + w) ≤ raises i (x.next i))
+      λ i t its up called may. by_rate ts t (x.clock.time + (1 + w) ≤ raises i (x.next i))
       (λ fits. subst (λ k. x.clock.time + (1 + w) ≤ raises i k) (sym (h.next i t its up called)) (ended i t its up fits m x (cycled at f d r w) (all i t its up fits) c called))
       (λ not. again i t its up not called may)
   late_at m x (lock_taken k w) h all c again = tt
@@ -240,5 +239,5 @@ look_at_mes_are_answered plan is_plan script ks safe ts are s source its start b
     raised_are_answered plan is_plan script ks safe ts are s source its start by raises keep.rates.every pauses answers
     (walk ts lams by_plan moods raises pauses source.bit keep.rates.every ks cover are.apart (λ m w z. InService ks m (StepsFit z)) Any (first_moment answers) first_wires
     (the_run plan script answers) (agrees_first ts lams by_plan moods raises pauses source.bit)
-    (λ i t at up fits. follows_first ts lams by_plan moods raises pauses source.bit keep.rates.every ks cover are.apart i t at up fits (first_moment answers) refl)
+    (λ i t at up fits. follows_first ts lams by_plan moods raises pauses source.bit keep.rates.every ks cover are.apart i t at up fits answers)
     (safe.cost_within answers) (lowest_are_called plan is_plan script ks ts are answers) care keep.rates.once keep.again keep.shown keep.alone)
