@@ -23,7 +23,7 @@ use Rattle.camac_response_times.proofs.Rates.{stretches_are_least}
 use Rattle.camac_response.proofs.Answers.{answers_in_time}
 use Rattle.camac_response.proofs.Lowest.{lowest_are_called}
 use Rattle.camac_response.proofs.Stretches.{stretches_end}
-use Rattle.camac_response.proofs.Lams.{look_at_mes_are_answered}
+use Rattle.camac_response.proofs.Again.{look_at_mes_are_answered}
 
 same_lam : (plan : Layout) (o : Option Lam) → option_and_then (λ at. gl plan at.crate_no at.station) (option_map lam_address o) ≡ option_and_then (lam_bit plan) o
 same_lam plan None = refl
