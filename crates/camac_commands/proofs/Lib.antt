@@ -1,4 +1,5 @@
 pub mod Listed
+pub mod ByRows
 pub mod Actions
 pub mod Arguments
 pub mod Loops

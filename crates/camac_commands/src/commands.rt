@@ -1,6 +1,6 @@
 // The commands of the services of a checked script: its text, walked together with its rows.
 
-ghost use Rattle.std.specs.Prelude.{◌≡◌, ◌++◌, IfOk, OnOk, drop, map};
+ghost use Rattle.std.specs.Prelude.{◌≡◌, ◌++◌, [], IfOk, OnOk, drop, map, slice_get, unwrap_or};
 ghost use Rattle.camac_lang.specs.View.{item_of, procedure_of, service_of, statement_of, statements_of};
 ghost use Rattle.camac_rules.specs.Accept.{sections};
 ghost use Rattle.camac_commands.specs.Commands.{behind, behind_block, commands_of, commands_over, detail_told, made, made_block};
@@ -155,9 +155,7 @@ fn push_statement<'r>(
             push_block(called, body, inside, commands)
         }
         Stmt::Call(call) => {
-            if let Some(procedure) = called.get(call.procedure) {
-                commands.extend_from_slice(&procedure.commands)?;
-            }
+            commands.extend_from_slice(commands_at(called, call.procedure))?;
             Ok(inside)
         }
         Stmt::Assign(_)
@@ -172,6 +170,16 @@ fn push_statement<'r>(
             push_made(commands, statement, detail_told(rows))?;
             Ok(inside)
         }
+    }
+}
+
+// Those of the procedure of this number.
+fn commands_at(called: &[BodyCommands], number: usize) -> &[Command]
+    ensures { result.now ≡ unwrap_or (slice_get called.now number) [] }
+{
+    match called.get(number) {
+        Some(procedure) => procedure.commands(),
+        None => &[],
     }
 }
 
