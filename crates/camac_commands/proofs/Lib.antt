@@ -5,3 +5,4 @@ pub mod Arguments
 pub mod Loops
 pub mod Statements
 pub mod Services
+pub mod Counted

@@ -26,7 +26,7 @@ use Rattle.camac_response.proofs.Stretches.{stretches_end}
 use Rattle.camac_response.specs.Lams.{plan_clears}
 use Rattle.camac_response.proofs.Lams.{look_at_mes_are_answered}
 use Rattle.camac_response.proofs.Reach.{decided_serve}
-use Rattle.camac_response.proofs.Listing.{service_listed}
+use Rattle.camac_commands.proofs.Counted.{service_listed}
 use Rattle.camac_response.proofs.Decided.{decided}
 
 same_lam : (plan : Layout) (o : Option Lam) → option_and_then (λ at. gl plan at.crate_no at.station) (option_map lam_address o) ≡ option_and_then (lam_bit plan) o

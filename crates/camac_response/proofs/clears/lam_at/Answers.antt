@@ -1,4 +1,4 @@
-use Rattle.std.proofs.Common.{sym, ◌∙◌}
+use Rattle.std.proofs.Common.{sym}
 use Rattle.camac_response.proofs.LamPlaces.{lam_there, no_lam}
 use Rattle.camac_response.proofs.clears.lam_at.Goals as goal
 

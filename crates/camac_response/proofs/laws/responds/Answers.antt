@@ -7,4 +7,4 @@ use Rattle.camac_response.proofs.laws.responds.Goals as goal
 
 pub returns : goal.returns
 returns c =
-    checked_respond c.args.checked.now (subst IsPlan c.plan.ensures c.is_plan.ensures) c.is_linked.ensures (subst (λ s. IsTrue (is_well_formed s)) c.script.ensures c.well_formed.ensures) c.is_checked.ensures
+    checked_respond c.args.checked.now (subst IsPlan c.plan.ensures c.is_plan.ensures) c.is_linked.ensures (subst (λ s. IsTrue (is_well_formed s)) c.script.ensures c.well_formed-2.ensures) c.is_checked.ensures
