@@ -1,8 +1,8 @@
 -- What is accepted of single actions and transfers makes only the commands that are told of it.
 use Rattle.std.proofs.Common.{◌≡◌, ℕ, ◌+◌, ◌<◌, ◌≤◌, Bool, true, false, List, [], ◌∷◌, Option, Some, None, Result, Ok, Err, refl, sym, ap, subst, ◌∙◌, arith}
 use Rattle.std.specs.List.{list_any}
-use Rattle.std.specs.Prelude.{nat_eq, nat_lt, option_map, slice_get}
-use Rattle.std.proofs.lemmas.Bool.{and_parts, cond_both, eqb-true, ltb-true}
+use Rattle.std.specs.Prelude.{nat_eq, nat_lt, option_map, slice_get, if◌then◌else◌}
+use Rattle.std.proofs.lemmas.Bool.{and_parts, cond_both, eqb-true, le-leb, ltb-true}
 use Rattle.camac_lang.specs.declared.word.CrateCall.{CrateCall}
 use Rattle.camac_lang.specs.declared.word.LamCall.{LamCall}
 use Rattle.camac_lang.specs.declared.word.WordSize.{WordSize}
@@ -36,7 +36,8 @@ use Rattle.camac_rules.proofs.Allows.{Allows, allowed, then_allowed, required_al
 use Rattle.camac_rules.proofs.Stores.{Place, around_of, InRegion, Inside}
 use Rattle.camac_rules.proofs.Values.{range_each, only_within}
 use Rattle.camac_rules.proofs.Actions.{Setting, of, seen, value_of, address_of}
-use Rattle.camac_commands.specs.Commands.{Command, is_told, IsListed, made_at, span, called_at}
+use Rattle.camac_check_rows.specs.Statements.{at_region, between, in_crates}
+use Rattle.camac_commands.specs.Commands.{Command, is_told, IsListed, made_at, span, told_region, called_at}
 use Rattle.camac_commands.proofs.Listed.{Listed, told_at, listed_given, listed_any}
 
 -- what holds of any result
@@ -66,6 +67,10 @@ act_listed cs plan at f size (from e) s told =
     unless_meets no_count (IsListed cs) AnyStop Any nothing (fits_size size v) (send v) s (λ _. tt) (λ _.
     cycle_meets no_count (IsListed cs) AnyStop Any nothing plan at f (moved.Out v) s.answers (λ r. ends) s (λ _. tt) (λ _. tt) (λ waits a rest e g p. tt) (λ waits a rest e g p. (told, tt))))
 
+-- the addresses that the row of a statement with this register tells
+abbrev known_at : Facts → ℕ → Option Region
+known_at k r = told_region (at_region (region_at k.registers r))
+
 -- the register is set, and its addresses are known
 record IsSet (r : ℕ) (k : Facts) : Type 0 where
   addresses : Region
@@ -75,13 +80,13 @@ set_by : (r : ℕ) (k : Facts) (g : Region) → region_at k.registers r ≡ Some
 set_by r k g e = record { addresses = g; is = e }
 
 at_register : (around : Place) (line f r : ℕ) (k : Facts) → IsSet r k → (s : State) → Inside around k s → (go : Address → Action)
-    → ((at : Address) → list_any (is_told at f) (made_at line f (region_at k.registers r)) ≡ true → Listed (made_at line f (region_at k.registers r)) (go at (stepped s)))
-    → Listed (made_at line f (region_at k.registers r)) (given (s.registers r) go (stepped s))
+    → ((at : Address) → list_any (is_told at f) (made_at line f (known_at k r)) ≡ true → Listed (made_at line f (known_at k r)) (go at (stepped s)))
+    → Listed (made_at line f (known_at k r)) (given (s.registers r) go (stepped s))
 at_register around line f r k set s i go h =
-    let cs : List Command = made_at line f (region_at k.registers r) in
+    let cs : List Command = made_at line f (known_at k r) in
     let a = address_of (region_at k.registers r) (s.registers r) set.addresses set.is (i.registers r) in
     listed_given cs (s.registers r) go a.at (stepped s) a.is
-    (h a.at (subst (λ o. list_any (is_told a.at f) (made_at line f o) ≡ true) (sym set.is) (told_at line f set.addresses a.at a.inside)))
+    (h a.at (subst (λ o. list_any (is_told a.at f) (made_at line f (told_region (at_region o))) ≡ true) (sym set.is) (told_at line f set.addresses a.at a.inside)))
 
 single_set : (c : Setting) (around : Place) (line : ℕ) (size : WordSize) (f r : ℕ) (m : Move) (k : Facts) → Allows (single_rule (seen c) (around_of around) line size f r m k) (λ v. IsSet r k)
 single_set c around line size f r no_data k = then_allowed (given_allowed (region_at k.registers r) _ line _) (λ g set. always _ (set_by r k g set))
@@ -91,18 +96,18 @@ single_set c around line size f r (from e) k =
     then_allowed (range_each line e k.ranges) (λ v gives. then_allowed (given_allowed (region_at k.registers r) _ line _) (λ g set. always _ (set_by r k g set)))
 
 pub single_listed : (c : Setting) (around : Place) (n line : ℕ) (size : WordSize) (f r : ℕ) (m : Move) (k : Facts)
-    → Allows (single_rule (seen c) (around_of around) line size f r m k) (λ v. (s : State) → Inside around k s → Listed (made_at line f (region_at k.registers r)) (effect (of c) n (single line size f r m) (stepped s)))
+    → Allows (single_rule (seen c) (around_of around) line size f r m k) (λ v. (s : State) → Inside around k s → Listed (made_at line f (known_at k r)) (effect (of c) n (single line size f r m) (stepped s)))
 single_listed c around n line size f r m k =
     allowed_more (single_set c around line size f r m k) (λ v set s i.
-    at_register around line f r k set s i (λ at. act c.plan at f size m) (λ at told. act_listed (made_at line f (region_at k.registers r)) c.plan at f size m (stepped s) told))
+    at_register around line f r k set s i (λ at. act c.plan at f size m) (λ at told. act_listed (made_at line f (known_at k r)) c.plan at f size m (stepped s) told))
 
 -- ---- calls of the controller and of look-at-mes
 
 pub lam_listed : (c : Setting) (around : Place) (n line : ℕ) (which : LamCall) (l : ℕ) (k : Facts)
-    → Allows (lam_rule (seen c) (around_of around) line which l k) (λ v. (s : State) → Inside around k s → Listed (made_at line (lam_function which) (lam_region (seen c) l)) (effect (of c) n (lam_call line which l) (stepped s)))
+    → Allows (lam_rule (seen c) (around_of around) line which l k) (λ v. (s : State) → Inside around k s → Listed (made_at line (lam_function which) (told_region (at_region (lam_region (seen c) l)))) (effect (of c) n (lam_call line which l) (stepped s)))
 lam_listed c around n line which l k = always _ (λ s i. go (slice_get c.lams l) refl s)
   where
-    go : (o : Option Address) → slice_get c.lams l ≡ o → (s : State) → Listed (made_at line (lam_function which) (option_map single_region o)) (given o (λ at. act c.plan at (lam_function which) Full no_data) (stepped s))
+    go : (o : Option Address) → slice_get c.lams l ≡ o → (s : State) → Listed (made_at line (lam_function which) (told_region (at_region (option_map single_region o)))) (given o (λ at. act c.plan at (lam_function which) Full no_data) (stepped s))
     go None e s = tt
     go (Some at) e s =
         act_listed (made_at line (lam_function which) (Some (single_region at))) c.plan at (lam_function which) Full no_data (stepped s)
@@ -128,11 +133,11 @@ block_set c around line f r t most x k =
     required_allowed _ line _ (λ may. then_allowed (given_allowed (region_at k.registers r) _ line _) (λ g set. always _ (set_by r k g set)))
 
 pub q_stop_listed : (c : Setting) (around : Place) (n line f r : ℕ) (t : Option ℕ) (e : Expression) (x : ℕ) (k : Facts)
-    → Allows (q_stop_rule (seen c) (around_of around) line f r t e x k) (λ v. (s : State) → Inside around k s → Listed (made_at line f (region_at k.registers r)) (effect (of c) n (q_stop line f r t e x) (stepped s)))
+    → Allows (q_stop_rule (seen c) (around_of around) line f r t e x k) (λ v. (s : State) → Inside around k s → Listed (made_at line f (known_at k r)) (effect (of c) n (q_stop line f r t e x) (stepped s)))
 q_stop_listed c around n line f r t e x k =
     then_allowed (range_each line e k.ranges) (λ most gives.
     then_allowed (block_set c around line f r t most.hi x k) (λ g set. allowed (λ s i.
-    let cs : List Command = made_at line f (region_at k.registers r) in
+    let cs : List Command = made_at line f (known_at k r) in
     let go : Option (List ℕ) → Address → Action = λ o at. given (value e s.variables) (λ m. transfer_to c.plan f o (q_stop_next at m) x) in
     listed_any cs (sent (of c) t) (λ o. given (s.registers r) (go o)) (stepped s) (λ o _.
     at_register around line f r k set s i (go o) (λ at told.
@@ -141,12 +146,12 @@ q_stop_listed c around n line f r t e x k =
     subst (λ a. list_any (is_told a f) cs ≡ true) (sym (stop.wanted_goes_on at to m qs w).1) told)))))))
 
 pub q_repeat_listed : (c : Setting) (around : Place) (n line f r : ℕ) (t : Option ℕ) (e1 e2 : Expression) (x : ℕ) (k : Facts)
-    → Allows (q_repeat_rule (seen c) (around_of around) line f r t e1 e2 x k) (λ v. (s : State) → Inside around k s → Listed (made_at line f (region_at k.registers r)) (effect (of c) n (q_repeat line f r t e1 e2 x) (stepped s)))
+    → Allows (q_repeat_rule (seen c) (around_of around) line f r t e1 e2 x k) (λ v. (s : State) → Inside around k s → Listed (made_at line f (known_at k r)) (effect (of c) n (q_repeat line f r t e1 e2 x) (stepped s)))
 q_repeat_listed c around n line f r t e1 e2 x k =
     then_allowed (range_each line e1 k.ranges) (λ most gives_m.
     then_allowed (range_each line e2 k.ranges) (λ limit gives_l.
     then_allowed (block_set c around line f r t most.hi x k) (λ g set. allowed (λ s i.
-    let cs : List Command = made_at line f (region_at k.registers r) in
+    let cs : List Command = made_at line f (known_at k r) in
     let last : Option (List ℕ) → Address → ℕ → Action = λ o at m. given (value e2 s.variables) (λ l. transfer_to c.plan f o (q_repeat_next at m l) x) in
     let go : Option (List ℕ) → Address → Action = λ o at. given (value e1 s.variables) (last o at) in
     listed_any cs (sent (of c) t) (λ o. given (s.registers r) (go o)) (stepped s) (λ o _.
@@ -209,16 +214,26 @@ in_span g h first last at qs m i j few e =
       sub_address = record { low = omega arith; high = gone.sub_address };
     })
 
+-- where there is one, there are such stations
+has_stations : (g h : Region) (at : Address) → InRegion (region g.crates (interval g.stations.lo h.stations.hi) (interval 0 15)) at
+    → span g h ≡ Some (region g.crates (interval g.stations.lo h.stations.hi) (interval 0 15))
+has_stations g h at i =
+    let low = i.station.low in
+    let high = i.station.high in
+    let some : g.stations.lo ≤ h.stations.hi = omega (arith, low, high) in
+    ap (λ b. option_map (λ stations. region g.crates stations (interval 0 15)) (if b then Some (interval g.stations.lo h.stations.hi) else None)) (le-leb g.stations.lo h.stations.hi some)
+
 pub scan_listed : (c : Setting) (around : Place) (n line f r1 r2 : ℕ) (e : Expression) (x : ℕ) (k : Facts)
     → Allows (scan_rule (seen c) (around_of around) line f r1 r2 e x k)
-    (λ v. (s : State) → Inside around k s → Listed (made_at line f (span (region_at k.registers r1) (region_at k.registers r2))) (effect (of c) n (address_scan line f r1 r2 e x) (stepped s)))
+    (λ v. (s : State) → Inside around k s → Listed (made_at line f (told_region (between (region_at k.registers r1) (region_at k.registers r2)))) (effect (of c) n (address_scan line f r1 r2 e x) (stepped s)))
 scan_listed c around n line f r1 r2 e x k =
     allowed_more (scan_set c around line f r1 r2 e x k) (λ v set s i.
     let g = set.first.addresses in
     let h = set.last.addresses in
-    let cs : List Command = made_at line f (span (region_at k.registers r1) (region_at k.registers r2)) in
-    let is : span (region_at k.registers r1) (region_at k.registers r2) ≡ span (Some g) (Some h) =
-    ap (λ o. span o (region_at k.registers r2)) set.first.is ∙ ap (span (Some g)) set.last.is in
+    let told : Option Region = told_region (between (region_at k.registers r1) (region_at k.registers r2)) in
+    let cs : List Command = made_at line f told in
+    let is : told ≡ span g h =
+    ap (λ o. told_region (between o (region_at k.registers r2))) set.first.is ∙ ap (λ o. told_region (between (Some g) o)) set.last.is in
     let a = address_of (region_at k.registers r1) (s.registers r1) g set.first.is (i.registers r1) in
     let b = address_of (region_at k.registers r2) (s.registers r2) h set.last.is (i.registers r2) in
     let go : Address → Address → ℕ → Action = λ first last m. transfer_to c.plan f None (scan_next first last m) x in
@@ -229,14 +244,15 @@ scan_listed c around n line f r1 r2 e x k =
     (listed_any cs (value e s.variables) (third a.at b.at) (stepped s) (λ m _.
     unless_meets no_count (IsListed cs) AnyStop Any nothing (nat_eq a.at.crate_no b.at.crate_no) (go a.at b.at m) (stepped s) (λ _. tt) (λ _.
     transfer_listed cs c.plan f None (scan_next a.at b.at m) x (stepped s) (λ qs to w.
-    subst (λ o. list_any (is_told to f) (made_at line f o) ≡ true) (sym is)
-    (told_at line f (region g.crates (interval g.stations.lo h.stations.hi) (interval 0 15)) to (in_span g h a.at b.at to qs m a.inside b.inside set.few w))))))))
+    let there = in_span g h a.at b.at to qs m a.inside b.inside set.few w in
+    subst (λ o. list_any (is_told to f) (made_at line f o) ≡ true) (sym (is ∙ has_stations g h to there))
+    (told_at line f (region g.crates (interval g.stations.lo h.stations.hi) (interval 0 15)) to there)))))))
 
 -- ---- a crate call, whose crate is one number
 
 pub crate_listed : (c : Setting) (around : Place) (n line : ℕ) (which : CrateCall) (e : Expression) (k : Facts)
     → Allows (crate_rule (seen c) (around_of around) line e k)
-    (λ v. (s : State) → Inside around k s → Listed (made_at line (crate_function which) (called_at which (range_of line e k.ranges))) (effect (of c) n (crate_call line which e) (stepped s)))
+    (λ v. (s : State) → Inside around k s → Listed (made_at line (crate_function which) (called_at which (in_crates (range_of line e k.ranges)))) (effect (of c) n (crate_call line which e) (stepped s)))
 crate_listed c around n line which e k =
     then_allowed (with_result (range_each line e k.ranges)) (λ r known.
     required_allowed _ line _ (λ fit. allowed (λ s i.
@@ -249,6 +265,6 @@ crate_listed c around n line which e k =
     let high = v.fits.within.high in
     let same : v.number ≡ r.lo = omega arith in
     let cs : List Command = made_at line f (Some (single_region at)) in
-    subst (λ q. Listed (made_at line f (called_at which q)) (given (value e s.variables) call (stepped s))) (sym known.0)
+    subst (λ q. Listed (made_at line f (called_at which (in_crates q))) (given (value e s.variables) call (stepped s))) (sym known.0)
     (listed_given cs (value e s.variables) call r.lo (stepped s) (v.is ∙ ap (λ m. Some m) same)
     (act_listed cs c.plan at f Full no_data (stepped s) (told_at line f (single_region at) at (alone at)))))))

@@ -38,7 +38,8 @@ use Rattle.camac_rules.proofs.Lockless.{has_lock, block_has_lock}
 use Rattle.camac_rules.proofs.Routines.{AreSmall, Serves}
 use Rattle.camac_rules.proofs.Statements.{may_first, may_second, reached_sound, statement_sound, block_sound}
 use Rattle.camac_check_rows.specs.Rows.{found, Turning, turning_from, lock_inside, lock_head}
-use Rattle.camac_commands.specs.Commands.{Command, IsListed, statement_commands, block_commands}
+use Rattle.camac_commands.specs.Commands.{Command, IsListed}
+use Rattle.camac_commands.proofs.ByRows.{statement_commands, block_commands}
 use Rattle.camac_commands.proofs.Listed.{Listed, listed_first, listed_second, listed_then, listed_given, listed_any}
 use Rattle.camac_commands.proofs.Actions.{always, with_result, single_listed, scan_listed, q_stop_listed, q_repeat_listed, crate_listed, lam_listed}
 use Rattle.camac_commands.proofs.Arguments.{GiveAll, AllFit, ranges_each, in_ranges, are_small}

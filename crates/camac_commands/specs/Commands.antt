@@ -1,10 +1,11 @@
--- The commands that each service of a script may make, by the walk of the checker. No rule is stated here.
-use Rattle.std.specs.Prelude.{◌≡◌, ℕ, ◌&&◌, Bool, true, List, [], ◌∷◌, ◌++◌, Option, Some, None, Result, Ok, Err, IsTrue, nat_eq, nat_le, unwrap_or, slice_get}
+-- The commands that each service of a script may make, by the rows of its bodies. No rule is stated here.
+use Rattle.std.specs.Prelude.{◌≡◌, ℕ, ◌&&◌, Bool, true, List, [], ◌∷◌, ◌++◌, Option, Some, None, Ok, IsTrue, drop, nat_eq, nat_le, option_map, unwrap_or, slice_get}
 use Rattle.std.specs.List.{list_any}
-use Rattle.camac_range.specs.Interval.{Interval, interval}
+use Rattle.camac_range.specs.Interval.{interval}
+use Rattle.camac_range.specs.Interval as numbers
 use Rattle.camac_lang.specs.declared.word.CrateCall.{CrateCall}
 use Rattle.camac_lang.specs.Scope.{is_well_formed}
-use Rattle.camac_lang.specs.Tree.{Expression, Statement, single, address_scan, q_stop, q_repeat, crate_call, lam_call, choose, choose_else, for_, while_, locked, call, Block, done, next, Procedure, Service, Script}
+use Rattle.camac_lang.specs.Tree.{Statement, single, address_scan, q_stop, q_repeat, crate_call, lam_call, choose, choose_else, for_, while_, locked, call, Block, done, next, Service, Script}
 use Rattle.camac_branch.specs.Address.{Address}
 use Rattle.camac_branch.specs.Branch.{Branch, Answer}
 use Rattle.camac_branch.specs.Plan.{Layout, IsPlan}
@@ -14,23 +15,16 @@ use Rattle.camac_model.specs.Headline.{no_count, nothing}
 use Rattle.camac_model.specs.Meaning.{context, crate_address, crate_function, lam_function}
 use Rattle.camac_model.specs.Moments.{Meets, Any, AnyStop}
 use Rattle.camac_model.specs.Run.{service_meaning}
-use Rattle.camac_rules.specs.declared.case.Body.TheVariants as body
-use Rattle.camac_rules.specs.Fault.{Fault}
-use Rattle.camac_rules.specs.Known.{Region, region, Known}
-use Rattle.camac_rules.specs.Cycles.{Context, Around, alone_in}
-use Rattle.camac_rules.specs.Calls.{lam_region, single_region}
-use Rattle.camac_rules.specs.Expressions.{range_of}
-use Rattle.camac_rules.specs.Loops.{with_fixed}
-use Rattle.camac_rules.specs.Procedures.{at_entry}
-use Rattle.camac_rules.specs.Accept.{Section, of_procedure, of_service, sections, at_start, bare, own_body, with_procedure, accept}
-use Rattle.camac_check_rows.specs.Rows.{ways, for_turning, while_turning, taken, lock_inside, lock_head, statement_verdict}
-use Rattle.camac_check_rows.specs.Statements.{known_region}
-
--- A command that a service may make: its line, its function, and the addresses at which it may be made.
-pub record Command : Type 0 where
-  pub line : ℕ
-  pub function : ℕ
-  pub region : Region
+use Rattle.camac_rules.specs.Accept.{Section, of_procedure, of_service, accept}
+use Rattle.camac_rules.specs.Calls.{single_region}
+use Rattle.camac_rules.specs.Capped.{capped}
+use Rattle.camac_rules.specs.Known.{Region, region}
+use Rattle.camac_check_rows.specs.declared.row.Detail.{Detail}
+use Rattle.camac_check_rows.specs.declared.row.Detail.TheVariants as detail
+use Rattle.camac_check_rows.specs.declared.row.Row.{Row}
+use Rattle.camac_check_costs.specs.Body.{BodyRows}
+use Rattle.camac_check_costs.specs.Bodies.{costs_with, sections_of}
+pub use Rattle.camac_commands.specs.declared.command.Command.{Command}
 
 abbrev pub is_inside : Region → (crate_no station sub_address : ℕ) → Bool
 is_inside g c n a =
@@ -62,69 +56,75 @@ abbrev pub made_at : (line function : ℕ) → Option Region → List Command
 made_at line f None = []
 made_at line f (Some g) = record { line = line; function = f; region = g } ∷ []
 
--- all sub-addresses of the stations from those of the first register to those of the last
-abbrev pub span : Option Region → Option Region → Option Region
-span None h = None
-span (Some g) None = None
-span (Some g) (Some h) = Some (region g.crates (interval g.stations.lo h.stations.hi) (interval 0 15))
+-- all sub-addresses of the stations from those of the first register to those of the last, if there is one
+abbrev pub span : Region → Region → Option Region
+span g h = option_map (λ stations. region g.crates stations (interval 0 15)) (numbers.span g.stations.lo h.stations.hi)
+
+-- the addresses that a row tells: those of a register or LAM, or those between two registers
+abbrev pub told_region : Detail → Option Region
+told_region (detail.At g) = Some g
+told_region (detail.Between g h) = span g h
+told_region told = None
 
 -- where a crate call goes: its crate is one number
-abbrev pub called_at : CrateCall → Result Interval Fault → Option Region
-called_at which (Ok r) = Some (single_region (crate_address which r.lo))
-called_at which (Err f) = None
+abbrev pub called_at : CrateCall → Detail → Option Region
+called_at which (detail.Crates r) = Some (single_region (crate_address which r.lo))
+called_at which told = None
 
-abbrev pub called_crate : ℕ → CrateCall → Expression → Known → Option Region
-called_crate line which e None = None
-called_crate line which e (Some k) = called_at which (range_of line e k.ranges)
+-- the command of a statement that holds no others and calls no procedure, by what its row tells
+abbrev pub made_alone : Statement → Detail → List Command
+made_alone (single line size f r move) told = made_at line f (told_region told)
+made_alone (address_scan line f r1 r2 max x) told = made_at line f (told_region told)
+made_alone (q_stop line f r t max x) told = made_at line f (told_region told)
+made_alone (q_repeat line f r t max limit x) told = made_at line f (told_region told)
+made_alone (crate_call line which e) told = made_at line (crate_function which) (called_at which told)
+made_alone (lam_call line which l) told = made_at line (lam_function which) (told_region told)
+made_alone s told = []
 
-abbrev pub called_lam : Context → ℕ → Known → Option Region
-called_lam c l None = None
-called_lam c l (Some k) = lam_region c l
+-- what the first row tells
+abbrev pub detail_told : List Row → Detail
+detail_told [] = detail.Nothing
+detail_told (row ∷ rows) = row.detail
 
--- the commands of the procedure that is called
-abbrev pub called_commands : List (List Command) → ℕ → Known → List Command
-called_commands ps p None = []
-called_commands ps p (Some k) = unwrap_or (slice_get ps p) []
-
--- with the commands of each procedure before this place, by its number
+-- The rows of a body are those of its statements, in the order of the text, with one for each `else`. These are the rows behind those of a
+-- statement or block.
 abbrev mutual
-  pub statement_commands : Context → List (List Command) → Around → Statement → Known → List Command
-  statement_commands c ps around (single line size f r move) k = made_at line f (known_region k r)
-  statement_commands c ps around (address_scan line f r1 r2 max x) k = made_at line f (span (known_region k r1) (known_region k r2))
-  statement_commands c ps around (q_stop line f r t max x) k = made_at line f (known_region k r)
-  statement_commands c ps around (q_repeat line f r t max limit x) k = made_at line f (known_region k r)
-  statement_commands c ps around (crate_call line which e) k = made_at line (crate_function which) (called_crate line which e k)
-  statement_commands c ps around (lam_call line which l) k = made_at line (lam_function which) (called_lam c l k)
-  statement_commands c ps around (choose line test a) k = block_commands c ps around a (ways line test k).holds
-  statement_commands c ps around (choose_else line test a b) k =
-      block_commands c ps around a (ways line test k).holds ++ block_commands c ps around b (ways line test k).fails
-  statement_commands c ps around (for_ line x e1 e2 keeps body) k = block_commands c ps (with_fixed x around) body (for_turning around line x e1 e2 keeps body k).head
-  statement_commands c ps around (while_ line test most m keeps body) k = block_commands c ps around body (while_turning around line test most m keeps body k).head
-  statement_commands c ps around (locked line e body) k =
-      block_commands c ps (lock_inside (taken c around line e k) around) body (lock_head (taken c around line e k) k)
-  statement_commands c ps around (call line p es) k = called_commands ps p k
-  statement_commands c ps around s k = []
+  pub behind : Statement → List Row → List Row
+  behind (choose line test a) rows = behind_block a (drop 1 rows)
+  behind (choose_else line test a b) rows = behind_block b (drop 1 (behind_block a (drop 1 rows)))
+  behind (for_ line x e1 e2 keeps body) rows = behind_block body (drop 1 rows)
+  behind (while_ line test most m keeps body) rows = behind_block body (drop 1 rows)
+  behind (locked line e body) rows = behind_block body (drop 1 rows)
+  behind s rows = drop 1 rows
 
-  -- in the order of the text, each at what the one before leaves
-  pub block_commands : Context → List (List Command) → Around → Block → Known → List Command
-  block_commands c ps around done k = []
-  block_commands c ps around (next s rest) k = statement_commands c ps around s k ++ block_commands c ps around rest (statement_verdict c around s k).after
+  pub behind_block : Block → List Row → List Row
+  behind_block done rows = rows
+  behind_block (next s rest) rows = behind_block rest (behind s rows)
 
--- a procedure's, from the ranges of its parameters; and a service's
-abbrev pub procedure_commands : Context → List (List Command) → Procedure → List Command
-procedure_commands c ps p = block_commands c ps (alone_in (own_body c)) p.body (at_entry p.parameters)
+-- the commands of a statement or block by its rows, with those of each procedure before it, by its number
+abbrev mutual
+  pub made : List (List Command) → Statement → List Row → List Command
+  made ps (choose line test a) rows = made_block ps a (drop 1 rows)
+  made ps (choose_else line test a b) rows = made_block ps a (drop 1 rows) ++ made_block ps b (drop 1 (behind_block a (drop 1 rows)))
+  made ps (for_ line x e1 e2 keeps body) rows = made_block ps body (drop 1 rows)
+  made ps (while_ line test most m keeps body) rows = made_block ps body (drop 1 rows)
+  made ps (locked line e body) rows = made_block ps body (drop 1 rows)
+  made ps (call line p es) rows = unwrap_or (slice_get ps p) []
+  made ps s rows = made_alone s (detail_told rows)
 
-abbrev pub service_commands : Context → List (List Command) → Service → List Command
-service_commands c ps v = block_commands c ps (alone_in (body.Service v.lam)) v.body (Some at_start)
+  pub made_block : List (List Command) → Block → List Row → List Command
+  made_block ps done rows = []
+  made_block ps (next s rest) rows = made ps s rows ++ made_block ps rest (behind s rows)
 
--- those of the services, in the order of the text
-abbrev pub commands_over : Context → List (List Command) → List Section → List (List Command)
-commands_over c ps [] = []
-commands_over c ps (of_procedure p ∷ rest) = commands_over (with_procedure p c) (ps ++ procedure_commands c ps p ∷ []) rest
-commands_over c ps (of_service v ∷ rest) = service_commands c ps v ∷ commands_over c ps rest
+-- those of the services among these bodies, in the order of the text
+abbrev pub commands_over : List (List Command) → List Section → List BodyRows → List (List Command)
+commands_over ps [] bodies = []
+commands_over ps (section ∷ rest) [] = []
+commands_over ps (of_procedure p ∷ rest) (b ∷ bodies) = commands_over (ps ++ made_block ps p.body b.rows ∷ []) rest bodies
+commands_over ps (of_service v ∷ rest) (b ∷ bodies) = made_block ps v.body b.rows ∷ commands_over ps rest bodies
 
 abbrev pub commands_of : Layout → Script → List (List Command)
-commands_of plan s = commands_over (bare (λ k. k) plan s) [] (sections s.order s.procedures s.services)
+commands_of plan s = commands_over [] (sections_of s) (costs_with capped plan s)
 
 -- the law: a service of an accepted script makes only the commands of its list
 abbrev pub CyclesAreListed : Type 0

@@ -2,6 +2,7 @@
 use Rattle.std.specs.Prelude.{◌≡◌, ℕ, List, Option, Some, None, Result, Ok, Err}
 use Rattle.std.specs.Io.KnownBytes.{Keeps}
 use Rattle.camac_checked.specs.Checked.{CheckedScript}
+use Rattle.camac_commands.specs.Commands.{commands_of}
 use Rattle.camac_explain.specs.Finding.{refusal_of}
 use Rattle.camac_response_times.specs.declared.setting.Misuse.{Misuse}
 use Rattle.camac_response_times.specs.declared.setting.Settings.{Settings}
@@ -9,6 +10,8 @@ use Rattle.camac_response_times.specs.declared.source.Source.{Source}
 use Rattle.camac_response.specs.Checked.{AreTold, IsNoService}
 use Rattle.camac_response.specs.Kept.{AreKept}
 use Rattle.camac_response.specs.Lines.{responses_text}
+use Rattle.camac_response.specs.Unkept.{unkept_of}
+use Rattle.camac_response.specs.declared.unkept.Unkept.{Unkept}
 use Rattle.camac_engines.specs.Engine.{IsWritten}
 use Rattle.camac_engines.specs.Found.{HasJudged, IsTooLong}
 use Rattle.camac_engines.specs.Report.{Reports, refused}
@@ -22,7 +25,11 @@ use Rattle.camac_engines.specs.declared.plan.PlanSource.{PlanSource}
 use Rattle.camac_engines.specs.declared.response.Responded.{Responded}
 use Rattle.camac_engines.specs.declared.response.Responded.TheVariants.{Told, Misused}
 
--- the outcome says whether each service ends within the number that is asked for
+-- what a checked script does not do of its part of the promise
+abbrev pub unkept_in : CheckedScript → List Source → List Unkept
+unkept_in c ts = unkept_of c.plan c.script (commands_of c.plan c.script) ts
+
+-- the outcome says whether the script does it, and each service ends within the number that is asked for
 abbrev pub SaysKept : (IsKept : Type 0) → Outcome → Type 0
 SaysKept IsKept Good = IsKept
 SaysKept IsKept Refused = IsKept → ⊥
@@ -32,8 +39,8 @@ pub record IsResponse (s : Settings) (c : CheckedScript) (outcome : Outcome) (te
   pub named : IsNoService c.script s.every.items s.within.items None
   pub sources : List Source
   pub told : AreTold c s.every.items sources
-  pub text_is : text ≡ responses_text c.script s.within.items sources
-  pub kept : SaysKept (AreKept c.script s.within.items sources) outcome
+  pub text_is : text ≡ responses_text c.script s.within.items (unkept_in c sources) sources
+  pub kept : SaysKept (AreKept c.script s.within.items (unkept_in c sources) sources) outcome
 
 -- of a refused script the line of `camac check`
 abbrev pub TellsResponse : Settings → Judged → Outcome → List ℕ → Type 0

@@ -1,11 +1,11 @@
 // The engine of how long look-at-mes wait for their services.
 
-ghost use Rattle.std.specs.Prelude.{◌≡◌, ◌||◌, length};
+ghost use Rattle.std.specs.Prelude.{◌≡◌, ◌||◌, IfOk, length};
 ghost use Rattle.camac_response.specs.Kept.{AreKept};
 ghost use Rattle.camac_engines.specs.Engine.{is_write_fault};
 ghost use Rattle.camac_engines.specs.Plan.{plan_failed};
 ghost use Rattle.camac_engines.specs.Reading.{is_read_fault};
-ghost use Rattle.camac_engines.specs.Response.{Responds, RespondsOn, SaysKept};
+ghost use Rattle.camac_engines.specs.Response.{Responds, RespondsOn, SaysKept, unkept_in};
 ghost use Rattle.camac_engines.specs.declared.judging.Judged.TheVariants.{Accepted};
 ghost use Rattle.camac_word.specs.Watched.{inner_of, has_failed};
 
@@ -15,24 +15,27 @@ use crate::judging::{Judged, read_judged};
 use crate::outcome::Outcome;
 use crate::plan::PlanSource;
 use camac_check::Checked;
+use camac_commands::commands_of;
 use camac_response::{
-    Misuse, Responses, Settings, are_kept, no_service, sources_of, write_responses,
+    Misuse, Responses, Settings, Source, Unkept, are_kept, no_service, sources_of, unkept_of,
+    write_responses,
 };
 use camac_word::Watched;
-use std::alloc::Global;
+use std::alloc::{AllocError, Global};
 use std::io::{Read, Write};
 
 /// What became of the words and of the inputs.
 #[derive(Clone, Copy, Debug)]
 pub enum Responded<'a> {
-    /// The inputs were judged. They are refused, too, where a service does not end within the number that is asked for.
+    /// The inputs were judged. They are refused, too, where the script does not do its part of the promise, or a service does not end within the
+    /// number that is asked for.
     Told(Outcome),
     /// The words are wrong, and nothing was written.
     Misused(Misuse<'a>),
 }
 
 /// Finds how long look-at-mes wait for their services, at the settings of the words after `--every` and `--within`: for each service a line, in
-/// the order of their bits, or the line of the first refusal, are written to `out`. The plan is read first, then the script. Nothing is
+/// the order of their bits, and for each thing that the script does not do, or the line of the first refusal, are written to `out`. The plan is read first, then the script. Nothing is
 /// written before a fault but one of the writer, which leaves a prefix of the text.
 pub fn engine_response<'a, P: Read, S: Read, W: Write>(
     alloc: Global,
@@ -78,17 +81,35 @@ fn respond_to<'a, W: Write>(
         return Ok(Responded::Misused(misuse));
     }
     let sources = sources_of(alloc, checked, &settings.every)?;
+    let unkept = unkept_in(alloc, checked, &sources)?;
     let responses = Responses::of(alloc, sources)?;
-    let outcome = outcome_of(checked, &responses, settings);
-    write_responses(out, checked, &responses, &settings.within)?;
+    let outcome = outcome_of(checked, &responses, &unkept, settings);
+    write_responses(out, checked, &responses, &unkept, &settings.within)?;
     Ok(Responded::Told(outcome))
 }
 
-fn outcome_of(checked: &Checked, responses: &Responses, settings: &Settings<'_>) -> Outcome
-    requires { length responses.now ≡ length checked.now.script.services }
-    ensures { SaysKept (AreKept checked.now.script settings.now.within.items responses.now) result }
+// What the script does not do of its part of the promise.
+fn unkept_in(
+    alloc: Global,
+    checked: &Checked,
+    sources: &[Source],
+) -> Result<Vec<Unkept>, AllocError>
+    ensures { IfOk result (λ v. v.items ≡ unkept_in checked.now sources.now) }
 {
-    if are_kept(checked, responses, &settings.within) {
+    let commands = commands_of(alloc, checked)?;
+    unkept_of(alloc, checked, &commands, sources)
+}
+
+fn outcome_of(
+    checked: &Checked,
+    responses: &Responses,
+    unkept: &[Unkept],
+    settings: &Settings<'_>,
+) -> Outcome
+    requires { length responses.now ≡ length checked.now.script.services }
+    ensures { SaysKept (AreKept checked.now.script settings.now.within.items unkept.now responses.now) result }
+{
+    if are_kept(checked, responses, unkept, &settings.within) {
         Outcome::Good
     } else {
         Outcome::Refused

@@ -27,7 +27,7 @@ use Rattle.camac_response_times.specs.Response.{is_up_to}
 use Rattle.camac_response.specs.Lams.{Clears, Lams, lams_of, of_lam, is_lam_call, is_crate_call, enabled_by, Book, book_after, NoneHidden, IsAskedAgain, ServesWell}
 use Rattle.camac_response.specs.Served.{AnyPiece, hides, IsHarmless, Harmless, HarmlessServe}
 use Rattle.camac_response.proofs.Lams.{or_false}
-use Rattle.camac_response.proofs.Served.{block_done}
+use Rattle.camac_response.proofs.Served.{block_clears_it}
 
 -- what is found passes the test, and what all pass
 found_step : {X : Type 0} (test all : X → Bool) (x y : X) (rest : Option X) (b : Bool) → test x ≡ b → all x ≡ true
@@ -209,4 +209,4 @@ pub harmless_serve : HarmlessServe
 harmless_serve plan script ts by_plan g i v lam its clears harmless page called shown b answers =
     combine ts (lams_of script) by_plan g i page (service_meaning (context plan script) 65535 v b answers) called shown (no_operation plan script v b answers) (harmless b answers)
     (cleared_if ts (lams_of script) by_plan g i page (service_meaning (context plan script) 65535 v b answers) (slice_get ts i) refl
-    (λ t it up. block_done plan script by_plan i lam its 65535 v.body page (fresh b answers) (clears t it up) called))
+    (λ t it up. block_clears_it plan script by_plan i lam its v.body (clears t it up) 65535 page (fresh b answers) called))

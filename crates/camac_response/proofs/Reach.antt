@@ -1,14 +1,15 @@
 -- Where the commands of each service are careful, all services do what is asked of them.
-use Rattle.std.proofs.Common.{◌≡◌, ℕ, List, [], ◌∷◌, Option, Some, None, Bool, true, false, refl, sym, ◌∙◌, subst}
-use Rattle.std.specs.List.{list_any}
+use Rattle.std.proofs.Common.{◌≡◌, ℕ, zero, suc, ◌+◌, ◌<◌, ◌≤◌, List, [], ◌∷◌, Option, Some, None, Bool, true, false, refl, sym, ap, ◌∙◌, subst, ⊎_elim, arith}
+use Rattle.std.specs.List.{list_any, range_with_len}
 use Rattle.std.specs.Prelude.{◌||◌, ◌&&◌, nat_eq, nat_le}
-use Rattle.std.proofs.lemmas.Bool.{and_parts, and_from, eq-eqb, eqb-true, true≢false}
+use Rattle.std.proofs.lemmas.Bool.{cases_lt, and_parts, and_from, eq-eqb, eqb-true, true≢false}
 use Rattle.camac_lang.specs.declared.word.CrateCall.{CrateCall}
 use Rattle.camac_lang.specs.declared.word.CrateCall.TheVariants as crate_word
 use Rattle.camac_lang.specs.declared.word.LamCall.{LamCall}
 use Rattle.camac_lang.specs.declared.word.LamCall.TheVariants as lam_word
 use Rattle.camac_lang.specs.Tree.{Script}
-use Rattle.camac_branch.specs.Address.{Address}
+use Rattle.camac_branch.specs.Address.{Address, address}
+use Rattle.camac_branch.specs.Plan.{Layout, IsPlan, declared_clears}
 use Rattle.camac_model.specs.State.{State}
 use Rattle.camac_model.specs.Behaviour.{Piece, demanded, cycled, lock_taken, lock_released, event_left, Behaviour, does, ends, stops}
 use Rattle.camac_model.specs.Headline.{no_count, nothing}
@@ -16,11 +17,13 @@ use Rattle.camac_model.specs.Meaning.{context, crate_address, crate_function, la
 use Rattle.camac_model.specs.Moments.{Meets, Any, AnyStop}
 use Rattle.camac_model.specs.Run.{service_meaning}
 use Rattle.camac_rules.specs.Known.{Region}
-use Rattle.camac_commands.specs.Commands.{Command, is_inside, lies_in, is_told, IsListed}
+use Rattle.camac_commands.specs.declared.command.Command.{Command}
+use Rattle.camac_commands.specs.Commands.{is_inside, lies_in, is_told, IsListed}
 use Rattle.camac_response_times.specs.declared.source.Source.{Source}
-use Rattle.camac_response.specs.Lams.{Clears, lams_of, of_lam, same_station, same_address, is_lam_call, is_crate_call, may_clear}
+use Rattle.camac_response.specs.Lams.{plan_clears, lams_of, of_lam, same_station, same_address, is_lam_call, is_crate_call, may_clear}
 use Rattle.camac_response.specs.Served.{hides, Harmless}
-use Rattle.camac_response.specs.Reach.{ClearsIn, IsFor, may_call_lam, may_call_crate, may_be_at, could_clear, could_hide, AreCareful, DecidedServe}
+use Rattle.camac_response.specs.Reach.{may_call_lam, may_call_crate, may_be_at, clears_at, may_clear_by_plan, could_clear, could_hide, AreCareful, DecidedServe}
+use Rattle.camac_response.proofs.Declared.{clears_below}
 use Rattle.camac_response.proofs.Lams.{or_false, or_first}
 use Rattle.camac_response.proofs.Served.{or_second, by_or, services_serve}
 use Rattle.camac_response.proofs.Harmless.{harmless_serve}
@@ -59,11 +62,18 @@ crate_called k lam at f c told is =
     let parts = and_parts (same_address (crate_address k lam.crate_no) at) (nat_eq f (crate_function k)) is in
     called_at (crate_address k lam.crate_no) at f (crate_function k) c told parts.0 parts.1
 
-by_plan_called : (by_plan : Clears) (in_region : ClearsIn) → IsFor by_plan in_region → (lam at : Address) (f : ℕ) (c : Command) → is_told at f c ≡ true → (same_station lam at && by_plan at f) ≡ true
-    → (may_be_at lam c && in_region c.region c.function) ≡ true
-by_plan_called by_plan in_region fits lam at f c told is =
+-- a number in a range passes the test
+any_in_range : (test : ℕ → Bool) (m k a : ℕ) → k ≤ a → a < k + m → test a ≡ true → list_any test (range_with_len k m) ≡ true
+any_in_range test zero k a le lt e = absurd (omega arith)
+any_in_range test (suc m) k a le lt e =
+    ⊎_elim (λ less. or_second (test k) (list_any test (range_with_len (k + 1) m)) (any_in_range test m (k + 1) a (omega (arith, less)) (omega arith) e))
+    (λ more. let same : a ≡ k = omega (arith, le, more) in or_first (test k) (list_any test (range_with_len (k + 1) m)) (ap test (sym same) ∙ e)) (cases_lt k a)
+
+by_plan_called : (plan : Layout) → IsPlan plan → (lam at : Address) (f : ℕ) (c : Command) → is_told at f c ≡ true → (same_station lam at && plan_clears plan at f) ≡ true
+    → may_clear_by_plan plan lam c ≡ true
+by_plan_called plan is_plan lam at f c told is =
     let parts = and_parts (nat_eq f c.function) (lies_in c.region at) told in
-    let both = and_parts (same_station lam at) (by_plan at f) is in
+    let both = and_parts (same_station lam at) (plan_clears plan at f) is in
     let station = and_parts (nat_eq lam.crate_no at.crate_no) (nat_eq lam.station at.station) both.0 in
     let crates = nat_le c.region.crates.lo at.crate_no && nat_le at.crate_no c.region.crates.hi in
     let stations = nat_le c.region.stations.lo at.station && nat_le at.station c.region.stations.hi in
@@ -71,11 +81,15 @@ by_plan_called by_plan in_region fits lam at f c told is =
     let inside = and_parts crates (stations && subs) parts.1 in
     let there = and_parts stations subs inside.1 in
     let here : may_be_at at c ≡ true = and_from crates stations inside.0 there.0 in
-    let at_lam : may_be_at lam c ≡ true =
-    subst (λ k. ((nat_le c.region.crates.lo k && nat_le k c.region.crates.hi) && (nat_le c.region.stations.lo lam.station && nat_le lam.station c.region.stations.hi)) ≡ true) (sym (eqb-true lam.crate_no at.crate_no station.0))
-    (subst (λ k. (crates && (nat_le c.region.stations.lo k && nat_le k c.region.stations.hi)) ≡ true) (sym (eqb-true lam.station at.station station.1)) here) in
-    and_from (may_be_at lam c) (in_region c.region c.function) at_lam
-    (subst (λ k. in_region c.region k ≡ true) (eqb-true f c.function parts.0) (fits c.region at f parts.1 both.1))
+    let clears : clears_at plan at c at.sub_address ≡ true =
+    and_from subs (declared_clears plan at.crate_no at.station at.sub_address c.function) there.1
+    (subst (λ k. declared_clears plan at.crate_no at.station at.sub_address k ≡ true) (eqb-true f c.function parts.0) both.1) in
+    let by : may_clear_by_plan plan at c ≡ true =
+    and_from (may_be_at at c) (list_any (clears_at plan at c) (range_with_len 0 16)) here
+    (any_in_range (clears_at plan at c) 16 0 at.sub_address (omega arith) (clears_below plan at.crate_no at.station at.sub_address f is_plan both.1) clears) in
+    let moved_to : (k n : ℕ) → Type 0 = λ k n. may_clear_by_plan plan (address k n at.sub_address) c ≡ true in
+    subst (λ k. moved_to k lam.station) (sym (eqb-true lam.crate_no at.crate_no station.0))
+    (subst (λ n. moved_to at.crate_no n) (sym (eqb-true lam.station at.station station.1)) by)
 
 not_true : (a b : Bool) → (a ≡ true → b ≡ true) → b ≡ false → a ≡ false
 not_true true b h e = absurd (true≢false (sym (h refl) ∙ e))
@@ -84,10 +98,10 @@ not_true false b h e = refl
 or_map : (a b c d : Bool) → (a ≡ true → c ≡ true) → (b ≡ true → d ≡ true) → (a || b) ≡ true → (c || d) ≡ true
 or_map a b c d f g e = by_or a b ((c || d) ≡ true) e (λ here. or_first c d (f here)) (λ there. or_second c d (g there))
 
-module _ (by_plan : Clears) (in_region : ClearsIn) (fits : IsFor by_plan in_region) where
-  clears_told : (lam at : Address) (f : ℕ) (c : Command) → is_told at f c ≡ true → may_clear by_plan lam at f ≡ true → could_clear in_region lam c ≡ true
+module _ (plan : Layout) (is_plan : IsPlan plan) where
+  clears_told : (lam at : Address) (f : ℕ) (c : Command) → is_told at f c ≡ true → may_clear (plan_clears plan) lam at f ≡ true → could_clear plan lam c ≡ true
   clears_told lam at f c told =
-      or_map _ _ _ _ (or_map _ _ _ _ (lam_called lam_word.Clear lam at f c told) (by_plan_called by_plan in_region fits lam at f c told))
+      or_map _ _ _ _ (or_map _ _ _ _ (lam_called lam_word.Clear lam at f c told) (by_plan_called plan is_plan lam at f c told))
       (or_map _ _ _ _ (crate_called crate_word.Initialise lam at f c told)
       (or_map _ _ _ _ (crate_called crate_word.Clear lam at f c told) (lam_called lam_word.Disable lam at f c told)))
 
@@ -96,19 +110,19 @@ module _ (by_plan : Clears) (in_region : ClearsIn) (fits : IsFor by_plan in_regi
       or_map _ _ _ _ (lam_called lam_word.Disable lam at f c told)
       (or_map _ _ _ _ (crate_called crate_word.Initialise lam at f c told) (crate_called crate_word.DemandOff lam at f c told))
 
-  clear_none : (o : Option Address) (at : Address) (f : ℕ) (cs : List Command) → list_any (is_told at f) cs ≡ true → of_lam (λ lam. list_any (could_clear in_region lam) cs) o ≡ false → of_lam (λ lam. may_clear by_plan lam at f) o ≡ false
+  clear_none : (o : Option Address) (at : Address) (f : ℕ) (cs : List Command) → list_any (is_told at f) cs ≡ true → of_lam (λ lam. list_any (could_clear plan lam) cs) o ≡ false → of_lam (λ lam. may_clear (plan_clears plan) lam at f) o ≡ false
   clear_none None at f cs told none = refl
   clear_none (Some lam) at f cs told none =
-      any_of (may_clear by_plan lam at f ≡ false) (is_told at f) (could_clear in_region lam) cs told none
-      (λ c is not. not_true (may_clear by_plan lam at f) (could_clear in_region lam c) (clears_told lam at f c is) not)
+      any_of (may_clear (plan_clears plan) lam at f ≡ false) (is_told at f) (could_clear plan lam) cs told none
+      (λ c is not. not_true (may_clear (plan_clears plan) lam at f) (could_clear plan lam c) (clears_told lam at f c is) not)
 
   hide_none' : (o : Option Address) (at : Address) (f : ℕ) (cs : List Command) → list_any (is_told at f) cs ≡ true → of_lam (λ lam. list_any (could_hide lam) cs) o ≡ false → of_lam (λ lam. hides lam at f) o ≡ false
   hide_none' None at f cs told none = refl
   hide_none' (Some lam) at f cs told none =
       any_of (hides lam at f ≡ false) (is_told at f) (could_hide lam) cs told none (λ c is not. not_true (hides lam at f) (could_hide lam c) (hides_told lam at f c is) not)
 
-  module _ (ts : List Source) (script : Script) (g i : ℕ) (cs : List Command) (careful : AreCareful ts script in_region g i cs) where
-    harmless_piece : (u : Unit {0}) (p : Piece) → IsListed cs u p → Harmless ts (lams_of script) by_plan g i u p
+  module _ (script : Script) (ts : List Source) (g i : ℕ) (cs : List Command) (careful : AreCareful plan script ts g i cs) where
+    harmless_piece : (u : Unit {0}) (p : Piece) → IsListed cs u p → Harmless ts (lams_of script) (plan_clears plan) g i u p
     harmless_piece u (demanded p v) h = tt
     harmless_piece u (cycled at f d r w) h = record {
       clears_no_other = λ j t it up other. clear_none (lams_of script j) at f cs h (careful.clear_no_other j t it up other);
@@ -118,14 +132,14 @@ module _ (by_plan : Clears) (in_region : ClearsIn) (fits : IsFor by_plan in_regi
     harmless_piece u (lock_released c) h = tt
     harmless_piece u (event_left e) h = tt
 
-    harmless_all : (b : Behaviour State) → Meets no_count (IsListed cs) AnyStop Any nothing b → Meets no_count (Harmless ts (lams_of script) by_plan g i) AnyStop Any nothing b
+    harmless_all : (b : Behaviour State) → Meets no_count (IsListed cs) AnyStop Any nothing b → Meets no_count (Harmless ts (lams_of script) (plan_clears plan) g i) AnyStop Any nothing b
     harmless_all (does p b) h = (harmless_piece nothing p h.0, harmless_all b h.1)
     harmless_all (ends s) h = tt
     harmless_all (stops w s) h = tt
 
 pub decided_serve : DecidedServe
-decided_serve plan is_plan script ks ts are by_plan in_region fits g decided =
-    services_serve plan is_plan script ks ts are by_plan g (λ i v at.
+decided_serve plan is_plan script ks ts are g decided =
+    services_serve plan is_plan script ks ts are (plan_clears plan) g (λ i v at.
     let d = decided i v at in
-    harmless_serve plan script ts by_plan g i v d.lam d.its d.clears (λ b answers.
-    harmless_all by_plan in_region fits ts script g i d.commands d.careful (service_meaning (context plan script) 65535 v b answers) (d.makes b answers)))
+    harmless_serve plan script ts (plan_clears plan) g i v d.lam d.its d.clears (λ b answers.
+    harmless_all plan is_plan script ts g i d.commands d.careful (service_meaning (context plan script) 65535 v b answers) (d.makes b answers)))

@@ -24,6 +24,10 @@ use Rattle.camac_response.proofs.Answers.{answers_in_time}
 use Rattle.camac_response.proofs.Lowest.{lowest_are_called}
 use Rattle.camac_response.proofs.Stretches.{stretches_end}
 use Rattle.camac_response.proofs.Again.{look_at_mes_are_answered}
+use Rattle.camac_response.specs.Lams.{plan_clears}
+use Rattle.camac_response.proofs.Reach.{decided_serve}
+use Rattle.camac_commands.proofs.Counted.{service_listed}
+use Rattle.camac_response.proofs.Decided.{decided}
 
 same_lam : (plan : Layout) (o : Option Lam) → option_and_then (λ at. gl plan at.crate_no at.station) (option_map lam_address o) ≡ option_and_then (lam_bit plan) o
 same_lam plan None = refl
@@ -70,12 +74,14 @@ module _ (c : CheckedScript) (is : IsPlan c.plan) (linked : IsLinked (linked_of 
       }
 
 pub checked_respond : CheckedRespond
-checked_respond c is linked checked rates ts told =
+checked_respond c is linked formed checked rates ts told =
     let many : length c.bounds ≡ length c.script.services = fine_length c.plan c.script c.bounds c.script.services checked.services in
     let are = told_are_sources c is linked rates ts told many in
     record {
-      look_at_mes = λ s source its start found.
-          look_at_mes_are_answered c.plan is c.script c.bounds checked.runs ts are s source its start (response_starts ts source most_rounds start found);
+      look_at_mes = λ s source its start found kept moods raises pauses answers.
+          look_at_mes_are_answered c.plan is c.script c.bounds checked.runs ts are s source its start (response_starts ts source most_rounds start found) (plan_clears c.plan) moods raises pauses answers
+          (decided_serve c.plan is c.script c.bounds ts are source.bit (λ i v at.
+          let list = service_listed c.plan c.script c.bounds checked.accepted many i v at in decided c.plan is c.script formed c.bounds checked.accepted ts are source.bit kept i v at list.0 list.1) answers);
       calls = λ s source its start found. answers_in_time c.plan c.script c.bounds checked.runs ts are s source its start (response_starts ts source most_rounds start found);
       stretches = λ s source its most found. stretches_end c.plan c.script c.bounds checked.runs ts are source.bit most (stretches_are_least ts source most_rounds most found).enough;
       lowest = lowest_are_called c.plan is c.script c.bounds ts are;

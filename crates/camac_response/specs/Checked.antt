@@ -1,7 +1,8 @@
 -- The services of a checked script as sources of demands, at told rates.
-use Rattle.std.specs.Prelude.{◌≡◌, ℕ, zero, suc, Bool, List, [], ◌∷◌, length, Option, Some, None, option_map, unwrap_or, slice_get, if◌then◌else◌}
+use Rattle.std.specs.Prelude.{◌≡◌, ℕ, zero, suc, Bool, true, List, [], ◌∷◌, length, Option, Some, None, option_map, unwrap_or, slice_get, IsTrue, if◌then◌else◌}
 use Rattle.std.specs.List.{list_any}
 use Rattle.std.specs.Str.{bytes_eq}
+use Rattle.camac_lang.specs.Scope.{is_well_formed}
 use Rattle.camac_lang.specs.Tree.{Text, Lam, Service, Script}
 use Rattle.camac_lines.specs.Verdict.{lam_name}
 use Rattle.camac_response_times.specs.declared.setting.Misuse.{Misuse}
@@ -17,11 +18,13 @@ use Rattle.camac_names.specs.Linked.{IsLinked, bit_of_service}
 use Rattle.camac_checked.specs.Checked.{CheckedScript, linked_of, IsChecked}
 use Rattle.camac_response_times.specs.declared.source.Source.{Source}
 use Rattle.camac_response_times.specs.Rounds.{longest, response}
+use Rattle.camac_commands.specs.Commands.{commands_of}
 use Rattle.camac_model.specs.Headline.{nothing}
 use Rattle.camac_response.specs.Stretch.{no_stretch, answers_watch, stretch_watch}
 use Rattle.camac_response.specs.Laws.{lowest_watch}
 use Rattle.camac_response.specs.Modules.{Raises, Pauses, at_start, waits_watch}
-use Rattle.camac_response.specs.Lams.{Clears, Moods, lams_of, first_page, services_watch, ModulesKeep}
+use Rattle.camac_response.specs.Lams.{Moods, plan_clears, lams_of, ModulesKeep}
+use Rattle.camac_response.specs.Unkept.{unkept_of, is_kept_to}
 
 -- a service has the name of its LAM
 abbrev pub service_name : Script → ℕ → Text
@@ -64,12 +67,12 @@ pub record AreTold (c : CheckedScript) (every : List Setting) (ts : List Source)
 
 -- What holds of every run of a checked script, at told rates, whatever the branch answers.
 pub record RunsRespond (c : CheckedScript) (ts : List Source) : Type 0 where
-  -- where services clear their own look-at-mes and hide none, and modules do what a user believes of them: each is answered in time, and none waits
-  -- longer
+  -- of a bit up to which the script does its part: where modules do what a user believes of them, each look-at-me is answered in time, and none
+  -- waits longer
   pub look_at_mes : (s : ℕ) (source : Source) → slice_get ts s ≡ Some source → (start : ℕ) → response ts source ≡ Some start
-      → (by_plan : Clears) (moods : Moods) (raises : Raises) (pauses : Pauses) (answers : List Answer)
-      → Holds (services_watch ts (lams_of c.script) by_plan source.bit) first_page (the_run c.plan c.script answers)
-      → ModulesKeep ts (lams_of c.script) by_plan moods raises pauses source.bit (the_run c.plan c.script answers)
+      → is_kept_to (unkept_of c.plan c.script (commands_of c.plan c.script) ts) source.bit ≡ true
+      → (moods : Moods) (raises : Raises) (pauses : Pauses) (answers : List Answer)
+      → ModulesKeep ts (lams_of c.script) (plan_clears c.plan) moods raises pauses source.bit (the_run c.plan c.script answers)
       → Holds (waits_watch ts raises pauses s source start) at_start (the_run c.plan c.script answers)
   -- while the rates are kept by the calls, these and the ends of their services are in time
   pub calls : (s : ℕ) (source : Source) → slice_get ts s ≡ Some source → (start : ℕ) → response ts source ≡ Some start
@@ -85,4 +88,4 @@ abbrev pub Responds : CheckedScript → Type 0
 Responds c = (every : List Setting) (ts : List Source) → AreTold c every ts → RunsRespond c ts
 
 abbrev pub CheckedRespond : Type 0
-CheckedRespond = (c : CheckedScript) → IsPlan c.plan → IsLinked (linked_of c) → IsChecked c → Responds c
+CheckedRespond = (c : CheckedScript) → IsPlan c.plan → IsLinked (linked_of c) → IsTrue (is_well_formed c.script) → IsChecked c → Responds c

@@ -7,6 +7,7 @@ use Rattle.camac_lang.specs.declared.word.LamCall.TheVariants as lam_word
 use Rattle.camac_lang.specs.Tree.{Script}
 use Rattle.camac_branch.specs.Address.{Address}
 use Rattle.camac_branch.specs.Branch.{Branch, IsSet, start, branch_after}
+use Rattle.camac_branch.specs.Plan.{Layout, declared_clears}
 use Rattle.camac_model.specs.Behaviour.{Behaviour, Piece, demanded, cycled, lock_taken, lock_released, event_left}
 use Rattle.camac_model.specs.Meaning.{lam_address, crate_address, crate_function, lam_function}
 use Rattle.camac_model.specs.Moments.{Meets, Watch, Any, AnyStop}
@@ -20,6 +21,9 @@ use Rattle.camac_response.specs.Modules.{Raises, Pauses, AreApart, Clock, at_sta
 -- which commands, beside F10 at its address, clear the look-at-me of their station: what the plan says
 abbrev pub Clears : Type 0
 Clears = Address → (function : ℕ) → Bool
+
+abbrev pub plan_clears : Layout → Clears
+plan_clears plan at f = declared_clears plan at.crate_no at.station at.sub_address f
 
 abbrev pub same_station : Address → Address → Bool
 same_station a b = nat_eq a.crate_no b.crate_no && nat_eq a.station b.station

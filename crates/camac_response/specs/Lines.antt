@@ -1,6 +1,6 @@
 -- The lines of `camac response`.
-use Rattle.std.specs.Prelude.{ℕ, List, [], ◌++◌, codes, decimal, nat_eq, slice_get, Option, Some, None, option_map, unwrap_or}
-use Rattle.std.specs.List.{position}
+use Rattle.std.specs.Prelude.{ℕ, List, [], ◌++◌, codes, decimal, nat_eq, slice_get, Option, Some, None, option_map, unwrap_or, if◌then◌else◌}
+use Rattle.std.specs.List.{flat_map, position}
 use Rattle.camac_lang.specs.Tree.{Text, Script}
 use Rattle.camac_lines.specs.Texts.{texts}
 use Rattle.camac_response_times.specs.declared.search.Response.{Response}
@@ -8,7 +8,11 @@ use Rattle.camac_response_times.specs.declared.setting.Setting.{Setting}
 use Rattle.camac_response_times.specs.declared.source.Source.{Source}
 use Rattle.camac_response_times.specs.Found.{response_at}
 use Rattle.camac_response_times.specs.Setting.{told_for}
+use Rattle.camac_response.specs.declared.unkept.Unkept.{Unkept}
+use Rattle.camac_response.specs.declared.unkept.Why.{Why}
+use Rattle.camac_response.specs.declared.unkept.Why.TheVariants.{NotCleared, ClearedBy, HiddenBy}
 use Rattle.camac_response.specs.Checked.{service_name}
+use Rattle.camac_response.specs.Unkept.{is_kept_to}
 
 abbrev pub rate_text : Option ℕ → List ℕ
 rate_text None = codes " once"
@@ -34,17 +38,31 @@ abbrev pub response_line : Text → Source → (within : Option ℕ) → Option 
 response_line name t within r =
     codes "service " ++ name ++ codes " gl " ++ decimal t.bit ++ codes " cycles " ++ decimal t.cycles ++ rate_text t.every ++ numbers_text within r
 
--- of the service of this number, which has this name
-abbrev pub text_of : Text → List Setting → List Source → ℕ → Source → List ℕ
-text_of name within ts i t = response_line name t (told_for within name) (response_at ts i)
+-- none where a look-at-me up to this bit is not kept to
+abbrev pub promised : List Unkept → (bit : ℕ) → Option Response → Option Response
+promised us bit r = if is_kept_to us bit then r else None
 
-abbrev pub service_text : Script → (within : List Setting) → List Source → ℕ → List ℕ
-service_text script within ts i = unwrap_or (option_map (text_of (service_name script i) within ts i) (slice_get ts i)) []
+-- of the service of this number, which has this name
+abbrev pub text_of : Text → List Setting → List Unkept → List Source → ℕ → Source → List ℕ
+text_of name within us ts i t = response_line name t (told_for within name) (promised us t.bit (response_at ts i))
+
+abbrev pub service_text : Script → (within : List Setting) → List Unkept → List Source → ℕ → List ℕ
+service_text script within us ts i = unwrap_or (option_map (text_of (service_name script i) within us ts i) (slice_get ts i)) []
 
 -- of the service of a bit, nothing where there is none
-abbrev pub bit_text : Script → (within : List Setting) → List Source → (bit : ℕ) → List ℕ
-bit_text script within ts bit = unwrap_or (option_map (service_text script within ts) (position (λ t. nat_eq t.bit bit) ts)) []
+abbrev pub bit_text : Script → (within : List Setting) → List Unkept → List Source → (bit : ℕ) → List ℕ
+bit_text script within us ts bit = unwrap_or (option_map (service_text script within us ts) (position (λ t. nat_eq t.bit bit) ts)) []
 
--- a line for each bit that has a service, from bit 1 to 24
-abbrev pub responses_text : Script → (within : List Setting) → List Source → List ℕ
-responses_text script within ts = texts (bit_text script within ts) 1 24
+-- what the script does not do
+abbrev pub why_text : Script → Why → List ℕ
+why_text script NotCleared = codes "does not clear its look-at-me"
+why_text script (ClearedBy i) = codes "cleared by " ++ service_name script i
+why_text script (HiddenBy i) = codes "hidden by " ++ service_name script i
+
+abbrev pub unkept_line : Script → Unkept → List ℕ
+unkept_line script u =
+    codes "unkept " ++ service_name script u.service ++ codes " line " ++ decimal u.line ++ codes ": " ++ why_text script u.why ++ codes "\n"
+
+-- a line for each bit that has a service, from bit 1 to 24, and then one for each thing that is not done
+abbrev pub responses_text : Script → (within : List Setting) → List Unkept → List Source → List ℕ
+responses_text script within us ts = texts (bit_text script within us ts) 1 24 ++ flat_map (unkept_line script) us

@@ -1,6 +1,6 @@
 -- What a list of commands tells of a service: which look-at-mes it may clear or hide.
 use Rattle.std.specs.Prelude.{◌≡◌, ℕ, ◌&&◌, ◌||◌, Bool, true, false, List, Some, map, nat_eq, nat_le, slice_get}
-use Rattle.std.specs.List.{list_any}
+use Rattle.std.specs.List.{list_any, range_with_len}
 use Rattle.camac_lang.specs.declared.word.CrateCall.{CrateCall}
 use Rattle.camac_lang.specs.declared.word.CrateCall.TheVariants as crate_word
 use Rattle.camac_lang.specs.declared.word.LamCall.{LamCall}
@@ -8,25 +8,18 @@ use Rattle.camac_lang.specs.declared.word.LamCall.TheVariants as lam_word
 use Rattle.camac_lang.specs.Tree.{Service, Script}
 use Rattle.camac_branch.specs.Address.{Address}
 use Rattle.camac_branch.specs.Branch.{Answer}
-use Rattle.camac_branch.specs.Plan.{Layout, IsPlan}
+use Rattle.camac_branch.specs.Plan.{Layout, IsPlan, declared_clears}
 use Rattle.camac_model.specs.Fine.{Bounds}
-use Rattle.camac_model.specs.Meaning.{lam_address, crate_address, crate_function, lam_function}
+use Rattle.camac_model.specs.Meaning.{crate_address, crate_function, lam_function}
 use Rattle.camac_model.specs.Moments.{Holds}
 use Rattle.camac_model.specs.Run.{the_run}
-use Rattle.camac_rules.specs.Known.{Region}
-use Rattle.camac_commands.specs.Commands.{Command, lies_in, MakesOnly}
+use Rattle.camac_commands.specs.declared.command.Command.{Command}
+use Rattle.camac_commands.specs.Commands.{lies_in, MakesOnly}
 use Rattle.camac_response_times.specs.declared.source.Source.{Source}
 use Rattle.camac_response_times.specs.Response.{is_up_to}
-use Rattle.camac_response.specs.Lams.{Clears, lams_of, of_lam, first_page, services_watch}
+use Rattle.camac_response.specs.Lams.{plan_clears, lams_of, of_lam, first_page, services_watch}
 use Rattle.camac_response.specs.Laws.{AreSources}
-use Rattle.camac_response.specs.Served.{block_clears}
-
--- whether the plan has a command of this function at one of these addresses that clears the look-at-me of its station
-abbrev pub ClearsIn : Type 0
-ClearsIn = Region → (function : ℕ) → Bool
-
-abbrev pub IsFor : Clears → ClearsIn → Type 0
-IsFor by_plan in_region = (g : Region) (at : Address) (f : ℕ) → lies_in g at ≡ true → by_plan at f ≡ true → in_region g f ≡ true
+use Rattle.camac_response.specs.Served.{clears_lam}
 
 -- it may be this call for the look-at-me at this address, or for its crate
 abbrev pub may_call_lam : LamCall → (lam : Address) → Command → Bool
@@ -39,33 +32,41 @@ may_call_crate k lam c = nat_eq c.function (crate_function k) && lies_in c.regio
 abbrev pub may_be_at : (lam : Address) → Command → Bool
 may_be_at lam c = (nat_le c.region.crates.lo lam.crate_no && nat_le lam.crate_no c.region.crates.hi) && (nat_le c.region.stations.lo lam.station && nat_le lam.station c.region.stations.hi)
 
+-- the plan has one of its function that clears, at one of its sub-addresses
+abbrev pub clears_at : Layout → (lam : Address) → Command → (sub_address : ℕ) → Bool
+clears_at plan lam c a =
+    (nat_le c.region.sub_addresses.lo a && nat_le a c.region.sub_addresses.hi) && declared_clears plan lam.crate_no lam.station a c.function
+
+abbrev pub may_clear_by_plan : Layout → (lam : Address) → Command → Bool
+may_clear_by_plan plan lam c = may_be_at lam c && list_any (clears_at plan lam c) (range_with_len 0 16)
+
 -- it may clear it, or hide it
-abbrev pub could_clear : ClearsIn → (lam : Address) → Command → Bool
-could_clear in_region lam c =
-    (may_call_lam lam_word.Clear lam c || (may_be_at lam c && in_region c.region c.function))
+abbrev pub could_clear : Layout → (lam : Address) → Command → Bool
+could_clear plan lam c =
+    (may_call_lam lam_word.Clear lam c || may_clear_by_plan plan lam c)
     || (may_call_crate crate_word.Initialise lam c || (may_call_crate crate_word.Clear lam c || may_call_lam lam_word.Disable lam c))
 
 abbrev pub could_hide : (lam : Address) → Command → Bool
 could_hide lam c = may_call_lam lam_word.Disable lam c || (may_call_crate crate_word.Initialise lam c || may_call_crate crate_word.DemandOff lam c)
 
 -- none of these commands of service number i could clear the look-at-me of another service up to the bit, or hide one
-pub record AreCareful (ts : List Source) (script : Script) (in_region : ClearsIn) (g i : ℕ) (cs : List Command) : Type 0 where
-  pub clear_no_other : (j : ℕ) (t : Source) → slice_get ts j ≡ Some t → is_up_to g t ≡ true → (i ≡ j → ⊥) → of_lam (λ lam. list_any (could_clear in_region lam) cs) (lams_of script j) ≡ false
+pub record AreCareful (plan : Layout) (script : Script) (ts : List Source) (g i : ℕ) (cs : List Command) : Type 0 where
+  pub clear_no_other : (j : ℕ) (t : Source) → slice_get ts j ≡ Some t → is_up_to g t ≡ true → (i ≡ j → ⊥) → of_lam (λ lam. list_any (could_clear plan lam) cs) (lams_of script j) ≡ false
   pub hide_none : (j : ℕ) (t : Source) → slice_get ts j ≡ Some t → is_up_to g t ≡ true → of_lam (λ lam. list_any (could_hide lam) cs) (lams_of script j) ≡ false
 
 -- What is decided of a service: it makes only commands of this list, they are careful, and its tree clears its own look-at-me, if its bit is meant.
-pub record IsDecided (plan : Layout) (script : Script) (ts : List Source) (in_region : ClearsIn) (g i : ℕ) (v : Service) : Type 0 where
+pub record IsDecided (plan : Layout) (script : Script) (ts : List Source) (g i : ℕ) (v : Service) : Type 0 where
   pub commands : List Command
   pub lam : Address
   pub its : lams_of script i ≡ Some lam
   pub makes : MakesOnly plan script v commands
-  pub careful : AreCareful ts script in_region g i commands
-  pub clears : (t : Source) → slice_get ts i ≡ Some t → is_up_to g t ≡ true → block_clears (map lam_address script.lams) lam v.body ≡ true
+  pub careful : AreCareful plan script ts g i commands
+  pub clears : (t : Source) → slice_get ts i ≡ Some t → is_up_to g t ≡ true → clears_lam script lam v.body ≡ true
 
 -- the law of decisions: where this is decided of each service, all services do what is asked of them along every run
 abbrev pub DecidedServe : Type 0
 DecidedServe =
     (plan : Layout) → IsPlan plan → (script : Script) (ks : List Bounds) (ts : List Source) → AreSources plan script ks ts
-    → (by_plan : Clears) (in_region : ClearsIn) → IsFor by_plan in_region → (g : ℕ)
-    → ((i : ℕ) (v : Service) → slice_get script.services i ≡ Some v → IsDecided plan script ts in_region g i v)
-    → (answers : List Answer) → Holds (services_watch ts (lams_of script) by_plan g) first_page (the_run plan script answers)
+    → (g : ℕ)
+    → ((i : ℕ) (v : Service) → slice_get script.services i ≡ Some v → IsDecided plan script ts g i v)
+    → (answers : List Answer) → Holds (services_watch ts (lams_of script) (plan_clears plan) g) first_page (the_run plan script answers)

@@ -1,8 +1,8 @@
 -- What each service has to do with look-at-mes, said of it by itself; and a tree in which a service clears its own.
-use Rattle.std.specs.Prelude.{◌≡◌, ℕ, ◌&&◌, ◌||◌, Bool, true, false, List, Some, map, slice_get}
+use Rattle.std.specs.Prelude.{◌≡◌, ℕ, ◌&&◌, ◌||◌, ◌++◌, Bool, true, false, List, [], ◌∷◌, Some, map, nat_le, slice_get, slice_index_or}
 use Rattle.camac_lang.specs.declared.word.CrateCall.TheVariants as crate_word
 use Rattle.camac_lang.specs.declared.word.LamCall.TheVariants as lam_word
-use Rattle.camac_lang.specs.Tree.{Statement, lam_call, choose_else, locked, Block, done, next, Service, Script}
+use Rattle.camac_lang.specs.Tree.{Expression, number, Statement, lam_call, choose_else, for_, locked, call, Block, done, next, Procedure, Service, Script}
 use Rattle.camac_branch.specs.Address.{Address}
 use Rattle.camac_branch.specs.Branch.{Branch, Answer}
 use Rattle.camac_branch.specs.Plan.{Layout, IsPlan}
@@ -33,17 +33,35 @@ ServicesServe =
     → ((i : ℕ) (v : Service) → slice_get script.services i ≡ Some v → ServesItself plan script ts by_plan g i v)
     → (answers : List Answer) → Holds (services_watch ts (lams_of script) by_plan g) first_page (the_run plan script answers)
 
--- A block in which `cclc` is made for the look-at-me at this address, whatever modules answer.
-abbrev mutual
-  pub statement_clears : (lams : List Address) → (lam : Address) → Statement → Bool
-  statement_clears lams lam (lam_call line lam_word.Clear l) = of_lam (same_address lam) (slice_get lams l)
-  statement_clears lams lam (choose_else line test a b) = block_clears lams lam a && block_clears lams lam b
-  statement_clears lams lam (locked line e body) = block_clears lams lam body
-  statement_clears lams lam st = false
+-- a `for` that has a turn whatever its variables are
+abbrev pub has_turn : (first last : Expression) → Bool
+has_turn (number a) (number b) = nat_le a b
+has_turn e1 e2 = false
 
-  pub block_clears : (lams : List Address) → (lam : Address) → Block → Bool
-  block_clears lams lam done = false
-  block_clears lams lam (next st rest) = statement_clears lams lam st || block_clears lams lam rest
+-- A block in which `cclc` is made for the look-at-me at this address, whatever modules answer. Of each procedure before it, by its number, is known
+-- whether its body is such a block.
+abbrev mutual
+  pub statement_clears : (lams : List Address) → (lam : Address) → (procedures : List Bool) → Statement → Bool
+  statement_clears lams lam ps (lam_call line lam_word.Clear l) = of_lam (same_address lam) (slice_get lams l)
+  statement_clears lams lam ps (choose_else line test a b) = block_clears lams lam ps a && block_clears lams lam ps b
+  statement_clears lams lam ps (for_ line x e1 e2 keeps body) = has_turn e1 e2 && block_clears lams lam ps body
+  statement_clears lams lam ps (locked line e body) = block_clears lams lam ps body
+  statement_clears lams lam ps (call line p es) = slice_index_or ps p false
+  statement_clears lams lam ps st = false
+
+  pub block_clears : (lams : List Address) → (lam : Address) → (procedures : List Bool) → Block → Bool
+  block_clears lams lam ps done = false
+  block_clears lams lam ps (next st rest) = statement_clears lams lam ps st || block_clears lams lam ps rest
+
+-- of these procedures and those before them, in the order of the text
+abbrev pub procedures_clear : (lams : List Address) → (lam : Address) → List Bool → List Procedure → List Bool
+procedures_clear lams lam ps [] = ps
+procedures_clear lams lam ps (p ∷ rest) = procedures_clear lams lam (ps ++ block_clears lams lam ps p.body ∷ []) rest
+
+-- a block of a service
+abbrev pub clears_lam : Script → (lam : Address) → Block → Bool
+clears_lam script lam b =
+    let lams : List Address = map lam_address script.lams in block_clears lams lam (procedures_clear lams lam [] script.procedures) b
 
 -- nothing is said of a piece
 abbrev pub AnyPiece : Book → Piece → Type 0
@@ -53,7 +71,7 @@ AnyPiece x p = Unit {0}
 abbrev pub ClearsAlways : Type 0
 ClearsAlways =
     (plan : Layout) (script : Script) (by_plan : Clears) (i : ℕ) (lam : Address) → lams_of script i ≡ Some lam
-    → (b : Block) → block_clears (map lam_address script.lams) lam b ≡ true → (page : Book) → page.called ≡ Some i → (n : ℕ) (s : State)
+    → (b : Block) → clears_lam script lam b ≡ true → (page : Book) → page.called ≡ Some i → (n : ℕ) (s : State)
     → Meets (book_after (lams_of script) by_plan) AnyPiece AnyStop (λ x t. x.has_cleared ≡ true) page (block_meaning (context plan script) n b s)
 
 -- A command that hides the look-at-me at this address: F24 there, Z in its crate, and the demand output of its crate turned off.
@@ -81,5 +99,5 @@ IsHarmlessService plan script ts by_plan g i v =
 abbrev pub HarmlessServe : Type 0
 HarmlessServe =
     (plan : Layout) (script : Script) (ts : List Source) (by_plan : Clears) (g i : ℕ) (v : Service) (lam : Address) → lams_of script i ≡ Some lam
-    → ((t : Source) → slice_get ts i ≡ Some t → is_up_to g t ≡ true → block_clears (map lam_address script.lams) lam v.body ≡ true)
+    → ((t : Source) → slice_get ts i ≡ Some t → is_up_to g t ≡ true → clears_lam script lam v.body ≡ true)
     → IsHarmlessService plan script ts by_plan g i v → ServesItself plan script ts by_plan g i v

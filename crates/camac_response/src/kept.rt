@@ -7,14 +7,23 @@ ghost use Rattle.camac_response_times.specs.Found.{response_at};
 ghost use Rattle.camac_response_times.specs.Setting.{told_for};
 
 use crate::of_checked::service_name;
+use crate::unkept::Unkept;
 use camac_checked::Checked;
 use camac_response_times::{Responses, Setting, told_for};
 
-/// Whether each service for which a number is asked for has a response, and has ended by then.
-pub fn are_kept(checked: &Checked, responses: &Responses, within: &[Setting<'_>]) -> bool
+/// Whether the script does its part of the promise, and each service for which a number is asked for has a response and has ended by then.
+pub fn are_kept(
+    checked: &Checked,
+    responses: &Responses,
+    unkept: &[Unkept],
+    within: &[Setting<'_>],
+) -> bool
     requires { length responses.now ≡ length checked.now.script.services }
-    ensures { IsTrue result ↔ AreKept checked.now.script within.now responses.now }
+    ensures { IsTrue result ↔ AreKept checked.now.script within.now unkept.now responses.now }
 {
+    if !unkept.is_empty() {
+        return false;
+    }
     'services: for number in 0..responses.sources().len() {
         if !is_kept(checked, responses, within, number) {
             return false;

@@ -61,5 +61,6 @@ pub fn responds(checked: &Checked)
 {
     checked.is_checked();
     checked.is_linked();
+    checked.script().well_formed();
     checked.plan().is_plan();
 }

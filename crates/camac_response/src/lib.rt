@@ -1,10 +1,13 @@
 //! How long a look-at-me of a checked script waits for its service, at told rates: what `camac response` prints, and the laws on every run.
 #![tactic(auto)]
 
+mod clears;
+mod command;
 mod kept;
 pub mod laws;
 mod lines;
 mod of_checked;
+mod unkept;
 
 pub use camac_response_times::{
     MOST_ROUNDS, Misuse, Rate, Response, Responses, Setting, SettingOption, Settings, Source,
@@ -13,3 +16,4 @@ pub use camac_response_times::{
 pub use kept::are_kept;
 pub use lines::write_responses;
 pub use of_checked::{no_service, sources_of};
+pub use unkept::{Unkept, Why, unkept_of};

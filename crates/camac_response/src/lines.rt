@@ -1,44 +1,115 @@
 // The lines of `camac response`.
 
 ghost use Rattle.std.specs.Prelude.{◌≡◌, ◌<◌, ◌≤◌, ◌+◌, ◌||◌, ◌++◌, is_err, length, nat_eq};
-ghost use Rattle.std.specs.List.{position};
-ghost use Rattle.camac_response.specs.Lines.{bit_text, cycles_text, limit_text, numbers_text, rate_text, response_line, responses_text, service_text};
+ghost use Rattle.std.specs.List.{flat_map, position};
+ghost use Rattle.camac_lines.specs.Texts.{texts};
+ghost use Rattle.camac_response.specs.Lines.{bit_text, cycles_text, limit_text, numbers_text, promised, rate_text, response_line, responses_text, service_text, unkept_line, why_text};
 ghost use Rattle.camac_word.specs.Watched.{inner_of, has_failed};
 ghost use Rattle.camac_word.specs.Writing.{Writes};
 
 use crate::of_checked::service_name;
+use crate::unkept::{Unkept, Why, is_kept_to};
 use camac_checked::Checked;
 use camac_lines::Line;
 use camac_response_times::{Rate, Response, Responses, Setting, Source, told_for};
-use camac_word::{Watched, WriteFault};
+use camac_word::{GlBit, Watched, WriteFault};
 use std::io::Write;
 
 /// Writes a line for each service, in the order of their bits: its bound, its rate, the most cycles from its look-at-me to its beginning and to
-/// its end, with the number that was asked for, and its longest stretch. After a write fault a prefix of this was written.
+/// its end, with the number that was asked for, and its longest stretch. Numbers are told below the bits of what is unkept alone. Then a line for
+/// each of this. After a write fault a prefix of all was written.
 pub fn write_responses<W: Write>(
     out: &mut Watched<W>,
     checked: &Checked,
     responses: &Responses,
+    unkept: &[Unkept],
     within: &[Setting<'_>],
 ) -> Result<(), WriteFault>
     requires { length responses.now ≡ length checked.now.script.services }
-    ensures text { Writes (W.contents (inner_of out.old)) (W.contents (inner_of out.new)) result (responses_text checked.now.script within.now responses.now) }
+    ensures text { Writes (W.contents (inner_of out.old)) (W.contents (inner_of out.new)) result (responses_text checked.now.script within.now unkept.now responses.now) }
+    ensures failed { has_failed out.new ≡ (has_failed out.old || is_err result) }
+{
+    write_services(out, checked, responses, unkept, within)?;
+    write_unkept(out, checked, unkept)
+}
+
+fn write_services<W: Write>(
+    out: &mut Watched<W>,
+    checked: &Checked,
+    responses: &Responses,
+    unkept: &[Unkept],
+    within: &[Setting<'_>],
+) -> Result<(), WriteFault>
+    requires { length responses.now ≡ length checked.now.script.services }
+    ensures text { Writes (W.contents (inner_of out.old)) (W.contents (inner_of out.new)) result (texts (bit_text checked.now.script within.now unkept.now responses.now) 1 24) }
     ensures failed { has_failed out.new ≡ (has_failed out.old || is_err result) }
 {
     'bits: for bit in 1..25 {
-        let line = line_of_bit(checked, responses, within, bit);
+        let line = line_of_bit(checked, responses, unkept, within, bit);
         out.write_text(line.as_bytes())?;
     }
     Ok(())
 }
 
+fn write_unkept<W: Write>(
+    out: &mut Watched<W>,
+    checked: &Checked,
+    unkept: &[Unkept],
+) -> Result<(), WriteFault>
+    ensures text { Writes (W.contents (inner_of out.old)) (W.contents (inner_of out.new)) result (flat_map (unkept_line checked.now.script) unkept.now) }
+    ensures failed { has_failed out.new ≡ (has_failed out.old || is_err result) }
+{
+    'found: for one in unkept {
+        let line = unkept_line(checked, one);
+        out.write_text(line.as_bytes())?;
+    }
+    Ok(())
+}
+
+fn unkept_line(checked: &Checked, unkept: &Unkept) -> Line
+    ensures { result ≡ unkept_line checked.now.script unkept.now }
+{
+    let mut line = Line::new();
+    line.push_str("unkept ");
+    line.push_bytes(service_name(checked, unkept.service));
+    line.push_str(" line ");
+    line.push_number(unkept.line);
+    line.push_str(": ");
+    push_why(&mut line, checked, unkept.why);
+    line.push_str("\n");
+    line
+}
+
+fn push_why(line: &mut Line, checked: &Checked, why: Why)
+    requires { length line.old ≤ 100 }
+    ensures text { line.new ≡ line.old ++ why_text checked.now.script why }
+    ensures len { length line.new ≤ length line.old + 43 }
+{
+    match why {
+        Why::NotCleared => line.push_str("does not clear its look-at-me"),
+        Why::ClearedBy(number) => {
+            line.push_str("cleared by ");
+            line.push_bytes(service_name(checked, number));
+        }
+        Why::HiddenBy(number) => {
+            line.push_str("hidden by ");
+            line.push_bytes(service_name(checked, number));
+        }
+    }
+}
+
 // The line of the service of a bit, nothing where there is none.
-fn line_of_bit(checked: &Checked, responses: &Responses, within: &[Setting<'_>], bit: u32) -> Line
-    requires { length responses.now ≡ length checked.now.script.services }
-    ensures { result ≡ bit_text checked.now.script within.now responses.now bit }
+fn line_of_bit(
+    checked: &Checked,
+    responses: &Responses,
+    unkept: &[Unkept],
+    within: &[Setting<'_>],
+    bit: u32,
+) -> Line
+    ensures { result ≡ bit_text checked.now.script within.now unkept.now responses.now bit }
 {
     match place_of(responses.sources(), bit) {
-        Some(number) => line_of(checked, responses, within, number),
+        Some(number) => line_of(checked, responses, unkept, within, number),
         None => Line::new(),
     }
 }
@@ -49,18 +120,35 @@ fn place_of(sources: &[Source], bit: u32) -> Option<usize>
     sources.iter().position(|source| source.bit.get() == bit)
 }
 
-fn line_of(checked: &Checked, responses: &Responses, within: &[Setting<'_>], number: usize) -> Line
-    requires many { length responses.now ≡ length checked.now.script.services }
-    requires one { number < length responses.now }
-    ensures { result ≡ service_text checked.now.script within.now responses.now number }
+fn line_of(
+    checked: &Checked,
+    responses: &Responses,
+    unkept: &[Unkept],
+    within: &[Setting<'_>],
+    number: usize,
+) -> Line
+    requires { number < length responses.now }
+    ensures { result ≡ service_text checked.now.script within.now unkept.now responses.now number }
 {
     let name = service_name(checked, number);
+    let bit = responses.sources()[number].bit;
     laid_out(
         name,
         responses.sources()[number],
         told_for(within, name),
-        responses.at(number),
+        promised(unkept, bit, responses.at(number)),
     )
+}
+
+// None where a look-at-me up to its bit is not kept to.
+fn promised(unkept: &[Unkept], bit: GlBit, response: Option<Response>) -> Option<Response>
+    ensures { result ≡ promised unkept.now bit response }
+{
+    if is_kept_to(unkept, bit) {
+        response
+    } else {
+        None
+    }
 }
 
 fn laid_out(name: &[u8], source: Source, within: Option<u32>, response: Option<Response>) -> Line

@@ -38,14 +38,16 @@ fn rate_of(checked: &Checked, every: &[Setting<'_>], number: usize) -> Option<Ra
     Rate::new(told_for(every, service_name(checked, number))?)
 }
 
-/// The name of a service, which is that of its LAM.
+/// The name of a service, which is that of its LAM. It is empty where there is no such service.
 pub fn service_name(checked: &Checked, number: usize) -> &[u8]
-    requires { number < length checked.now.script.services }
     ensures name { result.now ≡ service_name checked.now.script number }
     ensures short { length result.now ≤ 32 }
 {
     let script = checked.script();
-    lam_name(script.lams(), script.services()[number].lam)
+    match script.services().get(number) {
+        Some(service) => lam_name(script.lams(), service.lam),
+        None => &[],
+    }
 }
 
 /// The first setting for a service that the script does not have: those after `--every` come first.

@@ -1,20 +1,22 @@
-use Rattle.std.proofs.Common.{◌∙◌, refl}
+use Rattle.std.proofs.Common.{◌∙◌, ap}
+use Rattle.std.specs.Prelude.{◌||◌, is_err}
 use Rattle.std.proofs.Math.Bool.{or-false}
-use Rattle.camac_lines.proofs.Lines.{under_way_next, under_way_stops, Writes-at_err}
-use Rattle.camac_lines.proofs.Texts.{texts-next, texts-none, under_way_ends}
-use Rattle.camac_response.specs.Lines.{bit_text}
+use Rattle.std.specs.List.{flat_map}
+use Rattle.camac_lines.specs.Texts.{texts}
+use Rattle.camac_lines.proofs.Lines.{prefix_longer, Writes-at_err}
+use Rattle.camac_lines.proofs.Texts.{Writes-after}
+use Rattle.camac_response.specs.Lines.{bit_text, unkept_line}
 use Rattle.camac_response.proofs.lines.write_responses.Goals as goal
 
-pub returns-in_err-write_text-clause-text : goal.returns-in_err-write_text-clause-text
-returns-in_err-write_text-clause-text g c =
-    let parts = texts-next (bit_text c.args.checked.now.script c.args.within.now c.args.responses.now) c.bits.bit 25 c.bits.bit c.bits-test.true refl in
+pub returns-in_err-write_services-clause-text : goal.returns-in_err-write_services-clause-text
+returns-in_err-write_services-clause-text g c =
     Writes-at_err c.from_residual.result _ _ _ c.from_residual.ensures.0
-    (under_way_stops _ _ _ _ _ _ _ c.bits.invariant.0 parts (rw (c.as_bytes.ensures ∙ c.line_of_bit-line.ensures) at c.in_err-write_text.ensures.text))
-
-pub bits-preserved : goal.bits-preserved
-bits-preserved g c =
-    let parts = texts-next (bit_text c.args.checked.now.script c.args.within.now c.args.responses.now) c.bits.bit 25 c.bits.bit c.bits-test.true refl in
-    (under_way_next _ _ _ _ _ _ _ c.bits.invariant.0 parts (rw (c.as_bytes.ensures ∙ c.line_of_bit-line.ensures) at c.in_ok-write_text.ensures.text), c.in_ok-write_text.ensures.failed ∙ or-false _ ∙ c.bits.invariant.1)
+    (prefix_longer (texts (bit_text c.args.checked.now.script c.args.within.now c.args.unkept.now c.args.responses.now) 1 24) (flat_map (unkept_line c.args.checked.now.script) c.args.unkept.now) _ _ c.in_err-write_services.ensures.text)
 
 pub returns-clause-text : goal.returns-clause-text
-returns-clause-text g c = under_way_ends _ _ _ _ c.bits.invariant.0 (texts-none (bit_text c.args.checked.now.script c.args.within.now c.args.responses.now) c.bits.bit 25 c.bits-test.false)
+returns-clause-text g c =
+    Writes-after c.write_unkept.result (texts (bit_text c.args.checked.now.script c.args.within.now c.args.unkept.now c.args.responses.now) 1 24) (flat_map (unkept_line c.args.checked.now.script) c.args.unkept.now) _ _ _
+    c.in_ok-write_services.ensures.text c.write_unkept.ensures.text
+
+pub returns-clause-failed : goal.returns-clause-failed
+returns-clause-failed g c = c.write_unkept.ensures.failed ∙ ap (λ b. b || is_err c.write_unkept.result) (c.in_ok-write_services.ensures.failed ∙ or-false _)

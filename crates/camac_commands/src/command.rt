@@ -1,0 +1,132 @@
+// A command that a service may make, by a statement of its text and the detail of that statement's row.
+
+ghost use Rattle.std.specs.Prelude.{◌≡◌, ◌++◌, OnOk};
+ghost use Rattle.camac_lang.specs.View.{statement_of};
+ghost use Rattle.camac_esone.specs.Calls.{command_at, crate_address, crate_function};
+ghost use Rattle.camac_commands.specs.Commands.{called_at, made_alone, made_at, span, told_region};
+
+use camac_branch::Command as BranchCommand;
+use camac_check_known::Region;
+use camac_check_rows::Detail;
+use camac_esone::{crate_call, lam_function};
+use camac_func::DataMove;
+use camac_lang::{CrateCall, Stmt};
+use camac_range::Range;
+use camac_word::{CrateNo, Function};
+use std::alloc::AllocError;
+
+/// A command that a service may make: its line, its function, and the addresses at which it may be made.
+#[derive(Clone, Copy)]
+pub struct Command {
+    pub line: u32,
+    pub function: Function,
+    pub region: Region,
+}
+
+/// Puts the command of a statement that holds no others and calls no procedure, if it has one.
+pub fn push_made(
+    commands: &mut Vec<Command>,
+    statement: &Stmt,
+    detail: Detail,
+) -> Result<(), AllocError>
+    ensures { OnOk result (commands.new.items ≡ commands.old.items ++ made_alone (statement_of statement.now) detail) }
+{
+    match statement {
+        Stmt::Single(single) => push_at(
+            commands,
+            single.line,
+            single.function,
+            told_region(detail),
+        ),
+        Stmt::Scan(scan) => push_at(commands, scan.line, scan.function, told_region(detail)),
+        Stmt::QStop { transfer } | Stmt::QRepeat { transfer, .. } => {
+            push_at(
+                commands,
+                transfer.line,
+                transfer.function,
+                told_region(detail),
+            )
+        }
+        Stmt::CrateCall(action) => {
+            let function = called(action.call).f;
+            push_at(
+                commands,
+                action.line,
+                function,
+                called_at(action.call, detail),
+            )
+        }
+        Stmt::LamCall(action) => {
+            let function = lam_function(action.call);
+            push_at(commands, action.line, function, told_region(detail))
+        }
+        _ => Ok(()),
+    }
+}
+
+fn push_at(
+    commands: &mut Vec<Command>,
+    line: u32,
+    function: Function,
+    region: Option<Region>,
+) -> Result<(), AllocError>
+    ensures { OnOk result (commands.new.items ≡ commands.old.items ++ made_at line function region) }
+{
+    match region {
+        Some(region) => Ok(commands.push(Command {
+            line,
+            function,
+            region,
+        })?),
+        None => Ok(()),
+    }
+}
+
+// The addresses of a register or LAM, or those between two registers.
+fn told_region(detail: Detail) -> Option<Region>
+    ensures { result ≡ told_region detail }
+{
+    match detail {
+        Detail::At(region) => Some(region),
+        Detail::Between(first, last) => span(first, last),
+        Detail::Nothing | Detail::Turns(_) | Detail::Crates(_) | Detail::Procedure(_) => None,
+    }
+}
+
+fn span(first: Region, last: Region) -> Option<Region>
+    ensures { result ≡ span first last }
+{
+    match Range::new(first.stations().lo(), last.stations().hi()) {
+        Some(stations) => {
+            let sub_addresses = Range::only(0).hull(Range::only(15));
+            Some(Region::new(first.crates(), stations, sub_addresses))
+        }
+        None => None,
+    }
+}
+
+// What a crate call sends, at crate 1.
+fn called(call: CrateCall) -> BranchCommand
+    ensures { result ≡ command_at (crate_address call 1) (crate_function call) DataMove.None }
+{
+    match CrateNo::new(1) {
+        Some(one) => crate_call(call, one),
+        None => unreachable!(),
+    }
+}
+
+// Where it goes, at the crate that its row tells.
+fn called_at(call: CrateCall, detail: Detail) -> Option<Region>
+    ensures { result ≡ called_at call detail }
+{
+    let at_one = called(call);
+    match detail {
+        Detail::Crates(crates) => Some(Region::new(
+            Range::only(crates.lo()),
+            Range::only(at_one.n.get()),
+            Range::only(at_one.a.get()),
+        )),
+        Detail::Nothing | Detail::At(_) | Detail::Between(..) => None,
+        Detail::Turns(_) | Detail::Procedure(_) => None,
+    }
+}

@@ -1,0 +1,211 @@
+-- Where nothing is told of look-at-mes up to a bit, the script does its part for them.
+use Rattle.std.proofs.Common.{◌≡◌, ℕ, zero, suc, ◌+◌, List, [], ◌∷◌, ◌++◌, take, drop, Option, Some, None, Bool, true, false, refl, sym, ap, ◌∙◌, subst, arith}
+use Rattle.std.specs.Prelude.{◌||◌, insert, nat_eq, nat_le, not, option_and_then, slice_get, if◌then◌else◌, IsTrue, Ok}
+use Rattle.std.specs.List.{list_any}
+use Rattle.std.proofs.lemmas.Bool.{eqb-true, true≢false}
+use Rattle.std.proofs.lemmas.Option.{same_Some}
+use Rattle.camac_lang.specs.Scope.{is_well_formed}
+use Rattle.camac_lang.specs.Tree.{Service, Script}
+use Rattle.camac_branch.specs.Address.{Address}
+use Rattle.camac_branch.specs.Plan.{Layout, IsPlan, gl}
+use Rattle.camac_model.specs.Fine.{Bounds}
+use Rattle.camac_model.specs.Meaning.{context, lam_address}
+use Rattle.camac_model.specs.Run.{service_bit}
+use Rattle.camac_rules.specs.Accept.{accept}
+use Rattle.camac_commands.specs.declared.command.Command.{Command}
+use Rattle.camac_commands.specs.Commands.{commands_of}
+use Rattle.camac_commands.proofs.Services.{cycles_are_listed}
+use Rattle.camac_response_times.specs.declared.source.Source.{Source}
+use Rattle.camac_response_times.specs.Response.{is_up_to}
+use Rattle.camac_response.specs.declared.unkept.Unkept.{Unkept}
+use Rattle.camac_response.specs.declared.unkept.Why.{Why}
+use Rattle.camac_response.specs.declared.unkept.Why.TheVariants.{NotCleared, ClearedBy, HiddenBy}
+use Rattle.camac_response.specs.Lams.{lams_of, of_lam}
+use Rattle.camac_response.specs.Laws.{AreSources}
+use Rattle.camac_response.specs.Reach.{could_clear, could_hide, IsDecided}
+use Rattle.camac_response.specs.Served.{clears_lam}
+use Rattle.camac_response.specs.Unkept.{with_line, least_line, place_of, told, not_cleared, clears_from, told_cleared, told_hidden, told_if, told_from, unkept_of, is_kept_to}
+use Rattle.camac_response.proofs.Lams.{or_false}
+use Rattle.camac_response.proofs.Lowest.{same_at}
+
+both_false : (a b : Bool) → a ≡ false → b ≡ false → (a || b) ≡ false
+both_false true b e f = e
+both_false false b e f = f
+
+-- what was put in does not pass, and neither do the others
+inserted : (test : Unkept → Bool) (us : List Unkept) (n : ℕ) (u : Unkept) → list_any test (insert us n u) ≡ false → (test u ≡ false) × (list_any test us ≡ false)
+inserted test us zero u e = or_false (test u) (list_any test us) e
+inserted test [] (suc n) u e = or_false (test u) false e
+inserted test (x ∷ us) (suc n) u e =
+    let parts = or_false (test x) (list_any test (insert us n u)) e in
+    let rest = inserted test us n u parts.1 in
+    (rest.0, both_false (test x) (list_any test us) parts.0 rest.1)
+
+-- where no command has a line, none passes the test
+some_line : (test : Command → Bool) (n : ℕ) (cs : List Command) → least_line test (Some n) cs ≡ None → ⊥
+some_line test n [] e = absurd (cc)
+some_line test n (c ∷ cs) e = go (test c) e (λ m. some_line test m cs)
+  where
+    go : (b : Bool) → least_line test (with_line b c.line (Some n)) cs ≡ None → ((m : ℕ) → least_line test (Some m) cs ≡ None → ⊥) → ⊥
+    go true e ih = ih _ e
+    go false e ih = ih n e
+
+no_line : (test : Command → Bool) (cs : List Command) → least_line test None cs ≡ None → list_any test cs ≡ false
+no_line test [] e = refl
+no_line test (c ∷ cs) e = go (test c) refl e (no_line test cs)
+  where
+    go : (b : Bool) → test c ≡ b → least_line test (with_line b c.line None) cs ≡ None → (least_line test None cs ≡ None → list_any test cs ≡ false) → (test c || list_any test cs) ≡ false
+    go true is e ih = absurd (some_line test c.line cs e)
+    go false is e ih = both_false (test c) (list_any test cs) is (ih e)
+
+-- a service that clears it has no line
+its_heading : (b : Bool) (n : ℕ) → (if b then None else Some n) ≡ None → b ≡ true
+its_heading true n e = refl
+its_heading false n e = absurd (cc)
+
+other_line : (b : Bool) (o : Option ℕ) → b ≡ false → (if b then None else o) ≡ None → o ≡ None
+other_line true o is e = absurd (true≢false is)
+other_line false o is e = e
+
+module _ (g : ℕ) where
+  abbrev up : Unkept → Bool
+  up u = nat_le u.bit g
+
+  abbrev NoneUp : List Unkept → Type 0
+  NoneUp us = list_any up us ≡ false
+
+  told_split : (bit j : ℕ) (why : Why) (o : Option ℕ) (us : List Unkept) → NoneUp (told bit j why o us) → (nat_le bit g ≡ true → o ≡ None) × NoneUp us
+  told_split bit j why None us e = (λ low. refl, e)
+  told_split bit j why (Some line) us e =
+      let u : Unkept = record { bit = bit; service = j; line = line; why = why } in
+      let parts = inserted up us (place_of bit line us) u e in
+      (λ low. absurd (true≢false (sym low ∙ parts.0)), parts.1)
+
+  cleared_split : (plan : Layout) (lam : Address) (bit j i : ℕ) (lists : List (List Command)) (us : List Unkept) → NoneUp (told_cleared plan lam bit j i lists us)
+      → (nat_le bit g ≡ true → (k : ℕ) (cs : List Command) → slice_get lists k ≡ Some cs → clears_from plan lam j (i + k) cs ≡ None) × NoneUp us
+  cleared_split plan lam bit j i [] us e = (λ low k cs at. absurd (cc), e)
+  cleared_split plan lam bit j i (cs ∷ rest) us e =
+      let later = cleared_split plan lam bit j (i + 1) rest (told bit j (ClearedBy i) (clears_from plan lam j i cs) us) e in
+      let here = told_split bit j (ClearedBy i) (clears_from plan lam j i cs) us later.1 in
+      (λ low. go low (here.0 low) (later.0 low), here.1)
+    where
+      go : nat_le bit g ≡ true → clears_from plan lam j i cs ≡ None → ((k : ℕ) (ds : List Command) → slice_get rest k ≡ Some ds → clears_from plan lam j (i + 1 + k) ds ≡ None)
+          → (k : ℕ) (ds : List Command) → slice_get (cs ∷ rest) k ≡ Some ds → clears_from plan lam j (i + k) ds ≡ None
+      go low first others zero ds at =
+          let same : cs ≡ ds = same_Some cs ds at in
+          let number : i ≡ i + 0 = omega arith in
+          subst (λ n. clears_from plan lam j n ds ≡ None) number (subst (λ l. clears_from plan lam j i l ≡ None) same first)
+      go low first others (suc k) ds at =
+          let number : i + 1 + k ≡ i + suc k = omega arith in
+          subst (λ n. clears_from plan lam j n ds ≡ None) number (others k ds at)
+
+  hidden_split : (lam : Address) (bit j i : ℕ) (lists : List (List Command)) (us : List Unkept) → NoneUp (told_hidden lam bit j i lists us)
+      → (nat_le bit g ≡ true → (k : ℕ) (cs : List Command) → slice_get lists k ≡ Some cs → least_line (could_hide lam) None cs ≡ None) × NoneUp us
+  hidden_split lam bit j i [] us e = (λ low k cs at. absurd (cc), e)
+  hidden_split lam bit j i (cs ∷ rest) us e =
+      let later = hidden_split lam bit j (i + 1) rest (told bit j (HiddenBy i) (least_line (could_hide lam) None cs) us) e in
+      let here = told_split bit j (HiddenBy i) (least_line (could_hide lam) None cs) us later.1 in
+      (λ low. go (here.0 low) (later.0 low), here.1)
+    where
+      go : least_line (could_hide lam) None cs ≡ None → ((k : ℕ) (ds : List Command) → slice_get rest k ≡ Some ds → least_line (could_hide lam) None ds ≡ None)
+          → (k : ℕ) (ds : List Command) → slice_get (cs ∷ rest) k ≡ Some ds → least_line (could_hide lam) None ds ≡ None
+      go first others zero ds at = subst (λ l. least_line (could_hide lam) None l ≡ None) (same_Some cs ds at) first
+      go first others (suc k) ds at = others k ds at
+
+  module _ (plan : Layout) (script : Script) (lists : List (List Command)) where
+    -- nothing is told of the look-at-me of service number j
+    record IsKept (j : ℕ) (lam : Address) (v : Service) : Type 0 where
+      clears : clears_lam script lam v.body ≡ true
+      others : (k : ℕ) (cs : List Command) → slice_get lists k ≡ Some cs → clears_from plan lam j k cs ≡ None
+      shown : (k : ℕ) (cs : List Command) → slice_get lists k ≡ Some cs → least_line (could_hide lam) None cs ≡ None
+
+    of_split : (bit j : ℕ) (w : Option Service) (o : Option Address) (us : List Unkept) → NoneUp (told_if plan script lists bit j w o us)
+        → (nat_le bit g ≡ true → (lam : Address) (v : Service) → o ≡ Some lam → w ≡ Some v → IsKept j lam v) × NoneUp us
+    of_split bit j None o us e = (λ low lam v at its. absurd (cc), e)
+    of_split bit j (Some v) None us e = (λ low lam' v' at its. absurd (cc), e)
+    of_split bit j (Some v) (Some lam) us e =
+        let hidden = hidden_split lam bit j 0 lists (told_cleared plan lam bit j 0 lists (told bit j NotCleared (not_cleared script lam v) us)) e in
+        let cleared = cleared_split plan lam bit j 0 lists (told bit j NotCleared (not_cleared script lam v) us) hidden.1 in
+        let own = told_split bit j NotCleared (not_cleared script lam v) us cleared.1 in (
+          λ low lam' v' at its.
+              subst (λ l. IsKept j l v') (same_Some lam lam' at)
+              (subst (λ x. IsKept j lam x) (same_Some v v' its)
+              (record { clears = its_heading (clears_lam script lam v.body) v.line (own.0 low); others = λ k cs at_k. let number : 0 + k ≡ k = omega arith in subst (λ n. clears_from plan lam j n cs ≡ None) number (cleared.0 low k cs at_k); shown = hidden.0 low })),
+          own.1,
+        )
+
+    from_split : (j : ℕ) (ts : List Source) (us : List Unkept) → NoneUp (told_from plan script lists j ts us)
+        → ((k : ℕ) (t : Source) → slice_get ts k ≡ Some t → is_up_to g t ≡ true → (lam : Address) (v : Service) → lams_of script (j + k) ≡ Some lam → slice_get script.services (j + k) ≡ Some v → IsKept (j + k) lam v) × NoneUp us
+    from_split j [] us e = (λ k t at up. absurd (cc), e)
+    from_split j (t ∷ ts) us e =
+        let later = from_split (j + 1) ts (told_if plan script lists t.bit j (slice_get script.services j) (lams_of script j) us) e in
+        let here = of_split t.bit j (slice_get script.services j) (lams_of script j) us later.1 in
+        (go here.0 later.0, here.1)
+      where
+        go : (nat_le t.bit g ≡ true → (lam : Address) (v : Service) → lams_of script j ≡ Some lam → slice_get script.services j ≡ Some v → IsKept j lam v)
+            → ((k : ℕ) (u : Source) → slice_get ts k ≡ Some u → is_up_to g u ≡ true → (lam : Address) (v : Service) → lams_of script (j + 1 + k) ≡ Some lam → slice_get script.services (j + 1 + k) ≡ Some v → IsKept (j + 1 + k) lam v)
+            → (k : ℕ) (u : Source) → slice_get (t ∷ ts) k ≡ Some u → is_up_to g u ≡ true → (lam : Address) (v : Service) → lams_of script (j + k) ≡ Some lam → slice_get script.services (j + k) ≡ Some v → IsKept (j + k) lam v
+        go first others zero u at low lam v its is =
+            let same : t ≡ u = same_Some t u at in
+            let number : j + 0 ≡ j = omega arith in
+            subst (λ n. IsKept n lam v) (sym number)
+            (first (ap (is_up_to g) same ∙ low) lam v (sym (ap (lams_of script) number) ∙ its) (sym (ap (slice_get script.services) number) ∙ is))
+        go first others (suc k) u at low lam v its is =
+            let number : j + 1 + k ≡ j + suc k = omega arith in
+            subst (λ n. IsKept n lam v) number (others k u at low lam v (ap (lams_of script) number ∙ its) (ap (slice_get script.services) number ∙ is))
+
+    kept : (ts : List Source) → is_kept_to (unkept_of plan script lists ts) g ≡ true → (k : ℕ) (t : Source) → slice_get ts k ≡ Some t → is_up_to g t ≡ true
+        → (lam : Address) (v : Service) → lams_of script k ≡ Some lam → slice_get script.services k ≡ Some v → IsKept k lam v
+    kept ts e k t at low lam v its is =
+        let number : 0 + k ≡ k = omega arith in
+        subst (λ n. IsKept n lam v) number
+        ((from_split 0 ts [] (none (list_any up (unkept_of plan script lists ts)) e)).0 k t at low lam v (ap (lams_of script) number ∙ its) (ap (slice_get script.services) number ∙ is))
+      where
+        none : (b : Bool) → not b ≡ true → b ≡ false
+        none true e = absurd (cc)
+        none false e = refl
+
+-- a service that has a bit has a look-at-me
+has_lam : (plan : Layout) (o : Option Address) (b : ℕ) → option_and_then (λ at. gl plan at.crate_no at.station) o ≡ Some b → (lam : Address) × (o ≡ Some lam)
+has_lam plan None b e = absurd (cc)
+has_lam plan (Some lam) b e = (lam, refl)
+
+module _ (plan : Layout) (is_plan : IsPlan plan) (script : Script) (formed : IsTrue (is_well_formed script)) (ks : List Bounds) (accepted : accept plan script ≡ Ok ks)
+    (ts : List Source) (are : AreSources plan script ks ts) (g : ℕ) (e : is_kept_to (unkept_of plan script (commands_of plan script) ts) g ≡ true) where
+  abbrev lists : List (List Command)
+  lists = commands_of plan script
+
+  none_of : (o : Option Address) (test : Address → Bool) → ((lam : Address) → o ≡ Some lam → test lam ≡ false) → of_lam test o ≡ false
+  none_of None test h = refl
+  none_of (Some lam) test h = h lam refl
+
+  -- what is known of the look-at-me of a source up to the bit
+  its_kept : (j : ℕ) (t : Source) → slice_get ts j ≡ Some t → is_up_to g t ≡ true → (lam : Address) → lams_of script j ≡ Some lam → (v : Service) × IsKept g plan script lists j lam v
+  its_kept j t at low lam its =
+      let there = same_at (service_bit (context plan script)) (λ u. Some u.bit) script.services ts are.bits j t at in
+      (there.0, kept g plan script lists ts e j t at low lam there.0 its there.1)
+
+  pub decided : (i : ℕ) (v : Service) → slice_get script.services i ≡ Some v → (cs : List Command) → slice_get lists i ≡ Some cs → IsDecided plan script ts g i v
+  decided i v at cs listed =
+      let there = same_at (λ u. Some u.bit) (service_bit (context plan script)) ts script.services (sym are.bits) i v at in
+      let found = has_lam plan (slice_get (context plan script).lams v.lam) there.0.bit (sym there.2) in
+      let its : lams_of script i ≡ Some found.0 = ap (option_and_then (λ w. slice_get (context plan script).lams w.lam)) at ∙ found.1 in
+      record {
+        commands = cs;
+        lam = found.0;
+        its = its;
+        makes = cycles_are_listed plan is_plan script ks formed accepted i v cs at listed;
+        careful = record {
+          clear_no_other = λ j t at_t low other. none_of (lams_of script j) _ (λ lam its_lam.
+              no_line (could_clear plan lam) cs (other_line (nat_eq i j) _ (not_same i j other) ((its_kept j t at_t low lam its_lam).1.others i cs listed)));
+          hide_none = λ j t at_t low. none_of (lams_of script j) _ (λ lam its_lam. no_line (could_hide lam) cs ((its_kept j t at_t low lam its_lam).1.shown i cs listed));
+        };
+        clears = λ t at_t low. (kept g plan script lists ts e i t at_t low found.0 v its at).clears;
+      }
+    where
+      not_same : (i j : ℕ) → (i ≡ j → ⊥) → nat_eq i j ≡ false
+      not_same i j other = go (nat_eq i j) refl
+        where
+          go : (b : Bool) → nat_eq i j ≡ b → b ≡ false
+          go true same = absurd (other (eqb-true i j same))
+          go false same = refl

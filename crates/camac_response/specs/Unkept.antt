@@ -1,0 +1,82 @@
+-- What a script does not do of its part in the promise of look-at-mes.
+use Rattle.std.specs.Prelude.{ℕ, ◌+◌, ◌&&◌, ◌||◌, Bool, List, [], ◌∷◌, Option, Some, None, insert, min, nat_eq, nat_le, nat_lt, not, slice_get, if◌then◌else◌}
+use Rattle.std.specs.List.{list_any}
+use Rattle.camac_lang.specs.Tree.{Service, Script}
+use Rattle.camac_branch.specs.Address.{Address}
+use Rattle.camac_branch.specs.Plan.{Layout}
+use Rattle.camac_commands.specs.declared.command.Command.{Command}
+use Rattle.camac_response_times.specs.declared.source.Source.{Source}
+use Rattle.camac_response.specs.declared.unkept.Unkept.{Unkept}
+use Rattle.camac_response.specs.declared.unkept.Why.{Why}
+use Rattle.camac_response.specs.declared.unkept.Why.TheVariants.{NotCleared, ClearedBy, HiddenBy}
+use Rattle.camac_response.specs.Lams.{lams_of}
+use Rattle.camac_response.specs.Reach.{could_clear, could_hide}
+use Rattle.camac_response.specs.Served.{clears_lam}
+
+-- the least line of commands that pass a test, and of those before them
+abbrev pub or_before : ℕ → Option ℕ → ℕ
+or_before line None = line
+or_before line (Some other) = min line other
+
+abbrev pub with_line : Bool → ℕ → Option ℕ → Option ℕ
+with_line passes line so_far = if passes then Some (or_before line so_far) else so_far
+
+abbrev pub least_line : (Command → Bool) → Option ℕ → List Command → Option ℕ
+least_line test so_far [] = so_far
+least_line test so_far (c ∷ cs) = least_line test (with_line (test c) c.line so_far) cs
+
+-- one more of them: in the order of the bits, then of the lines, after those that are as they are
+abbrev pub comes_after : (bit line : ℕ) → Unkept → Bool
+comes_after bit line v = nat_lt bit v.bit || (nat_eq v.bit bit && nat_lt line v.line)
+
+abbrev pub place_of : (bit line : ℕ) → List Unkept → ℕ
+place_of bit line [] = 0
+place_of bit line (v ∷ us) = if comes_after bit line v then 0 else place_of bit line us + 1
+
+abbrev pub with_unkept : Unkept → List Unkept → List Unkept
+with_unkept u us = insert us (place_of u.bit u.line us) u
+
+-- one on a line, if there is one
+abbrev pub told : (bit service : ℕ) → Why → (line : Option ℕ) → List Unkept → List Unkept
+told bit j why None us = us
+told bit j why (Some line) us = with_unkept (record { bit = bit; service = j; line = line; why = why }) us
+
+-- The look-at-me of service number j, whose address and bit are these. Its service does not clear it on every way: the line of its heading
+abbrev pub not_cleared : Script → Address → Service → Option ℕ
+not_cleared script lam v = if clears_lam script lam v.body then None else Some v.line
+
+-- other services may clear it, by their commands: the services from number i on
+abbrev pub clears_from : Layout → Address → (j : ℕ) → ℕ → List Command → Option ℕ
+clears_from plan lam j i cs = if nat_eq i j then None else least_line (could_clear plan lam) None cs
+
+abbrev pub told_cleared : Layout → Address → (bit j : ℕ) → ℕ → List (List Command) → List Unkept → List Unkept
+told_cleared plan lam bit j i [] us = us
+told_cleared plan lam bit j i (cs ∷ rest) us = told_cleared plan lam bit j (i + 1) rest (told bit j (ClearedBy i) (clears_from plan lam j i cs) us)
+
+-- any service may hide it
+abbrev pub told_hidden : Address → (bit j : ℕ) → ℕ → List (List Command) → List Unkept → List Unkept
+told_hidden lam bit j i [] us = us
+told_hidden lam bit j i (cs ∷ rest) us = told_hidden lam bit j (i + 1) rest (told bit j (HiddenBy i) (least_line (could_hide lam) None cs) us)
+
+-- all of this, with the commands of each service
+abbrev pub told_of : Layout → Script → List (List Command) → (bit j : ℕ) → Address → Service → List Unkept → List Unkept
+told_of plan script lists bit j lam v us =
+    told_hidden lam bit j 0 lists (told_cleared plan lam bit j 0 lists (told bit j NotCleared (not_cleared script lam v) us))
+
+abbrev pub told_if : Layout → Script → List (List Command) → (bit j : ℕ) → Option Service → Option Address → List Unkept → List Unkept
+told_if plan script lists bit j None lam us = us
+told_if plan script lists bit j (Some v) None us = us
+told_if plan script lists bit j (Some v) (Some lam) us = told_of plan script lists bit j lam v us
+
+-- of the services from number j on, which are these sources
+abbrev pub told_from : Layout → Script → List (List Command) → ℕ → List Source → List Unkept → List Unkept
+told_from plan script lists j [] us = us
+told_from plan script lists j (t ∷ ts) us =
+    told_from plan script lists (j + 1) ts (told_if plan script lists t.bit j (slice_get script.services j) (lams_of script j) us)
+
+abbrev pub unkept_of : Layout → Script → List (List Command) → List Source → List Unkept
+unkept_of plan script lists ts = told_from plan script lists 0 ts []
+
+-- whether a number is told for a bit: nothing is told of a look-at-me up to it
+abbrev pub is_kept_to : List Unkept → (bit : ℕ) → Bool
+is_kept_to us bit = not (list_any (λ u. nat_le u.bit bit) us)

@@ -1,0 +1,261 @@
+// What a script does not do of its part in the promise of look-at-mes.
+
+ghost use Rattle.std.specs.Prelude.{◌≡◌, ◌<◌, ◌≤◌, ◌+◌, ◌^◌, IfOk, OnOk, None, length, slice_get};
+ghost use Rattle.camac_lang.specs.View.{service_of};
+ghost use Rattle.camac_response.specs.Lams.{lams_of};
+ghost use Rattle.camac_response.specs.Reach.{could_clear, could_hide};
+ghost use Rattle.camac_response.specs.Unkept.{comes_after, is_kept_to, least_line, not_cleared, place_of, told, told_cleared, told_from, told_hidden, told_if, told_of, unkept_of, with_line};
+
+use crate::clears::{clears_lam, lam_at};
+use crate::command::{could_clear, could_hide};
+use camac_branch::Plan;
+use camac_checked::Checked;
+use camac_commands::{BodyCommands, Command};
+use camac_esone::Address;
+use camac_lang::{Script, Service};
+use camac_response_times::Source;
+use camac_word::GlBit;
+use std::alloc::{AllocError, Global};
+
+/// Why a look-at-me is not what the promise asks for; other services by their numbers.
+#[derive(Clone, Copy, Debug, PartialEq, Eq)]
+pub enum Why {
+    /// Its service has a way on which it does not clear it.
+    NotCleared,
+    /// Another service may clear it.
+    ClearedBy(usize),
+    /// A service, maybe its own, may hide it.
+    HiddenBy(usize),
+}
+
+/// What is told of the look-at-me of a service: its bit, its service by number, and the line.
+#[derive(Clone, Copy, Debug, PartialEq, Eq)]
+pub struct Unkept {
+    pub bit: GlBit,
+    pub service: usize,
+    pub line: u32,
+    pub why: Why,
+}
+
+/// What is told of the look-at-mes of these services, by the commands that each service may make, in the order of bits, then of lines. The error
+/// is want of memory.
+pub fn unkept_of(
+    alloc: Global,
+    checked: &Checked,
+    commands: &[BodyCommands],
+    sources: &[Source],
+) -> Result<Vec<Unkept>, AllocError>
+    ensures { IfOk result (λ v. v.items ≡ unkept_of checked.now.plan checked.now.script commands.now sources.now) }
+{
+    let mut found = Vec::new(alloc);
+    tell_from(alloc, &mut found, checked, commands, 0, sources)?;
+    Ok(found)
+}
+
+// Of the services from this number on.
+fn tell_from(
+    alloc: Global,
+    found: &mut Vec<Unkept>,
+    checked: &Checked,
+    commands: &[BodyCommands],
+    number: usize,
+    sources: &[Source],
+) -> Result<(), AllocError>
+    requires { number + length sources.now < 2 ^ 64 }
+    ensures { OnOk result (found.new.items ≡ told_from checked.now.plan checked.now.script commands.now number sources.now found.old.items) }
+{
+    let [source, rest @ ..] = sources else {
+        return Ok(());
+    };
+    tell_if(alloc, found, checked, commands, source.bit, number)?;
+    tell_from(alloc, found, checked, commands, number + 1, rest)
+}
+
+// Of the service of this number, if there is one.
+fn tell_if(
+    alloc: Global,
+    found: &mut Vec<Unkept>,
+    checked: &Checked,
+    commands: &[BodyCommands],
+    bit: GlBit,
+    number: usize,
+) -> Result<(), AllocError>
+    ensures { OnOk result (found.new.items ≡ told_if checked.now.plan checked.now.script commands.now bit number (slice_get checked.now.script.services number) (lams_of checked.now.script number) found.old.items) }
+{
+    let script = checked.script();
+    let Some(service) = script.services().get(number) else {
+        return Ok(());
+    };
+    let Some(lam) = lam_at(script.lams(), service.lam) else {
+        return Ok(());
+    };
+    tell_of(alloc, found, checked, commands, bit, number, lam, service)
+}
+
+fn tell_of(
+    alloc: Global,
+    found: &mut Vec<Unkept>,
+    checked: &Checked,
+    commands: &[BodyCommands],
+    bit: GlBit,
+    number: usize,
+    lam: Address,
+    service: &Service,
+) -> Result<(), AllocError>
+    ensures { OnOk result (found.new.items ≡ told_of checked.now.plan checked.now.script commands.now bit number lam (service_of service.now) found.old.items) }
+{
+    let heading = not_cleared(alloc, checked.script(), lam, service)?;
+    tell(found, bit, number, Why::NotCleared, heading)?;
+    tell_cleared(found, checked.plan(), lam, bit, number, 0, commands)?;
+    tell_hidden(found, lam, bit, number, 0, commands)
+}
+
+// The line of the heading, where the service has a way on which it does not clear its look-at-me.
+fn not_cleared(
+    alloc: Global,
+    script: &Script,
+    lam: Address,
+    service: &Service,
+) -> Result<Option<u32>, AllocError>
+    ensures { IfOk result (λ line. line ≡ not_cleared script.now lam (service_of service.now)) }
+{
+    let clears = clears_lam(alloc, script, lam, &service.body)?;
+    Ok(if clears { None } else { Some(service.line) })
+}
+
+// By the services from this number on, which make these commands.
+fn tell_cleared(
+    found: &mut Vec<Unkept>,
+    plan: &Plan,
+    lam: Address,
+    bit: GlBit,
+    number: usize,
+    by: usize,
+    commands: &[BodyCommands],
+) -> Result<(), AllocError>
+    requires { by + length commands.now < 2 ^ 64 }
+    ensures { OnOk result (found.new.items ≡ told_cleared plan.now lam bit number by commands.now found.old.items) }
+{
+    let [first, rest @ ..] = commands else {
+        return Ok(());
+    };
+    let line = if by == number {
+        None
+    } else {
+        clearing_line(plan, lam, first.commands())
+    };
+    tell(found, bit, number, Why::ClearedBy(by), line)?;
+    tell_cleared(found, plan, lam, bit, number, by + 1, rest)
+}
+
+fn tell_hidden(
+    found: &mut Vec<Unkept>,
+    lam: Address,
+    bit: GlBit,
+    number: usize,
+    by: usize,
+    commands: &[BodyCommands],
+) -> Result<(), AllocError>
+    requires { by + length commands.now < 2 ^ 64 }
+    ensures { OnOk result (found.new.items ≡ told_hidden lam bit number by commands.now found.old.items) }
+{
+    let [first, rest @ ..] = commands else {
+        return Ok(());
+    };
+    tell(
+        found,
+        bit,
+        number,
+        Why::HiddenBy(by),
+        hiding_line(lam, first.commands()),
+    )?;
+    tell_hidden(found, lam, bit, number, by + 1, rest)
+}
+
+// The least line of the commands that could clear a look-at-me.
+fn clearing_line(plan: &Plan, lam: Address, commands: &[Command]) -> Option<u32>
+    ensures { result ≡ least_line (could_clear plan.now lam) None commands.now }
+{
+    let mut least = None;
+    'commands: for command in commands {
+        least = with_line(could_clear(plan, lam, command), command.line, least);
+    }
+    least
+}
+
+fn hiding_line(lam: Address, commands: &[Command]) -> Option<u32>
+    ensures { result ≡ least_line (could_hide lam) None commands.now }
+{
+    let mut least = None;
+    'commands: for command in commands {
+        least = with_line(could_hide(lam, command), command.line, least);
+    }
+    least
+}
+
+fn with_line(passes: bool, line: u32, so_far: Option<u32>) -> Option<u32>
+    ensures { result ≡ with_line passes line so_far }
+{
+    match (passes, so_far) {
+        (false, _) => so_far,
+        (true, None) => Some(line),
+        (true, Some(other)) => Some(line.min(other)),
+    }
+}
+
+// One more, where there is a line.
+fn tell(
+    found: &mut Vec<Unkept>,
+    bit: GlBit,
+    service: usize,
+    why: Why,
+    line: Option<u32>,
+) -> Result<(), AllocError>
+    ensures { OnOk result (found.new.items ≡ told bit service why line found.old.items) }
+{
+    let Some(line) = line else {
+        return Ok(());
+    };
+    let place = place_of(found, bit.get(), line);
+    found.insert(
+        place,
+        Unkept {
+            bit,
+            service,
+            line,
+            why,
+        },
+    )?;
+    Ok(())
+}
+
+// Before the first that comes after one of this bit and line.
+fn place_of(found: &[Unkept], bit: u32, line: u32) -> usize
+    ensures place { result ≡ place_of bit line found.now }
+    ensures inside { result ≤ length found.now }
+{
+    let [first, rest @ ..] = found else {
+        return 0;
+    };
+    if comes_after(bit, line, first) {
+        0
+    } else {
+        place_of(rest, bit, line) + 1
+    }
+}
+
+fn comes_after(bit: u32, line: u32, next: &Unkept) -> bool
+    ensures { result ≡ comes_after bit line next.now }
+{
+    bit < next.bit.get() || (next.bit.get() == bit && line < next.line)
+}
+
+/// Whether nothing is told of look-at-mes up to this bit, so that numbers are.
+pub fn is_kept_to(unkept: &[Unkept], bit: GlBit) -> bool
+    ensures { result ≡ is_kept_to unkept.now bit }
+{
+    let [first, rest @ ..] = unkept else {
+        return true;
+    };
+    first.bit > bit && is_kept_to(rest, bit)
+}
