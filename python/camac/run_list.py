@@ -79,8 +79,8 @@ class RunList:
         else:
             age = time.time() - (stamp(os.path.join(self.folder, name)) or (0, 0))[1] / 1e9
             state = '<b class="good">goes on</b>' if age < PATIENCE else f'<b class="bad">not told for {age / 60:,.0f} min</b>'
-        if its.demands is not None and its.services is not None and its.demands + its.services > 0:
-            texts.append(f"live {share(its.demands, its.demands + its.services)}")
+        if its.seconds() > 0:
+            texts.append(f"live {share(its.demands or 0, its.seconds())}")
         return f"{link}: {state}, {escape(', '.join(filter(None, texts)))}"
 
     def page(self) -> str:

@@ -251,10 +251,10 @@ class Watch:
 
 def _live(record: Optional[Record]) -> List[Tuple[str, str, str]]:
     """Live and dead share, as the record has them measured."""
-    if record is None or record.demands is None or record.services is None or record.demands + record.services <= 0:
+    if record is None or record.seconds() <= 0:
         return []
-    total = record.demands + record.services
-    return [(share(record.demands, total), "live, measured", ""), (share(record.services, total), "dead, measured", "")]
+    its = ((record.demands, "live, measured"), (record.services, "dead, measured"))
+    return [(share(part or 0, record.seconds()), word, "") for part, word in its]
 
 
 def _duration(seconds: float) -> str:
