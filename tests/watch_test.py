@@ -448,7 +448,7 @@ class Served(ServedCase):
         threading.Thread(target=server.serve_forever, kwargs={"poll_interval": 0.05}, daemon=True).start()
         self.addCleanup(server.shutdown)
         self.addCleanup(runs.stop.set)
-        self.assertIn('<div id="runs">', self.ask(server)[1])
+        self.assertIn('<ul id="runs">', self.ask(server)[1])
         shown = re.findall("<li>(.*?)</li>", json.loads(self.ask(server, path="/state")[1])["runs"])
         self.assertEqual([it.split(", begun")[0] for it in shown], [
             '<a href="b%201.json/">b 1.json</a>: <b class="good">goes on</b>, run 8, &lt;b&gt;Co&lt;/b&gt;',

@@ -16,16 +16,14 @@ class Alarm(NamedTuple):
     limit: float
     service: Optional[str] = None
 
-    def sounds(self, follower: Follower, services: Sequence[Service]) -> Optional[str]:
+    def why(self, follower: Follower, services: Sequence[Service]) -> Optional[str]:
         """Why it sounds; None if it does not."""
-        if self.kind == "silence":
-            age = follower.age()
-            silent = follower.clock() - follower.marks[0].time if age is None else age
-            return f"no event for {self.limit:g} s" if silent >= self.limit else None
         begin, end = follower.before(WINDOW), follower.marks[-1]
+        if self.kind == "silence":
+            return f"no event for {self.limit:g} s" if follower.silence() >= self.limit else None
         if self.kind == "x0":
             return f"more than {self.limit:g} cycles with X = 0 in {WINDOW:g} s" if end.missed - begin.missed > self.limit else None
-        gl = {it.name: it.gl for it in services}.get(self.service or "")
+        gl = next((it.gl for it in services if it.name == self.service), None)
         if self.service and gl is None:
             return f"the script has no service {self.service}" if services else None
         is_low = end.time - begin.time >= WINDOW and follower.rate(gl) < self.limit
@@ -42,5 +40,4 @@ def read_alarm(text: str) -> Alarm:
 
 def sounding(alarms: Sequence[Alarm], follower: Follower, services: Sequence[Service]) -> List[str]:
     """The alarms that sound, each with why."""
-    found = ((it.text, it.sounds(follower, services)) for it in alarms)
-    return [f"{text}: {why}" for text, why in found if why]
+    return [f"{it.text}: {why}" for it in alarms for why in [it.why(follower, services)] if why]

@@ -112,7 +112,7 @@ def open_runs(pattern: str, words: Optional[File] = None, partition: int = PARTI
         found.append(dataclasses.replace(known[kind], events_file=file, record=record))
     if not found:
         raise FileNotFoundError(f"there is no file {pattern}")
-    return Runs(tuple(found), tuple(tuple(_partitions(it.events_file, it.words if it.words.fields else it.sources, partition)) for it in found))
+    return Runs(tuple(found), tuple(tuple(_partitions(it.events_file, it.names(), partition)) for it in found))
 
 
 def _partitions(path: str, words: Words, size: int) -> Iterator[Partition]:

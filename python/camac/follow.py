@@ -12,7 +12,7 @@ from camac.fits import Fit
 from camac.histograms import Spectrum
 from camac.numbers import sums
 from camac.regular import open_regular
-from camac.runs import Channel, Channels, Seen, SeenOfBit
+from camac.runs import Channel, Channels
 from camac.values import Service
 from camac.words import Words
 
@@ -64,16 +64,8 @@ class Counts:
         self.fit.take(its)
         self.channels.take(self.names, its)
 
-    def seen(self) -> Dict[int, SeenOfBit]:
-        """By bit, the counts of its services."""
-        return {gl: SeenOfBit(_seen(it.cycles), _seen(it.words), 0, 0, 0, it.missed) for gl, it in sorted(self.bits.items()) if it.count}
-
     def list_channels(self) -> List[Channel]:
         return self.channels.listed(self.names, self.bits)
-
-
-def _seen(its: Spectrum) -> Seen:
-    return Seen(its.count, its.least or 0, its.mean(), its.greatest or 0)
 
 
 class State(NamedTuple):
@@ -231,3 +223,7 @@ class Follower:
     def age(self) -> Optional[float]:
         """How many seconds ago the last event came; None before the first one."""
         return None if self.arrived is None else self.clock() - self.arrived
+
+    def silence(self) -> float:
+        """The same; before the first event, how long this was looked at."""
+        return self.clock() - (self.marks[0].time if self.arrived is None else self.arrived)

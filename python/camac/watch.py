@@ -14,7 +14,6 @@ from camac.drive import File, one_line
 from camac.events import Event
 from camac.export import About, Given, checks_of, learn
 from camac.follow import Counts, Follower, State
-from camac.pictures.bounds import draw_seen
 from camac.pictures.regions import measured_text
 from camac.pictures.spectra import BOTH, View, channel_groups, draw_panel, of_channel, seen_groups
 from camac.pictures.svg import Canvas, escape, number, share, ticks
@@ -27,8 +26,7 @@ from camac.run_list import RunList, stamp
 from camac.runs import Channel
 from camac.subcommands import response
 from camac.values import Response
-from camac.watch_page import FORM, SCRIPT, STYLE
-from camac.words import Words
+from camac.watch_page import FORM, LOST, MORE, SCRIPT, STYLE
 
 HOST = "127.0.0.1"
 # The seconds between two looks at the file.
@@ -37,7 +35,7 @@ POLL = 1.0
 PAUSE, LOOKS = 250, 16
 SHOWN_WORDS = 16
 # The width and the most bins of a spectrum by itself, and the most numbers of a region that is measured.
-WIDE, MOST_BINS, MOST_REGION = 640, 588, 2048
+WIDE, MOST_BINS, MOST_REGION = 640, 588, 512
 MINUTES = 600
 ROLES = {"alarms": ' role="alert"'}
 PARTS = ("alarms", "notes", "tiles", "services", "rate", "one", "channels", "cycles", "last")
@@ -63,17 +61,6 @@ def read_look(query: str) -> Look:
     return Look(of=its.pop("of", ""), **{name: int(value) for name, value in its.items()})
 
 
-class Known(NamedTuple):
-    """What is known of a run besides its event file."""
-
-    about: About
-    responses: Tuple[Response, ...]
-
-    def names(self) -> Words:
-        """The columns of the words: those of the user, else those of the script."""
-        return self.about.words if self.about.words.fields else self.about.sources
-
-
 class Watch:
     """A file that is followed, and the parts of its page. `given` are the files that were named; the record may come later."""
 
@@ -83,21 +70,21 @@ class Watch:
         self.drawn: Dict[Look, Tuple[float, Dict[str, str]]] = {}
         self.cleared: Dict[int, Follower] = {}
         self.record_at = stamp(given.record)
-        self.known = self.learn()
-        self.record, self.refused = self.known.about.record, ""
-        self.follower = Follower(given.events, lambda: Counts(self.known.about.services, self.known.names()))
+        self.about, self.responses = self.learn()
+        self.record, self.refused = self.about.record, ""
+        self.follower = Follower(given.events, lambda: Counts(self.about.services, self.about.names()))
 
-    def learn(self) -> Known:
+    def learn(self) -> Tuple[About, Sequence[Response]]:
         """Raises as `camac.export.learn`. A record that is not there yet is none; without plan and script the words have no names until then."""
         given = self.given
         if given.record is not None and self.record_at is None:
             given = given._replace(record=None, words=given.words if given.plan is not None else None)
         about = learn(given)
         if about.record:
-            return Known(about, tuple(read_responses("\n".join(about.record.response))))
+            return about, read_responses("\n".join(about.record.response))
         if given.plan is not None and given.script is not None and knows_command("response"):
-            return Known(about, tuple(response(given.plan, given.script)))
-        return Known(about, ())
+            return about, response(given.plan, given.script)
+        return about, ()
 
     def poll(self) -> bool:
         """Looks at the files. Returns whether there may be more events at once. Whatever fails is shown, and tried again at the next look."""
@@ -123,7 +110,7 @@ class Watch:
         record, before = read_record(file), self.record
         self.record_at = at
         if before is None or (before.plan.sha256, before.script.sha256) != (record.plan.sha256, record.script.sha256):
-            self.known = self.learn()
+            self.about, self.responses = self.learn()
             self.follower.restart("the record is that of another run")
             self.cleared.clear()
         self.record = record
@@ -135,7 +122,6 @@ class Watch:
     def parts(self, look: Look = Look()) -> Dict[str, str]:
         """The parts of the page, as HTML."""
         with self.lock:
-            seen, services = self.follower.counts.seen(), self.known.about.services
             due, drawn = self.drawn.get(look, (0.0, {}))
             if time.monotonic() >= due:
                 begin = time.thread_time()
@@ -147,7 +133,7 @@ class Watch:
                 "alarms": "".join(f'<p class="bad">{escape(it)}</p>' for it in self.alarms()),
                 "notes": self.notes(),
                 "tiles": self.tiles(),
-                "services": (figure(draw_seen(services, seen)) if services else "") + self.services(),
+                "services": self.services(),
                 "rate": self.rates(),
                 **drawn,
                 "last": self.last(),
@@ -168,7 +154,7 @@ class Watch:
         return its.counts
 
     def draw(self, look: Look) -> Dict[str, str]:
-        counts, services = self.counts_of(look), self.known.about.services
+        counts, services = self.counts_of(look), self.about.services
         spectra = {gl: it.cycles for gl, it in counts.bits.items()}, {gl: it.words for gl, it in counts.bits.items()}
         channels = counts.list_channels()
         taken = counts.fit.count
@@ -181,11 +167,11 @@ class Watch:
         }
 
     def alarms(self) -> List[str]:
-        """What is wrong now."""
-        follower = self.follower
-        its = [follower.state.text] if follower.state.is_bad else []
-        is_over = self.record is not None and self.record.end is not None
-        return [*its, *filter(None, [self.refused]), *self.misfits(), *sounding([] if is_over else self.asked_alarms, follower, self.known.about.services)]
+        """What is wrong now: with the files, with the script of the events, and what the user asked for, until the run is over."""
+        follower, is_over = self.follower, self.record is not None and self.record.end is not None
+        its = [follower.state.text if follower.state.is_bad else "", self.refused]
+        its += [it.text for it in checks_of(follower.counts.fit, self.about) if not it.agrees]
+        return [*filter(None, its), *sounding([] if is_over else self.asked_alarms, follower, self.about.services)]
 
     def notes(self) -> str:
         state = self.follower.state
@@ -197,10 +183,6 @@ class Watch:
         elif its:
             lines.append(f"The record: run in progress since {escape(its.begin or '')}, told {escape(its.told or '')}")
         return "".join(f"<p>{it}</p>" for it in lines)
-
-    def misfits(self) -> List[str]:
-        """Why the file is not of the script."""
-        return [it.text for it in checks_of(self.follower.counts.fit, self.known.about) if not it.agrees]
 
     def tiles(self) -> str:
         follower, age = self.follower, self.follower.age()
@@ -221,7 +203,7 @@ class Watch:
     def services(self) -> str:
         """A line for each bit: what was seen, beside bound and the most cycles from its look-at-me to its end."""
         rows: List[Row] = []
-        services, ends = {it.gl: it for it in self.known.about.services}, {it.gl: it.end for it in self.known.responses}
+        services, ends = {it.gl: it for it in self.about.services}, {it.gl: it.end for it in self.responses}
         for gl, its in sorted(self.follower.counts.bits.items()):
             service = services.get(gl)
             cycles = (its.cycles.mean(), its.cycles.greatest or 0) if its.cycles.count else ("", "")
@@ -233,8 +215,8 @@ class Watch:
         return table([Column("service", True), *map(Column, titles)], rows, False)
 
     def last(self) -> str:
-        names = {it.gl: it.name for it in self.known.about.services}
-        rows = [(it.number, names.get(it.gl, f"GL {it.gl}"), *_numbers(it), _shown(it)) for it in reversed(self.follower.counts.last)]
+        names = {it.gl: it.name for it in self.about.services}
+        rows = [(it.number, names.get(it.gl, f"GL {it.gl}"), *("" if its is None else its for its in it[2:4]), _shown(it)) for it in reversed(self.follower.counts.last)]
         return table([Column("event"), Column("service", True), Column("cycles"), Column("X = 0"), Column("words", True)], rows, False)
 
     def page(self) -> str:
@@ -242,29 +224,24 @@ class Watch:
         name = os.path.basename(os.fsdecode(self.given.events))
         record = self.record
         run = " ".join(filter(None, [f"run {record.number}" if record and record.number is not None else "", record.title if record else ""]))
-        head = header(name, [f'<p class="mute">{escape(run)}</p>', '<p class="bad" id="lost" role="alert" hidden>The command <code>watch</code> does not answer.</p>'])
+        head = header(name, [f'<p class="mute">{escape(run)}</p>', LOST])
         titles = {"services": "Services", "rate": "Rate", "channels": "Event words by their names", "cycles": "Cycles and words of an event", "last": "The last events"}
         parts = [(f"<h2>{titles[it]}</h2>" if it in titles else "") + f'<div id="{it}"{ROLES.get(it, "")}></div>' for it in PARTS]
         parts.insert(PARTS.index("one"), FORM)
-        return page(f"{name}: live", head, [STYLE, *parts], SCRIPT, ";connect-src 'self'")
+        return page(f"{name}: live", head, [STYLE, *parts], SCRIPT, MORE)
 
 
 def _live(record: Optional[Record]) -> List[Tuple[str, str, str]]:
     """Live and dead share, as the record has them measured."""
-    if record is None or record.seconds() <= 0:
-        return []
-    its = ((record.demands, "live, measured"), (record.services, "dead, measured"))
-    return [(share(part or 0, record.seconds()), word, "") for part, word in its]
+    total = record.seconds() if record else 0
+    its = ((record.demands, "live, measured"), (record.services, "dead, measured")) if record and total > 0 else ()
+    return [(share(part or 0, total), word, "") for part, word in its]
 
 
 def _duration(seconds: float) -> str:
     if seconds < 60:
         return f"{seconds:.0f} s"
     return f"{seconds / 60:.0f} min" if seconds < 3600 else f"{seconds / 3600:.1f} h"
-
-
-def _numbers(it: Event) -> Tuple[object, object]:
-    return ("", "") if it.cycles is None else (it.cycles, it.missed)
 
 
 def _shown(it: Event) -> str:

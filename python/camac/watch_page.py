@@ -1,7 +1,9 @@
 """What the pages of `watch` have besides their parts: what the spectra show is chosen in a form, and a script asks for the parts again and again."""
+from camac.report.page import header, page
 
-# The seconds between two questions of the page.
-REFRESH = 2.0
+LOST = '<p class="bad" id="lost" role="alert" hidden>The command <code>watch</code> does not answer.</p>'
+# What a page may fetch, and the seconds between two questions.
+MORE, REFRESH = ";connect-src 'self'", 2.0
 # By their names in the query of an address, the events whose spectra are shown.
 WINDOWS = (
     ("", "of the whole run"), ("since=0", "since the last clear"), ("seconds=10", "of the last 10 s"), ("seconds=60", "of the last minute"),
@@ -61,3 +63,8 @@ document.getElementById('one').ondblclick=function(){document.getElementById('wh
 ask();
 """
 )
+
+
+def list_page(title: str) -> str:
+    """The page of a list of runs."""
+    return page("Runs", header(title, [LOST]), ['<ul id="runs"></ul>'], ASK + "ask();", MORE)
