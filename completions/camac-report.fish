@@ -2,7 +2,7 @@
 
 complete -c camac-report -s h -l help -d 'Print help'
 complete -c camac-report -l every -x -d 'how soon a module calls again: SERVICE=CYCLES'
-complete -c camac-report -l record -r -F -d 'a file for the record of the run'
+complete -c camac-report -l write-record -r -F -d 'a file for the record of the run'
 complete -c camac-report -l survey -r -F -d 'what camac-survey found'
 complete -c camac-report -l words -r -F -d 'what the words of events are'
 complete -c camac-report -l pair -x -d 'two numbers of an event against each other: ACROSS UP'

@@ -363,7 +363,7 @@ class Pages(unittest.TestCase):
             self.assertEqual(offered(command, "sample_p"), ["sample_plan.toml"])
             self.assertEqual(offered(command, "@sample", "stra"), ["straight_line.script"])
             self.assertEqual(offered(command, "@sample", "@"), [])
-        self.assertEqual(offered("report", "@sample", "-"), ["--every", "--gate", "--help", "--out", "--overwrite", "--pair", "--record", "--region", "--survey", "--words", "-h", "-o"])
+        self.assertEqual(offered("report", "@sample", "-"), ["--every", "--gate", "--help", "--out", "--overwrite", "--pair", "--region", "--survey", "--words", "--write-record", "-h", "-o"])
         self.assertEqual(offered("survey", "@sample", "--driver", "m"), ["mock", "modules"])
         self.assertEqual(offered("check", "@sample", "--f"), ["--format"])
         self.assertEqual(offered("check", "--format", "g"), ["github"])

@@ -410,7 +410,7 @@ class Export(Case):
         watch = Watch(Given("run.events", "@sample", "a.script"))
         while watch.poll():
             pass
-        self.assertIn(f'<b class="bad">{told[:-1]}</b>', watch.notes())
+        self.assertIn(told[:-1], watch.alarms())
         (self.room / "run.events").write_bytes(text_of([camac.Event(1, 3, 13, 0, ())]))
         self.assertIn("event 1 took 13 cycles, those of adc at most 12", self.call("run.events", "-o", "c.csv", *files, status=1))
 

@@ -1,3 +1,4 @@
+from camac.archive import Runs, open_runs
 from camac.arrays import EventArrays, event_arrays
 from camac.call import call
 from camac.drive import Answer, Branch, DriveFault, ProgramFault, ProtocolFault, Refused, TimeFault, UsageFault
@@ -20,8 +21,8 @@ from camac.words import Column, Field, Words
 __all__ = [
     "Answer", "Body", "Branch", "Column", "Command", "Cost", "Crate", "Cycle", "Declaration", "Demand", "DriveFault", "Ending", "Event",
     "EventArrays", "EventFileFault", "Field", "Harm", "Heading", "Lock", "ModuleType", "Move", "Plan", "ProgramFault", "Proposal", "Proposals",
-    "ProtocolFault", "Record", "Recording", "Refused", "Response", "Row", "RunEnd", "Service", "Station", "Survey", "TimeFault", "Unkept", "Unlock",
-    "UsageFault", "Warned", "Whole", "Words", "WordsFault", "bounds", "call", "check", "costs", "drive", "driver", "event_arrays", "find_program",
-    "parse_listing", "plan", "play", "propose", "read_events", "read_record", "read_words", "response", "run", "survey", "warnings", "whole",
-    "whole_size", "words_of_script",
+    "ProtocolFault", "Record", "Recording", "Refused", "Response", "Row", "RunEnd", "Runs", "Service", "Station", "Survey", "TimeFault", "Unkept",
+    "Unlock", "UsageFault", "Warned", "Whole", "Words", "WordsFault", "bounds", "call", "check", "costs", "drive", "driver", "event_arrays",
+    "find_program", "open_runs", "parse_listing", "plan", "play", "propose", "read_events", "read_record", "read_words", "response", "run", "survey",
+    "warnings", "whole", "whole_size", "words_of_script",
 ]

@@ -163,14 +163,14 @@ def draw(args: argparse.Namespace) -> int:
 
 def make_report(args: argparse.Namespace) -> int:
     inputs = Inputs(args.plan, args.script, args.source)
-    if args.record:
-        refuse_loss(args.record, anything if args.overwrite else refuse_foreign)
+    if args.write_record:
+        refuse_loss(args.write_record, anything if args.overwrite else refuse_foreign)
     made = report(inputs, every=args.every, naming=naming(args), survey=args.survey)
     write_made(args.out, made.text, args.overwrite)
-    if args.record:
+    if args.write_record:
         # If plan or script is refused, the page says so.
         with contextlib.suppress(Refused):
-            write_played(args.record, inputs, args.overwrite, args.survey)
+            write_played(args.write_record, inputs, args.overwrite, args.survey)
     return made.status
 
 
@@ -245,7 +245,7 @@ def _add_report(commands: Any) -> None:
     it.add_argument("script", metavar="SCRIPT", help="a script")
     it.add_argument("source", metavar="ANSWERS|EVENTS", help="the answers of the run, or its event file")
     it.add_argument("-o", "--out", required=True, metavar="HTML", help="the file to write")
-    it.add_argument("--record", metavar="JSON", help="writes the record of the run, too; a file of another kind stays as it is")
+    it.add_argument("--write-record", metavar="JSON", help="writes the record of the run, too; a file of another kind stays as it is")
     it.add_argument("--survey", metavar="JSON", help="what camac-survey found: the page says it, and the record has it")
     add_every(it)
     add_words(it)
@@ -271,7 +271,7 @@ def parse(words: List[str]) -> argparse.Namespace:
         args.every = read_every(args.every, its)
     inputs = getattr(args, "files", []) + getattr(args, "scripts", []) + [getattr(args, name, "") or "" for name in INPUTS]
     refuse_pipes(its, inputs, args.command == "fmt" or getattr(args, "what", "") == "listing")
-    for out in (args.out, args.record if args.command == "report" else None):
+    for out in (args.out, getattr(args, "write_record", None)):
         if out and is_one_of(out, inputs):
             its.error(LOST.format(out))
     return args

@@ -48,6 +48,10 @@ class About:
     sources: Words = Words()
     words: Words = Words()
 
+    def names(self) -> Words:
+        """The columns of the words: those of the user, else those of the script."""
+        return self.words if self.words.fields else self.sources
+
     def source_names(self) -> List[str]:
         """The names that the script gives to words, behind the empty one of all others."""
         return ["", *(it.name for it in self.sources.fields)]

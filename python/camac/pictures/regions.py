@@ -34,10 +34,10 @@ def _draw_region(canvas: Canvas, y: float, run: Run, it: Cut) -> None:
         canvas.text(COLUMNS[0][0], y, "0" if bins is None else "too wide", "s11 r")
         return
     found = measure(it.low, bins.counts)
-    texts = (f"{found.gross:,}", _text(found.net, 0), _text(found.centroid, 2), _text(found.width, 2))
+    texts = (f"{found.gross:,}", measured_text(found.net, 0), measured_text(found.centroid, 2), measured_text(found.width, 2))
     for (x, _), text in zip(COLUMNS, texts):
         canvas.text(x, y, text, "s11 r")
 
 
-def _text(it: Optional[Measured], digits: int) -> str:
+def measured_text(it: Optional[Measured], digits: int) -> str:
     return "no peak" if it is None else f"{it.value:,.{digits}f} ± {it.unsure:,.{digits}f}"

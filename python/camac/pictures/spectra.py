@@ -12,7 +12,7 @@ from camac.values import Plan, Service
 
 ACROSS, GAP = 4, 16
 PANEL = (WIDTH - GAP * (ACROSS - 1)) / ACROSS
-LEFT, WIDE, TOP, HIGH, ROW = 38, PANEL - 52, 46, 80, 164
+LEFT, RIGHT, TOP, HIGH, ROW = 38, 14, 46, 80, 164
 FOOT = TOP + HIGH
 MOST = 96
 # The most bins that are drawn in a panel.
@@ -107,12 +107,13 @@ def command_groups(run: Run, plan: Plan, scale: str = LINEAR) -> List[Group]:
 
 def channel_groups(channels: Sequence[Channel], scale: str = LINEAR, view: View = View()) -> List[Group]:
     """For each column of event words its numbers, or of a scaler a line over the run."""
-    shown = []
-    for it in channels:
-        its = it.column.field
-        meaning = its.scale, its.offset, its.unit
-        shown.append(Shown(it.column.name, "", it.spectrum, "ours", "words", meaning=meaning, series=it.series))
-    return _grouped(shown, scale, view)
+    return _grouped([of_channel(it, it.series) for it in channels], scale, view)
+
+
+def of_channel(it: Channel, series: Optional[Series] = None) -> Shown:
+    """The spectrum of a channel, or a line in its place."""
+    its = it.column.field
+    return Shown(it.column.name, "", it.spectrum, "ours", "words", meaning=(its.scale, its.offset, its.unit), series=series)
 
 
 def _grouped(shown: Sequence[Shown], scale: str, view: View = View()) -> List[Group]:
@@ -147,9 +148,9 @@ def draw_groups(title: str, groups: Sequence[Group]) -> Canvas:
     return canvas
 
 
-def draw_panel(it: Shown, scale: str = LINEAR, view: View = View()) -> Canvas:
+def draw_panel(it: Shown, scale: str = LINEAR, view: View = View(), width: float = PANEL) -> Canvas:
     """A panel: title, entries, mean, RMS and the place of the greatest bin, and the spectrum, or a line over the run."""
-    canvas = Canvas(it.of + it.what, PANEL)
+    canvas = Canvas(it.of + it.what, width)
     canvas.text(0, 11, cut(it.of, TITLE - len(it.what)) + it.what, "s11 b")
     canvas.grow(ROW - 8)
     if not it.spectrum.count:
@@ -170,9 +171,9 @@ def draw_panel(it: Shown, scale: str = LINEAR, view: View = View()) -> Canvas:
         _draw_counts(canvas, it, bins, one == LOGARITHMIC)
         canvas.parts.append("</g>")
     if it.bound is not None:
-        x = LEFT + WIDE * (it.bound + 0.5) / _length(bins)
+        x = LEFT + _wide(canvas) * (it.bound + 0.5) / _length(bins)
         canvas.line((x, TOP), (x, FOOT), "l-ink dash")
-        canvas.text(PANEL, 24, f"bound {it.bound:,}", "s10 r")
+        canvas.text(width, 24, f"bound {it.bound:,}", "s10 r")
     _draw_hit(canvas, it, bins)
     return canvas
 
@@ -201,22 +202,26 @@ def _length(bins: Bins) -> int:
     return bins.width * len(bins.counts)
 
 
+def _wide(canvas: Canvas) -> float:
+    return canvas.width - LEFT - RIGHT
+
+
 def _draw_axis(canvas: Canvas, it: Shown, bins: Bins) -> None:
     """The axis of numbers, with five ticks where it is cut into quarters."""
     end = _length(bins)
     places = [end * quarter // 4 for quarter in range(5)] if end >= 4 and it.bound is None else ticks(end, 4)
-    canvas.line((LEFT, FOOT + 0.5), (LEFT + WIDE, FOOT + 0.5), "l-mute thin")
+    canvas.line((LEFT, FOOT + 0.5), (LEFT + _wide(canvas), FOOT + 0.5), "l-mute thin")
     for place in places:
-        x = LEFT + WIDE * place / end
+        x = LEFT + _wide(canvas) * place / end
         canvas.line((x, FOOT), (x, FOOT + 4), "l-mute thin")
         _draw_number(canvas, x, short(it.value(bins.first + place)), place == end)
     if it.meaning[2]:
-        canvas.text(PANEL, FOOT + 26, cut(it.meaning[2], 24), "mute s10 r")
+        canvas.text(canvas.width, FOOT + 26, cut(it.meaning[2], 24), "mute s10 r")
 
 
 def _draw_number(canvas: Canvas, x: float, text: str, is_last: bool) -> None:
     """The number at a tick; that of the last one ends with the panel."""
-    canvas.text(PANEL if is_last else x, FOOT + 14, text, "mute s10" + (" r" if is_last else " m"))
+    canvas.text(canvas.width if is_last else x, FOOT + 14, text, "mute s10" + (" r" if is_last else " m"))
 
 
 def _draw_counts(canvas: Canvas, it: Shown, bins: Bins, is_log: bool) -> None:
@@ -226,13 +231,13 @@ def _draw_counts(canvas: Canvas, it: Shown, bins: Bins, is_log: bool) -> None:
     def high(entries: float) -> float:
         return HIGH * (math.log(entries / LEAST) / math.log(peak / LEAST) if entries else 0) if is_log else HIGH * entries / peak
 
-    each = WIDE / len(bins.counts)
+    each = _wide(canvas) / len(bins.counts)
     parts, level = [f"M{number(LEFT)} {FOOT}"], 0.0
     for at, entries in enumerate(bins.counts):
         if (up := high(entries)) != level:
             parts.append(f"H{number(LEFT + at * each)}V{number(FOOT - up)}")
             level = up
-    canvas.path([*parts, f"H{number(LEFT + WIDE)}V{FOOT}z"], it.kind)
+    canvas.path([*parts, f"H{number(LEFT + _wide(canvas))}V{FOOT}z"], it.kind)
     powers = [10**power for power in range(len(str(peak)) - (0 if str(peak) != "1" else 1))] if is_log else [0]
     labels = [(value, short(value)) for value in powers if peak > 1.8 * value] + [(peak, short(peak))]
     for value, text in labels:
@@ -248,7 +253,7 @@ def _draw_hit(canvas: Canvas, it: Shown, bins: Bins) -> None:
     data = f' data-first="{bins.first}" data-width="{bins.width}" data-counts="{" ".join(map(str, bins.counts))}"'
     if (scale, offset) != (1, 0):
         data += f' data-scale="{scale}" data-offset="{offset}"'
-    canvas.hit((LEFT, TOP, WIDE, HIGH), f"{tip} {unit}".rstrip(), data)
+    canvas.hit((LEFT, TOP, _wide(canvas), HIGH), f"{tip} {unit}".rstrip(), data)
 
 
 def _draw_line(canvas: Canvas, it: Shown, series: Series) -> None:
@@ -263,17 +268,17 @@ def _draw_line(canvas: Canvas, it: Shown, series: Series) -> None:
     canvas.text(0, 36, mean if series.is_counter else f"{mean}, RMS {_decimal(scale * it.spectrum.rms())}{unit}", "mute s10")
     top, low, columns = max([*means.values(), 0]), min([*means.values(), 0]), max(max(means), 1) + 1
     each = HIGH / (top - low) if top > low else 0
-    step = WIDE / columns
+    step = _wide(canvas) / columns
     places = [(LEFT + (at + 0.5) * step, FOOT - each * (value - low)) for at, value in means.items()]
     canvas.path("M" + "L".join(f"{number(x)} {number(y)}" for x, y in places), f"l-{it.kind}")
     if len(places) == 1:
         canvas.rect((places[0][0] - 1.5, places[0][1] - 1.5, 3, 3), it.kind)
-    canvas.line((LEFT, FOOT + 0.5), (LEFT + WIDE, FOOT + 0.5), "l-mute thin")
+    canvas.line((LEFT, FOOT + 0.5), (LEFT + _wide(canvas), FOOT + 0.5), "l-mute thin")
     for value in sorted({0.0, low, top}):
         canvas.text(LEFT - 5, FOOT - each * (value - low) + 4, short(round(value, 1)), "mute s10 r")
     last = columns * series.per
     for place in ticks(last, 4):
-        _draw_number(canvas, LEFT + WIDE * place / last, short(place), place == last)
-    canvas.text(PANEL, FOOT + 26, "service of the run", "mute s10 r")
+        _draw_number(canvas, LEFT + _wide(canvas) * place / last, short(place), place == last)
+    canvas.text(canvas.width, FOOT + 26, "service of the run", "mute s10 r")
     tip = f"{it.of}: {count_of(it.spectrum.count, it.counts)}, {what}; least {it.spectrum.least:,}, most {it.spectrum.greatest:,}"
-    canvas.hit((LEFT, TOP, WIDE, HIGH), f"{tip}\neach point: the mean of {count(series.per, 'service')} of the run, one after another")
+    canvas.hit((LEFT, TOP, _wide(canvas), HIGH), f"{tip}\neach point: the mean of {count(series.per, 'service')} of the run, one after another")

@@ -129,9 +129,10 @@ class Cell(NamedTuple):
 Row = Sequence[object]
 
 
-def table(columns: Sequence[Column], rows: Sequence[Row]) -> str:
-    """A table that can be sorted by each column."""
-    heads = "".join(f'<th scope="col"{_kind(it)}><button>{escape(it.title)}</button></th>' for it in columns)
+def table(columns: Sequence[Column], rows: Sequence[Row], is_sorted: bool = True) -> str:
+    """A table, which can be sorted by each column."""
+    titles = (f"<button>{escape(it.title)}</button>" if is_sorted else escape(it.title) for it in columns)
+    heads = "".join(f'<th scope="col"{_kind(it)}>{title}</th>' for it, title in zip(columns, titles))
     lines = ("<tr>" + "".join(_cell(column, cell) for column, cell in zip(columns, row)) + "</tr>" for row in rows)
     return f'<div class="wrap"><table class="sort"><thead><tr>{heads}</tr></thead><tbody>{"".join(lines)}</tbody></table></div>'
 
