@@ -13,6 +13,8 @@ TOP = Path(__file__).resolve().parent.parent
 # What the clauses of the laws name that are the two sentences.
 HEADLINE = [("camac_run.Headline", "RunsAlways"), ("camac_run.Headline", "RunsByHeadline")]
 LOOK_AT_MES = [("camac_response.Checked", "Responds")]
+# The lines `unkept`, which the program prints: they are seen, not believed.
+PRINTED = {("camac_response.Unkept", "unkept_of")}
 USE = re.compile(r"^ *(?:pub |ghost )*use Rattle\.([^\s{;]+?)(?:\.\{([^}]*)\}| as (\w+));?$", re.M)
 BEGINS = re.compile(r"(?:(?:abbrev|unfoldable) )?pub (?:record |data )?(?!mod )([^\s:]+)")
 TEXT = """\
@@ -29,6 +31,8 @@ else has to be believed but the toolchain, and types of sources that these name.
 {}
 
 ## Look-at-mes: {} lines more
+
+That the script does its part is seen: `camac response` prints no `unkept` line of the bits up to this one. Such lines are those of the law, by proof.
 
 {}
 """
@@ -91,8 +95,8 @@ def named(file, lines):
     return (found | {defined(known[one][0], it) for one, it in re.findall(r"\b(\w+)\.([^\s(){},.]+)", "\n".join(lines)) if one in known}) - {None}
 
 
-def under(roots):
-    return closure(roots, lambda it: named(MODULES[it[0]], MODULES[it[0]].definitions[it[1]]), {})
+def under(roots, but=frozenset()):
+    return closure(roots, lambda it: named(MODULES[it[0]], MODULES[it[0]].definitions[it[1]]) - but, {})
 
 
 def count(names):
@@ -101,7 +105,7 @@ def count(names):
 
 def main(words):
     first = under(HEADLINE)
-    more = [it for it in under(LOOK_AT_MES) if it not in first]
+    more = [it for it in under(LOOK_AT_MES, PRINTED) if it not in first]
     if words == ["--dead"]:
         living, proved = (under({it for file in FILES if file.part == part for it in named(file, file.lines)}) for part in ("src", "proofs"))
         for it in [(module, name) for module, file in MODULES.items() for name in file.definitions if (module, name) not in living]:
