@@ -14,7 +14,7 @@ TOP = Path(__file__).resolve().parent.parent
 HEADLINE = [("camac_run.Headline", "RunsAlways"), ("camac_run.Headline", "RunsByHeadline")]
 LOOK_AT_MES = [("camac_response.Checked", "Responds")]
 # The lines `unkept`, which the program prints: they are seen, not believed.
-PRINTED = {("camac_response.Unkept", "unkept_of")}
+PRINTED = {("camac_response.Unkept", "unkept_of"), ("camac_commands.Commands", "commands_of")}
 USE = re.compile(r"^ *(?:pub |ghost )*use Rattle\.([^\s{;]+?)(?:\.\{([^}]*)\}| as (\w+));?$", re.M)
 BEGINS = re.compile(r"(?:(?:abbrev|unfoldable) )?pub (?:record |data )?(?!mod )([^\s:]+)")
 TEXT = """\
