@@ -1,5 +1,5 @@
 -- Where nothing is told of look-at-mes up to a bit, the script does its part for them.
-use Rattle.std.proofs.Common.{◌≡◌, ℕ, zero, suc, ◌+◌, List, [], ◌∷◌, ◌++◌, take, drop, Option, Some, None, Bool, true, false, refl, sym, ap, ◌∙◌, subst, arith}
+use Rattle.std.proofs.Common.{◌≡◌, ℕ, zero, suc, ◌+◌, List, [], ◌∷◌, Option, Some, None, Bool, true, false, refl, sym, ap, ◌∙◌, subst, arith}
 use Rattle.std.specs.Prelude.{◌||◌, insert, nat_eq, nat_le, not, option_and_then, slice_get, if◌then◌else◌, IsTrue, Ok}
 use Rattle.std.specs.List.{list_any}
 use Rattle.std.proofs.lemmas.Bool.{eqb-true, true≢false}
@@ -9,7 +9,7 @@ use Rattle.camac_lang.specs.Tree.{Service, Script}
 use Rattle.camac_branch.specs.Address.{Address}
 use Rattle.camac_branch.specs.Plan.{Layout, IsPlan, gl}
 use Rattle.camac_model.specs.Fine.{Bounds}
-use Rattle.camac_model.specs.Meaning.{context, lam_address}
+use Rattle.camac_model.specs.Meaning.{context}
 use Rattle.camac_model.specs.Run.{service_bit}
 use Rattle.camac_rules.specs.Accept.{accept}
 use Rattle.camac_commands.specs.declared.command.Command.{Command}

@@ -1,5 +1,5 @@
 -- What a list of commands tells of a service: which look-at-mes it may clear or hide.
-use Rattle.std.specs.Prelude.{◌≡◌, ℕ, ◌&&◌, ◌||◌, Bool, true, false, List, Some, map, nat_eq, nat_le, slice_get}
+use Rattle.std.specs.Prelude.{◌≡◌, ℕ, ◌&&◌, ◌||◌, Bool, true, false, List, Some, nat_eq, nat_le, slice_get}
 use Rattle.std.specs.List.{list_any, range_with_len}
 use Rattle.camac_lang.specs.declared.word.CrateCall.{CrateCall}
 use Rattle.camac_lang.specs.declared.word.CrateCall.TheVariants as crate_word
