@@ -265,7 +265,7 @@ def _draw_one(it: Channel, look: Look) -> str:
 
 def _draw_rate(rates: Sequence[Tuple[float, float]], span: float) -> Canvas:
     """Events a second over the last seconds."""
-    left, wide, high = 64, 400, 90
+    left, wide, high = 64, 390, 90
     canvas = Canvas(f"Events a second of the last {_duration(span)}", left + wide + 10)
     top = max([*(it for _, it in rates), 1.0])
     canvas.line((left, 10.5 + high), (left + wide, 10.5 + high), "l-mute thin")
