@@ -27,8 +27,8 @@ class Region(NamedTuple):
     width: Optional[Measured]
 
 
-def measure(low: int, counts: Sequence[int]) -> Region:
-    """Measures the region of which the counts are given, number by number from `low` on; it has twice SIDE numbers at least."""
+def measure(low: int, counts: Sequence[int], each: int = 1) -> Region:
+    """Measures the region of which the counts are given, by so many numbers `each` from `low` on; there are twice SIDE counts at least."""
     size, gross = len(counts), sum(counts)
     left, right = sum(counts[:SIDE]) / SIDE, sum(counts[-SIDE:]) / SIDE
     net = gross - size * (left + right) / 2
@@ -38,8 +38,8 @@ def measure(low: int, counts: Sequence[int]) -> Region:
     if found is None:
         return Region(gross, Measured(net, unsure), None, None)
     values, errors = found
-    width = Measured(FULL_WIDTH * abs(values[2]), FULL_WIDTH * errors[2])
-    return Region(gross, Measured(net, unsure), Measured(low + values[1], errors[1]), width)
+    width = Measured(each * FULL_WIDTH * abs(values[2]), each * FULL_WIDTH * errors[2])
+    return Region(gross, Measured(net, unsure), Measured(low + each * (values[1] + 0.5) - 0.5, each * errors[1]), width)
 
 
 def _fit(counts: Sequence[int], begin: List[float]) -> Optional[Tuple[List[float], List[float]]]:

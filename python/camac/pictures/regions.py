@@ -5,14 +5,16 @@ from camac.pictures.svg import Canvas
 from camac.regions import Measured, measure
 from camac.runs import Asked, Cut, Run
 
+# The most bins in which a region is measured.
+MOST = 8192
 COLUMNS = ((300, "counts"), (440, "above the line"), (640, "centroid"), (820, "FWHM"))
 HIGH = 18
 
 
 def names_title(asked: Asked) -> str:
     """The title above the spectra of named words: it says which events they have."""
-    its = asked.gate
-    return "Event words by their names" + (f", of events with {its.column.name} from {its.low:,} to {its.last:,}" if its else "")
+    gates = " and ".join(f"{it.column.name} from {it.low:,} to {it.last:,}" for it in asked.gates)
+    return "Event words by their names" + (f", of events with {gates}" if gates else "")
 
 
 def draw_regions(run: Run) -> Canvas:
@@ -28,16 +30,12 @@ def draw_regions(run: Run) -> Canvas:
 
 def _draw_region(canvas: Canvas, y: float, run: Run, it: Cut) -> None:
     canvas.text(0, y, f"{it.column.name} {it.low:,} to {it.last:,}", "s11")
-    channel = run.channels.get(it.column)
-    bins = channel.spectrum.bins(it.low, it.last + 1) if channel else None
-    if bins is None or bins.width > 1:
-        canvas.text(COLUMNS[0][0], y, "0" if bins is None else "too wide", "s11 r")
-        return
-    found = measure(it.low, bins.counts)
-    texts = (f"{found.gross:,}", _text(found.net, 0), _text(found.centroid, 2), _text(found.width, 2))
+    bins = run.channels.regions[it].bins(most=MOST)
+    found = measure(it.low, bins.counts, bins.width)
+    texts = (f"{found.gross:,}", measured_text(found.net, 0), measured_text(found.centroid, 2), measured_text(found.width, 2))
     for (x, _), text in zip(COLUMNS, texts):
         canvas.text(x, y, text, "s11 r")
 
 
-def _text(it: Optional[Measured], digits: int) -> str:
+def measured_text(it: Optional[Measured], digits: int) -> str:
     return "no peak" if it is None else f"{it.value:,.{digits}f} ± {it.unsure:,.{digits}f}"

@@ -52,12 +52,16 @@ pre{{overflow-x:auto}}
 .checks td{{white-space:normal}}
 nav a{{margin-right:14px;display:inline-block}}
 #tip{{position:fixed;pointer-events:none;background:var(--ink);color:var(--ground);font-size:12px;padding:3px 7px;display:none;z-index:9}}
-.theme,.scale{{float:right;margin:22px 0 0 8px;background:var(--face);color:var(--ink);border:1px solid var(--grid);padding:4px 10px;cursor:pointer}}
+.theme,.scale,.whole{{background:var(--face);color:var(--ink);border:1px solid var(--grid);padding:4px 10px;cursor:pointer}}
+.theme,.scale{{float:right;margin:22px 0 0 8px}}
+.whole{{position:fixed;right:16px;bottom:16px}}
+svg.zoom>g:not(.zoomed),svg.zoom>.dash{{display:none}}
+rect[data-counts]{{cursor:crosshair}}
 @page{{size:A4;margin:14mm}}
 @media print{{
 body{{font-size:11pt}}
 main,header{{padding:0}}
-.theme,.scale,nav{{display:none}}
+.theme,.scale,.whole,.hint,nav{{display:none}}
 thead th{{position:static}}
 h2,h3,h4,p,summary{{break-after:avoid}}
 .wrap{{max-height:none;overflow:visible;border:0}}
@@ -75,16 +79,18 @@ pre{{white-space:pre-wrap}}
 # What both pages have: the bin below the pointer, a picture in full size, counts on a logarithmic axis, and the theme.
 SCRIPT = """
 var commas=function(n){return String(n).replace(/\\B(?=(\\d{3})+$)/g,',')};
+var meaning=function(r){var scale=+(r.dataset.scale||1),offset=+(r.dataset.offset||0);
+return function(n){var v=+(n*scale+offset).toPrecision(6);return Number.isInteger(v)?commas(v):v}};
 var root=document.documentElement,tip=document.getElementById('tip');
 document.addEventListener('mousemove',function(e){
 var r=e.target.closest&&e.target.closest('rect[data-counts]');
 if(!r){tip.style.display='none';return}
 var counts=r.dataset.counts.split(' ').map(Number),first=+r.dataset.first,width=+r.dataset.width;
-var scale=+(r.dataset.scale||1),offset=+(r.dataset.offset||0),means=function(n){var v=+(n*scale+offset).toPrecision(6);return Number.isInteger(v)?commas(v):v};
+var means=meaning(r),line=r.dataset.line;
 var b=r.getBoundingClientRect(),k=Math.floor((e.clientX-b.left)/b.width*counts.length);
 if(k<0||k>=counts.length){tip.style.display='none';return}
 var from=first+k*width,range=width>1?means(from)+' to '+means(from+width-1):means(from);
-tip.textContent=range+': '+commas(counts[k]);tip.style.display='block';
+tip.textContent=range+': '+commas(counts[k])+(line?'; line '+line.split(' ')[k]:'');tip.style.display='block';
 tip.style.left=Math.min(e.clientX+14,innerWidth-160)+'px';tip.style.top=e.clientY+14+'px'});
 document.addEventListener('click',function(e){
 var it=e.target.closest&&e.target.closest('.figure');
@@ -94,6 +100,57 @@ addEventListener('beforeprint',function(){document.querySelectorAll('details').f
 document.querySelector('.theme').onclick=function(){
 var theme=root.dataset.theme||(matchMedia('(prefers-color-scheme:dark)').matches?'dark':'light');
 root.dataset.theme=theme==='dark'?'light':'dark'};
+"""
+# A drag over a spectrum draws the numbers below it alone, in bins as fine as they are; a double click or the button draws all again.
+ZOOM = """
+var whole=document.createElement('button'),drag=null;
+whole.className='whole';whole.textContent='whole axes';whole.hidden=true;document.body.append(whole);
+var unpacked=function(text){var its=[];text.split(' ').forEach(function(it){var n=+it;if(n<0)while(n++<0)its.push(0);else its.push(n)});return its};
+var summed=function(its,per){var out=[];its.forEach(function(n,k){var at=Math.floor(k/per);out[at]=(out[at]||0)+n});return out};
+var make=function(kind,its,to){var made=document.createElementNS(to.namespaceURI,kind);for(var name in its)made.setAttribute(name,its[name]);return to.appendChild(made)};
+var label=function(to,x,y,kind,text){make('text',{x:x,y:y,class:'mute s10 '+kind},to).textContent=text};
+var box=function(r){return['x','y','width','height'].map(function(name){return+r.getAttribute(name)})};
+var part=function(r,e){var b=r.getBoundingClientRect();return Math.min(Math.max((e.clientX-b.left)/b.width,0),1)};
+var draw=function(r,counts,over){
+var svg=r.ownerSVGElement,b=box(r),x=b[0],w=b[2],h=b[3],foot=b[1]+h,g=make('g',{class:'zoomed'},svg),peak=Math.max.apply(null,counts.concat(over.map(Math.ceil),1));
+svg.insertBefore(g,r);svg.classList.add('zoom');
+['lin','log'].forEach(function(kind){
+var to=make('g',{class:kind},g),high=function(n){return h*(kind==='log'?Math.log(Math.max(2*n,1))/Math.log(2*peak):n/peak)},ticks=[peak];
+[[counts,svg.querySelector('.lin path').getAttribute('class'),'z'],[over,'l-waits','']].forEach(function(it){
+var way='M'+x+' '+foot;it[0].forEach(function(n,k){way+='H'+(x+k*w/it[0].length)+'V'+(foot-high(n))});
+if(it[0].length)make('path',{d:way+'H'+(x+w)+'V'+foot+it[2],class:it[1]},to)});
+if(kind==='log')for(var n=1;n*1.8<peak;n*=10)ticks.push(n);else ticks.push(0);
+ticks.forEach(function(n){label(to,x-5,foot-high(n)+4,'r',n<1e5?commas(n):(n/1e3).toPrecision(3)+'k')})});
+var its=r.dataset,length=counts.length*its.width,means=meaning(r);
+for(var k=0;k<5;k++)label(g,k<4?x+k*w/4:svg.viewBox.baseVal.width,foot+14,k<4?'m':'r',means(Math.round(+its.first+k*length/4)))};
+var zoom=function(r,from,to){
+var its=r.dataset;
+if(!r.all)r.all={first:+its.first,width:its.width,counts:its.counts,line:its.line,each:+(its.each||its.width),fine:unpacked(its.fine||its.counts),over:its.over?unpacked(its.over):[]};
+var all=r.all,shown=its.counts.split(' ').length*its.width,at=function(part){return(+its.first+part*shown-all.first)/all.each};
+var low=Math.floor(at(from)),size=Math.max(Math.ceil(at(to))-low,4),per=1;
+while(size/per>128)per*=2;
+size=Math.ceil(size/per)*per;low=Math.max(Math.min(low,all.fine.length-size),0);
+var counts=summed(all.fine.slice(low,low+size),per),over=summed(all.over.slice(low,low+size),per);
+reset(r);its.first=all.first+low*all.each;its.width=per*all.each;its.counts=counts.join(' ');
+if(over.length)its.line=over.map(function(n){return+n.toPrecision(4)}).join(' ');
+draw(r,counts,over);whole.hidden=false};
+var reset=function(r){
+var g=r.ownerSVGElement.querySelector('.zoomed'),all=r.all;
+if(!g)return;
+g.remove();r.ownerSVGElement.classList.remove('zoom');r.dataset.first=all.first;r.dataset.width=all.width;r.dataset.counts=all.counts;if(all.line)r.dataset.line=all.line};
+document.addEventListener('pointerdown',function(e){
+var r=e.target.closest&&e.target.closest('rect[data-counts]');
+if(!r||e.button||e.pointerType==='touch')return;
+e.preventDefault();drag={r:r,from:part(r,e),mark:make('rect',{class:'waits k1',y:box(r)[1],width:0,height:box(r)[3]},r.ownerSVGElement)}});
+document.addEventListener('pointermove',function(e){
+if(!drag)return;
+var b=box(drag.r),to=part(drag.r,e);drag.mark.setAttribute('x',b[0]+b[2]*Math.min(drag.from,to));drag.mark.setAttribute('width',b[2]*Math.abs(to-drag.from))});
+document.addEventListener('pointerup',function(e){
+if(!drag)return;
+var its=drag,to=part(its.r,e);drag=null;its.mark.remove();
+if(Math.abs(to-its.from)>.02)zoom(its.r,Math.min(its.from,to),Math.max(its.from,to))});
+document.addEventListener('dblclick',function(e){var r=e.target.closest&&e.target.closest('rect[data-counts]');if(r)reset(r)});
+whole.onclick=function(){document.querySelectorAll('svg.zoom rect[data-counts]').forEach(reset);whole.hidden=true};
 """
 # Sorts a table by a column.
 SORT = """
@@ -172,7 +229,7 @@ def header(title: str, parts: Sequence[str] = ()) -> str:
     return f'<header><button class="theme">dark / light</button><button class="scale">log / linear</button><h1>{escape(title)}</h1>{"".join(parts)}</header>'
 
 
-def page(title: str, head: str, parts: Sequence[str], script: str = SORT, more: str = "") -> str:
+def page(title: str, head: str, parts: Sequence[str], script: str = SORT + ZOOM, more: str = "") -> str:
     """A page that runs no script but its own. It fetches nothing, but for what `more` of its policy allows."""
     whole = SCRIPT + script
     digest = base64.b64encode(hashlib.sha256(whole.encode()).digest()).decode()
