@@ -3,7 +3,7 @@ import collections
 import math
 from typing import Counter, Dict, List, NamedTuple, Optional, Tuple
 
-from camac.numbers import Numbers, added, below, column_sums, counted, differences, ends, joined, places, scaled, sums, sums_of, tally
+from camac.numbers import Numbers, added, column_sums, differences, ends, listed, places, scaled, sums, sums_of
 
 
 class Bins(NamedTuple):
@@ -61,7 +61,7 @@ class Spectrum(Totals):
     def counts(self) -> Counter[int]:
         """By number how often it came, without the bits that are not kept."""
         if self._recent is not None:
-            self._counts.update(counted(self._recent))
+            self._counts.update({at: count for at, count in enumerate(self._recent.tolist()) if count})
             self._recent = None
         return self._counts
 
@@ -75,13 +75,11 @@ class Spectrum(Totals):
             self.overflow += int(counts[self.end :].sum())
             self._recent = added(self._recent, counts[: self.end], self.shift)
             return
-        its = sums(numbers)
-        self.note(*its)
-        if its.greatest >= self.end:
-            inside = below(numbers, self.end)
-            self.overflow += len(numbers) - len(inside)
-            numbers = inside
-        self._counts.update(tally(numbers, self.shift))
+        numbers = listed(numbers)
+        self.note(*sums(numbers))
+        inside = [it >> self.shift for it in numbers if it < self.end]
+        self.overflow += len(numbers) - len(inside)
+        self._counts.update(inside)
 
     def note(self, count: int, total: int, squares: int, least: int, greatest: int) -> None:
         super().note(count, total, squares, least, greatest)
@@ -182,7 +180,6 @@ class Pairs:
 
     __slots__ = ("ends", "shifts", "cells", "count")
     USUAL, MOST = 64, 512
-    BITS = MOST.bit_length()
 
     def __init__(self, *ends: Optional[int], most: int = USUAL) -> None:
         bits = min(most, self.MOST).bit_length() - 1
@@ -196,8 +193,8 @@ class Pairs:
         for axis, numbers in enumerate((across, up)):
             self.widen_to(axis, ends(numbers)[1])
         self.count += len(across)
-        for cell, count in tally(joined(across, up, self.shifts, self.BITS)).items():
-            self.cells[cell >> self.BITS, cell & (1 << self.BITS) - 1] += count
+        one, other = ([it >> shift for it in listed(numbers)] for numbers, shift in zip((across, up), self.shifts))
+        self.cells.update(zip(one, other))
 
     def widen_to(self, axis: int, number: int) -> None:
         while number >= self.ends[axis]:

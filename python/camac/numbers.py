@@ -1,5 +1,4 @@
 """What is done with many numbers at once, in lists or in arrays of numpy: all that differs between them."""
-import collections
 import heapq
 import importlib
 import itertools
@@ -10,9 +9,8 @@ from typing import Any, Dict, Iterable, List, NamedTuple, Optional, Sequence, Tu
 
 # A list of whole numbers, or an array of numpy, which need not be here.
 Numbers = Any
-# The squares of this number of words of 24 bits add up to less than 2^64. Below this number, and with so many places for each at most, numbers are
-# counted by place.
-MOST_SQUARES, DENSE, PLACES = 1 << 15, 1 << 16, 8
+# Below this number, and with so many places for each at most, numbers are counted by place.
+DENSE, PLACES = 1 << 16, 8
 
 
 class Sums(NamedTuple):
@@ -31,11 +29,13 @@ def is_array(numbers: Numbers) -> bool:
 
 def sums(numbers: Numbers) -> Sums:
     """The sums of one number or more."""
-    if not is_array(numbers):
-        return Sums(len(numbers), sum(numbers), sum(map(operator.mul, numbers, numbers)), min(numbers), max(numbers))
-    whole = numbers.astype("u8")
-    squares = sum(int((part * part).sum()) for part in (whole[at : at + MOST_SQUARES] for at in range(0, len(whole), MOST_SQUARES)))
-    return Sums(len(numbers), int(whole.sum()), squares, int(numbers.min()), int(numbers.max()))
+    numbers = listed(numbers)
+    return Sums(len(numbers), sum(numbers), sum(map(operator.mul, numbers, numbers)), min(numbers), max(numbers))
+
+
+def listed(numbers: Numbers) -> Sequence[int]:
+    its: Sequence[int] = numbers.tolist() if is_array(numbers) else numbers
+    return its
 
 
 def whole(numbers: Numbers) -> Numbers:
@@ -86,28 +86,9 @@ def added(one: Numbers, other: Numbers, shift: int) -> Numbers:
     return one
 
 
-def below(numbers: Numbers, end: int) -> Numbers:
-    """Those that are less than `end`."""
-    return numbers[numbers < end] if is_array(numbers) else [it for it in numbers if it < end]
-
-
 def each(numbers: Numbers, low: int, mask: int) -> Numbers:
     """The bits of each number from `low` on that a mask leaves."""
     return (numbers >> low if low else numbers) & mask if is_array(numbers) else [it >> low & mask for it in numbers]
-
-
-def tally(numbers: Numbers, shift: int = 0) -> Dict[int, int]:
-    """How often each number is there, without its last bits."""
-    if not is_array(numbers):
-        return collections.Counter([it >> shift for it in numbers] if shift else numbers)
-    values, counts = importlib.import_module("numpy").unique(numbers >> shift, return_counts=True)
-    return dict(zip(values.tolist(), counts.tolist()))
-
-
-def counted(counts: Numbers) -> Dict[int, int]:
-    """Counts by number as `tally` gives them."""
-    its = counts.nonzero()[0]
-    return dict(zip(its.tolist(), counts[its].tolist()))
 
 
 def greatest(most: int, numbers: Numbers, others: Numbers) -> List[int]:
@@ -165,13 +146,6 @@ def met(*sides: Tuple[Numbers, Numbers]) -> Tuple[Numbers, Numbers]:
     across, up = (dict(zip(reversed(events), reversed(numbers))) for events, numbers in sides)
     its = [at for at in across if at in up]
     return [across[at] for at in its], [up[at] for at in its]
-
-
-def joined(high: Numbers, low: Numbers, shifts: Sequence[int], bits: int) -> Numbers:
-    """Two numbers as one, each without its last bits; so many bits are left of the lower one."""
-    if is_array(high):
-        return high >> shifts[0] << bits | low >> shifts[1]
-    return [one >> shifts[0] << bits | other >> shifts[1] for one, other in zip(high, low)]
 
 
 def split(tags: Numbers, parts: Iterable[Numbers]) -> Dict[int, List[Numbers]]:

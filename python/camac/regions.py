@@ -33,7 +33,9 @@ def measure(low: int, counts: Sequence[int], each: int = 1) -> Region:
     left, right = sum(counts[:SIDE]) / SIDE, sum(counts[-SIDE:]) / SIDE
     net = gross - size * (left + right) / 2
     unsure = math.sqrt(gross + size**2 * (left + right) / (4 * SIDE))
-    begin = [max(counts) - (left + right) / 2, float(max(range(size), key=counts.__getitem__)), size / 6, left, (right - left) / size]
+    # The fit begins with the deviation that a peak of this height and area has.
+    height = max(max(counts) - (left + right) / 2, 1.0)
+    begin = [height, float(max(range(size), key=counts.__getitem__)), min(max(net / height / 2.5, 0.5), size / 6), left, (right - left) / size]
     found = _fit(counts, begin) if net > 0 else None
     if found is None:
         return Region(gross, Measured(net, unsure), None, None)

@@ -27,6 +27,7 @@ a{{color:var(--ours)}}
 .figure{{overflow-x:auto;margin:8px 0 14px}}
 .figure svg{{display:block;max-width:100%;height:auto}}
 .figure.full svg{{max-width:none}}
+@media screen and (max-width:720px){{.figure svg{{max-width:none;width:720px}}}}
 .panels svg{{display:inline-block;margin:0 12px 10px 0;vertical-align:top;max-width:100%}}
 svg .log,.logarithmic svg .lin{{display:none}}
 .logarithmic svg .log{{display:inline}}
@@ -63,7 +64,8 @@ body{{font-size:11pt}}
 main,header{{padding:0}}
 .theme,.scale,.whole,.hint,nav{{display:none}}
 thead th{{position:static}}
-h2,h3,h4,p,summary{{break-after:avoid}}
+h2,h3,h4,p,summary{{break-after:avoid;break-inside:avoid}}
+.figure+p,.wrap+p{{break-before:avoid}}
 .wrap{{max-height:none;overflow:visible;border:0}}
 .wrap table{{font-size:8pt}}
 .wrap th,.wrap td{{padding:2px 4px}}
@@ -122,6 +124,7 @@ if(it[0].length)make('path',{d:way+'H'+(x+w)+'V'+foot+it[2],class:it[1]},to)});
 if(kind==='log')for(var n=1;n*1.8<peak;n*=10)ticks.push(n);else ticks.push(0);
 ticks.forEach(function(n){label(to,x-5,foot-high(n)+4,'r',n<1e5?commas(n):(n/1e3).toPrecision(3)+'k')})});
 var its=r.dataset,length=counts.length*its.width,means=meaning(r);
+make('path',{d:'M'+x+' '+(foot+.5)+'h'+w+[0,1,2,3,4].map(function(k){return'M'+(x+k*w/4)+' '+foot+'v4'}).join(''),class:'l-mute thin'},g);
 for(var k=0;k<5;k++)label(g,k<4?x+k*w/4:svg.viewBox.baseVal.width,foot+14,k<4?'m':'r',means(Math.round(+its.first+k*length/4)))};
 var zoom=function(r,from,to){
 var its=r.dataset;

@@ -9,7 +9,7 @@ from camac.values import Body, Ending, Plan, Response, Service
 from camac.pictures import (
     channel_groups, command_groups, draw_bounds, draw_calls, draw_costs, draw_pairs, draw_places, draw_plan, draw_response, draw_run, draw_strip, event_groups,
 )
-from camac.pictures.regions import draw_regions, names_title
+from camac.pictures import regions
 from camac.pictures.spectra import ZOOMED
 from camac.numbers import greatest, total
 from camac.pictures.svg import count, escape, share
@@ -271,9 +271,10 @@ def histograms(facts: Facts) -> str:
         out.append(panels(command_groups(run, facts.plan, ZOOMED)))
     channels = run.list_channels()
     if channels:
-        out += [f"<h3>{escape(names_title(run.asked))}</h3>", panels(channel_groups(channels, ZOOMED, over=run.over))]
+        out += [f"<h3>{escape(regions.names_title(run.asked))}</h3>", panels(channel_groups(channels, ZOOMED, over=run.over))]
     if run.asked.regions:
-        out += ["<h3>Regions</h3>", figure(draw_regions(run))]
+        titles = [Column("region", True), *(Column(title) for _, title in regions.COLUMNS)]
+        out += ["<h3>Regions</h3>", table(titles, regions.measured(run)), f'<p class="mute">{regions.FOOT}</p>']
     if run.asked.pair and run.pairs:
         out += ["<h3>Two numbers of an event</h3>", figure(draw_pairs(*run.asked.pair, run.pairs))]
     out.append("<h3>By the place of the word in its event</h3>")
