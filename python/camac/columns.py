@@ -6,7 +6,6 @@ from typing import List, Optional, Sequence, Tuple
 
 from camac.drive import File, UsageFault
 from camac.fits import Check
-from camac.histograms import Pairs
 from camac.record import Source, beside, record_checks
 from camac.runs import Asked, Cut, Inputs, Over, Run, collect, is_event_file
 from camac.texts import plan_text, script_text
@@ -18,15 +17,15 @@ from camac.words import Column, Words
 
 @dataclass(frozen=True)
 class Naming:
-    """What a user says of the words of events: a file (words.toml), two names to draw against each other in at most so many bins, names with the first and
-    the last number of gates, and of regions, and the events of another run to draw over these."""
+    """What a user says of the words of events: a file (words.toml), two names to draw against each other, names with the first and the last number of gates,
+    and of regions, the events of another run to draw over these, and the most bins."""
 
     file: Optional[File] = None
     pair: Optional[Tuple[str, str]] = None
     gates: Tuple[Tuple[str, int, int], ...] = ()
     regions: Tuple[Tuple[str, int, int], ...] = ()
     over: Optional[File] = None
-    bins: int = dataclasses.field(default=Pairs.USUAL, compare=False)
+    bins: Optional[int] = dataclasses.field(default=None, compare=False)
 
 
 def ask(naming: Naming, inputs: Inputs, plan: Plan, services: List[Service]) -> Asked:

@@ -111,12 +111,12 @@ class Sent:
 
 @dataclasses.dataclass(frozen=True)
 class Asked:
-    """What is asked of the words of events: the columns that they have, two of these that are wanted against each other in at most so many bins, gates that
-    an event has to pass, and regions that are measured."""
+    """What is asked of the words of events: the columns that they have, two of these that are wanted against each other, the most bins, gates that an event
+    has to pass, and regions that are measured."""
 
     names: Words = dataclasses.field(default_factory=Words)
     pair: Optional[Tuple[Column, Column]] = None
-    bins: int = Pairs.USUAL
+    bins: Optional[int] = None
     gates: Tuple["Cut", ...] = ()
     regions: Tuple["Cut", ...] = ()
 
@@ -235,7 +235,7 @@ class Run:
         self.by_place: Dict[Tuple[int, int], Spectrum] = {}
         self.asked = asked or Asked()
         of_pair = [None if it.greatest == FULL_WORD else it.greatest + 1 for it in self.asked.pair or ()]
-        self.pairs = Pairs(*of_pair, most=self.asked.bins) if of_pair else None
+        self.pairs = Pairs(*of_pair, most=self.asked.bins or Pairs.USUAL) if of_pair else None
         self.channels = Channels(self.asked.regions)
         self.over: Optional[Over] = None
         self.seen: Dict[int, SeenOfBit] = {}

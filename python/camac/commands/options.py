@@ -71,4 +71,4 @@ def add_overwrite(to: argparse.ArgumentParser) -> None:
 
 def naming(args: argparse.Namespace) -> Naming:
     pair = (args.pair[0], args.pair[1]) if args.pair else None
-    return Naming(args.words, pair, args.gate, args.region, args.over, args.bins or Pairs.USUAL)
+    return Naming(args.words, pair, args.gate, args.region, args.over, args.bins)

@@ -10,7 +10,7 @@ from camac.pictures import (
     channel_groups, command_groups, draw_bounds, draw_calls, draw_costs, draw_pairs, draw_places, draw_plan, draw_response, draw_run, draw_strip, event_groups,
 )
 from camac.pictures import regions
-from camac.pictures.spectra import ZOOMED
+from camac.pictures.spectra import BINS, ZOOMED, View
 from camac.numbers import greatest, total
 from camac.pictures.svg import count, escape, share
 from camac.report.page import Cell, Column, Row, figure, folded, header, panels, table
@@ -271,7 +271,7 @@ def histograms(facts: Facts) -> str:
         out.append(panels(command_groups(run, facts.plan, ZOOMED)))
     channels = run.list_channels()
     if channels:
-        out += [f"<h3>{escape(regions.names_title(run.asked))}</h3>", panels(channel_groups(channels, ZOOMED, over=run.over))]
+        out += [f"<h3>{escape(regions.names_title(run.asked))}</h3>", panels(channel_groups(channels, ZOOMED, View(most=run.asked.bins or BINS), run.over))]
     if run.asked.regions:
         titles = [Column("region", True), *(Column(title) for _, title in regions.COLUMNS)]
         out += ["<h3>Regions</h3>", table(titles, regions.measured(run)), f'<p class="mute">{regions.FOOT}</p>']
