@@ -168,8 +168,7 @@ def whole_records(numpy: Any, data: Any, number: int) -> Optional[Tuple[EventArr
         words = alike[:, head:].ravel()
     else:
         is_word = numpy.ones(ends[-1], bool)
-        for at in range(head):
-            is_word[starts + at] = False
+        is_word[starts[:, None] + numpy.arange(head)] = False
         words = numbers[: ends[-1]][is_word]
     is_good = (
         starts[0] == 0

@@ -90,7 +90,9 @@ class Spectrum(Totals):
         self.end *= 2
         if self.end >> self.shift > self.most:
             self.shift += 1
-            self._counts = _halved(self.counts)
+            counts, self._counts = self.counts, collections.Counter()
+            for at, count in counts.items():
+                self._counts[at >> 1] += count
 
     def integral(self) -> int:
         """How many numbers are on the axis."""
@@ -113,13 +115,6 @@ class Spectrum(Totals):
         if not self.counts:
             return None
         return min(self.counts, key=lambda at: (-self.counts[at], at)) << self.shift
-
-
-def _halved(counts: Counter[int]) -> "Counter[int]":
-    halved: Counter[int] = collections.Counter()
-    for at, count in counts.items():
-        halved[at >> 1] += count
-    return halved
 
 
 class Series:
@@ -191,14 +186,11 @@ class Pairs:
     def add_all(self, across: Numbers, up: Numbers) -> None:
         """Counts pairs, of which there is one at least."""
         for axis, numbers in enumerate((across, up)):
-            self.widen_to(axis, ends(numbers)[1])
+            while ends(numbers)[1] >= self.ends[axis]:
+                self._double(axis)
         self.count += len(across)
         one, other = ([it >> shift for it in listed(numbers)] for numbers, shift in zip((across, up), self.shifts))
         self.cells.update(zip(one, other))
-
-    def widen_to(self, axis: int, number: int) -> None:
-        while number >= self.ends[axis]:
-            self._double(axis)
 
     def _double(self, axis: int) -> None:
         self.ends[axis] *= 2

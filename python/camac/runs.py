@@ -120,12 +120,6 @@ class Asked:
     gates: Tuple["Cut", ...] = ()
     regions: Tuple["Cut", ...] = ()
 
-    def select(self, of: Sequence[Group]) -> Sequence[Group]:
-        """The events that pass the gates."""
-        for it in self.gates:
-            of = it.select(self.names, of)
-        return of
-
 
 class Cut(NamedTuple):
     """The numbers of a column from the first to the last one."""
@@ -275,7 +269,9 @@ class Run:
                 by_place.setdefault((it.gl, at), []).append(words)
         for key, parts in by_place.items():
             self.by_place.setdefault(key, Spectrum(None, PLACE_BINS)).add_all(join(parts))
-        across, up = self.channels.take(self.asked.names, self.asked.select(of), self.asked.pair or ())
+        for gate in self.asked.gates:
+            of = gate.select(self.asked.names, of)
+        across, up = self.channels.take(self.asked.names, of, self.asked.pair or ())
         if len(across) and self.pairs:
             self.pairs.add_all(across, up)
 

@@ -84,8 +84,9 @@ var commas=function(n){return String(n).replace(/\\B(?=(\\d{3})+$)/g,',')};
 var meaning=function(r){var scale=+(r.dataset.scale||1),offset=+(r.dataset.offset||0);
 return function(n){var v=+(n*scale+offset).toPrecision(6);return Number.isInteger(v)?commas(v):v}};
 var root=document.documentElement,tip=document.getElementById('tip');
+var below=function(e){return e.target.closest&&e.target.closest('rect[data-counts]')};
 document.addEventListener('mousemove',function(e){
-var r=e.target.closest&&e.target.closest('rect[data-counts]');
+var r=below(e);
 if(!r){tip.style.display='none';return}
 var counts=r.dataset.counts.split(' ').map(Number),first=+r.dataset.first,width=+r.dataset.width;
 var means=meaning(r),line=r.dataset.line;
@@ -123,36 +124,32 @@ var way='M'+x+' '+foot;it[0].forEach(function(n,k){way+='H'+(x+k*w/it[0].length)
 if(it[0].length)make('path',{d:way+'H'+(x+w)+'V'+foot+it[2],class:it[1]},to)});
 if(kind==='log')for(var n=1;n*1.8<peak;n*=10)ticks.push(n);else ticks.push(0);
 ticks.forEach(function(n){label(to,x-5,foot-high(n)+4,'r',n<1e5?commas(n):(n/1e3).toPrecision(3)+'k')})});
-var its=r.dataset,length=counts.length*its.width,means=meaning(r);
-make('path',{d:'M'+x+' '+(foot+.5)+'h'+w+[0,1,2,3,4].map(function(k){return'M'+(x+k*w/4)+' '+foot+'v4'}).join(''),class:'l-mute thin'},g);
-for(var k=0;k<5;k++)label(g,k<4?x+k*w/4:svg.viewBox.baseVal.width,foot+14,k<4?'m':'r',means(Math.round(+its.first+k*length/4)))};
+make('path',{d:'M'+x+' '+(foot+.5)+'h'+w,class:'l-mute thin'},g);
+for(var k=0;k<5;k++){make('path',{d:'M'+(x+k*w/4)+' '+foot+'v4',class:'l-mute thin'},g);
+label(g,k<4?x+k*w/4:svg.viewBox.baseVal.width,foot+14,k<4?'m':'r',meaning(r)(Math.round(+r.dataset.first+k*counts.length*r.dataset.width/4)))}};
 var zoom=function(r,from,to){
 var its=r.dataset;
 if(!r.all)r.all={first:+its.first,width:its.width,counts:its.counts,line:its.line,each:+(its.each||its.width),fine:unpacked(its.fine||its.counts),over:its.over?unpacked(its.over):[]};
 var all=r.all,shown=its.counts.split(' ').length*its.width,at=function(part){return(+its.first+part*shown-all.first)/all.each};
-var low=Math.floor(at(from)),size=Math.max(Math.ceil(at(to))-low,4),per=1;
-while(size/per>128)per*=2;
+var low=Math.floor(at(from)),size=Math.max(Math.ceil(at(to))-low,4),per=1;while(size/per>128)per*=2;
 size=Math.ceil(size/per)*per;low=Math.max(Math.min(low,all.fine.length-size),0);
 var counts=summed(all.fine.slice(low,low+size),per),over=summed(all.over.slice(low,low+size),per);
 reset(r);its.first=all.first+low*all.each;its.width=per*all.each;its.counts=counts.join(' ');
 if(over.length)its.line=over.map(function(n){return+n.toPrecision(4)}).join(' ');
 draw(r,counts,over);whole.hidden=false};
 var reset=function(r){
-var g=r.ownerSVGElement.querySelector('.zoomed'),all=r.all;
-if(!g)return;
-g.remove();r.ownerSVGElement.classList.remove('zoom');r.dataset.first=all.first;r.dataset.width=all.width;r.dataset.counts=all.counts;if(all.line)r.dataset.line=all.line};
+var svg=r.ownerSVGElement,g=svg.querySelector('.zoomed');
+if(g){g.remove();svg.classList.remove('zoom');['first','width','counts','line'].forEach(function(it){if(r.all[it]!==undefined)r.dataset[it]=r.all[it]})}};
 document.addEventListener('pointerdown',function(e){
-var r=e.target.closest&&e.target.closest('rect[data-counts]');
+var r=below(e);
 if(!r||e.button||e.pointerType==='touch')return;
 e.preventDefault();drag={r:r,from:part(r,e),mark:make('rect',{class:'waits k1',y:box(r)[1],width:0,height:box(r)[3]},r.ownerSVGElement)}});
-document.addEventListener('pointermove',function(e){
+['pointermove','pointerup'].forEach(function(kind){document.addEventListener(kind,function(e){
 if(!drag)return;
-var b=box(drag.r),to=part(drag.r,e);drag.mark.setAttribute('x',b[0]+b[2]*Math.min(drag.from,to));drag.mark.setAttribute('width',b[2]*Math.abs(to-drag.from))});
-document.addEventListener('pointerup',function(e){
-if(!drag)return;
-var its=drag,to=part(its.r,e);drag=null;its.mark.remove();
-if(Math.abs(to-its.from)>.02)zoom(its.r,Math.min(its.from,to),Math.max(its.from,to))});
-document.addEventListener('dblclick',function(e){var r=e.target.closest&&e.target.closest('rect[data-counts]');if(r)reset(r)});
+var its=drag,b=box(its.r),to=part(its.r,e),low=Math.min(its.from,to),wide=Math.abs(to-its.from);
+its.mark.setAttribute('x',b[0]+b[2]*low);its.mark.setAttribute('width',b[2]*wide);
+if(kind==='pointerup'){drag=null;its.mark.remove();if(wide>.02)zoom(its.r,low,low+wide)}})});
+document.addEventListener('dblclick',function(e){if(below(e))reset(below(e))});
 whole.onclick=function(){document.querySelectorAll('svg.zoom rect[data-counts]').forEach(reset);whole.hidden=true};
 """
 # Sorts a table by a column.
