@@ -56,8 +56,7 @@ def ends(numbers: Numbers) -> Tuple[int, int]:
 
 def kinds(numbers: Numbers) -> List[int]:
     """Each number that is there, in order."""
-    its: List[int] = importlib.import_module("numpy").bincount(numbers).nonzero()[0].tolist() if is_array(numbers) else sorted({*numbers})
-    return its
+    return [*importlib.import_module("numpy").bincount(numbers).nonzero()[0].tolist()] if is_array(numbers) else sorted({*numbers})
 
 
 def places(numbers: Numbers) -> Numbers:

@@ -5,10 +5,9 @@ from camac.pictures.svg import Canvas
 from camac.regions import Measured, measure
 from camac.runs import Asked, Run
 
-# The most bins in which a region is measured.
-MOST = 8192
 COLUMNS = ((300, "counts"), (440, "above the line"), (640, "centroid"), (820, "FWHM"))
-HIGH = 18
+# The height of a line, and the most bins in which a region is measured.
+HIGH, MOST = 18, 8192
 FOOT = "± one standard deviation; a peak is fitted as a normal distribution on a line, in numbers of the converter"
 
 

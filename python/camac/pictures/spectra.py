@@ -201,8 +201,8 @@ def _laid_over(it: Shown, bins: Bins) -> List[float]:
     if it.over is None:
         return []
     spectrum, factor = it.over
+    # An axis without an end may have bins of another width: they are as high as these.
     its = spectrum.bins(bins.first, bins.first + _length(bins), len(bins.counts))
-    # Bins of another width, which an axis without an end may have, are as high as these.
     return [factor * its.counts[at * bins.width // its.width] * bins.width / its.width for at in range(len(bins.counts))]
 
 
