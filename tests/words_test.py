@@ -570,7 +570,8 @@ class Spectra(Case):
                 self.assertIn(f", of events with {across} from 1,000 to 1,999 and {up} from 3,000 to 3,099<", picture)
                 of_map = picture[picture.index(f">{up} against {across}<") :]
                 cells = len({(one // size, other // size) for one, other in inside})
-                self.assertEqual(len(re.findall(r"M\d+ \d+H\d+V\d+H\d+z", of_map[: of_map.index("events with both")])), cells)
+                boxes = re.findall(r"M(\d+) (\d+)H(\d+)V(\d+)H\d+z", of_map[: of_map.index("events with both")])
+                self.assertEqual(len({it for it in boxes if int(it[0]) < int(it[2]) and int(it[1]) < int(it[3])}), cells)
                 found.add((bins, picture))
         self.assertEqual(len(found), 3)
 
