@@ -110,14 +110,6 @@ class Spectrum(Totals):
                 counts[((at << self.shift) - low) // width] += count
         return Bins(low, width, counts)
 
-    def add_alike(self, number: int, count: int) -> None:
-        """Counts one number so many times."""
-        self.note(count, count * number, count * number**2, number, number)
-        if number < self.end:
-            self.counts[number >> self.shift] += count
-        else:
-            self.overflow += count
-
     def peak(self) -> Optional[int]:
         """The number that is there most often, the least of several; of wide bins where that of the greatest count begins. None of an empty spectrum."""
         if not self.counts:

@@ -296,7 +296,7 @@ class Server(http.server.ThreadingHTTPServer):
         """The text of a page, or of its parts as JSON; None if there is no such page."""
         way, _, query = path.partition("?")
         folder, _, name = way.rpartition("/")
-        its: Any = self.watch if folder == "" else self.watch.open(urllib.parse.unquote(folder[1:])) if isinstance(self.watch, RunList) else None
+        its: Any = self.watch if folder == "" else self.watch.open(os.fsdecode(urllib.parse.unquote_to_bytes(folder[1:]))) if isinstance(self.watch, RunList) else None
         if its is None or not way.startswith("/") or name not in ("", "state"):
             return None
         if name == "":
