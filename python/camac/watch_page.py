@@ -26,8 +26,9 @@ FORM = (
     '<label>from <input name="low" type="number" min="0"></label><label>to <input name="last" type="number" min="0"></label>'
     '<button type="button" id="whole">whole</button><button type="button" id="sound" aria-pressed="false">sound of alarms</button></form>'
     '<p class="mute">Click on a spectrum, or type its name, to see it large; drag to see a part, and to measure it. A double click or <i>whole</i> shows all.</p>'
-    '<div id="band" hidden></div>'
+    '<div id="band" hidden></div><div id="one"></div>'
 )
+NOTES = '<div id="alarms" role="alert"></div><div id="notes"></div><div id="tiles"></div>'
 # What asks for the parts: `query` is what the form says, and `tell` is called with each answer, or without one.
 ASK = f"""
 var lost=document.getElementById('lost'),shown={{}},timer,query=function(){{return ''}},tell=function(){{}};
