@@ -681,12 +681,18 @@ class InChromium(laboratory.BenchCase):
 
     @needed("poppler-utils")
     def test_paper(self):
-        """No page of paper ends with a heading, and the lines of calls are open."""
+        """No page of paper ends with a heading, none begins with what is said of the picture before, and the lines of calls are open."""
+        events = self.room / "paper.events"
+        laboratory.call("run", *self.inputs, events)
         headings = "Array.from(document.querySelectorAll('h2,h3,h4,summary')).map(it=>it.textContent)"
         with Browser() as browser:
             self.opened(browser, report(self.inputs).text)
             names = set(browser.ask(headings))
             browser.paper(self.room / "page.pdf")
+            self.opened(browser, report(self.inputs._replace(source=events)).text)
+            browser.paper(self.room / "events.pdf")
+        told = subprocess.run(["pdftotext", self.room / "events.pdf", "-"], capture_output=True, text=True, check=True).stdout
+        self.assertRegex(told, r"[^\f]An event file does not show how late")
         pages = subprocess.run(["pdftotext", "-layout", self.room / "page.pdf", "-"], capture_output=True, text=True, check=True).stdout.split("\f")
         self.assertGreater(len(pages), 5)
         for page in pages[:-1]:

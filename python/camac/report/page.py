@@ -64,8 +64,8 @@ body{{font-size:11pt}}
 main,header{{padding:0}}
 .theme,.scale,.whole,.hint,nav{{display:none}}
 thead th{{position:static}}
-h2,h3,h4,p,summary{{break-after:avoid;break-inside:avoid}}
-.figure+p,.wrap+p{{break-before:avoid}}
+h2,h3,h4,p,summary{{break-after:avoid}}
+.figure+p,.wrap+p{{break-before:avoid;break-after:auto}}
 .wrap{{max-height:none;overflow:visible;border:0}}
 .wrap table{{font-size:8pt}}
 .wrap th,.wrap td{{padding:2px 4px}}
