@@ -604,7 +604,7 @@ class InChromium(ServedCase):
             browser.call("Page.navigate", url=server.address())
             self.until(browser, "document.querySelectorAll('#channels svg').length>0", True)
             self.assertEqual(browser.ask("document.documentElement.scrollWidth"), 400)
-            cut = "Array.from(document.querySelectorAll('svg')).filter(it=>it.getBoundingClientRect().right>400).length"
+            cut = "Array.from(document.querySelectorAll('.panels svg')).filter(it=>it.getBoundingClientRect().right>400).length"
             self.assertEqual(browser.ask(cut), 0)
 
 

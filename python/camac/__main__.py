@@ -8,7 +8,7 @@ from typing import Any, Callable, Dict, List, Mapping, Optional, Sequence, TextI
 
 from camac import pictures, tables
 from camac.annotate import FIRST_LINE, annotate
-from camac.columns import Naming, ask, compare_record
+from camac.columns import Naming, gather
 from camac.commands import check as check_command
 from camac.commands import diff, export, fmt, lsp, simulate, survey, watch
 from camac.commands.options import add_every, add_overwrite, add_view, add_words, naming, read_cuts, read_every
@@ -23,13 +23,13 @@ from camac.pictures.regions import draw_regions, names_title
 from camac.program import knows_command
 from camac.record import refuse_foreign, write_played
 from camac.report import report
-from camac.runs import Inputs, Run, collect
+from camac.runs import Inputs, Run
 from camac.subcommands import check, costs, plan, response
 from camac.texts import source_lines
 from camac.values import Response, RunEnd
 
 # The words of a command line that name one file to read.
-INPUTS = ("plan", "script", "source", "answers", "file", "old", "new")
+INPUTS = ("plan", "script", "source", "answers", "file", "old", "new", "over")
 LOST = "{} is an input: it would be lost"
 DESCRIPTION = """\
 Judges scripts, lays them out and compares what they may take, serves editors, draws a plan, a script and a run of camac, and reports a run.
@@ -70,10 +70,7 @@ class Source:
         self.has_run = len(files) > 2
         self.run = Run(has_listing=False)
         if self.has_run:
-            inputs = Inputs(*files)
-            asked = ask(naming, inputs, self.plan, self.services) if naming else None
-            self.run = collect(inputs, self.plan, self.services, None, self.responses, asked)
-            self.run.checks += compare_record(inputs)
+            self.run = gather(Inputs(*files), self.plan, self.services, None, self.responses, naming)
 
 
 def _need(command: str) -> None:
@@ -118,7 +115,7 @@ def _draw_words(of: Source) -> Dict[str, Canvas]:
         stacked.append(("By channel: the words that modules gave with Q = 1, and the words that were sent", groups))
     channels = run.list_channels()
     if channels:
-        stacked.append((names_title(run.asked), pictures.channel_groups(channels, of.scale, of.view)))
+        stacked.append((names_title(run.asked), pictures.channel_groups(channels, of.scale, of.view, run.over)))
     for title, groups in stacked:
         canvas.stack(title, pictures.draw_groups(title, groups))
     if run.asked.regions:
@@ -263,8 +260,9 @@ def parse(words: List[str]) -> argparse.Namespace:
             its.error(f"draw {args.picture} takes {least} to {most} files" if least < most else f"draw {args.picture} takes {least} files")
         if args.every and args.picture != "response":
             its.error("--every is an option of draw response and of report")
-        if (args.words or args.pair or args.log or args.gate or args.region or args.range or args.bins) and args.picture != "words":
-            its.error("--words, --pair, --gate, --region, --range, --bins and --log are options of draw words")
+        its_words = (args.words, args.pair, args.log, args.gate, args.region, args.over, args.range, args.bins)
+        if any(its_words) and args.picture != "words":
+            its.error("--words, --pair, --gate, --region, --over, --range, --bins and --log are options of draw words")
     if args.command in ("draw", "report"):
         read_cuts(args, its)
     if args.command in ("draw", "report", "diff"):

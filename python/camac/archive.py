@@ -13,7 +13,7 @@ from camac.export import About, Given, learn
 from camac.record import beside
 from camac.words import Column, Field, Words
 
-PARTITION, LONGEST = 64 << 20, TWO.head.size + 4 * GREATEST_COUNT
+PARTITION, LONGEST = 16 << 20, TWO.head.size + 4 * GREATEST_COUNT
 numpy: Any = find_numpy()
 
 

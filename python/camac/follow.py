@@ -10,7 +10,7 @@ from camac.drive import File
 from camac.events import FORMS, HEADER, TWO, Event, EventFileFault, Form, read_further, record_size
 from camac.fits import Fit
 from camac.histograms import Spectrum
-from camac.numbers import sums
+from camac.numbers import is_array, sums
 from camac.regular import open_regular
 from camac.runs import Channel, Channels
 from camac.values import Service
@@ -32,9 +32,8 @@ class _Bit:
         self.count = self.missed = 0
 
     def take(self, its: Group) -> None:
-        count = len(its.numbers)
-        self.count += count
-        self.words.add_alike(its.size, count)
+        self.count += len(its.numbers)
+        self.words.add_all(its.numbers * 0 + its.size if is_array(its.numbers) else [its.size] * len(its.numbers))
         self.cycles.add_all(its.cycles)
         self.missed += sums(its.missed).total if len(its.missed) else 0
 
@@ -226,4 +225,5 @@ class Follower:
 
     def silence(self) -> float:
         """The same; before the first event, how long this was looked at."""
-        return self.clock() - (self.marks[0].time if self.arrived is None else self.arrived)
+        age = self.age()
+        return self.clock() - self.marks[0].time if age is None else age

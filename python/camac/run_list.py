@@ -69,10 +69,10 @@ class RunList:
 
     def row(self, name: str, its: Record) -> str:
         """A run in a line: its page, its state, its number and title."""
-        link = f'<a href="{urllib.parse.quote(name, safe="")}/">{escape(name)}</a>' if its.events else escape(name)
+        link = f'<a href="{urllib.parse.quote(os.fsencode(name), safe="")}/">{escape(name)}</a>' if its.events else escape(name)
         age = time.time() - (stamp(os.path.join(self.folder, name)) or (0, 0))[1] / 1e9
         state, is_good = (its.line, its.how == "ended") if its.line is not None else ("goes on", True) if age < PATIENCE else (f"not told for {age / 60:,.0f} min", False)
-        texts = [f"run {its.number}" if its.number is not None else "", its.title, f"begun {its.begin}" if its.begin else ""]
+        texts = [f"run {its.number}" if its.number is not None else "", its.title, f"begun {its.begin[:19]}Z" if its.begin else ""]
         texts += [f"live {share(its.demands or 0, its.seconds())}"] if its.seconds() > 0 else []
         return f'{link}: <b class="{"good" if is_good else "bad"}">{escape(state)}</b>, {escape(", ".join(filter(None, texts)))}'
 

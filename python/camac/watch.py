@@ -19,14 +19,14 @@ from camac.pictures.spectra import BOTH, View, channel_groups, draw_panel, of_ch
 from camac.pictures.svg import Canvas, escape, number, share, ticks
 from camac.printed import read_responses
 from camac.program import knows_command
-from camac.record import Record, read_record
+from camac.record import read_record
 from camac.regions import LEAST, measure
 from camac.report.page import Column, Row, figure, header, page, panels, table
 from camac.run_list import RunList, stamp
 from camac.runs import Channel
 from camac.subcommands import response
 from camac.values import Response
-from camac.watch_page import FORM, LOST, MORE, SCRIPT, STYLE
+from camac.watch_page import FORM, LOST, MORE, NOTES, SCRIPT, STYLE
 
 HOST = "127.0.0.1"
 # The seconds between two looks at the file.
@@ -37,8 +37,8 @@ SHOWN_WORDS = 16
 # The width and the most bins of a spectrum by itself, and the most numbers of a region that is measured.
 WIDE, MOST_BINS, MOST_REGION = 640, 588, 512
 MINUTES = 600
-ROLES = {"alarms": ' role="alert"'}
-PARTS = ("alarms", "notes", "tiles", "services", "rate", "one", "channels", "cycles", "last")
+# The parts of the page below its head, each with its title.
+PARTS = {"services": "Services", "rate": "Rate", "channels": "Event words by their names", "cycles": "Cycles and words of an event", "last": "The last events"}
 
 
 class Look(NamedTuple):
@@ -190,7 +190,9 @@ class Watch:
         its = [(f"{follower.counts.events:,}", "events", ""), (f"{follower.rate():,.1f}", "events a second", "")]
         its.append(("none" if age is None else _duration(age), "since the last event", ""))
         its.append((f"{missed:,}", "cycles with X = 0", "bad" if missed else ""))
-        its += _live(self.record)
+        if self.record and self.record.seconds() > 0:
+            parts = ((self.record.demands, "live, measured"), (self.record.services, "dead, measured"))
+            its += [(share(part or 0, self.record.seconds()), word, "") for part, word in parts]
         drawn = (f'<div class="tile"><b class="{kind}">{value}</b><span>{word}</span></div>' for value, word, kind in its)
         return f'<div class="tiles" data-events="{follower.counts.events}">{"".join(drawn)}</div>'
 
@@ -225,17 +227,8 @@ class Watch:
         record = self.record
         run = " ".join(filter(None, [f"run {record.number}" if record and record.number is not None else "", record.title if record else ""]))
         head = header(name, [f'<p class="mute">{escape(run)}</p>', LOST])
-        titles = {"services": "Services", "rate": "Rate", "channels": "Event words by their names", "cycles": "Cycles and words of an event", "last": "The last events"}
-        parts = [(f"<h2>{titles[it]}</h2>" if it in titles else "") + f'<div id="{it}"{ROLES.get(it, "")}></div>' for it in PARTS]
-        parts.insert(PARTS.index("one"), FORM)
-        return page(f"{name}: live", head, [STYLE, *parts], SCRIPT, MORE)
-
-
-def _live(record: Optional[Record]) -> List[Tuple[str, str, str]]:
-    """Live and dead share, as the record has them measured."""
-    total = record.seconds() if record else 0
-    its = ((record.demands, "live, measured"), (record.services, "dead, measured")) if record and total > 0 else ()
-    return [(share(part or 0, total), word, "") for part, word in its]
+        parts = [f'<h2>{title}</h2><div id="{it}"></div>' for it, title in PARTS.items()]
+        return page(f"{name}: live", head, [STYLE, NOTES, *parts[:2], FORM, *parts[2:]], SCRIPT, MORE)
 
 
 def _duration(seconds: float) -> str:
@@ -265,7 +258,7 @@ def _draw_one(it: Channel, look: Look) -> str:
 
 def _draw_rate(rates: Sequence[Tuple[float, float]], span: float) -> Canvas:
     """Events a second over the last seconds."""
-    left, wide, high = 64, 400, 90
+    left, wide, high = 64, 390, 90
     canvas = Canvas(f"Events a second of the last {_duration(span)}", left + wide + 10)
     top = max([*(it for _, it in rates), 1.0])
     canvas.line((left, 10.5 + high), (left + wide, 10.5 + high), "l-mute thin")
@@ -296,7 +289,7 @@ class Server(http.server.ThreadingHTTPServer):
         """The text of a page, or of its parts as JSON; None if there is no such page."""
         way, _, query = path.partition("?")
         folder, _, name = way.rpartition("/")
-        its: Any = self.watch if folder == "" else self.watch.open(urllib.parse.unquote(folder[1:])) if isinstance(self.watch, RunList) else None
+        its: Any = self.watch if folder == "" else self.watch.open(os.fsdecode(urllib.parse.unquote_to_bytes(folder[1:]))) if isinstance(self.watch, RunList) else None
         if its is None or not way.startswith("/") or name not in ("", "state"):
             return None
         if name == "":

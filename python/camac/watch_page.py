@@ -14,7 +14,7 @@ form{display:flex;flex-wrap:wrap;gap:8px 14px;align-items:center;margin:26px 0 0
 form button,form select,form input{font:inherit;background:var(--face);color:var(--ink);border:1px solid var(--grid);padding:3px 8px;max-width:100%}
 form input[type=number]{width:100px}
 [aria-pressed=true]{outline:2px solid var(--nox)}
-#one svg{width:100%;max-width:none;touch-action:none}
+#one .figure svg{width:100%;min-width:540px;max-width:none}
 #channels svg{cursor:crosshair}
 #band{position:fixed;pointer-events:none;background:var(--ours);opacity:.25}
 </style>"""
@@ -26,8 +26,9 @@ FORM = (
     '<label>from <input name="low" type="number" min="0"></label><label>to <input name="last" type="number" min="0"></label>'
     '<button type="button" id="whole">whole</button><button type="button" id="sound" aria-pressed="false">sound of alarms</button></form>'
     '<p class="mute">Click on a spectrum, or type its name, to see it large; drag to see a part, and to measure it. A double click or <i>whole</i> shows all.</p>'
-    '<div id="band" hidden></div>'
+    '<div id="band" hidden></div><div id="one"></div>'
 )
+NOTES = '<div id="alarms" role="alert"></div><div id="notes"></div><div id="tiles"></div>'
 # What asks for the parts: `query` is what the form says, and `tell` is called with each answer, or without one.
 ASK = f"""
 var lost=document.getElementById('lost'),shown={{}},timer,query=function(){{return ''}},tell=function(){{}};
@@ -59,6 +60,7 @@ band.style.top=its.top+'px';band.style.height=its.height+'px'});
 document.addEventListener('pointerup',function(e){if(!drag)return;var end=at(e),of=drag.closest('svg').getAttribute('aria-label'),low=Math.min(drag.from,end),is=!band.hidden;
 if(is)show(of,low,Math.max(drag.from,end));else if(drag.closest('#channels')){show(of,'','');document.getElementById('one').scrollIntoView({block:'nearest'})}
 drag=null;band.hidden=true});
+document.addEventListener('pointercancel',function(){drag=null;band.hidden=true});
 document.getElementById('one').ondblclick=function(){document.getElementById('whole').click()};
 ask();
 """
