@@ -13,7 +13,7 @@ use Rattle.camac_check_rows.specs.declared.row.Detail.{Detail}
 use Rattle.camac_check_rows.specs.declared.row.Row.{Row}
 use Rattle.camac_check_rows.specs.Rows.{found, ways, for_turning, while_turning, taken, lock_inside, lock_head, statement_verdict, inside, statement_rows, block_rows}
 use Rattle.camac_check_rows.specs.Statements.{detail_of}
-use Rattle.camac_check.proofs.Capped.{in_code, in_rules, cut, cut_all, if_reached_cut, statement_cut, block_cut}
+use Rattle.camac_check.proofs.Capped.{in_code, in_rules, cut_all, if_reached_cut, statement_cut, block_cut}
 use Rattle.camac_check_costs.specs.Bodies.{rows_if}
 use Rattle.camac_commands.specs.Commands.{Command, made_alone, detail_told, behind, behind_block, made, made_block}
 
