@@ -1,5 +1,5 @@
 -- No module declares a command where there is no crate, no station and no sub-address.
-use Rattle.std.proofs.Common.{◌≡◌, ℕ, zero, suc, ◌+◌, ◌-◌, ◌<◌, ◌≤◌, Option, Some, None, Bool, true, false, refl, ap, ◌∙◌, inr, ⊎_elim, length, arith}
+use Rattle.std.proofs.Common.{◌≡◌, ℕ, zero, suc, ◌+◌, ◌-◌, ◌<◌, ◌≤◌, Option, Some, None, Bool, true, false, refl, ap, inr, ⊎_elim, arith}
 use Rattle.std.specs.List.{list_any, range_with_len}
 use Rattle.std.specs.Prelude.{◌||◌, option_and_then, option_map}
 use Rattle.std.proofs.lemmas.Bool.{cases_lt}
