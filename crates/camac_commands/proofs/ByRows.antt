@@ -36,24 +36,24 @@ abbrev mutual
 
 -- ---- rows that begin with the details of others, and those behind them
 
-unfoldable Begins : (rows others behind : List Row) → Type 0
+unfoldable pub Begins : (rows others behind : List Row) → Type 0
 Begins rows [] rest = rows ≡ rest
 Begins [] (x ∷ xs) rest = ⊥
 Begins (r ∷ rows) (x ∷ xs) rest = (r.detail ≡ x.detail) × Begins rows xs rest
 
-begins_all : (rows : List Row) → Begins rows rows []
+pub begins_all : (rows : List Row) → Begins rows rows []
 unfolding Begins
 begins_all [] = refl
 begins_all (r ∷ rows) = (refl, begins_all rows)
 
 -- also where each of these others is changed, but not its detail
-begins_inside : (change : Row → Row) (rows xs rest : List Row) → Begins rows (map change xs) rest → ((r : Row) → (change r).detail ≡ r.detail) → Begins rows xs rest
+pub begins_inside : (change : Row → Row) (rows xs rest : List Row) → Begins rows (map change xs) rest → ((r : Row) → (change r).detail ≡ r.detail) → Begins rows xs rest
 unfolding Begins
 begins_inside change rows [] rest h same = h
 begins_inside change [] (x ∷ xs) rest h same = absurd h
 begins_inside change (r ∷ rows) (x ∷ xs) rest h same = (h.0 ∙ same x, begins_inside change rows xs rest h.1 same)
 
-begins_both : (rows xs ys rest : List Row) → Begins rows (xs ++ ys) rest → (middle : List Row) × Begins rows xs middle × Begins middle ys rest
+pub begins_both : (rows xs ys rest : List Row) → Begins rows (xs ++ ys) rest → (middle : List Row) × Begins rows xs middle × Begins middle ys rest
 unfolding Begins
 begins_both rows [] ys rest h = (rows, refl, h)
 begins_both [] (x ∷ xs) ys rest h = absurd h
@@ -66,18 +66,18 @@ unfolding Begins
 begins_none rows rest h = h
 
 -- the first row alone, and those behind it
-first_alone : {A : Type 0} (f : Detail → A) (own : Row) (rows rest : List Row) → Begins rows (own ∷ []) rest → (f (detail_told rows) ≡ f own.detail) × (drop 1 rows ≡ rest)
+pub first_alone : {A : Type 0} (f : Detail → A) (own : Row) (rows rest : List Row) → Begins rows (own ∷ []) rest → (f (detail_told rows) ≡ f own.detail) × (drop 1 rows ≡ rest)
 unfolding Begins
 first_alone f own [] rest h = absurd h
 first_alone f own (r ∷ rows) rest h = (ap f h.0, h.1)
 
-behind_first : (own : Row) (rows xs rest : List Row) → Begins rows (own ∷ xs) rest → Begins (drop 1 rows) xs rest
+pub behind_first : (own : Row) (rows xs rest : List Row) → Begins rows (own ∷ xs) rest → Begins (drop 1 rows) xs rest
 unfolding Begins
 behind_first own [] xs rest h = absurd h
 behind_first own (r ∷ rows) xs rest h = h.1
 
 -- those of a block behind the row of its statement
-begins_block : (change : Row → Row) (own : Row) (rows xs rest : List Row) → Begins rows (own ∷ map change xs) rest → ((r : Row) → (change r).detail ≡ r.detail) → Begins (drop 1 rows) xs rest
+pub begins_block : (change : Row → Row) (own : Row) (rows xs rest : List Row) → Begins rows (own ∷ map change xs) rest → ((r : Row) → (change r).detail ≡ r.detail) → Begins (drop 1 rows) xs rest
 begins_block change own rows xs rest h same = begins_inside change (drop 1 rows) xs rest (behind_first own rows (map change xs) rest h) same
 
 -- ---- the rows of the checker's code tell them
@@ -86,7 +86,7 @@ found_after : (q : Result Verdict Fault) → (found unreached (cut_all q)).after
 found_after (Ok v) = refl
 found_after (Err f) = refl
 
-same_after : (c : Context) (around : Around) (s : Statement) (k : Known) → (statement_verdict (in_code c) around s k).after ≡ (statement_verdict (in_rules c) around s k).after
+pub same_after : (c : Context) (around : Around) (s : Statement) (k : Known) → (statement_verdict (in_code c) around s k).after ≡ (statement_verdict (in_rules c) around s k).after
 same_after c around s k =
     let judged : Result Verdict Fault = if_reached unreached k (accept_statement (in_rules c) around s) in
     ap (λ q. (found unreached q).after) (if_reached_cut k (accept_statement (in_code c) around s) (accept_statement (in_rules c) around s) (λ q. statement_cut c around s q)) ∙ found_after judged
@@ -102,7 +102,7 @@ module _ (c : Context) (ps : List (List Command)) where
   BlockTold around b k rows rest = (made_block ps b rows ≡ block_commands (in_rules c) ps around b k) × (behind_block b rows ≡ rest)
 
   mutual
-    statement_told : (around : Around) (s : Statement) (k : Known) (rows rest : List Row) → Begins rows (statement_rows (in_code c) around s k) rest → Told around s k rows rest
+    pub statement_told : (around : Around) (s : Statement) (k : Known) (rows rest : List Row) → Begins rows (statement_rows (in_code c) around s k) rest → Told around s k rows rest
     statement_told around (choose line test a) k rows rest h = block_told around a (ways line test k).holds (drop 1 rows) rest (begins_block _ _ rows _ rest h (λ _. refl))
     statement_told around (choose_else line test a b) k rows rest h =
         let arms = ways line test k in
@@ -128,7 +128,7 @@ module _ (c : Context) (ps : List (List Command)) where
     statement_told around (lam_call line which l) k rows rest h = first_alone (made_alone (lam_call line which l)) _ rows rest h
     statement_told around (call line p es) k rows rest h = first_alone (λ _. unwrap_or (slice_get ps p) []) _ rows rest h
 
-    block_told : (around : Around) (b : Block) (k : Known) (rows rest : List Row) → Begins rows (rows_of around b k) rest → BlockTold around b k rows rest
+    pub block_told : (around : Around) (b : Block) (k : Known) (rows rest : List Row) → Begins rows (rows_of around b k) rest → BlockTold around b k rows rest
     block_told around done k rows rest h = (refl, begins_none rows rest h)
     block_told around (next s others) k rows rest h =
         let after : Known = (statement_verdict (in_code c) around s k).after in

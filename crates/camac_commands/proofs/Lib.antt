@@ -3,6 +3,8 @@ pub mod ByRows
 pub mod Actions
 pub mod Arguments
 pub mod Loops
+pub mod Matches
 pub mod Statements
+pub mod Made
 pub mod Services
 pub mod Counted

@@ -1,15 +1,16 @@
 -- Each service of an accepted script makes only the commands of its list.
-use Rattle.std.proofs.Common.{◌≡◌, ℕ, ◌+◌, ◌≤◌, zero, suc, List, [], ◌∷◌, ◌++◌, Some, Bool, false, refl, sym, subst, ◌∙◌, arith}
+use Rattle.std.proofs.Common.{◌≡◌, ℕ, ◌+◌, ◌≤◌, zero, suc, List, [], ◌∷◌, ◌++◌, Some, Bool, false, true, refl, sym, subst, ◌∙◌, arith}
 use Rattle.std.specs.Prelude.{IfOk, slice_get}
 use Rattle.std.proofs.lemmas.Bool.{false≢true}
-use Rattle.camac_lang.specs.Tree.{Procedure, Service, Item, next_table, next_lam, next_variables, next_procedure, next_service, Script}
+use Rattle.camac_lang.specs.Tree.{Block, Procedure, Service, Item, next_table, next_lam, next_variables, next_procedure, next_service, Script}
+use Rattle.camac_branch.specs.Address.{Address}
 use Rattle.camac_branch.specs.Plan.{Layout}
 use Rattle.camac_branch.proofs.Allowed.{allowed-in_range}
 use Rattle.camac_model.specs.State.{State, fresh}
 use Rattle.camac_model.specs.Behaviour.{Action}
 use Rattle.camac_model.specs.Fine.{most_turns}
 use Rattle.camac_model.specs.Run.{service_meaning}
-use Rattle.camac_model.specs.Meaning.{Context, context, with_procedure, routines_with, entered, block_meaning}
+use Rattle.camac_model.specs.Meaning.{context, routines_with, entered, block_meaning}
 use Rattle.camac_rules.specs.declared.case.Body.{Body}
 use Rattle.camac_rules.specs.declared.case.Body.TheVariants as body
 use Rattle.camac_rules.specs.Known.{Known}
@@ -31,31 +32,15 @@ use Rattle.camac_rules.proofs.Settings.{bare_with, setting, Matched, matched_pus
 use Rattle.camac_rules.proofs.Statements.{block_sound}
 use Rattle.camac_check.proofs.Capped.{in_code}
 use Rattle.camac_check_costs.specs.Bodies.{procedure_costs, service_costs, costs_over}
-use Rattle.camac_commands.specs.Commands.{Command, MakesOnly, made_block, commands_over, commands_of, CyclesAreListed}
+use Rattle.camac_check_rows.specs.declared.row.Row.{Row}
+use Rattle.camac_commands.specs.Commands.{Command, MakesOnly, made_block, told_over, commands_of, CyclesAreListed}
+use Rattle.camac_commands.specs.Surely.{surely_block, surely_of, MakesOne, TellsOf, SureOnesAreMade}
 use Rattle.camac_commands.proofs.ByRows.{block_commands, body_told}
 use Rattle.camac_commands.proofs.Listed.{Listed}
 use Rattle.camac_commands.proofs.Actions.{always, with_result}
-use Rattle.camac_commands.proofs.Statements.{RoutineLists, Matches, both_allowed, block_lists}
-
-matches_grow : (n : ℕ) (rs : List (ℕ → Action)) (r : ℕ → Action) (qs : List Procedure) (ls : List (List Command)) → Matches n rs qs ls → Matches n (rs ++ r ∷ []) qs ls
-matches_grow n rs r [] [] m = tt
-matches_grow n rs r [] (l ∷ ls) m = absurd m
-matches_grow n rs r (q ∷ qs) [] m = absurd m
-matches_grow n [] r (q ∷ qs) (l ∷ ls) m = absurd m
-matches_grow n (t ∷ rs) r (q ∷ qs) (l ∷ ls) m = (m.0, matches_grow n rs r qs ls m.1)
-
-matches_all : (n : ℕ) (c : Context) (ps qs : List Procedure) (ls : List (List Command)) → Matches n c.routines qs ls → Matches n (routines_with c ps) qs ls
-matches_all n c [] qs ls m = m
-matches_all n c (p ∷ ps) qs ls m = matches_all n (with_procedure c p) ps qs ls (matches_grow n c.routines (λ j. block_meaning c j p.body) qs ls m)
-
-matches_push : (n : ℕ) (plan : Layout) (rs : List (ℕ → Action)) (qs : List Procedure) (ls : List (List Command)) (r : ℕ → Action) (q : Procedure) (l : List Command)
-    → Matched plan rs qs → Matches n rs qs ls → RoutineLists n q l r → Matches n (rs ++ r ∷ []) (qs ++ q ∷ []) (ls ++ l ∷ [])
-matches_push n plan [] [] [] r q l m k h = (h, tt)
-matches_push n plan [] [] (x ∷ ls) r q l m k h = absurd k
-matches_push n plan [] (p ∷ qs) ls r q l m k h = absurd m
-matches_push n plan (t ∷ rs) [] ls r q l m k h = absurd m
-matches_push n plan (t ∷ rs) (p ∷ qs) [] r q l m k h = absurd k
-matches_push n plan (t ∷ rs) (p ∷ qs) (x ∷ ls) r q l m k h = (k.0, matches_push n plan rs qs ls r q l m.1 k.1 h)
+use Rattle.camac_commands.proofs.Matches.{Matches, matches_all, matches_push}
+use Rattle.camac_commands.proofs.Statements.{RoutineLists, both_allowed, block_lists}
+use Rattle.camac_commands.proofs.Made.{Makes, RoutineMakes, block_surely, body_sure, block_makes}
 
 module _ (plan : Layout) (script : Script) (narrow : HasWidths plan) where
   abbrev turns : ℕ
@@ -65,13 +50,12 @@ module _ (plan : Layout) (script : Script) (narrow : HasWidths plan) where
   unfolding most_turns
   enough = omega arith
 
-  -- each of these services by the list in its place
-  abbrev ServicesList : List Service → List (List Command) → Type 0
-  ServicesList vs lists = (i : ℕ) (v : Service) (cs : List Command) → slice_get vs i ≡ Some v → slice_get lists i ≡ Some cs → MakesOnly plan script v cs
+  abbrev With : List (ℕ → Action) → List Procedure → Setting
+  With rs done = setting plan script rs done
 
-  module _ (rs : List (ℕ → Action)) (done : List Procedure) (m : Matched plan rs done) (ls : List (List Command)) (k : Matches turns rs done ls) where
+  module _ (rs : List (ℕ → Action)) (done : List Procedure) (m : Matched plan rs done) where
     abbrev Here : Setting
-    Here = setting plan script rs done
+    Here = With rs done
 
     procedure_accepted : (p : Procedure) → block_has_lock p.body ≡ false → Allows (accept_procedure (seen Here) p) (λ found. RoutineSound plan p (λ n. block_meaning (of Here) n p.body))
     procedure_accepted p free =
@@ -80,9 +64,9 @@ module _ (plan : Layout) (script : Script) (narrow : HasWidths plan) where
         for_each (λ outside. Unit {0}) (λ outside v. SoundFor plan (called (own_body (seen Here)) outside) (Some q) run v) (λ outside u.
         block_sound Here narrow (serves_own plan script rs done m) (called (own_body (seen Here)) outside) p.body (λ e. absurd (false≢true (sym free ∙ e))) q))
 
-    procedure_lists : (i : ℕ) (p : Procedure) → block_has_lock p.body ≡ false
+    procedure_lists : (ls : List (List Command)) → Matches (RoutineLists turns) rs done ls → (i : ℕ) (p : Procedure) → block_has_lock p.body ≡ false
         → Allows (accept_procedure (seen Here) p) (λ found. RoutineLists turns p (made_block ls p.body (procedure_costs (in_code (seen Here)) i p).rows) (λ n. block_meaning (of Here) n p.body))
-    procedure_lists i p free =
+    procedure_lists ls k i p free =
         let own : Body = own_body (seen Here) in
         let P : Known → Verdict → Type 0 = λ q v.
         (outside : ℕ → Bool) → Unit {0} → (s : State) → Reaches (called own outside) q s → Listed (block_commands (seen Here) ls (alone_in own) p.body q) (block_meaning (of Here) turns p.body s) in
@@ -95,45 +79,93 @@ module _ (plan : Layout) (script : Script) (narrow : HasWidths plan) where
         let outside : ℕ → Bool = λ j. (s.branch j).locked in
         h.1 outside tt (entered vs s) (entry_reached own outside p.parameters vs s inside small (λ j. refl))))))
 
-  service_lists : (done : List Procedure) → Serves (setting plan script (context plan script).routines done) → (ls : List (List Command)) → Matches turns (context plan script).routines done ls
-      → (j : ℕ) (v : Service)
-      → Allows (accept_service (seen (setting plan script (context plan script).routines done)) v)
-      (λ found. MakesOnly plan script v (made_block ls v.body (service_costs (in_code (seen (setting plan script (context plan script).routines done))) j v).rows))
+    procedure_makes : (test : Command → Bool) (meant : Address → ℕ → Bool) → TellsOf test meant → (bs : List Bool) → Matches (RoutineMakes meant turns) rs done bs → (i : ℕ) (p : Procedure) → block_has_lock p.body ≡ false
+        → Allows (accept_procedure (seen Here) p) (λ found. RoutineMakes meant turns p (surely_block test bs p.body (procedure_costs (in_code (seen Here)) i p).rows) (λ n. block_meaning (of Here) n p.body))
+    procedure_makes test meant tells bs k i p free =
+        let own : Body = own_body (seen Here) in
+        let Q : Known → Type 0 = λ q. (outside : ℕ → Bool) → Unit {0} → block_surely (seen Here) test bs (alone_in own) p.body q ≡ true → (s : State) → Reaches (called own outside) q s → Makes meant (block_meaning (of Here) turns p.body s) in
+        then_allowed
+        (with_result (if_reached_allowed unreached (at_entry p.parameters) (accept_block (seen Here) (alone_in own) p.body) (λ q v. Q q) (λ outside u e s r. absurd r) (λ q.
+        for_each (λ outside. Unit {0}) (λ outside v. block_surely (seen Here) test bs (alone_in own) p.body (Some q) ≡ true → (s : State) → Reaches (called own outside) (Some q) s → Makes meant (block_meaning (of Here) turns p.body s)) (λ outside u.
+        block_makes Here narrow (serves_own plan script rs done m) turns enough test meant tells bs k (called own outside) p.body (λ e. absurd (false≢true (sym free ∙ e))) q))))
+        (λ v h. always _ (λ e vs inside small s. (
+        let outside : ℕ → Bool = λ j. (s.branch j).locked in
+        h.1 outside tt (sym (body_sure (seen Here) test bs (alone_in own) p.body (at_entry p.parameters) v h.0) ∙ e) (entered vs s) (entry_reached own outside p.parameters vs s inside small (λ j. refl)))))
+
+  abbrev Whole : List Procedure → Setting
+  Whole done = With (context plan script).routines done
+
+  service_lists : (done : List Procedure) → Serves (Whole done) → (ls : List (List Command)) → Matches (RoutineLists turns) (context plan script).routines done ls → (j : ℕ) (v : Service)
+      → Allows (accept_service (seen (Whole done)) v) (λ found. MakesOnly plan script v (made_block ls v.body (service_costs (in_code (seen (Whole done))) j v).rows))
   unfolding if_reached
   service_lists done serves ls k j v =
-      let here : Setting = setting plan script (context plan script).routines done in
-      then_allowed (with_result (block_lists here narrow serves turns enough ls k (outermost (body.Service v.lam)) v.body (λ e j. refl) at_start)) (λ found h.
-      always _ (λ b answers. subst (λ cs. Listed cs (service_meaning (context plan script) 65535 v b answers)) (sym (body_told (seen here) ls (alone_in (body.Service v.lam)) v.body (Some at_start) found h.0))
+      then_allowed (with_result (block_lists (Whole done) narrow serves turns enough ls k (outermost (body.Service v.lam)) v.body (λ e j. refl) at_start)) (λ found h.
+      always _ (λ b answers. subst (λ cs. Listed cs (service_meaning (context plan script) 65535 v b answers)) (sym (body_told (seen (Whole done)) ls (alone_in (body.Service v.lam)) v.body (Some at_start) found h.0))
       (h.1 (fresh b answers) (start_inside (body.Service v.lam) b answers))))
 
-  first_listed : (v : Service) (vs : List Service) (cs : List Command) (lists : List (List Command)) → MakesOnly plan script v cs → ServicesList vs lists → ServicesList (v ∷ vs) (cs ∷ lists)
-  first_listed v vs cs lists h others zero w ds e f =
-      let one : v ≡ w = cc in
-      let two : cs ≡ ds = cc in
-      subst (λ x. MakesOnly plan script x ds) one (subst (λ x. MakesOnly plan script v x) two h)
-  first_listed v vs cs lists h others (suc i) w ds e f = others i w ds e f
+  -- where it is told of a service that it makes one
+  abbrev MakesIf : (Address → ℕ → Bool) → Service → Bool → Type 0
+  MakesIf meant v b = b ≡ true → MakesOne plan script v meant
 
-  items_listed : (i j : ℕ) (items : List Item) (rs : List (ℕ → Action)) (done ps : List Procedure) (vs : List Service) (ls : List (List Command)) → Matched plan rs done → Matches turns rs done ls
-      → routines_with (bare_with plan script rs) ps ≡ (context plan script).routines → AreLockless ps
-      → Allows (accept_items (seen (setting plan script rs done)) items ps vs) (λ ks. ServicesList vs (commands_over ls (sections items ps vs) (costs_over (in_code (seen (setting plan script rs done))) i j (sections items ps vs))))
-  items_listed i j [] rs done ps vs ls m k e free = allowed (λ n v cs at there. absurd (cc))
-  items_listed i j (next_table ∷ rest) rs done ps vs ls m k e free = items_listed i j rest rs done ps vs ls m k e free
-  items_listed i j (next_lam ∷ rest) rs done ps vs ls m k e free = items_listed i j rest rs done ps vs ls m k e free
-  items_listed i j (next_variables line n ∷ rest) rs done ps vs ls m k e free = items_listed i j rest rs done ps vs ls m k e free
-  items_listed i j (next_procedure ∷ rest) rs done [] vs ls m k e free = items_listed i j rest rs done [] vs ls m k e free
-  items_listed i j (next_procedure ∷ rest) rs done (p ∷ ps) vs ls m k e free =
-      let run : ℕ → Action = λ n. block_meaning (of (setting plan script rs done)) n p.body in
-      let l : List Command = made_block ls p.body (procedure_costs (in_code (seen (setting plan script rs done))) i p).rows in
-      then_allowed (both_allowed (procedure_accepted rs done m ls k p free.0) (procedure_lists rs done m ls k i p free.0)) (λ found h.
-      items_listed (i + 1) j rest (rs ++ run ∷ []) (done ++ p ∷ []) ps vs (ls ++ l ∷ []) (matched_push plan rs done run p m h.1) (matches_push turns plan rs done ls run p l m k h.2) e free.1)
-  items_listed i j (next_service ∷ rest) rs done ps [] ls m k e free = items_listed i j rest rs done ps [] ls m k e free
-  items_listed i j (next_service ∷ rest) rs done ps (v ∷ vs) ls m k e free =
-      let there : Matches turns (context plan script).routines done ls = subst (λ l. Matches turns l done ls) e (matches_all turns (bare_with plan script rs) ps done ls k) in
-      then_allowed (service_lists done (serves_all plan script rs done ps m e) ls there j v) (λ one first.
-      then_allowed (items_listed i (j + 1) rest rs done ps vs ls m k e free) (λ ks others.
-      allowed (first_listed v vs _ _ first others)))
+  service_makes : (test : Command → Bool) (meant : Address → ℕ → Bool) → TellsOf test meant → (done : List Procedure) → Serves (Whole done) → (bs : List Bool) → Matches (RoutineMakes meant turns) (context plan script).routines done bs
+      → (j : ℕ) (v : Service) → Allows (accept_service (seen (Whole done)) v) (λ found. MakesIf meant v (surely_block test bs v.body (service_costs (in_code (seen (Whole done))) j v).rows))
+  unfolding if_reached
+  service_makes test meant tells done serves bs k j v =
+      then_allowed (with_result (block_makes (Whole done) narrow serves turns enough test meant tells bs k (outermost (body.Service v.lam)) v.body (λ e j. refl) at_start)) (λ found h.
+      always _ (λ e b answers. h.1 (sym (body_sure (seen (Whole done)) test bs (alone_in (body.Service v.lam)) v.body (Some at_start) found h.0) ∙ e) (fresh b answers) (start_inside (body.Service v.lam) b answers) false))
+
+  module _ {A : Type 0} (told : List A → Block → List Row → A) (Tells : Procedure → A → (ℕ → Action) → Type 0) (Says : Service → A → Type 0) where
+    -- each of these services by what is told in its place
+    abbrev ServicesSay : List Service → List A → Type 0
+    ServicesSay vs found = (i : ℕ) (v : Service) (x : A) → slice_get vs i ≡ Some v → slice_get found i ≡ Some x → Says v x
+
+    first_said : (v : Service) (vs : List Service) (x : A) (found : List A) → Says v x → ServicesSay vs found → ServicesSay (v ∷ vs) (x ∷ found)
+    first_said v vs x found h others zero w y e f =
+        let one : v ≡ w = cc in
+        let two : x ≡ y = cc in
+        subst (λ u. Says u y) one (subst (λ u. Says v u) two h)
+    first_said v vs x found h others (suc i) w y e f = others i w y e f
+
+    module _
+        (procedure_told : (rs : List (ℕ → Action)) (done : List Procedure) → Matched plan rs done → (ls : List A) → Matches Tells rs done ls → (i : ℕ) (p : Procedure) → block_has_lock p.body ≡ false
+        → Allows (accept_procedure (seen (With rs done)) p) (λ found. Tells p (told ls p.body (procedure_costs (in_code (seen (With rs done))) i p).rows) (λ n. block_meaning (of (With rs done)) n p.body)))
+        (service_told : (done : List Procedure) → Serves (Whole done) → (ls : List A) → Matches Tells (context plan script).routines done ls → (j : ℕ) (v : Service)
+        → Allows (accept_service (seen (Whole done)) v) (λ found. Says v (told ls v.body (service_costs (in_code (seen (Whole done))) j v).rows))) where
+      items_told : (i j : ℕ) (items : List Item) (rs : List (ℕ → Action)) (done ps : List Procedure) (vs : List Service) (ls : List A) → Matched plan rs done → Matches Tells rs done ls
+          → routines_with (bare_with plan script rs) ps ≡ (context plan script).routines → AreLockless ps
+          → Allows (accept_items (seen (setting plan script rs done)) items ps vs) (λ ks. ServicesSay vs (told_over told ls (sections items ps vs) (costs_over (in_code (seen (setting plan script rs done))) i j (sections items ps vs))))
+      items_told i j [] rs done ps vs ls m k e free = allowed (λ n v x at there. absurd (cc))
+      items_told i j (next_table ∷ rest) rs done ps vs ls m k e free = items_told i j rest rs done ps vs ls m k e free
+      items_told i j (next_lam ∷ rest) rs done ps vs ls m k e free = items_told i j rest rs done ps vs ls m k e free
+      items_told i j (next_variables line n ∷ rest) rs done ps vs ls m k e free = items_told i j rest rs done ps vs ls m k e free
+      items_told i j (next_procedure ∷ rest) rs done [] vs ls m k e free = items_told i j rest rs done [] vs ls m k e free
+      items_told i j (next_procedure ∷ rest) rs done (p ∷ ps) vs ls m k e free =
+          let run : ℕ → Action = λ n. block_meaning (of (setting plan script rs done)) n p.body in
+          let l : A = told ls p.body (procedure_costs (in_code (seen (setting plan script rs done))) i p).rows in
+          then_allowed (both_allowed (procedure_accepted rs done m p free.0) (procedure_told rs done m ls k i p free.0)) (λ found h.
+          items_told (i + 1) j rest (rs ++ run ∷ []) (done ++ p ∷ []) ps vs (ls ++ l ∷ []) (matched_push plan rs done run p m h.1) (matches_push Tells plan rs done ls run p l m k h.2) e free.1)
+      items_told i j (next_service ∷ rest) rs done ps [] ls m k e free = items_told i j rest rs done ps [] ls m k e free
+      items_told i j (next_service ∷ rest) rs done ps (v ∷ vs) ls m k e free =
+          let there : Matches Tells (context plan script).routines done ls = subst (λ l. Matches Tells l done ls) e (matches_all Tells (bare_with plan script rs) ps done ls k) in
+          then_allowed (service_told done (serves_all plan script rs done ps m e) ls there j v) (λ one first.
+          then_allowed (items_told i (j + 1) rest rs done ps vs ls m k e free) (λ ks others.
+          allowed (first_said v vs _ _ first others)))
 
 pub cycles_are_listed : CyclesAreListed
 cycles_are_listed plan is script ks formed accepted =
-    subst (λ r. IfOk r (λ ks. ServicesList plan script (λ at f w h. (allowed-in_range plan is at f w h).1) script.services (commands_of plan script))) accepted
-    (items_listed plan script (λ at f w h. (allowed-in_range plan is at f w h).1) 0 0 script.order [] [] script.procedures script.services [] tt tt refl (lockless script formed)).holds
+    let narrow : HasWidths plan = λ at f w h. (allowed-in_range plan is at f w h).1 in
+    let Tells : Procedure → List Command → (ℕ → Action) → Type 0 = RoutineLists 65535 in
+    let Says : Service → List Command → Type 0 = MakesOnly plan script in
+    subst (λ r. IfOk r (λ ks. ServicesSay plan script narrow made_block Tells Says script.services (commands_of plan script))) accepted
+    (items_told plan script narrow made_block Tells Says (procedure_lists plan script narrow) (service_lists plan script narrow) 0 0 script.order [] [] script.procedures script.services [] tt tt refl (lockless script formed)).holds
+
+pub sure_ones_are_made : SureOnesAreMade
+sure_ones_are_made plan is script ks formed accepted test meant tells i v at sure =
+    let narrow : HasWidths plan = λ at f w h. (allowed-in_range plan is at f w h).1 in
+    let Tells : Procedure → Bool → (ℕ → Action) → Type 0 = RoutineMakes meant 65535 in
+    let Says : Service → Bool → Type 0 = MakesIf plan script narrow meant in
+    let all : ServicesSay plan script narrow (surely_block test) Tells Says script.services (surely_of test plan script) =
+    subst (λ r. IfOk r (λ ks. ServicesSay plan script narrow (surely_block test) Tells Says script.services (surely_of test plan script))) accepted
+    (items_told plan script narrow (surely_block test) Tells Says (λ rs done m. procedure_makes plan script narrow rs done m test meant tells) (service_makes plan script narrow test meant tells)
+    0 0 script.order [] [] script.procedures script.services [] tt tt refl (lockless script formed)).holds in
+    all i v true at sure refl

@@ -1,5 +1,5 @@
 -- What is accepted makes only the commands that are listed of it: one induction over statements.
-use Rattle.std.proofs.Common.{◌≡◌, ℕ, ◌+◌, ◌-◌, ◌<◌, ◌≤◌, zero, suc, List, [], ◌∷◌, ◌++◌, Option, Some, None, Result, Ok, Err, Bool, true, false, refl, sym, ap, subst, ◌∙◌, arith}
+use Rattle.std.proofs.Common.{◌≡◌, ℕ, ◌+◌, ◌-◌, ◌<◌, ◌≤◌, zero, suc, List, [], ◌++◌, Option, Some, None, Result, Ok, Err, Bool, true, false, refl, sym, ap, subst, ◌∙◌, arith}
 use Rattle.std.specs.Prelude.{nat_lt, slice_get, unwrap_or, if◌then◌else◌}
 use Rattle.std.proofs.lemmas.Bool.{ltb-true}
 use Rattle.camac_lang.specs.Tree.{Expression, Condition, Keep, Statement, assign, set_register, single, address_scan, q_stop, q_repeat, put, crate_call, lam_call, choose, choose_else, for_, while_, locked, call, Block, done, next, Procedure}
@@ -43,36 +43,18 @@ use Rattle.camac_commands.proofs.ByRows.{statement_commands, block_commands}
 use Rattle.camac_commands.proofs.Listed.{Listed, listed_first, listed_second, listed_then, listed_given, listed_any}
 use Rattle.camac_commands.proofs.Actions.{always, with_result, single_listed, scan_listed, q_stop_listed, q_repeat_listed, crate_listed, lam_listed}
 use Rattle.camac_commands.proofs.Arguments.{GiveAll, AllFit, ranges_each, in_ranges, are_small}
+use Rattle.camac_commands.proofs.Matches.{Matches, matches_at}
 use Rattle.camac_commands.proofs.Loops.{for_listed, while_listed}
 
 -- a procedure's body, on all arguments in range
 abbrev pub RoutineLists : ℕ → Procedure → List Command → (ℕ → Action) → Type 0
 RoutineLists n q cs run = (vs : List ℕ) → AreInRanges vs q.parameters → AreSmall vs → (s : State) → Listed cs (run n (entered vs s))
 
--- each by the procedure and the list in its place; there may be more of them
-abbrev pub Matches : ℕ → List (ℕ → Action) → List Procedure → List (List Command) → Type 0
-Matches n rs [] [] = Unit {0}
-Matches n rs [] (l ∷ ls) = ⊥
-Matches n rs (q ∷ qs) [] = ⊥
-Matches n [] (q ∷ qs) (l ∷ ls) = ⊥
-Matches n (r ∷ rs) (q ∷ qs) (l ∷ ls) = RoutineLists n q l r × Matches n rs qs ls
-
-matches_at : (n : ℕ) (rs : List (ℕ → Action)) (qs : List Procedure) (ls : List (List Command)) → Matches n rs qs ls → (j : ℕ) (q : Procedure) (r : ℕ → Action) → slice_get qs j ≡ Some q → slice_get rs j ≡ Some r
-    → RoutineLists n q (unwrap_or (slice_get ls j) []) r
-matches_at n rs [] ls m j q r e f = absurd (cc)
-matches_at n rs (p ∷ qs) [] m j q r e f = absurd m
-matches_at n [] (p ∷ qs) (l ∷ ls) m j q r e f = absurd m
-matches_at n (t ∷ rs) (p ∷ qs) (l ∷ ls) m zero q r e f =
-    let same : p ≡ q = cc in
-    let one : t ≡ r = cc in
-    subst (λ u. RoutineLists n q l u) one (subst (λ u. RoutineLists n u l t) same m.0)
-matches_at n (t ∷ rs) (p ∷ qs) (l ∷ ls) m (suc j) q r e f = matches_at n rs qs ls m.1 j q r e f
-
 pub both_allowed : {A : Type 0} {r : Result A Fault} {P Q : A → Type 0} → Allows r P → Allows r Q → Allows r (λ x. (r ≡ Ok x) × P x × Q x)
 both_allowed {r = Ok x} h k = record { holds = (refl, h.holds, k.holds) }
 both_allowed {r = Err f} h k = record { holds = tt }
 
-module _ (c : Setting) (narrow : HasWidths c.plan) (serves : Serves c) (n : ℕ) (le : most_turns ≤ n) (ls : List (List Command)) (matches : Matches n c.routines c.procedures ls) where
+module _ (c : Setting) (narrow : HasWidths c.plan) (serves : Serves c) (n : ℕ) (le : most_turns ≤ n) (ls : List (List Command)) (matches : Matches (RoutineLists n) c.routines c.procedures ls) where
   abbrev run : Block → Action
   run b = block_meaning (of c) n b
 
@@ -120,7 +102,7 @@ module _ (c : Setting) (narrow : HasWidths c.plan) (serves : Serves c) (n : ℕ)
       required_allowed _ line _ (λ fit. allows (λ s i.
       let cs : List Command = unwrap_or (slice_get ls p) [] in
       let r = serves.each p q is in
-      let lists = matches_at n c.routines c.procedures ls matches p q r.routine is r.is in
+      let lists = matches_at (RoutineLists n) [] c.routines c.procedures ls matches p q r.routine is r.is in
       listed_given cs (slice_get c.routines p) (λ routine. given (values es s.variables) (λ us. enter (routine n) us)) r.routine (stepped s) r.is
       (listed_any cs (values es s.variables) (λ us. enter (r.routine n) us) (stepped s) (λ vs e.
       let f : AllFit vs rs = subst (λ o. GiveAll o rs) e (gives s.variables i.variables) in

@@ -116,12 +116,15 @@ abbrev mutual
   made_block ps done rows = []
   made_block ps (next s rest) rows = made ps s rows ++ made_block ps rest (behind s rows)
 
--- those of the services among these bodies, in the order of the text
+-- what is told of the bodies of services, in the order of the text: of each by its rows, with what is told of each procedure before it
+abbrev pub told_over : {A : Type 0} → (List A → Block → List Row → A) → List A → List Section → List BodyRows → List A
+told_over told ps [] bodies = []
+told_over told ps (section ∷ rest) [] = []
+told_over told ps (of_procedure p ∷ rest) (b ∷ bodies) = told_over told (ps ++ told ps p.body b.rows ∷ []) rest bodies
+told_over told ps (of_service v ∷ rest) (b ∷ bodies) = told ps v.body b.rows ∷ told_over told ps rest bodies
+
 abbrev pub commands_over : List (List Command) → List Section → List BodyRows → List (List Command)
-commands_over ps [] bodies = []
-commands_over ps (section ∷ rest) [] = []
-commands_over ps (of_procedure p ∷ rest) (b ∷ bodies) = commands_over (ps ++ made_block ps p.body b.rows ∷ []) rest bodies
-commands_over ps (of_service v ∷ rest) (b ∷ bodies) = made_block ps v.body b.rows ∷ commands_over ps rest bodies
+commands_over ps ss bodies = told_over made_block ps ss bodies
 
 abbrev pub commands_of : Layout → Script → List (List Command)
 commands_of plan s = commands_over [] (sections_of s) (costs_with capped plan s)

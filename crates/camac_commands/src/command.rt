@@ -82,8 +82,8 @@ fn push_at(
     }
 }
 
-// The addresses of a register or LAM, or those between two registers.
-fn told_region(detail: Detail) -> Option<Region>
+/// The addresses that a row tells: of a register or LAM, or those between two registers.
+pub fn told_region(detail: Detail) -> Option<Region>
     ensures { result ≡ told_region detail }
 {
     match detail {

@@ -183,8 +183,8 @@ fn commands_at(called: &[BodyCommands], number: usize) -> &[Command]
     }
 }
 
-// The rows behind the first one.
-fn behind_first(rows: &[Row]) -> &[Row]
+/// The rows behind the first one.
+pub fn behind_first(rows: &[Row]) -> &[Row]
     ensures { result.now ≡ drop 1 rows.now }
 {
     match rows {
@@ -193,8 +193,8 @@ fn behind_first(rows: &[Row]) -> &[Row]
     }
 }
 
-// What the first row tells.
-fn detail_told(rows: &[Row]) -> Detail
+/// What the first row tells.
+pub fn detail_told(rows: &[Row]) -> Detail
     ensures { result ≡ detail_told rows.now }
 {
     match rows {

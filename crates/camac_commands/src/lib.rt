@@ -5,5 +5,5 @@ mod command;
 mod commands;
 pub mod laws;
 
-pub use command::Command;
-pub use commands::{BodyCommands, commands_of};
+pub use command::{Command, told_region};
+pub use commands::{BodyCommands, behind_first, commands_of, detail_told};

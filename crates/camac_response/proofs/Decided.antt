@@ -1,6 +1,6 @@
 -- Where nothing is told of look-at-mes up to a bit, the script does its part for them.
 use Rattle.std.proofs.Common.{◌≡◌, ℕ, zero, suc, ◌+◌, List, [], ◌∷◌, Option, Some, None, Bool, true, false, refl, sym, ap, ◌∙◌, subst, arith}
-use Rattle.std.specs.Prelude.{◌||◌, insert, nat_eq, nat_le, not, option_and_then, slice_get, if◌then◌else◌, IsTrue, Ok}
+use Rattle.std.specs.Prelude.{◌||◌, insert, nat_eq, nat_le, not, option_and_then, slice_get, unwrap_or, if◌then◌else◌, IsTrue, Ok}
 use Rattle.std.specs.List.{list_any}
 use Rattle.std.proofs.lemmas.Bool.{eqb-true, true≢false}
 use Rattle.std.proofs.lemmas.Option.{same_Some}
@@ -14,19 +14,20 @@ use Rattle.camac_model.specs.Run.{service_bit}
 use Rattle.camac_rules.specs.Accept.{accept}
 use Rattle.camac_commands.specs.declared.command.Command.{Command}
 use Rattle.camac_commands.specs.Commands.{commands_of}
-use Rattle.camac_commands.proofs.Services.{cycles_are_listed}
+use Rattle.camac_commands.specs.Surely.{surely_of}
+use Rattle.camac_commands.proofs.Services.{cycles_are_listed, sure_ones_are_made}
 use Rattle.camac_response_times.specs.declared.source.Source.{Source}
 use Rattle.camac_response_times.specs.Response.{is_up_to}
 use Rattle.camac_response.specs.declared.unkept.Unkept.{Unkept}
 use Rattle.camac_response.specs.declared.unkept.Why.{Why}
 use Rattle.camac_response.specs.declared.unkept.Why.TheVariants.{NotCleared, ClearedBy, HiddenBy}
-use Rattle.camac_response.specs.Lams.{lams_of, of_lam}
+use Rattle.camac_response.specs.Lams.{plan_clears, clears, lams_of, of_lam}
 use Rattle.camac_response.specs.Laws.{AreSources}
-use Rattle.camac_response.specs.Reach.{could_clear, could_hide, IsDecided}
-use Rattle.camac_response.specs.Served.{clears_lam}
+use Rattle.camac_response.specs.Reach.{could_clear, could_hide, must_clear, clears_lam, IsDecided}
 use Rattle.camac_response.specs.Unkept.{with_line, least_line, place_of, told, not_cleared, clears_from, told_cleared, told_hidden, told_if, told_from, unkept_of, is_kept_to}
 use Rattle.camac_response.proofs.Lams.{or_false}
 use Rattle.camac_response.proofs.Lowest.{same_at}
+use Rattle.camac_response.proofs.Reach.{must_tell}
 
 both_false : (a b : Bool) → a ≡ false → b ≡ false → (a || b) ≡ false
 both_false true b e f = e
@@ -115,7 +116,7 @@ module _ (g : ℕ) where
   module _ (plan : Layout) (script : Script) (lists : List (List Command)) where
     -- nothing is told of the look-at-me of service number j
     record IsKept (j : ℕ) (lam : Address) (v : Service) : Type 0 where
-      clears : clears_lam script lam v.body ≡ true
+      clears : clears_lam plan script lam j ≡ true
       others : (k : ℕ) (cs : List Command) → slice_get lists k ≡ Some cs → clears_from plan lam j k cs ≡ None
       shown : (k : ℕ) (cs : List Command) → slice_get lists k ≡ Some cs → least_line (could_hide lam) None cs ≡ None
 
@@ -124,13 +125,13 @@ module _ (g : ℕ) where
     of_split bit j None o us e = (λ low lam v at its. absurd (cc), e)
     of_split bit j (Some v) None us e = (λ low lam' v' at its. absurd (cc), e)
     of_split bit j (Some v) (Some lam) us e =
-        let hidden = hidden_split lam bit j 0 lists (told_cleared plan lam bit j 0 lists (told bit j NotCleared (not_cleared script lam v) us)) e in
-        let cleared = cleared_split plan lam bit j 0 lists (told bit j NotCleared (not_cleared script lam v) us) hidden.1 in
-        let own = told_split bit j NotCleared (not_cleared script lam v) us cleared.1 in (
+        let hidden = hidden_split lam bit j 0 lists (told_cleared plan lam bit j 0 lists (told bit j NotCleared (not_cleared plan script lam j v) us)) e in
+        let cleared = cleared_split plan lam bit j 0 lists (told bit j NotCleared (not_cleared plan script lam j v) us) hidden.1 in
+        let own = told_split bit j NotCleared (not_cleared plan script lam j v) us cleared.1 in (
           λ low lam' v' at its.
               subst (λ l. IsKept j l v') (same_Some lam lam' at)
               (subst (λ x. IsKept j lam x) (same_Some v v' its)
-              (record { clears = its_heading (clears_lam script lam v.body) v.line (own.0 low); others = λ k cs at_k. let number : 0 + k ≡ k = omega arith in subst (λ n. clears_from plan lam j n cs ≡ None) number (cleared.0 low k cs at_k); shown = hidden.0 low })),
+              (record { clears = its_heading (clears_lam plan script lam j) v.line (own.0 low); others = λ k cs at_k. let number : 0 + k ≡ k = omega arith in subst (λ n. clears_from plan lam j n cs ≡ None) number (cleared.0 low k cs at_k); shown = hidden.0 low })),
           own.1,
         )
 
@@ -200,9 +201,14 @@ module _ (plan : Layout) (is_plan : IsPlan plan) (script : Script) (formed : IsT
               no_line (could_clear plan lam) cs (other_line (nat_eq i j) _ (not_same i j other) ((its_kept j t at_t low lam its_lam).1.others i cs listed)));
           hide_none = λ j t at_t low. none_of (lams_of script j) _ (λ lam its_lam. no_line (could_hide lam) cs ((its_kept j t at_t low lam its_lam).1.shown i cs listed));
         };
-        clears = λ t at_t low. (kept g plan script lists ts e i t at_t low found.0 v its at).clears;
+        clears = λ t at_t low. sure_ones_are_made plan is_plan script ks formed accepted (must_clear plan found.0) (clears (plan_clears plan) found.0) (must_tell plan found.0) i v at
+            (is_there (slice_get (surely_of (must_clear plan found.0) plan script) i) (kept g plan script lists ts e i t at_t low found.0 v its at).clears);
       }
     where
+      is_there : (o : Option Bool) → unwrap_or o false ≡ true → o ≡ Some true
+      is_there None e = absurd (cc)
+      is_there (Some b) e = ap (λ x. Some x) e
+
       not_same : (i j : ℕ) → (i ≡ j → ⊥) → nat_eq i j ≡ false
       not_same i j other = go (nat_eq i j) refl
         where

@@ -1,7 +1,7 @@
--- A service whose tree clears its own look-at-me, and whose cycles are harmless, does what is asked of it.
+-- A service that makes a cycle that clears its own look-at-me, and whose cycles are harmless, does what is asked of it.
 use Rattle.std.proofs.Common.{◌≡◌, ℕ, List, [], ◌∷◌, Option, Some, None, option_map, cond, find, Bool, true, false, refl, sym, ◌∙◌, ap, subst}
 use Rattle.std.specs.List.{list_all}
-use Rattle.std.specs.Prelude.{◌||◌, ◌&&◌, not, nat_eq, slice_get, if◌then◌else◌}
+use Rattle.std.specs.Prelude.{◌||◌, ◌&&◌, not, nat_eq, option_and_then, slice_get, if◌then◌else◌}
 use Rattle.std.proofs.lemmas.Bool.{and_parts, and_from, eq-eqb, eqb-true, true≢false}
 use Rattle.std.proofs.lemmas.Option.{same_Some}
 use Rattle.camac_lang.specs.declared.word.CrateCall.TheVariants as crate_word
@@ -22,12 +22,13 @@ use Rattle.camac_model.specs.Moments.{Meets, Any, AnyStop}
 use Rattle.camac_model.specs.Run.{service_meaning}
 use Rattle.camac_model.proofs.Kept.{IsStepwise, Still, script_keeps}
 use Rattle.camac_model.proofs.Rounds.{meets_mapped}
+use Rattle.camac_commands.specs.Surely.{made_one, AnyPiece, IsMade}
 use Rattle.camac_response_times.specs.declared.source.Source.{Source}
 use Rattle.camac_response_times.specs.Response.{is_up_to}
-use Rattle.camac_response.specs.Lams.{Clears, Lams, lams_of, of_lam, is_lam_call, is_crate_call, enabled_by, Book, book_after, NoneHidden, IsAskedAgain, ServesWell}
-use Rattle.camac_response.specs.Served.{AnyPiece, hides, IsHarmless, Harmless, HarmlessServe}
-use Rattle.camac_response.proofs.Lams.{or_false}
-use Rattle.camac_response.proofs.Served.{block_clears_it}
+use Rattle.camac_response.specs.Lams.{Clears, Lams, lams_of, of_lam, clears, is_lam_call, is_crate_call, enabled_by, Book, book_after, NoneHidden, IsAskedAgain, ServesWell}
+use Rattle.camac_response.specs.Served.{hides, IsHarmless, Harmless, HarmlessServe}
+use Rattle.camac_response.proofs.Lams.{or_false, or_first}
+use Rattle.camac_response.proofs.Served.{or_second, by_or}
 
 -- what is found passes the test, and what all pass
 found_step : {X : Type 0} (test all : X → Bool) (x y : X) (rest : Option X) (b : Bool) → test x ≡ b → all x ≡ true
@@ -178,6 +179,23 @@ module _ (ts : List Source) (lams : Lams) (by_plan : Clears) (g i : ℕ) where
   all_meet Q h x (ends s) = h x s
   all_meet Q h x (stops w s) = tt
 
+  -- while it is in progress, what was made of its clearing cycles is in the book
+  is_in_book : (lam : Address) → lams i ≡ Some lam → (x : Book) (y : Bool) (b : Behaviour State) → x.called ≡ Some i → (y ≡ true → x.has_cleared ≡ true) → Meets no_count NoOperation AnyStop Any nothing b
+      → Meets (made_one (clears by_plan lam)) AnyPiece AnyStop IsMade y b → Meets turn AnyPiece AnyStop (λ z s. z.has_cleared ≡ true) x b
+  is_in_book lam its x y (does (demanded p v) b) ours so none made = absurd none.0
+  is_in_book lam its x y (does (cycled at f d r w) b) ours so none made =
+      let now = of_lam (λ l. clears by_plan l at f) (option_and_then lams x.called) in (
+        tt,
+        is_in_book lam its (turn x (cycled at f d r w)) (y || clears by_plan lam at f) b ours
+            (λ e. by_or y (clears by_plan lam at f) ((x.has_cleared || now) ≡ true) e (λ before. or_first x.has_cleared now (so before)) (λ here. or_second x.has_cleared now
+            (ap (λ o. of_lam (λ l. clears by_plan l at f) (option_and_then lams o)) ours ∙ ap (of_lam (λ l. clears by_plan l at f)) its ∙ here))) none.1 made.1,
+      )
+  is_in_book lam its x y (does (lock_taken c w) b) ours so none made = (tt, is_in_book lam its x y b ours so none.1 made.1)
+  is_in_book lam its x y (does (lock_released c) b) ours so none made = (tt, is_in_book lam its x y b ours so none.1 made.1)
+  is_in_book lam its x y (does (event_left e) b) ours so none made = (tt, is_in_book lam its x y b ours so none.1 made.1)
+  is_in_book lam its x y (ends s) ours so none made = so made
+  is_in_book lam its x y (stops w s) ours so none made = tt
+
   cleared_if : (x : Book) (b : Behaviour State) (o : Option Source) → slice_get ts i ≡ o
       → ((t : Source) → slice_get ts i ≡ Some t → is_up_to g t ≡ true → Meets turn AnyPiece AnyStop (λ y s. y.has_cleared ≡ true) x b) → Meets turn AnyPiece AnyStop Cleared x b
   cleared_if x b None e h = all_meet Cleared (λ y s t it up. absurd (none_some t (sym e ∙ it))) x b
@@ -206,7 +224,8 @@ module _ (ts : List Source) (lams : Lams) (by_plan : Clears) (g i : ℕ) where
   combine x (stops w s) ours shown none harmless clear = tt
 
 pub harmless_serve : HarmlessServe
-harmless_serve plan script ts by_plan g i v lam its clears harmless page called shown b answers =
+harmless_serve plan script ts by_plan g i v lam its made harmless page called shown b answers =
     combine ts (lams_of script) by_plan g i page (service_meaning (context plan script) 65535 v b answers) called shown (no_operation plan script v b answers) (harmless b answers)
     (cleared_if ts (lams_of script) by_plan g i page (service_meaning (context plan script) 65535 v b answers) (slice_get ts i) refl
-    (λ t it up. block_clears_it plan script by_plan i lam its v.body (clears t it up) 65535 page (fresh b answers) called))
+    (λ t it up. is_in_book ts (lams_of script) by_plan g i lam its page false (service_meaning (context plan script) 65535 v b answers) called (λ no. absurd (true≢false (sym no)))
+    (no_operation plan script v b answers) (made t it up b answers)))

@@ -1,8 +1,8 @@
 -- Where the commands of each service are careful, all services do what is asked of them.
 use Rattle.std.proofs.Common.{◌≡◌, ℕ, zero, suc, ◌+◌, ◌<◌, ◌≤◌, List, [], ◌∷◌, Option, Some, None, Bool, true, false, refl, sym, ap, ◌∙◌, subst, ⊎_elim, arith}
 use Rattle.std.specs.List.{list_any, range_with_len}
-use Rattle.std.specs.Prelude.{◌||◌, ◌&&◌, nat_eq, nat_le}
-use Rattle.std.proofs.lemmas.Bool.{cases_lt, and_parts, and_from, eq-eqb, eqb-true, true≢false}
+use Rattle.std.specs.Prelude.{◌||◌, ◌&&◌, nat_eq, nat_le, nat_lt, not}
+use Rattle.std.proofs.lemmas.Bool.{cases_lt, and_parts, and_from, eq-eqb, eqb-true, leb-true, ltb-true, true≢false}
 use Rattle.camac_lang.specs.declared.word.CrateCall.{CrateCall}
 use Rattle.camac_lang.specs.declared.word.CrateCall.TheVariants as crate_word
 use Rattle.camac_lang.specs.declared.word.LamCall.{LamCall}
@@ -19,10 +19,11 @@ use Rattle.camac_model.specs.Run.{service_meaning}
 use Rattle.camac_rules.specs.Known.{Region}
 use Rattle.camac_commands.specs.declared.command.Command.{Command}
 use Rattle.camac_commands.specs.Commands.{is_inside, lies_in, is_told, IsListed}
+use Rattle.camac_commands.specs.Surely.{TellsOf}
 use Rattle.camac_response_times.specs.declared.source.Source.{Source}
-use Rattle.camac_response.specs.Lams.{plan_clears, lams_of, of_lam, same_station, same_address, is_lam_call, is_crate_call, may_clear}
+use Rattle.camac_response.specs.Lams.{plan_clears, clears, lams_of, of_lam, same_station, same_address, is_lam_call, is_crate_call, may_clear}
 use Rattle.camac_response.specs.Served.{hides, Harmless}
-use Rattle.camac_response.specs.Reach.{may_call_lam, may_call_crate, may_be_at, clears_at, may_clear_by_plan, could_clear, could_hide, AreCareful, DecidedServe}
+use Rattle.camac_response.specs.Reach.{must_be_at, spares_at, must_clear, may_call_lam, may_call_crate, may_be_at, clears_at, may_clear_by_plan, could_clear, could_hide, AreCareful, DecidedServe}
 use Rattle.camac_response.proofs.Declared.{clears_below}
 use Rattle.camac_response.proofs.Lams.{or_false, or_first}
 use Rattle.camac_response.proofs.Served.{or_second, by_or, services_serve}
@@ -90,6 +91,57 @@ by_plan_called plan is_plan lam at f c told is =
     let moved_to : (k n : ℕ) → Type 0 = λ k n. may_clear_by_plan plan (address k n at.sub_address) c ≡ true in
     subst (λ k. moved_to k lam.station) (sym (eqb-true lam.crate_no at.crate_no station.0))
     (subst (λ n. moved_to at.crate_no n) (sym (eqb-true lam.station at.station station.1)) by)
+
+-- a command that clears it at whatever address does so at each that is told
+pub must_tell : (plan : Layout) (lam : Address) → TellsOf (must_clear plan lam) (clears (plan_clears plan) lam)
+must_tell plan lam c must at f told =
+    let here = and_parts (nat_eq f c.function) (lies_in c.region at) told in
+    let function = eqb-true f c.function here.0 in
+    let crates = nat_le c.region.crates.lo at.crate_no && nat_le at.crate_no c.region.crates.hi in
+    let stations = nat_le c.region.stations.lo at.station && nat_le at.station c.region.stations.hi in
+    let subs = nat_le c.region.sub_addresses.lo at.sub_address && nat_le at.sub_address c.region.sub_addresses.hi in
+    let inside = and_parts crates (stations && subs) here.1 in
+    let there = and_parts stations subs inside.1 in
+    let few = nat_lt c.region.sub_addresses.hi 16 in
+    let none_spares = not (list_any (spares_at plan lam c) (range_with_len 0 16)) in
+    let all = and_parts (must_be_at lam c) (few && none_spares) must in
+    let rest = and_parts few none_spares all.1 in
+    let one = and_parts (nat_eq c.region.crates.lo lam.crate_no && nat_eq c.region.crates.hi lam.crate_no) (nat_eq c.region.stations.lo lam.station && nat_eq c.region.stations.hi lam.station) all.0 in
+    let crate_no = only_one c.region.crates.lo c.region.crates.hi lam.crate_no at.crate_no one.0 inside.0 in
+    let station = only_one c.region.stations.lo c.region.stations.hi lam.station at.station one.1 there.0 in
+    let high = leb-true at.sub_address c.region.sub_addresses.hi (and_parts (nat_le c.region.sub_addresses.lo at.sub_address) (nat_le at.sub_address c.region.sub_addresses.hi) there.1).1 in
+    let below = ltb-true c.region.sub_addresses.hi 16 rest.0 in
+    let f10 = nat_eq c.function 10 && nat_eq lam.sub_address at.sub_address in
+    let by_plan = declared_clears plan lam.crate_no lam.station at.sub_address c.function in
+    let same : same_station lam at ≡ true = and_from (nat_eq lam.crate_no at.crate_no) (nat_eq lam.station at.station) (eq-eqb lam.crate_no at.crate_no crate_no) (eq-eqb lam.station at.station station) in
+    by_or f10 by_plan (clears (plan_clears plan) lam at f ≡ true)
+    (cleared subs (f10 || by_plan) there.1 (λ spared. go (list_any (spares_at plan lam c) (range_with_len 0 16)) rest.1 (any_in_range (spares_at plan lam c) 16 0 at.sub_address (omega arith) (omega (arith, high, below)) spared)))
+    (λ own. let both = and_parts (nat_eq c.function 10) (nat_eq lam.sub_address at.sub_address) own in
+    or_first (is_lam_call lam_word.Clear lam at f) (same_station lam at && plan_clears plan at f)
+    (and_from (same_address lam at) (nat_eq f 10) (and_from (same_station lam at) (nat_eq lam.sub_address at.sub_address) same both.1) (ap (λ k. nat_eq k 10) function ∙ both.0)))
+    (λ declared. or_second (is_lam_call lam_word.Clear lam at f) (same_station lam at && plan_clears plan at f)
+    (and_from (same_station lam at) (plan_clears plan at f) same
+    (subst (λ k. declared_clears plan k at.station at.sub_address f ≡ true) crate_no (subst (λ k. declared_clears plan lam.crate_no k at.sub_address f ≡ true) station
+    (subst (λ k. declared_clears plan lam.crate_no lam.station at.sub_address k ≡ true) (sym function) declared)))))
+  where
+    only_one : (lo hi n m : ℕ) → (nat_eq lo n && nat_eq hi n) ≡ true → (nat_le lo m && nat_le m hi) ≡ true → n ≡ m
+    only_one lo hi n m e i =
+        let ends_at = and_parts (nat_eq lo n) (nat_eq hi n) e in
+        let within = and_parts (nat_le lo m) (nat_le m hi) i in
+        let low = eqb-true lo n ends_at.0 in
+        let high = eqb-true hi n ends_at.1 in
+        let from = leb-true lo m within.0 in
+        let to = leb-true m hi within.1 in
+        omega (arith, low, high, from, to)
+
+    go : (b : Bool) → not b ≡ true → b ≡ true → ⊥
+    go true e f = absurd (true≢false (sym e))
+    go false e f = absurd (true≢false (sym f))
+
+    -- where it is inside and not spared
+    cleared : (a b : Bool) → a ≡ true → ((a && not b) ≡ true → ⊥) → b ≡ true
+    cleared a true is spared = refl
+    cleared a false is spared = absurd (spared (and_from a true is refl))
 
 not_true : (a b : Bool) → (a ≡ true → b ≡ true) → b ≡ false → a ≡ false
 not_true true b h e = absurd (true≢false (sym (h refl) ∙ e))

@@ -1,5 +1,5 @@
 -- What a list of commands tells of a service: which look-at-mes it may clear or hide.
-use Rattle.std.specs.Prelude.{◌≡◌, ℕ, ◌&&◌, ◌||◌, Bool, true, false, List, Some, nat_eq, nat_le, slice_get}
+use Rattle.std.specs.Prelude.{◌≡◌, ℕ, ◌&&◌, ◌||◌, Bool, true, false, List, Some, nat_eq, nat_le, nat_lt, not, slice_get, unwrap_or}
 use Rattle.std.specs.List.{list_any, range_with_len}
 use Rattle.camac_lang.specs.declared.word.CrateCall.{CrateCall}
 use Rattle.camac_lang.specs.declared.word.CrateCall.TheVariants as crate_word
@@ -15,11 +15,11 @@ use Rattle.camac_model.specs.Moments.{Holds}
 use Rattle.camac_model.specs.Run.{the_run}
 use Rattle.camac_commands.specs.declared.command.Command.{Command}
 use Rattle.camac_commands.specs.Commands.{lies_in, MakesOnly}
+use Rattle.camac_commands.specs.Surely.{surely_of, MakesOne}
 use Rattle.camac_response_times.specs.declared.source.Source.{Source}
 use Rattle.camac_response_times.specs.Response.{is_up_to}
-use Rattle.camac_response.specs.Lams.{plan_clears, lams_of, of_lam, first_page, services_watch}
+use Rattle.camac_response.specs.Lams.{plan_clears, clears, lams_of, of_lam, first_page, services_watch}
 use Rattle.camac_response.specs.Laws.{AreSources}
-use Rattle.camac_response.specs.Served.{clears_lam}
 
 -- it may be this call for the look-at-me at this address, or for its crate
 abbrev pub may_call_lam : LamCall → (lam : Address) → Command → Bool
@@ -40,6 +40,24 @@ clears_at plan lam c a =
 abbrev pub may_clear_by_plan : Layout → (lam : Address) → Command → Bool
 may_clear_by_plan plan lam c = may_be_at lam c && list_any (clears_at plan lam c) (range_with_len 0 16)
 
+-- It is made at the station alone. At a sub-address it spares the look-at-me, where it is not F10 at its own, and the plan does not say that it clears
+abbrev pub must_be_at : (lam : Address) → Command → Bool
+must_be_at lam c =
+    (nat_eq c.region.crates.lo lam.crate_no && nat_eq c.region.crates.hi lam.crate_no) && (nat_eq c.region.stations.lo lam.station && nat_eq c.region.stations.hi lam.station)
+
+abbrev pub spares_at : Layout → (lam : Address) → Command → (sub_address : ℕ) → Bool
+spares_at plan lam c a =
+    (nat_le c.region.sub_addresses.lo a && nat_le a c.region.sub_addresses.hi)
+    && not ((nat_eq c.function (lam_function lam_word.Clear) && nat_eq lam.sub_address a) || declared_clears plan lam.crate_no lam.station a c.function)
+
+-- it clears it, at whatever address it is made
+abbrev pub must_clear : Layout → (lam : Address) → Command → Bool
+must_clear plan lam c = must_be_at lam c && (nat_lt c.region.sub_addresses.hi 16 && not (list_any (spares_at plan lam c) (range_with_len 0 16)))
+
+-- whether the service of this number makes such a command, wherever it ends
+abbrev pub clears_lam : Layout → Script → (lam : Address) → (service : ℕ) → Bool
+clears_lam plan script lam j = unwrap_or (slice_get (surely_of (must_clear plan lam) plan script) j) false
+
 -- it may clear it, or hide it
 abbrev pub could_clear : Layout → (lam : Address) → Command → Bool
 could_clear plan lam c =
@@ -54,14 +72,15 @@ pub record AreCareful (plan : Layout) (script : Script) (ts : List Source) (g i 
   pub clear_no_other : (j : ℕ) (t : Source) → slice_get ts j ≡ Some t → is_up_to g t ≡ true → (i ≡ j → ⊥) → of_lam (λ lam. list_any (could_clear plan lam) cs) (lams_of script j) ≡ false
   pub hide_none : (j : ℕ) (t : Source) → slice_get ts j ≡ Some t → is_up_to g t ≡ true → of_lam (λ lam. list_any (could_hide lam) cs) (lams_of script j) ≡ false
 
--- What is decided of a service: it makes only commands of this list, they are careful, and its tree clears its own look-at-me, if its bit is meant.
+-- What is decided of a service: it makes only commands of this list, they are careful, and it makes one that clears its own look-at-me, if its bit is
+-- meant.
 pub record IsDecided (plan : Layout) (script : Script) (ts : List Source) (g i : ℕ) (v : Service) : Type 0 where
   pub commands : List Command
   pub lam : Address
   pub its : lams_of script i ≡ Some lam
   pub makes : MakesOnly plan script v commands
   pub careful : AreCareful plan script ts g i commands
-  pub clears : (t : Source) → slice_get ts i ≡ Some t → is_up_to g t ≡ true → clears_lam script lam v.body ≡ true
+  pub clears : (t : Source) → slice_get ts i ≡ Some t → is_up_to g t ≡ true → MakesOne plan script v (clears (plan_clears plan) lam)
 
 -- the law of decisions: where this is decided of each service, all services do what is asked of them along every run
 abbrev pub DecidedServe : Type 0

@@ -1,21 +1,21 @@
--- What each service has to do with look-at-mes, said of it by itself; and a tree in which a service clears its own.
-use Rattle.std.specs.Prelude.{◌≡◌, ℕ, ◌&&◌, ◌||◌, ◌++◌, Bool, true, false, List, [], ◌∷◌, Some, map, nat_le, slice_get, slice_index_or}
+-- What each service has to do with look-at-mes, said of it by itself.
+use Rattle.std.specs.Prelude.{◌≡◌, ℕ, ◌||◌, Bool, true, false, List, Some, slice_get}
 use Rattle.camac_lang.specs.declared.word.CrateCall.TheVariants as crate_word
 use Rattle.camac_lang.specs.declared.word.LamCall.TheVariants as lam_word
-use Rattle.camac_lang.specs.Tree.{Expression, number, Statement, lam_call, choose_else, for_, locked, call, Block, done, next, Procedure, Service, Script}
+use Rattle.camac_lang.specs.Tree.{Service, Script}
 use Rattle.camac_branch.specs.Address.{Address}
 use Rattle.camac_branch.specs.Branch.{Branch, Answer}
 use Rattle.camac_branch.specs.Plan.{Layout, IsPlan}
 use Rattle.camac_model.specs.Behaviour.{Piece, demanded, cycled, lock_taken, lock_released, event_left}
 use Rattle.camac_model.specs.Fine.{Bounds}
-use Rattle.camac_model.specs.Meaning.{context, lam_address, block_meaning}
+use Rattle.camac_model.specs.Meaning.{context}
 use Rattle.camac_model.specs.Headline.{no_count, nothing}
 use Rattle.camac_model.specs.Moments.{Meets, Holds, Any, AnyStop}
 use Rattle.camac_model.specs.Run.{service_meaning, the_run}
-use Rattle.camac_model.specs.State.{State}
+use Rattle.camac_commands.specs.Surely.{MakesOne}
 use Rattle.camac_response_times.specs.declared.source.Source.{Source}
 use Rattle.camac_response_times.specs.Response.{is_up_to}
-use Rattle.camac_response.specs.Lams.{Clears, Lams, lams_of, of_lam, same_address, is_lam_call, is_crate_call, may_clear, Book, first_page, book_after, NoneHidden, IsAskedAgain, ServesWell, services_watch}
+use Rattle.camac_response.specs.Lams.{Clears, clears, Lams, lams_of, of_lam, is_lam_call, is_crate_call, may_clear, Book, first_page, book_after, NoneHidden, IsAskedAgain, ServesWell, services_watch}
 use Rattle.camac_response.specs.Laws.{AreSources}
 
 -- Where it is called and no look-at-me is hidden, service number i clears no other look-at-me; and where it ends, it has cleared its own and hides
@@ -32,47 +32,6 @@ ServicesServe =
     (plan : Layout) → IsPlan plan → (script : Script) (ks : List Bounds) (ts : List Source) → AreSources plan script ks ts → (by_plan : Clears) (g : ℕ)
     → ((i : ℕ) (v : Service) → slice_get script.services i ≡ Some v → ServesItself plan script ts by_plan g i v)
     → (answers : List Answer) → Holds (services_watch ts (lams_of script) by_plan g) first_page (the_run plan script answers)
-
--- a `for` that has a turn whatever its variables are
-abbrev pub has_turn : (first last : Expression) → Bool
-has_turn (number a) (number b) = nat_le a b
-has_turn e1 e2 = false
-
--- A block in which `cclc` is made for the look-at-me at this address, whatever modules answer. Of each procedure before it, by its number, is known
--- whether its body is such a block.
-abbrev mutual
-  pub statement_clears : (lams : List Address) → (lam : Address) → (procedures : List Bool) → Statement → Bool
-  statement_clears lams lam ps (lam_call line lam_word.Clear l) = of_lam (same_address lam) (slice_get lams l)
-  statement_clears lams lam ps (choose_else line test a b) = block_clears lams lam ps a && block_clears lams lam ps b
-  statement_clears lams lam ps (for_ line x e1 e2 keeps body) = has_turn e1 e2 && block_clears lams lam ps body
-  statement_clears lams lam ps (locked line e body) = block_clears lams lam ps body
-  statement_clears lams lam ps (call line p es) = slice_index_or ps p false
-  statement_clears lams lam ps st = false
-
-  pub block_clears : (lams : List Address) → (lam : Address) → (procedures : List Bool) → Block → Bool
-  block_clears lams lam ps done = false
-  block_clears lams lam ps (next st rest) = statement_clears lams lam ps st || block_clears lams lam ps rest
-
--- of these procedures and those before them, in the order of the text
-abbrev pub procedures_clear : (lams : List Address) → (lam : Address) → List Bool → List Procedure → List Bool
-procedures_clear lams lam ps [] = ps
-procedures_clear lams lam ps (p ∷ rest) = procedures_clear lams lam (ps ++ block_clears lams lam ps p.body ∷ []) rest
-
--- a block of a service
-abbrev pub clears_lam : Script → (lam : Address) → Block → Bool
-clears_lam script lam b =
-    let lams : List Address = map lam_address script.lams in block_clears lams lam (procedures_clear lams lam [] script.procedures) b
-
--- nothing is said of a piece
-abbrev pub AnyPiece : Book → Piece → Type 0
-AnyPiece x p = Unit {0}
-
--- where such a block of a service ends, the service has cleared its look-at-me
-abbrev pub ClearsAlways : Type 0
-ClearsAlways =
-    (plan : Layout) (script : Script) (by_plan : Clears) (i : ℕ) (lam : Address) → lams_of script i ≡ Some lam
-    → (b : Block) → clears_lam script lam b ≡ true → (page : Book) → page.called ≡ Some i → (n : ℕ) (s : State)
-    → Meets (book_after (lams_of script) by_plan) AnyPiece AnyStop (λ x t. x.has_cleared ≡ true) page (block_meaning (context plan script) n b s)
 
 -- A command that hides the look-at-me at this address: F24 there, Z in its crate, and the demand output of its crate turned off.
 abbrev pub hides : (lam at : Address) → (function : ℕ) → Bool
@@ -95,9 +54,9 @@ abbrev pub IsHarmlessService : Layout → Script → List Source → Clears → 
 IsHarmlessService plan script ts by_plan g i v =
     (b : Branch) (answers : List Answer) → Meets no_count (Harmless ts (lams_of script) by_plan g i) AnyStop Any nothing (service_meaning (context plan script) 65535 v b answers)
 
--- a service whose tree clears its own look-at-me, if its bit is meant, and whose cycles are harmless, does what is asked of it
+-- a service that makes a cycle that clears its own look-at-me, if its bit is meant, and whose cycles are harmless, does what is asked of it
 abbrev pub HarmlessServe : Type 0
 HarmlessServe =
     (plan : Layout) (script : Script) (ts : List Source) (by_plan : Clears) (g i : ℕ) (v : Service) (lam : Address) → lams_of script i ≡ Some lam
-    → ((t : Source) → slice_get ts i ≡ Some t → is_up_to g t ≡ true → clears_lam script lam v.body ≡ true)
+    → ((t : Source) → slice_get ts i ≡ Some t → is_up_to g t ≡ true → MakesOne plan script v (clears by_plan lam))
     → IsHarmlessService plan script ts by_plan g i v → ServesItself plan script ts by_plan g i v

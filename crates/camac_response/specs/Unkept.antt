@@ -10,8 +10,7 @@ use Rattle.camac_response.specs.declared.unkept.Unkept.{Unkept}
 use Rattle.camac_response.specs.declared.unkept.Why.{Why}
 use Rattle.camac_response.specs.declared.unkept.Why.TheVariants.{NotCleared, ClearedBy, HiddenBy}
 use Rattle.camac_response.specs.Lams.{lams_of}
-use Rattle.camac_response.specs.Reach.{could_clear, could_hide}
-use Rattle.camac_response.specs.Served.{clears_lam}
+use Rattle.camac_response.specs.Reach.{clears_lam, could_clear, could_hide}
 
 -- the least line of commands that pass a test, and of those before them
 abbrev pub or_before : ℕ → Option ℕ → ℕ
@@ -42,8 +41,8 @@ told bit j why None us = us
 told bit j why (Some line) us = with_unkept (record { bit = bit; service = j; line = line; why = why }) us
 
 -- The look-at-me of service number j, whose address and bit are these. Its service does not clear it on every way: the line of its heading
-abbrev pub not_cleared : Script → Address → Service → Option ℕ
-not_cleared script lam v = if clears_lam script lam v.body then None else Some v.line
+abbrev pub not_cleared : Layout → Script → Address → (j : ℕ) → Service → Option ℕ
+not_cleared plan script lam j v = if clears_lam plan script lam j then None else Some v.line
 
 -- other services may clear it, by their commands: the services from number i on
 abbrev pub clears_from : Layout → Address → (j : ℕ) → ℕ → List Command → Option ℕ
@@ -61,7 +60,7 @@ told_hidden lam bit j i (cs ∷ rest) us = told_hidden lam bit j (i + 1) rest (t
 -- all of this, with the commands of each service
 abbrev pub told_of : Layout → Script → List (List Command) → (bit j : ℕ) → Address → Service → List Unkept → List Unkept
 told_of plan script lists bit j lam v us =
-    told_hidden lam bit j 0 lists (told_cleared plan lam bit j 0 lists (told bit j NotCleared (not_cleared script lam v) us))
+    told_hidden lam bit j 0 lists (told_cleared plan lam bit j 0 lists (told bit j NotCleared (not_cleared plan script lam j v) us))
 
 abbrev pub told_if : Layout → Script → List (List Command) → (bit j : ℕ) → Option Service → Option Address → List Unkept → List Unkept
 told_if plan script lists bit j None lam us = us

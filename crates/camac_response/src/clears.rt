@@ -1,92 +1,191 @@
-// Whether a service clears its look-at-me on every way.
+// Whether a service clears its look-at-me on every way: its text, walked together with its rows.
 
-ghost use Rattle.std.specs.Prelude.{◌≡◌, IfOk, OnOk, map, slice_get};
-ghost use Rattle.camac_lang.specs.View.{lam_of, procedure_of, statement_of, statements_of, term_of};
+ghost use Rattle.std.specs.Prelude.{◌≡◌, ◌++◌, IfOk, OnOk, false, map, slice_get, unwrap_or};
+ghost use Rattle.std.specs.List.{list_any};
+ghost use Rattle.camac_lang.specs.View.{item_of, lam_of, procedure_of, service_of, statement_of, statements_of, term_of};
 ghost use Rattle.camac_model.specs.Meaning.{lam_address};
-ghost use Rattle.camac_response.specs.Lams.{of_lam, same_address};
-ghost use Rattle.camac_response.specs.Served.{block_clears, clears_lam, has_turn, procedures_clear, statement_clears};
+ghost use Rattle.camac_rules.specs.Accept.{sections};
+ghost use Rattle.camac_commands.specs.Commands.{behind, behind_block, detail_told, made_at, told_over, told_region};
+ghost use Rattle.camac_commands.specs.Surely.{has_turn, surely, surely_block};
+ghost use Rattle.camac_response.specs.Reach.{clears_lam, must_clear};
 
-use camac_esone::Address;
-use camac_lang::{Form, Lam, LamCall, Procedure, Script, Stmt, Term};
+use crate::command::must_clear;
+use camac_branch::Plan;
+use camac_check_costs::{BodyCosts, costs_of};
+use camac_check_rows::Row;
+use camac_checked::Checked;
+use camac_commands::{Command, behind_first, detail_told, told_region};
+use camac_esone::{Address, lam_function};
+use camac_lang::{Form, Item, Lam, Procedure, Service, Stmt, Term};
+use camac_word::Function;
 use std::alloc::{AllocError, Global};
 
-/// Whether a block of a service makes `cclc` at an address, whatever modules answer. The error is want of memory.
+/// Whether the service of this number clears the look-at-me at an address, wherever it ends. The error is want of memory.
 pub fn clears_lam(
     alloc: Global,
-    script: &Script,
+    checked: &Checked,
     lam: Address,
-    block: &[Stmt],
+    number: usize,
 ) -> Result<bool, AllocError>
-    ensures { IfOk result (λ b. b ≡ clears_lam script.now lam (statements_of block.now)) }
+    ensures { IfOk result (λ b. b ≡ clears_lam checked.now.plan checked.now.script lam number) }
 {
-    let mut procedures = Vec::new(alloc);
-    push_procedures(&mut procedures, script.lams(), lam, script.procedures())?;
-    Ok(block_clears(script.lams(), lam, &procedures, block))
+    let script = checked.script();
+    let costs = costs_of(alloc, checked)?;
+    let mut called = Vec::new(alloc);
+    let mut served = Vec::new(alloc);
+    push_bodies(
+        checked.plan(),
+        lam,
+        script.order(),
+        script.procedures(),
+        script.services(),
+        &costs,
+        &mut called,
+        &mut served,
+    )?;
+    Ok(clears_at(&served, number))
 }
 
-fn push_procedures(
-    found: &mut Vec<bool>,
-    lams: &[Lam],
+// Puts that of the services of these declarations at the end, after the procedures that are called so far.
+fn push_bodies(
+    plan: &Plan,
     lam: Address,
+    items: &[Item],
     procedures: &[Procedure],
+    services: &[Service],
+    costs: &[BodyCosts],
+    called: &mut Vec<bool>,
+    served: &mut Vec<bool>,
 ) -> Result<(), AllocError>
-    ensures { OnOk result (found.new.items ≡ procedures_clear (map lam_address (map lam_of lams.now)) lam found.old.items (map procedure_of procedures.now)) }
+    ensures { OnOk result (served.new.items ≡ served.old.items ++ told_over (surely_block (must_clear plan.now lam)) called.old.items
+        (sections (map item_of items.now) (map procedure_of procedures.now) (map service_of services.now)) costs.now) }
 {
-    let [procedure, rest @ ..] = procedures else {
-        return Ok(());
-    };
-    let clears = block_clears(lams, lam, found, &procedure.body);
-    found.push(clears)?;
-    push_procedures(found, lams, lam, rest)
-}
-
-// Of these procedures, by their numbers, is known whether they do.
-#[cycle(clears)]
-fn block_clears(lams: &[Lam], lam: Address, procedures: &[bool], block: &[Stmt]) -> bool
-    ensures { result ≡ block_clears (map lam_address (map lam_of lams.now)) lam procedures.now (statements_of block.now) }
-{
-    'statements: for statement in block {
-        if statement_clears(lams, lam, procedures, statement) {
-            return true;
-        }
-    }
-    false
-}
-
-#[cycle(clears)]
-fn statement_clears(lams: &[Lam], lam: Address, procedures: &[bool], statement: &Stmt) -> bool
-    ensures { result ≡ statement_clears (map lam_address (map lam_of lams.now)) lam procedures.now (statement_of statement.now) }
-{
-    match statement {
-        Stmt::LamCall(action) => match action.call {
-            LamCall::Clear => is_at(lams, action.lam, lam),
-            LamCall::Enable | LamCall::Disable | LamCall::Test => false,
+    match items {
+        [] => Ok(()),
+        [Item::Procedure, rest @ ..] => match procedures {
+            [] => push_bodies(plan, lam, rest, procedures, services, costs, called, served),
+            [procedure, others @ ..] => match costs {
+                [] => Ok(()),
+                [body, more @ ..] => {
+                    let (clears, _) = block_clears(plan, lam, called, &procedure.body, body.rows());
+                    called.push(clears)?;
+                    push_bodies(plan, lam, rest, others, services, more, called, served)
+                }
+            },
         },
+        [Item::Service, rest @ ..] => match services {
+            [] => push_bodies(plan, lam, rest, procedures, services, costs, called, served),
+            [service, others @ ..] => match costs {
+                [] => Ok(()),
+                [body, more @ ..] => {
+                    let (clears, _) = block_clears(plan, lam, called, &service.body, body.rows());
+                    served.push(clears)?;
+                    push_bodies(plan, lam, rest, procedures, others, more, called, served)
+                }
+            },
+        },
+        [_, rest @ ..] => push_bodies(plan, lam, rest, procedures, services, costs, called, served),
+    }
+}
+
+// Whether a block does, whose rows come first, and the rows behind them. Of these procedures, by their numbers, is known whether they do.
+#[cycle(clears)]
+fn block_clears<'r>(
+    plan: &Plan,
+    lam: Address,
+    called: &[bool],
+    block: &[Stmt],
+    rows: &'r [Row],
+) -> (bool, &'r [Row])
+    ensures clears { result.0 ≡ surely_block (must_clear plan.now lam) called.now (statements_of block.now) rows.now }
+    ensures behind { result.1.now ≡ behind_block (statements_of block.now) rows.now }
+{
+    let mut clears = false;
+    let mut left = rows;
+    'statements: for statement in block {
+        let (one, behind) = statement_clears(plan, lam, called, statement, left);
+        clears = clears || one;
+        left = behind;
+    }
+    (clears, left)
+}
+
+#[cycle(clears)]
+fn statement_clears<'r>(
+    plan: &Plan,
+    lam: Address,
+    called: &[bool],
+    statement: &Stmt,
+    rows: &'r [Row],
+) -> (bool, &'r [Row])
+    ensures clears { result.0 ≡ surely (must_clear plan.now lam) called.now (statement_of statement.now) rows.now }
+    ensures behind { result.1.now ≡ behind (statement_of statement.now) rows.now }
+{
+    let inside = behind_first(rows);
+    match statement {
+        Stmt::Single(single) => {
+            let clears = command_clears(plan, lam, single.line, single.function, rows);
+            (clears, inside)
+        }
+        Stmt::LamCall(action) => {
+            let function = lam_function(action.call);
+            (
+                command_clears(plan, lam, action.line, function, rows),
+                inside,
+            )
+        }
+        Stmt::If { then, .. } => {
+            let (_, left) = block_clears(plan, lam, called, then, inside);
+            (false, left)
+        }
         Stmt::IfElse {
             then,
             otherwise,
             ..
         } => {
-            block_clears(lams, lam, procedures, then)
-                && block_clears(lams, lam, procedures, otherwise)
+            let (first, other) = block_clears(plan, lam, called, then, inside);
+            let (second, left) = block_clears(plan, lam, called, otherwise, behind_first(other));
+            (first && second, left)
         }
         Stmt::For { head, body } => {
-            has_turn(head.from.term(), head.to.term()) && block_clears(lams, lam, procedures, body)
+            let (clears, left) = block_clears(plan, lam, called, body, inside);
+            (has_turn(head.from.term(), head.to.term()) && clears, left)
         }
-        Stmt::Lock { body, .. } => block_clears(lams, lam, procedures, body),
-        Stmt::Call(call) => matches!(procedures.get(call.procedure), Some(true)),
-        Stmt::Assign(_) | Stmt::SetRegister(_) | Stmt::Single(_) | Stmt::Scan(_) => false,
-        Stmt::QStop { .. } | Stmt::QRepeat { .. } | Stmt::Put(_) => false,
-        Stmt::CrateCall(_) | Stmt::If { .. } | Stmt::While { .. } => false,
+        Stmt::While { body, .. } => {
+            let (_, left) = block_clears(plan, lam, called, body, inside);
+            (false, left)
+        }
+        Stmt::Lock { body, .. } => block_clears(plan, lam, called, body, inside),
+        Stmt::Call(call) => (clears_at(called, call.procedure), inside),
+        Stmt::Assign(_) | Stmt::SetRegister(_) | Stmt::Scan(_) | Stmt::Put(_) => (false, inside),
+        Stmt::QStop { .. } | Stmt::QRepeat { .. } | Stmt::CrateCall(_) => (false, inside),
     }
 }
 
-// Whether the LAM of this number stands at an address.
-fn is_at(lams: &[Lam], number: usize, at: Address) -> bool
-    ensures { result ≡ of_lam (same_address at) (slice_get (map lam_address (map lam_of lams.now)) number) }
+// Whether a command does, at the addresses that its row tells.
+fn command_clears(plan: &Plan, lam: Address, line: u32, function: Function, rows: &[Row]) -> bool
+    ensures { result ≡ list_any (must_clear plan.now lam) (made_at line function (told_region (detail_told rows.now))) }
 {
-    match lam_at(lams, number) {
-        Some(lam) => at.c == lam.c && at.n == lam.n && at.a == lam.a,
+    match told_region(detail_told(rows)) {
+        Some(region) => must_clear(
+            plan,
+            lam,
+            &Command {
+                line,
+                function,
+                region,
+            },
+        ),
+        None => false,
+    }
+}
+
+// That of the body of this number.
+fn clears_at(found: &[bool], number: usize) -> bool
+    ensures { result ≡ unwrap_or (slice_get found.now number) false }
+{
+    match found.get(number) {
+        Some(clears) => *clears,
         None => false,
     }
 }

@@ -7,7 +7,7 @@ ghost use Rattle.camac_lang.specs.declared.word.LamCall.TheVariants.{Disable};
 ghost use Rattle.camac_branch.specs.Address.{address};
 ghost use Rattle.camac_branch.specs.Plan.{declared_clears};
 ghost use Rattle.camac_commands.specs.Commands.{lies_in};
-ghost use Rattle.camac_response.specs.Reach.{clears_at, could_clear, could_hide, may_call_crate, may_call_lam, may_clear_by_plan};
+ghost use Rattle.camac_response.specs.Reach.{clears_at, could_clear, could_hide, may_call_crate, may_call_lam, may_clear_by_plan, must_clear, spares_at};
 
 use camac_branch::Plan;
 use camac_check_known::Region;
@@ -32,6 +32,45 @@ pub fn could_hide(lam: Address, command: &Command) -> bool
     ensures { result ≡ could_hide lam command.now }
 {
     disables(lam, command) || sends_z(lam, command) || turns_demand_off(lam, command)
+}
+
+/// Whether it clears the look-at-me at an address at whatever address it is made.
+pub fn must_clear(plan: &Plan, lam: Address, command: &Command) -> bool
+    ensures { result ≡ must_clear plan.now lam command.now }
+{
+    must_be_at(lam, command.region)
+        && command.region.sub_addresses().hi() < 16
+        && !spares_from(plan, lam, command, 0)
+}
+
+fn must_be_at(lam: Address, region: Region) -> bool
+    ensures { result ≡ ((nat_eq region.crates.lo lam.crate_no && nat_eq region.crates.hi lam.crate_no) && (nat_eq region.stations.lo lam.station && nat_eq region.stations.hi lam.station)) }
+{
+    is_only(region.crates(), lam.c) && is_only(region.stations(), lam.n)
+}
+
+fn is_only(range: Range, number: u32) -> bool
+    ensures { result ≡ (nat_eq range.lo number && nat_eq range.hi number) }
+{
+    range.lo() == number && range.hi() == number
+}
+
+// From this sub-address on.
+#[tactic(auto, using(crate::proofs::Declared::any_next, crate::proofs::Declared::any_none))]
+fn spares_from(plan: &Plan, lam: Address, command: &Command, a: u32) -> bool
+    requires { a ≤ 16 }
+    ensures { result ≡ list_any (spares_at plan.now lam command.now) (range_with_len a (16 - a)) }
+{
+    a < 16 && (spares_at(plan, lam, command, a) || spares_from(plan, lam, command, a + 1))
+}
+
+fn spares_at(plan: &Plan, lam: Address, command: &Command, a: u32) -> bool
+    requires { a < 16 }
+    ensures { result ≡ spares_at plan.now lam command.now a }
+{
+    has(command.region.sub_addresses(), a)
+        && !(command.function.get() == 10 && lam.a == a
+            || declared_clears(plan, lam, a, command.function))
 }
 
 fn disables(lam: Address, command: &Command) -> bool

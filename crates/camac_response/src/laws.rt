@@ -2,7 +2,7 @@
 
 ghost use Rattle.camac_response.specs.Checked.{CheckedRespond, Responds};
 ghost use Rattle.camac_response.specs.Reach.{DecidedServe};
-ghost use Rattle.camac_response.specs.Served.{ClearsAlways, HarmlessServe, ServicesServe};
+ghost use Rattle.camac_response.specs.Served.{HarmlessServe, ServicesServe};
 ghost use Rattle.camac_response.specs.Laws.{AnswersInTime, LookAtMesAreAnswered, LowestAreCalled, StretchesEnd};
 
 use camac_checked::Checked;
@@ -34,17 +34,12 @@ pub fn services_serve()
     ensures { ServicesServe }
 {}
 
-/// A service whose tree has `cclc` for its look-at-me on every way has cleared it where it ends.
-pub fn clears_always()
-    ensures { ClearsAlways }
-{}
-
-/// Such a service, whose cycles clear no other look-at-me and hide none, does what is asked of it.
+/// A service that makes a cycle that clears its look-at-me, and whose cycles clear no other and hide none, does what is asked of it.
 pub fn harmless_serve()
     ensures { HarmlessServe }
 {}
 
-/// Where each service makes only commands that clear no other look-at-me and hide none, and its tree clears its own, services do what is asked of
+/// Where each service makes only commands that clear no other look-at-me and hide none, and one that clears its own, services do what is asked of
 /// them along every run.
 pub fn decided_serve()
     ensures { DecidedServe }

@@ -12,7 +12,7 @@ use camac_branch::Plan;
 use camac_checked::Checked;
 use camac_commands::{BodyCommands, Command};
 use camac_esone::Address;
-use camac_lang::{Script, Service};
+use camac_lang::Service;
 use camac_response_times::Source;
 use camac_word::GlBit;
 use std::alloc::{AllocError, Global};
@@ -104,7 +104,7 @@ fn tell_of(
 ) -> Result<(), AllocError>
     ensures { OnOk result (found.new.items ≡ told_of checked.now.plan checked.now.script commands.now bit number lam (service_of service.now) found.old.items) }
 {
-    let heading = not_cleared(alloc, checked.script(), lam, service)?;
+    let heading = not_cleared(alloc, checked, lam, number, service)?;
     tell(found, bit, number, Why::NotCleared, heading)?;
     tell_cleared(found, checked.plan(), lam, bit, number, 0, commands)?;
     tell_hidden(found, lam, bit, number, 0, commands)
@@ -113,13 +113,14 @@ fn tell_of(
 // The line of the heading, where the service has a way on which it does not clear its look-at-me.
 fn not_cleared(
     alloc: Global,
-    script: &Script,
+    checked: &Checked,
     lam: Address,
+    number: usize,
     service: &Service,
 ) -> Result<Option<u32>, AllocError>
-    ensures { IfOk result (λ line. line ≡ not_cleared script.now lam (service_of service.now)) }
+    ensures { IfOk result (λ line. line ≡ not_cleared checked.now.plan checked.now.script lam number (service_of service.now)) }
 {
-    let clears = clears_lam(alloc, script, lam, &service.body)?;
+    let clears = clears_lam(alloc, checked, lam, number)?;
     Ok(if clears { None } else { Some(service.line) })
 }
 

@@ -1,0 +1,381 @@
+-- What is accepted and surely makes a command of some kind has made one where it ends: one induction over statements.
+use Rattle.std.proofs.Common.{◌≡◌, ℕ, ◌+◌, ◌-◌, ◌<◌, ◌≤◌, zero, suc, List, [], Option, Some, None, Ok, Bool, true, false, refl, sym, ap, ap₂, subst, ◌∙◌, arith}
+use Rattle.std.specs.Prelude.{◌||◌, ◌&&◌, drop, nat_le, nat_lt, slice_get, unwrap_or, if◌then◌else◌}
+use Rattle.std.specs.List.{list_any}
+use Rattle.std.proofs.lemmas.Bool.{and_parts, or_right, false≢true, ltb-true, leb-true}
+use Rattle.std.proofs.lemmas.Option.{same_Some}
+use Rattle.camac_lang.specs.declared.word.LamCall.{LamCall}
+use Rattle.camac_lang.specs.declared.word.WordSize.{WordSize}
+use Rattle.camac_lang.specs.declared.word.WordSize.TheVariants.{Full}
+use Rattle.camac_lang.specs.Tree.{Expression, number, Condition, Keep, Move, no_data, into, from, Statement, assign, set_register, single, address_scan, q_stop, q_repeat, put, crate_call, lam_call, choose, choose_else, for_, while_, locked, call, Block, done, next, Procedure}
+use Rattle.camac_func.specs.declared.data.DataMove.TheVariants as moved
+use Rattle.camac_branch.specs.Address.{Address}
+use Rattle.camac_branch.specs.Allowed.{width}
+use Rattle.camac_branch.specs.Plan.{Layout, crate_waits}
+use Rattle.camac_esone.specs.Calls.{lam_function}
+use Rattle.camac_model.specs.State.{State, Variables, stepped, with_variable}
+use Rattle.camac_model.specs.Behaviour.{Piece, demanded, cycled, lock_taken, lock_released, event_left, Behaviour, does, ends, stops, Stop, Action, then_do, given, decide, unless_wrong}
+use Rattle.camac_model.specs.Cycle.{after_lock, take_lock, release, cycle, sized, kept}
+use Rattle.camac_model.specs.Fine.{most_turns, AreInRanges}
+use Rattle.camac_model.specs.Meaning.{fits_size, act, for_state, for_turns, for_from, entered, enter, effect, block_meaning}
+use Rattle.camac_model.specs.Moments.{Meets, AnyStop}
+use Rattle.camac_model.specs.Value.{greatest, in_range, value, values, truth}
+use Rattle.camac_model.proofs.Rules.{then_meets, given_meets, unless_meets, cycle_meets, enter_meets, lock_meets}
+use Rattle.camac_rules.specs.Refusal.{go_on, if_reached}
+use Rattle.camac_rules.specs.Known.{Region, Facts, Known, with_range}
+use Rattle.camac_rules.specs.Conditions.{Branches, branches, split}
+use Rattle.camac_rules.specs.Costs.{Verdict, unreached}
+use Rattle.camac_rules.specs.Cycles.{Context, Around}
+use Rattle.camac_rules.specs.Calls.{lock_rule}
+use Rattle.camac_rules.specs.Procedures.{call_rule}
+use Rattle.camac_rules.specs.Loops.{Limits, with_fixed, for_limits, for_head, head, keeps_hold_after, turns_between, values_between}
+use Rattle.camac_rules.specs.Statements.{accept_statement, accept_block}
+use Rattle.camac_rules.proofs.Allows.{Allows, allowed as allows, then_allowed, required_allowed, given_allowed, if_reached_allowed, allowed_more}
+use Rattle.camac_rules.proofs.Stores.{Place, around_of, fixing, holding, Inside, Reaches}
+use Rattle.camac_rules.proofs.Conditions.{Decides, split_each}
+use Rattle.camac_rules.proofs.Values.{Fits}
+use Rattle.camac_rules.proofs.Sound.{step, SafePiece, StopsWell, EndsWell, SoundFor, stepped_reaches}
+use Rattle.camac_rules.proofs.Actions.{Setting, of, HasWidths, seen, value_of}
+use Rattle.camac_rules.proofs.Held.{MayLock, CanLock, lock_allowed, lock_taken as still_held}
+use Rattle.camac_rules.proofs.ForLoops as counting
+use Rattle.camac_rules.proofs.ForLoops.{MayCount, limits_allowed}
+use Rattle.camac_rules.proofs.Lockless.{has_lock, block_has_lock}
+use Rattle.camac_rules.proofs.Routines.{AreSmall, Serves}
+use Rattle.camac_rules.proofs.Statements.{may_first, may_second, reached_sound, statement_sound, block_sound}
+use Rattle.camac_check.proofs.Capped.{in_code, in_rules, cut_all, if_reached_cut, block_cut}
+use Rattle.camac_check_costs.specs.Bodies.{rows_if}
+use Rattle.camac_check_rows.specs.declared.row.Row.{Row}
+use Rattle.camac_check_rows.specs.Rows.{found, ways, Turning, turning_from, for_turning, taken, lock_inside, lock_head, statement_verdict, inside, statement_rows, block_rows}
+use Rattle.camac_check_rows.specs.Statements.{detail_of}
+use Rattle.camac_commands.specs.Commands.{Command, is_told, made_alone, made_at}
+use Rattle.camac_commands.specs.Surely.{has_turn, surely, surely_block, made_one, AnyPiece, IsMade, TellsOf}
+use Rattle.camac_commands.proofs.ByRows.{Begins, begins_all, begins_inside, begins_both, begins_block, behind_first, first_alone, statement_told, block_told, same_after}
+use Rattle.camac_commands.proofs.Listed.{Listed}
+use Rattle.camac_commands.proofs.Actions.{always, with_result, single_listed, lam_listed}
+use Rattle.camac_commands.proofs.Arguments.{GiveAll, AllFit, ranges_each, in_ranges, are_small}
+use Rattle.camac_commands.proofs.Matches.{Matches, matches_at}
+use Rattle.camac_commands.proofs.Statements.{both_allowed}
+
+-- ---- by what is known where each statement begins
+
+abbrev mutual
+  pub statement_surely : Context → (Command → Bool) → List Bool → Around → Statement → Known → Bool
+  statement_surely c test ps around (single line size f r m) k = list_any test (made_alone (single line size f r m) (detail_of c (single line size f r m) k))
+  statement_surely c test ps around (lam_call line which l) k = list_any test (made_alone (lam_call line which l) (detail_of c (lam_call line which l) k))
+  statement_surely c test ps around (choose_else line t a b) k = block_surely c test ps around a (ways line t k).holds && block_surely c test ps around b (ways line t k).fails
+  statement_surely c test ps around (for_ line x e1 e2 keeps body) k = has_turn e1 e2 && block_surely c test ps (with_fixed x around) body (for_turning around line x e1 e2 keeps body k).head
+  statement_surely c test ps around (locked line e body) k = block_surely c test ps (lock_inside (taken c around line e k) around) body (lock_head (taken c around line e k) k)
+  statement_surely c test ps around (call line p es) k = unwrap_or (slice_get ps p) false
+  statement_surely c test ps around s k = false
+
+  pub block_surely : Context → (Command → Bool) → List Bool → Around → Block → Known → Bool
+  block_surely c test ps around done k = false
+  block_surely c test ps around (next s rest) k = statement_surely c test ps around s k || block_surely c test ps around rest (statement_verdict c around s k).after
+
+-- the rows tell the same
+module _ (c : Context) (test : Command → Bool) (ps : List Bool) where
+  abbrev rows_of : Around → Block → Known → List Row
+  rows_of around b k = block_rows (in_code c) around b k
+
+  mutual
+    statement_sure : (around : Around) (s : Statement) (k : Known) (rows rest : List Row) → Begins rows (statement_rows (in_code c) around s k) rest → surely test ps s rows ≡ statement_surely (in_rules c) test ps around s k
+    statement_sure around (choose line t a) k rows rest h = refl
+    statement_sure around (choose_else line t a b) k rows rest h =
+        let arms = ways line t k in
+        let (middle, first, second) = begins_both (drop 1 rows) (inside (in_code c) _ (rows_of around a arms.holds)) _ rest (behind_first _ rows _ rest h) in
+        let first_rows = begins_inside _ (drop 1 rows) _ middle first (λ _. refl) in
+        let one = block_sure around a arms.holds (drop 1 rows) middle first_rows in
+        let two = block_sure around b arms.fails (drop 1 middle) rest (begins_block _ _ middle _ rest second (λ _. refl)) in
+        ap₂ (λ x y. x && y) one (ap (λ m. surely_block test ps b (drop 1 m)) (block_told c [] around a arms.holds (drop 1 rows) middle first_rows).1 ∙ two)
+    statement_sure around (for_ line x e1 e2 keeps body) k rows rest h =
+        ap (λ y. has_turn e1 e2 && y) (block_sure (with_fixed x around) body (for_turning around line x e1 e2 keeps body k).head (drop 1 rows) rest (begins_block _ _ rows _ rest h (λ _. refl)))
+    statement_sure around (while_ line t most m keeps body) k rows rest h = refl
+    statement_sure around (locked line e body) k rows rest h =
+        let o = taken (in_code c) around line e k in
+        block_sure (lock_inside o around) body (lock_head o k) (drop 1 rows) rest (begins_block _ _ rows _ rest h (λ _. refl))
+    statement_sure around (assign line x e) k rows rest h = refl
+    statement_sure around (set_register line r e1 e2 e3) k rows rest h = refl
+    statement_sure around (single line size f r move) k rows rest h = (first_alone (λ d. list_any test (made_alone (single line size f r move) d)) _ rows rest h).0
+    statement_sure around (address_scan line f r1 r2 max x) k rows rest h = refl
+    statement_sure around (q_stop line f r t max x) k rows rest h = refl
+    statement_sure around (q_repeat line f r t max limit x) k rows rest h = refl
+    statement_sure around (put line e) k rows rest h = refl
+    statement_sure around (crate_call line which e) k rows rest h = refl
+    statement_sure around (lam_call line which l) k rows rest h = (first_alone (λ d. list_any test (made_alone (lam_call line which l) d)) _ rows rest h).0
+    statement_sure around (call line p es) k rows rest h = refl
+
+    block_sure : (around : Around) (b : Block) (k : Known) (rows rest : List Row) → Begins rows (rows_of around b k) rest → surely_block test ps b rows ≡ block_surely (in_rules c) test ps around b k
+    block_sure around done k rows rest h = refl
+    block_sure around (next s others) k rows rest h =
+        let after : Known = (statement_verdict (in_code c) around s k).after in
+        let (middle, first, second) = begins_both rows (statement_rows (in_code c) around s k) (rows_of around others after) rest h in
+        let two = block_sure around others after middle rest second in
+        ap₂ (λ x y. x || y) (statement_sure around s k rows middle first)
+        (ap (surely_block test ps others) (statement_told c [] around s k rows middle first).1 ∙ two ∙ ap (block_surely (in_rules c) test ps around others) (same_after c around s k))
+
+  -- so with a body that is accepted
+  pub body_sure : (around : Around) (b : Block) (k : Known) (v : Verdict) → if_reached unreached k (accept_block (in_rules c) around b) ≡ Ok v
+      → surely_block test ps b (rows_if (if_reached unreached k (accept_block (in_code c) around b)) (rows_of around b k)) ≡ block_surely (in_rules c) test ps around b k
+  body_sure around b k v is =
+      let rows : List Row = rows_of around b k in
+      ap (λ q. surely_block test ps b (rows_if q rows)) (if_reached_cut k (accept_block (in_code c) around b) (accept_block (in_rules c) around b) (λ q. block_cut c around b q) ∙ ap cut_all is)
+      ∙ block_sure around b k rows [] (begins_all rows)
+
+-- ---- behaviours that make a cycle that is meant
+
+module _ (meant : Address → ℕ → Bool) where
+  abbrev pub Makes : Behaviour State → Type 0
+  Makes b = (x : Bool) → Meets (made_one meant) AnyPiece AnyStop IsMade x b
+
+  -- what is made stays made
+  stays : (x : Bool) → x ≡ true → (b : Behaviour State) → Meets (made_one meant) AnyPiece AnyStop IsMade x b
+  stays x e (does (demanded p v) b) = (tt, stays x e b)
+  stays x e (does (cycled at f d r w) b) = (tt, stays (x || meant at f) (ap (λ y. y || meant at f) e) b)
+  stays x e (does (lock_taken c w) b) = (tt, stays x e b)
+  stays x e (does (lock_released c) b) = (tt, stays x e b)
+  stays x e (does (event_left w) b) = (tt, stays x e b)
+  stays x e (ends s) = e
+  stays x e (stops w s) = tt
+
+  makes_first : (b : Behaviour State) (go : Action) → Makes b → Makes (then_do b go)
+  makes_first b go h x = then_meets (made_one meant) AnyPiece AnyStop IsMade IsMade x b go (h x) (λ y s e. stays y e (go s))
+
+  -- from what holds at the end of the first part
+  makes_second : (S : Unit {0} → Piece → Type 0) (P : Unit {0} → Stop → State → Type 0) (Q : Unit {0} → State → Type 0) (b : Behaviour State) (go : Action)
+      → Meets step S P Q tt b → ((t : State) → Q tt t → Makes (go t)) → Makes (then_do b go)
+  makes_second S P Q (does p b) go h f x = (tt, makes_second S P Q b go h.1 f (made_one meant x p))
+  makes_second S P Q (ends t) go h f x = f t h x
+  makes_second S P Q (stops w t) go h f x = tt
+
+  makes_given : {A : Type 0} (o : Option A) (go : A → Action) (v : A) (s : State) → o ≡ Some v → Makes (go v s) → Makes (given o go s)
+  makes_given o go v s e h = subst (λ p. Makes (given p go s)) (sym e) h
+
+  makes_any : {A : Type 0} (o : Option A) (go : A → Action) (s : State) → ((v : A) → o ≡ Some v → Makes (go v s)) → Makes (given o go s)
+  makes_any None go s h = λ x. tt
+  makes_any (Some v) go s h = h v refl
+
+  -- all its cycles are on a list whose commands are meant, and it makes one
+  listed_makes : (cs : List Command) → ((at : Address) (f : ℕ) → list_any (is_told at f) cs ≡ true → meant at f ≡ true)
+      → (b : Behaviour State) → Listed cs b → Meets (made_one (λ at f. true)) AnyPiece AnyStop IsMade false b → Makes b
+  listed_makes cs m (does (demanded p v) b) l h x = (tt, listed_makes cs m b l.1 h.1 x)
+  listed_makes cs m (does (cycled at f d r w) b) l h x = (tt, stays (x || meant at f) (or_right x (meant at f) (m at f l.0)) b)
+  listed_makes cs m (does (lock_taken c w) b) l h x = (tt, listed_makes cs m b l.1 h.1 x)
+  listed_makes cs m (does (lock_released c) b) l h x = (tt, listed_makes cs m b l.1 h.1 x)
+  listed_makes cs m (does (event_left w) b) l h x = (tt, listed_makes cs m b l.1 h.1 x)
+  listed_makes cs m (ends s) l h x = absurd (false≢true h)
+  listed_makes cs m (stops w s) l h x = tt
+
+  -- a procedure of which this is told
+  abbrev pub RoutineMakes : ℕ → Procedure → Bool → (ℕ → Action) → Type 0
+  RoutineMakes n q b run = b ≡ true → (vs : List ℕ) → AreInRanges vs q.parameters → AreSmall vs → (s : State) → Makes (run n (entered vs s))
+
+  by_or : (a b : Bool) (P : Type 0) → (a || b) ≡ true → (a ≡ true → P) → (b ≡ true → P) → P
+  by_or true b P e first second = first refl
+  by_or false b P e first second = second e
+
+  -- the first of a list of at most one
+  one_meant : (test : Command → Bool) → TellsOf test meant → (line f : ℕ) (o : Option Region) → list_any test (made_at line f o) ≡ true → (at : Address) (g : ℕ) → list_any (is_told at g) (made_at line f o) ≡ true → meant at g ≡ true
+  one_meant test tells line f None e at g t = absurd (false≢true e)
+  one_meant test tells line f (Some r) e at g t =
+      let d : Command = record { line = line; function = f; region = r } in
+      by_or (test d) false (meant at g ≡ true) e (λ passes. by_or (is_told at g d) false (meant at g ≡ true) t (λ there. tells d passes at g there) (λ no. absurd (false≢true no))) (λ no. absurd (false≢true no))
+
+-- an action that ends has made a cycle
+act_cycles : (plan : Layout) (at : Address) (f : ℕ) (size : WordSize) (m : Move) (s : State) → Meets (made_one (λ at f. true)) AnyPiece AnyStop IsMade false (act plan at f size m s)
+act_cycles plan at f size no_data s =
+    cycle_meets (made_one (λ at f. true)) AnyPiece AnyStop IsMade false plan at f moved.None s.answers (λ r. ends) s (λ _. tt) (λ _. tt) (λ waits a rest e g p. tt) (λ waits a rest e g p. (tt, refl))
+act_cycles plan at f size (into x) s =
+    cycle_meets (made_one (λ at f. true)) AnyPiece AnyStop IsMade false plan at f moved.In s.answers (λ r t. ends (with_variable x (kept (sized size (width plan at f)) r) t)) s
+    (λ _. tt) (λ _. tt) (λ waits a rest e g p. tt) (λ waits a rest e g p. (tt, refl))
+act_cycles plan at f size (from e) s =
+    let send : ℕ → Action = λ v t. cycle plan at f (moved.Out v) t.answers (λ r. ends) t in
+    given_meets (made_one (λ at f. true)) AnyPiece AnyStop IsMade false (value e s.variables) (λ v. unless_wrong (fits_size size v) (send v)) s (λ _. tt) (λ v _.
+    unless_meets (made_one (λ at f. true)) AnyPiece AnyStop IsMade false (fits_size size v) (send v) s (λ _. tt) (λ _.
+    cycle_meets (made_one (λ at f. true)) AnyPiece AnyStop IsMade false plan at f (moved.Out v) s.answers (λ r. ends) s (λ _. tt) (λ _. tt) (λ waits a rest e g p. tt) (λ waits a rest e g p. (tt, refl))))
+
+-- a number that has a value is that value
+in_it : (n v : ℕ) → in_range n ≡ Some v → v ≡ n
+in_it n v e = go (nat_le n greatest) e
+  where
+    go : (b : Bool) → (if b then Some n else None) ≡ Some v → v ≡ n
+    go true h = sym (same_Some n v h)
+    go false h = absurd (cc)
+
+module _ (c : Setting) (narrow : HasWidths c.plan) (serves : Serves c) (n : ℕ) (le : most_turns ≤ n) (test : Command → Bool) (meant : Address → ℕ → Bool) (tells : TellsOf test meant)
+    (bs : List Bool) (matches : Matches (RoutineMakes meant n) c.routines c.procedures bs) where
+  abbrev run : Block → Action
+  run b = block_meaning (of c) n b
+
+  abbrev sure : Place → Block → Known → Bool
+  sure around b k = block_surely (seen c) test bs (around_of around) b k
+
+  abbrev MakesIt : Place → Statement → Facts → Type 0
+  MakesIt around st k = statement_surely (seen c) test bs (around_of around) st (Some k) ≡ true → (s : State) → Inside around k s → Makes meant (effect (of c) n st (stepped s))
+
+  abbrev BlockMakes : Place → Block → Known → Type 0
+  BlockMakes around b k = sure around b k ≡ true → (s : State) → Reaches around k s → Makes meant (run b s)
+
+  abbrev Accepted : Place → Block → Known → (Verdict → Type 0) → Type 0
+  Accepted around b k P = Allows (if_reached unreached k (accept_block (seen c) (around_of around) b)) P
+
+  reached_makes : (around : Place) (b : Block) (k : Known) → ((q : Facts) → Allows (accept_block (seen c) (around_of around) b q) (λ v. BlockMakes around b (Some q))) → Accepted around b k (λ v. BlockMakes around b k)
+  reached_makes around b k h = if_reached_allowed unreached k (accept_block (seen c) (around_of around) b) (λ q v. BlockMakes around b q) (λ e s r. absurd r) h
+
+  nothing_makes : (P : Type 0) → false ≡ true → P
+  nothing_makes P e = absurd (false≢true e)
+
+  single_makes : (around : Place) (line : ℕ) (size : WordSize) (f r : ℕ) (m : Move) (k : Facts) → Allows (accept_statement (seen c) (around_of around) (single line size f r m) k) (λ v. MakesIt around (single line size f r m) k)
+  single_makes around line size f r m k =
+      allowed_more (single_listed c around n line size f r m k) (λ v lists e s i.
+      listed_makes meant _ (one_meant meant test tells line f _ e) (effect (of c) n (single line size f r m) (stepped s)) (lists s i)
+      (given_meets (made_one (λ at f. true)) AnyPiece AnyStop IsMade false (s.registers r) (λ at. act c.plan at f size m) (stepped s) (λ _. tt) (λ at _. act_cycles c.plan at f size m (stepped s))))
+
+  lam_makes : (around : Place) (line : ℕ) (which : LamCall) (l : ℕ) (k : Facts) → Allows (accept_statement (seen c) (around_of around) (lam_call line which l) k) (λ v. MakesIt around (lam_call line which l) k)
+  lam_makes around line which l k =
+      allowed_more (lam_listed c around n line which l k) (λ v lists e s i.
+      listed_makes meant _ (one_meant meant test tells line _ _ e) (effect (of c) n (lam_call line which l) (stepped s)) (lists s i)
+      (given_meets (made_one (λ at f. true)) AnyPiece AnyStop IsMade false (slice_get c.lams l) (λ at. act c.plan at (lam_function which) Full no_data) (stepped s) (λ _. tt) (λ at _. act_cycles c.plan at (lam_function which) Full no_data (stepped s))))
+
+  call_makes : (around : Place) (line p : ℕ) (es : List Expression) (k : Facts) → Allows (call_rule (seen c) line p es k) (λ v. MakesIt around (call line p es) k)
+  call_makes around line p es k =
+      then_allowed (ranges_each line es k.ranges) (λ rs gives.
+      then_allowed (given_allowed (slice_get c.procedures p) _ line _) (λ q is.
+      required_allowed _ line _ (λ fit. allows (λ sure_so s i.
+      let r = serves.each p q is in
+      let makes = matches_at (RoutineMakes meant n) false c.routines c.procedures bs matches p q r.routine is r.is sure_so in
+      makes_given meant (slice_get c.routines p) (λ routine. given (values es s.variables) (λ us. enter (routine n) us)) r.routine (stepped s) r.is
+      (makes_any meant (values es s.variables) (λ us. enter (r.routine n) us) (stepped s) (λ vs e.
+      let f : AllFit vs rs = subst (λ o. GiveAll o rs) e (gives s.variables i.variables) in
+      λ x. enter_meets (made_one meant) AnyPiece AnyStop IsMade x (r.routine n) vs (stepped s) (makes vs (in_ranges vs rs q.parameters f fit) (are_small vs rs f) (stepped s) x)))))))
+
+  by_test : (around : Place) (o : Option Bool) (arms : Branches) (first second : Action) (t : State)
+      → Decides around o arms t → (Reaches around arms.holds t → Makes meant (first t)) → (Reaches around arms.fails t → Makes meant (second t)) → Makes meant (decide o first second t)
+  by_test around None arms first second t d f g = λ x. tt
+  by_test around (Some true) arms first second t d f g = f d
+  by_test around (Some false) arms first second t d f g = g d
+
+  choice_makes : (around : Place) (line : ℕ) (test' : Condition) (a b : Block) (k : Facts) (arms : Branches) → split line test' k ≡ Ok arms
+      → ((s : State) → Inside around k s → Decides around (truth test' s.variables s.q s.x) arms s) → BlockMakes around a arms.holds → BlockMakes around b arms.fails → MakesIt around (choose_else line test' a b) k
+  unfolding if_reached
+  choice_makes around line test' a b k arms is d first second e s i =
+      let t : State = stepped s in
+      let both = and_parts (sure around a arms.holds) (sure around b arms.fails) (subst (λ (w : Branches). (sure around a w.holds && sure around b w.fails) ≡ true) (ap (λ q. found (branches None None) q) is) e) in
+      by_test around (truth test' s.variables s.q s.x) arms (run a) (run b) t (d t (stepped_reaches around (Some k) s i)) (λ r. first both.0 t r) (λ r. second both.1 t r)
+
+  lock_makes : (around : Place) (line : ℕ) (e : Expression) (body : Block) (k : Facts) (m : ℕ) → lock_rule (seen c) (around_of around) line e k ≡ Ok m
+      → CanLock c.plan around e k m → BlockMakes (holding m around) body (Some k) → MakesIt around (locked line e body) k
+  unfolding go_on if_reached
+  lock_makes around line e body k m is can inner sure_so s i =
+      let t : State = stepped s in
+      let held : ℕ → Action = λ d u. then_do (run body u) (release d) in
+      let take : ℕ → ℕ → Action = λ d waits u. take_lock d waits (u.branch d).locked (held d) u in
+      let so : sure (holding m around) body (Some k) ≡ true =
+      subst (λ (o : Option ℕ). block_surely (seen c) test bs (lock_inside o (around_of around)) body (lock_head o (Some k)) ≡ true) (ap (λ q. found None (go_on q (λ j. Ok (Some j)))) is) sure_so in
+      makes_given meant (value e s.variables) (λ d. given (crate_waits c.plan d) (take d)) m t (can.is s i)
+      (makes_any meant (crate_waits c.plan m) (take m) t (λ waits _ x.
+      lock_meets (made_one meant) AnyPiece AnyStop IsMade x m waits (s.branch m).locked (held m) t (λ _. tt) (λ _. tt) (λ a rest _ _. tt) (λ a rest free g p. (
+        tt,
+        makes_first meant (run body (after_lock m a.wait rest t)) (release m)
+            (inner so (after_lock m a.wait rest t) (record { variables = i.variables; registers = i.registers; locks = still_held around s.branch m i.locks })) x,
+      ))))
+
+  -- ---- a `for` that has a turn
+
+  first_turn : (allowed left x v w : ℕ) (body : Action) (t : State) → Makes meant (body (for_state x v t)) → Makes meant (for_turns (suc left) allowed x v w body t)
+  first_turn zero left x v w body t h = λ y. tt
+  first_turn (suc m) left x v w body t h = makes_first meant (body (for_state x v t)) (for_turns left m x (v + 1) w body) h
+
+  turns_make : (around : Place) (line x : ℕ) (e1 e2 : Expression) (qs : List Keep) (body : Block) (k : Facts) (l : Limits) (turn : Verdict) → MayCount around x e1 e2 qs k l → keeps_hold_after qs turn.after ≡ true
+      → (s : State) → Inside around k s → (v w : ℕ) → Fits l.first v → Fits l.last w → v ≤ w
+      → (b : Bool) → nat_lt l.last.hi l.first.lo ≡ b → SoundFor c.plan (fixing x around) (if b then None else Some (with_range x (values_between l) (head body qs k))) (λ m. block_meaning (of c) m body) turn
+      → BlockMakes (fixing x around) body (if b then None else Some (with_range x (values_between l) (head body qs k)))
+      → sure (fixing x around) body (if b then None else Some (with_range x (values_between l) (head body qs k))) ≡ true
+      → Makes meant (for_from (w + 1 - v) n x v w (run body) (stepped s))
+  turns_make around line x e1 e2 qs body k l turn may keep s i v w f g has true e h makes so =
+      let less : l.last.hi < l.first.lo = ltb-true l.last.hi l.first.lo e in
+      absurd (omega (arith, f.within.low, g.within.high))
+  turns_make around line x e1 e2 qs body k l turn may keep s i v w f g has false e h makes so = go (w + 1 - v) refl
+    where
+      go : (j : ℕ) → j ≡ w + 1 - v → Makes meant (for_from j n x v w (run body) (stepped s))
+      go zero is = absurd (omega arith)
+      go (suc j) is =
+          let checked = counting.checked c around line x e1 e2 qs body k l turn may keep n le h in
+          let before = counting.before_turns c.plan around x body qs k l turn (run body) checked s i v w f g (suc j) is (counting.entered c around line x e1 e2 qs body k l turn may keep s i) in
+          first_turn n j x v w (run body) (stepped s)
+          (makes so (for_state x v (stepped s)) (counting.turn_begins c.plan around x body qs k l turn (run body) checked s i v w f g j v (stepped s) before))
+
+  in_order : (e1 e2 : Expression) (env : Variables) (v w : ℕ) → has_turn e1 e2 ≡ true → value e1 env ≡ Some v → value e2 env ≡ Some w → v ≤ w
+  in_order (number a) (number b) env v w e p q =
+      let one = in_it a v p in
+      let two = in_it b w q in
+      let less = leb-true a b e in
+      omega (arith, one, two, less)
+  in_order e1 e2 env v w e p q = absurd (cc)
+
+  for_makes : (around : Place) (line x : ℕ) (e1 e2 : Expression) (qs : List Keep) (body : Block) (k : Facts) (l : Limits) (turn : Verdict) → for_limits (around_of around) line x e1 e2 qs k ≡ Ok l
+      → MayCount around x e1 e2 qs k l → keeps_hold_after qs turn.after ≡ true → SoundFor c.plan (fixing x around) (for_head x l qs body k) (λ m. block_meaning (of c) m body) turn
+      → BlockMakes (fixing x around) body (for_head x l qs body k) → MakesIt around (for_ line x e1 e2 qs body) k
+  unfolding go_on if_reached
+  for_makes around line x e1 e2 qs body k l turn is may keep sound makes sure_so s i =
+      let t : State = stepped s in
+      let first = value_of (value e1 s.variables) l.first (may.first s i) in
+      let last = value_of (value e2 s.variables) l.last (may.last s i) in
+      let second : ℕ → ℕ → Action = λ v w. for_from (w + 1 - v) n x v w (run body) in
+      let both = and_parts (has_turn e1 e2) (sure (fixing x around) body (for_head x l qs body k))
+      (subst (λ (w : Turning). (has_turn e1 e2 && block_surely (seen c) test bs (with_fixed x (around_of around)) body w.head) ≡ true)
+      (ap (λ q. found (turning_from 0 None) (go_on q (λ j. Ok (turning_from (turns_between j) (for_head x j qs body k))))) is) sure_so) in
+      makes_given meant (value e1 s.variables) (λ v. given (value e2 s.variables) (second v)) first.number t first.is
+      (makes_given meant (value e2 s.variables) (second first.number) last.number t last.is
+      (turns_make around line x e1 e2 qs body k l turn may keep s i first.number last.number first.fits last.fits (in_order e1 e2 s.variables first.number last.number both.0 first.is last.is)
+      (nat_lt l.last.hi l.first.lo) refl sound makes both.1))
+
+  -- ---- all statements, and blocks
+
+  next_makes : (around : Place) (st : Statement) (rest : Block) (k : Facts) (first : Verdict) → accept_statement (seen c) (around_of around) st k ≡ Ok first
+      → SoundFor c.plan around (Some k) (λ m s. effect (of c) m st (stepped s)) first → MakesIt around st k → BlockMakes around rest first.after → BlockMakes around (next st rest) (Some k)
+  unfolding if_reached
+  next_makes around st rest k first is sound one others e s i =
+      let own : Bool = statement_surely (seen c) test bs (around_of around) st (Some k) in
+      by_or meant own (sure around rest first.after) (Makes meant (then_do (effect (of c) n st (stepped s)) (run rest)))
+      (subst (λ (w : Known). (own || sure around rest w) ≡ true) (ap (λ q. (found unreached q).after) is) e)
+      (λ here. makes_first meant (effect (of c) n st (stepped s)) (run rest) (one here s i))
+      (λ there. makes_second meant (SafePiece c.plan) (StopsWell first.costs s) (EndsWell around first.after first.costs s) (effect (of c) n st (stepped s)) (run rest)
+      (sound.each n le s i) (λ t q. others there t q.reaches))
+
+  mutual
+    statement_makes : (around : Place) (st : Statement) → MayLock around (has_lock st) → (k : Facts) → Allows (accept_statement (seen c) (around_of around) st k) (λ v. MakesIt around st k)
+    statement_makes around (assign line x e) may k = always _ (λ no. absurd (false≢true no))
+    statement_makes around (set_register line r e1 e2 e3) may k = always _ (λ no. absurd (false≢true no))
+    statement_makes around (single line size f r m) may k = single_makes around line size f r m k
+    statement_makes around (address_scan line f r1 r2 max x) may k = always _ (λ no. absurd (false≢true no))
+    statement_makes around (q_stop line f r t max x) may k = always _ (λ no. absurd (false≢true no))
+    statement_makes around (q_repeat line f r t max limit x) may k = always _ (λ no. absurd (false≢true no))
+    statement_makes around (put line e) may k = always _ (λ no. absurd (false≢true no))
+    statement_makes around (crate_call line which e) may k = always _ (λ no. absurd (false≢true no))
+    statement_makes around (lam_call line which l) may k = lam_makes around line which l k
+    statement_makes around (call line p es) may k = call_makes around line p es k
+    statement_makes around (choose line t a) may k = always _ (λ no. absurd (false≢true no))
+    statement_makes around (while_ line t most m qs body) may k = always _ (λ no. absurd (false≢true no))
+    statement_makes around (choose_else line t a b) may k =
+        then_allowed (with_result (split_each around line t k)) (λ arms d.
+        then_allowed (reached_makes around a arms.holds (λ q. block_makes around a (may_first (block_has_lock a) (block_has_lock b) around may) q)) (λ first h.
+        then_allowed (reached_makes around b arms.fails (λ q. block_makes around b (may_second (block_has_lock a) (block_has_lock b) around may) q)) (λ second g.
+        allows (choice_makes around line t a b k arms d.0 d.1 h g))))
+    statement_makes around (locked line e body) may k =
+        then_allowed (with_result (lock_allowed c around line e k)) (λ m can.
+        then_allowed (block_makes (holding m around) body (λ h. may refl) k) (λ inner h.
+        allows (lock_makes around line e body k m can.0 can.1 h)))
+    statement_makes around (for_ line x e1 e2 qs body) may k =
+        then_allowed (with_result (limits_allowed around line x e1 e2 qs k)) (λ l m.
+        then_allowed (both_allowed (reached_sound c (fixing x around) body (for_head x l qs body k) (λ q. block_sound c narrow serves (fixing x around) body may q))
+        (reached_makes (fixing x around) body (for_head x l qs body k) (λ q. block_makes (fixing x around) body may q))) (λ turn h.
+        required_allowed _ line _ (λ keep. allows (for_makes around line x e1 e2 qs body k l turn m.0 m.1 keep h.1 h.2))))
+
+    pub block_makes : (around : Place) (b : Block) → MayLock around (block_has_lock b) → (k : Facts) → Allows (accept_block (seen c) (around_of around) b k) (λ v. BlockMakes around b (Some k))
+    block_makes around done may k = allows (λ no. absurd (false≢true no))
+    block_makes around (next st rest) may k =
+        let one = may_first (has_lock st) (block_has_lock rest) around may in
+        let others = may_second (has_lock st) (block_has_lock rest) around may in
+        then_allowed (both_allowed (statement_sound c narrow serves around st one k) (statement_makes around st one k)) (λ first h.
+        then_allowed (reached_makes around rest first.after (λ q. block_makes around rest others q)) (λ second g.
+        allows (next_makes around st rest k first h.0 h.1 h.2 g)))
