@@ -1,7 +1,7 @@
 """What the services of a script do to look-at-mes: which ones do not clear their own, and which ones may clear or hide another's."""
 from __future__ import annotations
 
-from typing import Callable, Dict, Iterator, List, NamedTuple, Set, Tuple
+from typing import Callable, Dict, Iterator, List, NamedTuple, Optional, Set, Tuple
 
 from oracle.reader.addresses import numbers
 from oracle.reader.checker import LAM_FUNCTIONS, Checker
@@ -29,14 +29,19 @@ class Unkept(NamedTuple):
         return f"unkept {self.name} line {self.line}: {self.why}"
 
 
-def may_clear(plan: Plan, lam: Lam, command: Command) -> bool:
-    """Whether the look-at-me may be down after a command."""
+def must_clear(plan: Plan, lam: Lam, command: Command) -> bool:
+    """Whether the look-at-me is down after a command."""
     crate, station, sub, function = command
-    if CONTROLLER.get(command[1:]) in ("initialise", "clear"):
-        return crate == lam.crate
     there = plan.station(crate, station)
     by_plan = there is not None and (function, sub) in there.module.clears
-    return (crate, station) == (lam.crate, lam.station) and (by_plan or sub == lam.sub and function in (CLEAR, DISABLE))
+    return (crate, station) == (lam.crate, lam.station) and (by_plan or (sub, function) == (lam.sub, CLEAR))
+
+
+def may_clear(plan: Plan, lam: Lam, command: Command) -> bool:
+    """Whether the look-at-me may be down after a command."""
+    if CONTROLLER.get(command[1:]) in ("initialise", "clear"):
+        return command[0] == lam.crate
+    return must_clear(plan, lam, command) or command == (lam.crate, lam.station, lam.sub, DISABLE)
 
 
 def may_hide(plan: Plan, lam: Lam, command: Command) -> bool:
@@ -78,9 +83,9 @@ class Looks:
         return any(self.is_clearing(it, lam) for it in block)
 
     def is_clearing(self, it: Statement, lam: Lam) -> bool:
-        if isinstance(it, LamCall):
-            its = self.script.lams[it.lam]
-            return it.call == "cclc" and (its.crate, its.station, its.sub) == (lam.crate, lam.station, lam.sub)
+        if isinstance(it, (LamCall, Cycle)):
+            its = self.of_statement(it)
+            return bool(its) and all(must_clear(self.plan, lam, command) for command in its)
         if isinstance(it, If):
             return self.clears(it.body, lam) and self.clears(it.otherwise or [], lam)
         if isinstance(it, For):
@@ -92,20 +97,19 @@ class Looks:
     def commands(self, body: Body) -> Dict[Command, int]:
         found: Dict[Command, int] = {}
         for it in everything(body.block):
-            known = self.checker.judged.get(id(it), (None,))[0]
-            if known is not None and isinstance(it, Call):
-                its = self.sent[it.procedure]
-            else:
-                its = dict.fromkeys(self.of_statement(it, known), it.line) if known is not None else {}
+            its = self.sent[it.procedure] if isinstance(it, Call) else dict.fromkeys(self.of_statement(it), it.line)
             for command, line in its.items():
                 found[command] = min(line, found.get(command, line))
         return found
 
-    def of_statement(self, it: Statement, known: Known) -> Set[Command]:
-        """The commands of a statement, by what is known before it. A scan counts for all of its stations."""
+    def of_statement(self, it: Statement) -> Set[Command]:
+        """The commands of a statement, by what is known before it. A scan counts for all of its stations, a LAM call also where it is not reached."""
+        known: Optional[Known] = self.checker.judged.get(id(it), (None,))[0]
         if isinstance(it, LamCall):
             lam = self.script.lams[it.lam]
             return {(lam.crate, lam.station, lam.sub, LAM_FUNCTIONS[it.call])}
+        if known is None:
+            return set()
         if isinstance(it, CrateCall):
             return {(value_of(known, it.crate, it.line)[0], *CRATE_COMMANDS[it.call])}
         if isinstance(it, (Cycle, Block)):
