@@ -39,8 +39,8 @@ name = "T"
 commands = [ { f = 0, a = 0 }, { f = 9, a = 0, clears = true }, { f = 10, a = 0 }, { f = 24, a = 0 }, { f = 26, a = 0 } ]
 """
 READ = "cfsa 0 r -> v "
-# What clears a service's own look-at-me on every way; {0} is its name, {1} its crate.
-CLEARS = ("cclc {0} ", "cclc {0} ", "if q {{ cclc {0} }} else {{ cclc {0} }} ", "lock {1} {{ cclc {0} }} ", "for k = 1 to 2 {{ cclc {0} }} ")
+# What clears a service's own look-at-me on every way; {0} is its name, {1} its crate, {2} its station.
+CLEARS = ("cclc {0} ", "cdreg s 1 {1} {2} 0 cfsa 9 s ", "if q {{ cclc {0} }} else {{ cclc {0} }} ", "lock {1} {{ cclc {0} }} ", "for k = 1 to 2 {{ cclc {0} }} ")
 LEAVES = ("", "if q {{ cclc {0} }} ", "if x {{ }} else {{ cclc {0} }} ")
 Z, C = (28, 8, 26), (28, 9, 26)
 # What is wrong in a service, by what it may do to the look-at-me of {0}, whose crate and station are {1} and {2}: it clears it if it is another's, or
@@ -85,14 +85,14 @@ class Made:
         if leaves:
             self.wrongs.add("left up")
             self.unkept.add((name, Harm.LEFT, None))
-        return self.dice.choice(LEAVES if leaves else CLEARS).format(name, self.places[name][0])
+        return self.dice.choice(LEAVES if leaves else CLEARS).format(name, *self.places[name])
 
     def wrong(self, name):
         """Something that clears or hides the look-at-me of another service, or its own."""
         if self.is_kept or self.dice.random() < 0.6:
             return ""
         (kind, (text, clears, hides)), its = self.dice.choice(list(WRONGS.items())), self.dice.choice(list(self.places))
-        if its == name and kind == "cclc":
+        if its == name and kind in ("cclc", "F9"):
             return ""
         for other, place in self.places.items():
             if other == its or kind in OF_CRATE and place[0] == self.places[its][0]:
