@@ -5,7 +5,7 @@ _camac_report() {
   COMPREPLY=()
   case $word in
   -*)
-    mapfile -t COMPREPLY < <(compgen -W '--every --gate --help --out --overwrite --pair --record --region --survey --words -h -o' -- "$word")
+    mapfile -t COMPREPLY < <(compgen -W '--bins --every --gate --help --out --over --overwrite --pair --region --survey --words --write-record -h -o' -- "$word")
     return
     ;;
   esac

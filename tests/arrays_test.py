@@ -5,6 +5,7 @@ usage: tests/arrays_test.py [-v] [TEST ..]     from any folder; takes some secon
 
 It is left out if numpy (package python3-numpy of Debian) is not installed.
 """
+import io
 import random
 import unittest
 from unittest import mock
@@ -13,6 +14,7 @@ from support.live import Case
 from support.needs import needed
 from camac import arrays
 from camac.events import NEW_FILE, Event, EventFileFault, record
+from camac.export_csv import Table, write_events
 from camac.runs import Asked, _read_event_file
 from camac.values import Service
 from camac.words import Column, Field, Words
@@ -68,6 +70,25 @@ class Arrays(Case):
                 lists = self.read(data, 1 << 30)
                 for piece in (20_000, 1 << 22):
                     self.assertEqual(self.read(data, 0, piece), lists)
+
+    def test_tables(self):
+        """The tables of comma-separated values, with long stretches of events of one kind and with short ones."""
+        names, chance = Words([Field("a % 3", 3, places=(1, 1)), Field('x,%d "µ"', 3, places=(2, 3)), Field("c", 5, places=(1, 1), count=2)]), random.Random(3)
+        its, kind = [], (3, 4)
+        for number in range(1, 40_001):
+            if chance.random() < 0.004 or 20_000 < number < 20_800:
+                kind = chance.choice(((3, 4), (3, 0), (5, 2), (5, 1), (3, 1)))
+            words = tuple(chance.randrange(1 << chance.choice((1, 4, 12, 24))) for _ in range(kind[1]))
+            its.append(Event(number, kind[0], chance.randrange(200), 0, words))
+        (self.room / "events").write_bytes(NEW_FILE + b"".join(map(record, its)))
+        for sources, user in ((Words(), Words()), (names, Words()), (Words(), names)):
+            tables = []
+            for long in (0, 1 << 30):
+                with mock.patch.multiple(arrays, LONG=long, PIECE=1 << 18):
+                    tables.append([io.BytesIO(), io.BytesIO()])
+                    write_events(arrays.event_pieces(self.room / "events"), Table(True, sources, user), *tables[-1])
+            self.assertEqual(*([it.getvalue() for it in one] for one in tables))
+            self.assertEqual([it.getvalue().count(b"\n") for it in tables[0]], [len(its) + 1, sum(len(it.words) for it in its) + 1])
 
     def test_arrays_are_used(self):
         """A long file without a fault is read in arrays alone."""

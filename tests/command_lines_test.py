@@ -12,12 +12,13 @@ import re
 import shutil
 import unittest
 
-from support.live import STRAIGHT_LINE
+from support.live import CLEARED, STRAIGHT_LINE
 from support.program import TOP, Room
 
 EXAMPLES = [*(TOP / "examples").glob("*.toml"), TOP / "examples/three_modules.script", TOP / "examples/three_modules.answers"]
 FILES = {
     "straight.script": STRAIGHT_LINE,
+    "cleared.script": CLEARED,
     # with a cycle less than it can take
     "greedy.script": STRAIGHT_LINE.replace("within 3", "within 2"),
     "answers": "0 0 000000 0 000004\n1 1 123fff 2 000000\n",
@@ -49,7 +50,7 @@ class CommandLines(Room):
     def test_each(self):
         text = (TOP / "tests/command_lines.text").read_text()
         parts = re.split(r"^(?=\$ camac )", text, flags=re.MULTILINE)[1:]
-        self.assertEqual(len(parts), 65)
+        self.assertEqual(len(parts), 66)
         for part in parts:
             line = part.partition("\n")[0].removeprefix("$ camac ")
             with self.subTest(line):

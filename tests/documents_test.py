@@ -352,6 +352,14 @@ class Sentences(unittest.TestCase):
         told = [it for page in PAGES for it in re.findall(r"\[(\w+) sentences\]", page.read_text())]
         self.assertEqual({*told}, {number})
 
+    def test_what_has_to_be_believed(self):
+        """The page is as its program writes it, from what the clauses of the laws name."""
+        told = subprocess.run([TOP / "tools/believe.py"], stdout=subprocess.PIPE, text=True, check=True).stdout
+        self.assertEqual(self.page("docs/inside/BELIEVE.md"), told)
+        clauses = {law: {*re.findall(r"ensures \w* ?\{ (\w+)", self.page(f"crates/{crate}/src/laws.rt").partition(f"fn {law}(")[2].partition("\n{\n")[0])}
+                   for crate, law in (("camac_run", "runs_by_headline"), ("camac_response", "responds"))}
+        self.assertEqual(clauses, {"runs_by_headline": {"RunsAlways", "RunsByHeadline", "LeavesFewEvents"}, "responds": {"Responds"}})
+
     def test_time_of_a_step(self):
         """The page on the library gives the longest that the header does."""
         longest = re.search(r"Count (\d+) microseconds a step", self.page("docs/C.md"))

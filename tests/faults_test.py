@@ -1,16 +1,15 @@
 #!/usr/bin/env python3
 """Tries the built program where each call of the system fails, once or from there on, and looks at the order of its calls. A small
-library in front of the C library writes all calls of the program into one log. It is compiled here by cc or clang.
+library in front of the C library writes all calls of the program into one log. It is compiled here.
 
 usage: tests/faults_test.py [-v] [TEST ..]     from any folder; takes about half a minute
 """
 import collections
 import os
-import shutil
 import subprocess
 import tempfile
 
-from support.needs import skip
+from support.needs import needed, skip
 from support.program import ANSWERS, DEMAND, EVENT_FILE, LISTING, PROGRAM, REQUESTS, STRAIGHT_LINE, TWICE, Case, fault, lacks, run_tests, unwritten
 
 # FAILING_TURN is the number of the call that fails, and FAILING_ERROR its error, 0 for a write that takes nothing, or SHORT for a read or
@@ -186,6 +185,7 @@ class Ran:
         return [(it.place, it.bytes) for it in self.calls if it.name == "write"]
 
 
+@needed("gcc")
 class Logged(Case):
     """A test of the program with the library in front of its calls."""
 
@@ -197,8 +197,7 @@ class Logged(Case):
         room = tempfile.TemporaryDirectory(prefix="camac-test-")
         cls.addClassCleanup(room.cleanup)
         cls.library = f"{room.name}/calls.so"
-        compiler = shutil.which("cc") or shutil.which("clang")
-        subprocess.run([compiler, "-shared", "-fPIC", "-O1", "-xc", "-o", cls.library, "-"], input=SHIM.encode(), check=True)
+        subprocess.run(["cc", "-shared", "-fPIC", "-O1", "-xc", "-o", cls.library, "-"], input=SHIM.encode(), check=True)
 
     def ran(self, line, given=None, turn=0, error=0, piece=0, there=None, later=False):
         """The program on the words of a line. `given` names the file behind standard input (`|NAME`: a pipe from it), `there` is what is in EVENTS before. The

@@ -16,7 +16,7 @@ from support.live import PROGRAM, TOP, run_tests
 from support import laboratory
 import camac
 from support import two_crates
-from camac import Response
+from camac import Harm, Response, Unkept
 from camac import __main__ as commands
 from camac import pictures
 from camac.late import Broken
@@ -25,6 +25,14 @@ from camac.printed import read_responses
 from camac.report import report
 
 VETO, STRIP, SPILL, SLOW = read_responses(two_crates.RESPONSE)
+# What is said of a script in which tick hides the look-at-me of adc, and does not clear its own.
+NONE_KEPT = """service adc gl 3 cycles 43 once start - end - longest -
+service tick gl 5 cycles 26 once start - end - longest - clears 2
+unkept adc line 30: hidden by tick
+unkept tick line 28: does not clear its look-at-me
+unkept tick line 7: cleared by adc
+"""
+HIDDEN = Unkept("adc", 30, Harm.HIDDEN, "tick")
 
 
 class Service:
@@ -97,6 +105,15 @@ class Lines(unittest.TestCase):
                 read_responses(line)
         self.assertEqual([VETO.calls(it) for it in (0, 14, 15, 30)], [1, 1, 2, 3])
         self.assertEqual(read_responses(within)[0].calls(1_000), 1)
+
+    def test_unkept(self):
+        """What a script does to look-at-mes is with the services whose they are."""
+        adc, tick = read_responses(NONE_KEPT)
+        self.assertEqual((adc, tick[:7]), (Response("adc", 3, 43, None, None, None, None, (HIDDEN,)), ("tick", 5, 26, None, None, None, None)))
+        self.assertEqual(tick.unkept, (Unkept("tick", 28, Harm.LEFT, None), Unkept("tick", 7, Harm.CLEARED, "adc")))
+        for line in ("unkept adc line 3: forgotten by tick", "unkept adc: hidden by tick"):
+            with self.assertRaises(ValueError):
+                read_responses(line)
 
     def test_program(self):
         """A service alone begins at once; and faults of the rates."""
@@ -309,12 +326,29 @@ class Shown(laboratory.BenchCase):
         ElementTree.fromstring(canvas.picture())
         self.assertNotIn("<script", canvas.picture())
 
+    def another_program(self, *cases):
+        """The program, but for some of its commands."""
+        other = self.write("other", "".join(f"{it}\n" for it in ("#!/bin/sh", "case $1 in", *cases, f"*) exec '{PROGRAM}' \"$@\" ;;", "esac")))
+        other.chmod(0o755)
+        return mock.patch.dict(os.environ, {"CAMAC_PROGRAM": str(other)})
+
+    def test_unkept(self):
+        """Why there is no number is said in words; from a service's bit on there is none. The status is 1, but nothing is refused."""
+        self.write("told", NONE_KEPT)
+        with self.another_program(f"response) cat '{self.room / 'told'}'; exit 1 ;;"):
+            page = self.page()
+            self.assertEqual(self.call("draw", "response", *self.files[:2], "-o", self.room / "x.svg"), "")
+            self.assertEqual(camac.response(*self.files[:2])[0].unkept, (HIDDEN,))
+        part = page.parts["How late"]
+        first, others = "adc line 30: hidden by tick", "tick line 28: does not clear its look-at-me; tick line 7: cleared by adc"
+        self.assertEqual(part["paragraphs"][1:4], [f"No number from bit {bit} on: {why}." for bit, why in [(3, first), *((5, it) for it in others.split("; "))]])
+        for texts in (part["texts"], ElementTree.parse(self.room / "x.svg").getroot().itertext()):
+            self.assertEqual([it for it in texts if it.startswith("no number: ")], 2 * [f"no number: {first}"])
+        self.assertEqual([row["end"] for row in page.table("How late")], ["-", "-"])
+
     def test_an_older_program(self):
         """Without `response` the page says what it lacks; the picture is refused."""
-        lines = ["#!/bin/sh", "case $1 in", f"--help) '{PROGRAM}' --help | grep -v '^  response ' ;;", "response) exit 2 ;;", f"*) exec '{PROGRAM}' \"$@\" ;;", "esac"]
-        older = self.write("older", "".join(f"{it}\n" for it in lines))
-        older.chmod(0o755)
-        with mock.patch.dict(os.environ, {"CAMAC_PROGRAM": str(older)}):
+        with self.another_program(f"--help) '{PROGRAM}' --help | grep -v '^  response ' ;;", "response) exit 2 ;;"):
             part = self.page("--every", "adc=60").parts["How late"]
             self.assertEqual(part["paragraphs"], ["This program has no response: how late each service can be is not known."])
             said = self.call("draw", "response", *self.files, "-o", self.room / "x.svg", status=3)

@@ -122,7 +122,7 @@ class Launcher(Case):
                 self.assertEqual((it.stdout.read(), it.wait()), (VERDICT, 0))
         print(f"\nthe first call took {time.monotonic() - began:.0f} s", flush=True)
         first, second = (it.close() for it in terminals)
-        self.assertTrue(first.startswith("camac: the program is built now, once, in about a minute\r\n"), first)
+        self.assertTrue(first.startswith("camac: the program is built now, once, in one to five minutes\r\n"), first)
         self.assertTrue(first.endswith(NOT_PROVED.replace("\n", "\r\n")), first)
         for said in (first, second):
             told = [tuple(map(int, it)) for it in re.findall(r"compiling, (\d+) of (\d+) crates", said)]
@@ -326,7 +326,7 @@ class Proved(Case):
 class Install(Case):
     """The library for C that is put in place is a stand-in, where gcc is there to make one."""
 
-    lacking = [it for it in ("gcc", "ld", "ar", "nm", "objcopy") if not shutil.which(it)]
+    lacking = [] if has("gcc", "binutils") else [it for it in ("gcc", "ld", "ar", "nm", "objcopy") if not shutil.which(it)]
     of_c = "include/camac/camac.h include/camac/camac.hpp include/camac/camac_esone.h include/camac/camac_mcstd.h lib/libcamac.a lib/libcamac.so lib/libcamac.so.0" \
         " share/man/man3/camac.3 lib/pkgconfig/camac.pc lib/cmake/camac/camac-config.cmake lib/cmake/camac/camac-config-version.cmake"
 

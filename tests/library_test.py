@@ -19,7 +19,7 @@ import zipfile
 from random import Random
 
 from support import of_c
-from support.live import LOCKOUT, PROGRAM, STRAIGHT_LINE, TOP, Broken, Case, Listed, run_tests
+from support.live import CLEARED, LOCKOUT, PROGRAM, STRAIGHT_LINE, TOP, Broken, Case, Listed, run_tests
 from support.needs import needed
 from support.program import EVENT_FILE
 import camac
@@ -328,7 +328,7 @@ class Calls(Case):
     def test_response_in_cpp(self):
         program = of_c.compiled(self.room, "response", HERE / "response.cpp")
         told = ONE_SERVICE.format("once", "") + ONE_SERVICE.format("every 200", "of 3 ")
-        self.assertEqual(call(program, SAMPLE, self.write("its.script", STRAIGHT_LINE)), (library.MISUSE, told))
+        self.assertEqual(call(program, SAMPLE, self.write("its.script", CLEARED)), (library.MISUSE, told))
 
     def test_lists_in_cpp(self):
         program = of_c.compiled(self.room, "lists_in_cpp", HERE / "lists.cpp")
@@ -449,10 +449,12 @@ class Python(Case):
                     self.assertEqual(*(judge.text_of(it, form) for it in judged))
 
     def test_response(self):
-        its = self.sample(), STRAIGHT_LINE
+        its = self.sample(), CLEARED
         told = library.response(*its, every={"adc": 200}, within={"adc": 3})
         self.assertEqual(told, (True, ONE_SERVICE.format("every 200", "of 3 ")))
         self.assertEqual(library.response(*its, within={"adc": 2}), (False, ONE_SERVICE.format("once", "of 2 ")))
+        unkept = "service adc gl 3 cycles 3 once start - end - longest -\nunkept adc line 3: does not clear its look-at-me\n"
+        self.assertEqual(library.response(self.sample(), STRAIGHT_LINE), (False, unkept))
         for wrong in ({"adc": 0}, {"adc": 1 << 32}, {"adc": -1}, {"nobody": 3}, {"": 3}, {"adc=3 nobody": 3}, {"adc ": 3}):
             with self.subTest(wrong), self.assertRaises(UsageFault) as found:
                 library.response(*its, every=wrong)

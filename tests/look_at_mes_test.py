@@ -1,8 +1,8 @@
 #!/usr/bin/env python3
 """Tests of the law of look-at-mes: of scripts and modules that are made at random, none waits longer than `camac response` says, at any moment of a
-run, and some wait just as long. Each service of these scripts clears its own look-at-me on every way, no other one, and hides none.
+run, and some wait just as long. What half of the scripts leave up, clear or hide, `response` tells by lines `unkept`, and promises no number for it.
 
-usage: tests/look_at_mes_test.py [-v] [TEST ..]     from any folder; takes half a minute of processor time
+usage: tests/look_at_mes_test.py [-v] [TEST ..]     from any folder; takes a minute of processor time
 
 CAMAC_SEED is another seed than the one of the day, which is printed; CAMAC_RUNS is how many runs are played in place of those that fit the time.
 """
@@ -22,22 +22,35 @@ sys.dont_write_bytecode = True
 
 from camac.late import Watch
 from camac.printed import read_responses
+from camac.values import Harm
 from oracle.calls import Program
 from oracle.comparing import used
 from oracle.maker.modules import ANSWERS
 from oracle.reader.answers import Answer, Answers
 from oracle.reader.engines import Inputs, checked
 from oracle.reader.meaning import Run
+from oracle.reader.response import response_of, services_of
 
 SEED = os.environ.get("CAMAC_SEED") or datetime.date.today().isoformat()
-RUNS, SECONDS = os.environ.get("CAMAC_RUNS"), 30
+RUNS, SECONDS = os.environ.get("CAMAC_RUNS"), 45
+# F9 clears the look-at-me, too.
 TYPE = """[[type]]
 name = "T"
-commands = [ { f = 0, a = 0 }, { f = 10, a = 0 } ]
+commands = [ { f = 0, a = 0 }, { f = 9, a = 0, clears = true }, { f = 10, a = 0 }, { f = 24, a = 0 }, { f = 26, a = 0 } ]
 """
 READ = "cfsa 0 r -> v "
 # What clears a service's own look-at-me on every way; {0} is its name, {1} its crate.
 CLEARS = ("cclc {0} ", "cclc {0} ", "if q {{ cclc {0} }} else {{ cclc {0} }} ", "lock {1} {{ cclc {0} }} ", "for k = 1 to 2 {{ cclc {0} }} ")
+LEAVES = ("", "if q {{ cclc {0} }} ", "if x {{ }} else {{ cclc {0} }} ")
+Z, C = (28, 8, 26), (28, 9, 26)
+# What is wrong in a service, by what it may do to the look-at-me of {0}, whose crate and station are {1} and {2}: it clears it if it is another's, or
+# hides it. Those of the crate are for all of its look-at-mes.
+WRONGS = {
+    "cclc": ("cclc {0} ", True, False), "cclc if q": ("if q {{ cclc {0} }} ", True, False), "F9": ("cdreg s 1 {1} {2} 0 cfsa 9 s ", True, False),
+    "F24": ("cclm {0} off ", True, True), "F24 and F26": ("cclm {0} off cclm {0} on ", True, True), "C": ("cccc {1} ", True, False),
+    "Z": ("cccz {1} cccd {1} on cclm {0} on ", True, True), "demand off": ("cccd {1} off ", False, True),
+}
+OF_CRATE = ("Z", "C", "demand off")
 
 
 class Made:
@@ -49,6 +62,9 @@ class Made:
         self.waits = {c: dice.choice((0, 0, 1, 2, 5)) for c in (1, 2)}
         self.places = {f"s{bit}": (dice.choice((1, 2)), n) for n, bit in enumerate(bits, 1)}
         self.bits = {f"s{bit}": bit for bit in bits}
+        # What `response` has to tell: of whom, why, and by whom.
+        self.unkept, self.wrongs = set(), set()
+        self.is_kept = dice.random() < 0.5
         order = dice.sample(list(self.places), len(bits))
         lams = "".join(f"cdlam {name} 1 {c} {n} 0\n" for name, (c, n) in self.places.items())
         self.script = f"{lams}var v k\n" + "".join(map(self.service, order))
@@ -60,9 +76,30 @@ class Made:
 
     def service(self, name):
         dice, (c, n) = self.dice, self.places[name]
-        parts = [*(self.part(c) for _ in range(dice.randrange(3))), dice.choice(CLEARS).format(name, c)]
+        parts = [*(self.part(c) for _ in range(dice.randrange(3))), self.clear(name), self.wrong(name)]
         dice.shuffle(parts)
         return f"service {name} within 4294967295 cycles event 0 words {{ cdreg r 1 {c} {n} 0 {READ}{''.join(parts)}}}\n"
+
+    def clear(self, name):
+        leaves = not self.is_kept and self.dice.random() < 0.25
+        if leaves:
+            self.wrongs.add("left up")
+            self.unkept.add((name, Harm.LEFT, None))
+        return self.dice.choice(LEAVES if leaves else CLEARS).format(name, self.places[name][0])
+
+    def wrong(self, name):
+        """Something that clears or hides the look-at-me of another service, or its own."""
+        if self.is_kept or self.dice.random() < 0.6:
+            return ""
+        (kind, (text, clears, hides)), its = self.dice.choice(list(WRONGS.items())), self.dice.choice(list(self.places))
+        if its == name and kind == "cclc":
+            return ""
+        for other, place in self.places.items():
+            if other == its or kind in OF_CRATE and place[0] == self.places[its][0]:
+                self.unkept |= {(other, Harm.CLEARED, name)} if clears and other != name else set()
+                self.unkept |= {(other, Harm.HIDDEN, name)} if hides else set()
+        self.wrongs.add(kind)
+        return text.format(its, *self.places[its])
 
     def part(self, c):
         reads = READ * self.dice.randrange(1, 5)
@@ -81,7 +118,7 @@ class Module:
 
     def __init__(self, name, bit, place, every):
         self.name, self.bit, self.place, self.every = name, bit, place, every
-        self.is_up, self.may = False, True
+        self.is_up, self.may, self.is_enabled = False, True, True
         self.down = self.least = 0
         self.next = None
 
@@ -131,8 +168,12 @@ class Modules(Answers):
             it.is_up, it.down = False, self.clock()
             self.after[len(self.lines)].append((it.name, None))
 
-    def seen(self):
+    def up(self):
         return [it for it in self.all if it.is_up]
+
+    def seen(self):
+        """Those in the pattern."""
+        return [it for it in self.up() if it.is_enabled and it.place[0] not in self.run.branch.silent]
 
     def next(self):
         if len(self.lines) == ANSWERS:
@@ -153,18 +194,22 @@ class Modules(Answers):
 
     def command(self, c, n, a, f):
         for it in self.all:
-            if it.place == (c, n) and (f, a) == (10, 0):
+            is_there, of_crate = it.place == (c, n) and a == 0, (n, a, f) if it.place[0] == c else None
+            # Some modules are cleared by Z, C and F24, too, each time or now and then.
+            if is_there and f in (9, 10) or (is_there and f == 24 or of_crate in (Z, C)) and self.dice.random() < 0.5:
                 self.clear(it)
+            if is_there and f in (24, 26) or of_crate == Z:
+                it.is_enabled = f == 26 and of_crate != Z
 
     def operate(self):
         """A graded-L operation, after a rest if no look-at-me is up."""
         self.raise_due(self.before)
-        if not self.seen():
+        if not self.up():
             for it in self.all:
                 it.may = True
             if self.dice.random() < 0.5:
                 self.rest(self.dice.randrange(60))
-            if self.has_idle and not self.seen() and self.dice.random() < 0.5:
+            if self.has_idle and not self.up() and self.dice.random() < 0.5:
                 return Answer(0, 0, 0, 0, 0)
             self.wake()
         seen = self.seen()
@@ -179,11 +224,11 @@ class Modules(Answers):
         self.raise_due(self.before)
 
     def wake(self):
-        if not self.seen():
+        if not self.up():
             self.raise_now(self.above or self.lower if self.is_worst else self.dice.sample(self.all, 1), self.before)
-        if not self.seen():
+        if not self.up():
             self.rest(1 << 20)
-        if not self.seen():
+        if not self.up():
             self.raise_now(self.all, self.before)
 
     def follow(self, called):
@@ -197,14 +242,17 @@ class Modules(Answers):
 class Judge:
     """Reads the listing of a run beside the look-at-mes that were raised in it. `faults` has what waited longer than its line says."""
 
-    def __init__(self, responses, modules):
-        self.most = {it.name: (it.start, it.end) for it in responses if it.end is not None}
+    def __init__(self, most, modules):
+        self.most = most
         self.modules, self.faults, self.exact = modules, [], 0
-        self.now, self.waiting, self.called = 0, {}, None
+        self.now, self.waiting, self.called, self.served = 0, {}, None, None
 
     def change(self, changes):
         for name, at in changes:
             if at is None:
+                # In its own service a module raises its look-at-me again only after the last command that clears it.
+                if name in self.waiting and name in self.most and name != self.served:
+                    self.faults.append(f"{name} is lost")
                 self.waiting.pop(name, None)
             else:
                 self.waiting[name] = at
@@ -231,6 +279,7 @@ class Judge:
                 continue
             if words[0] == "demand":
                 self.change(self.modules.before[number])
+                self.served = words[2]
                 if words[2] in self.waiting:
                     self.called = words[2], self.waiting.pop(words[2])
             else:
@@ -264,32 +313,53 @@ class Waits(Case):
             self.play(number, seen)
             number += 1
         print(f"{number} runs by seed {SEED}: {dict(seen)}")
-        self.assertTrue(seen["numbers"] and seen["just as long"], seen)
+        self.assertTrue(seen["numbers"] and seen["just as long"] and seen["unkept"], seen)
+        self.assertTrue([it for it in seen if it.startswith("broken by")], seen)
 
     def play(self, number, seen):
         dice = random.Random(f"{SEED}/look-at-mes/{number}")
         made = Made(dice)
         cycles = {it.name: it.cycles for it in self.responses(made, {})[1]}
-        status, responses = self.responses(made, made.rates(cycles))
-        self.assertEqual(status, 0, (number, made.script))
+        rates = made.rates(cycles)
+        status, responses = self.responses(made, rates)
+        unkept = [one for it in responses for one in it.unkept]
+        self.assertEqual({(it.name, it.why, it.other) for it in unkept}, made.unkept, (number, made.script))
+        self.assertEqual(status, int(bool(unkept)), (number, made.script))
         modules = Modules(dice, made, responses)
         modules.run.play()
         listing = self.call("run", made.plan, made.script, answers="".join(f"{it}\n" for it in modules.lines))[1].splitlines()
         self.assertEqual(listing, modules.run.listing, number)
-        judge = Judge(responses, modules)
+        judge = Judge({it.name: (it.start, it.end) for it in responses if it.end is not None}, modules)
         judge.read(listing)
         self.assertEqual(judge.faults, [], (number, made.plan, made.script, responses))
         seen["numbers"] += bool(judge.most)
         seen["just as long"] += judge.exact > 0
+        seen["unkept"] += bool(unkept)
+        if unkept:
+            # What would have been promised without these lines.
+            services = services_of(checked(Inputs(made.plan.encode(), made.script.encode())), rates)
+            found = {it.name: response_of(services, it) for it in services}
+            other = Judge({name: it[:2] for name, it in found.items() if it}, modules)
+            other.read(listing)
+            seen.update(f"broken by {it}" for it in made.wrongs if other.faults and len(made.wrongs) == 1)
 
 
 class Written(Case):
-    """A run in which one look-at-me waits longer than the bounds of services and the rates say: the modules break a rate."""
+    """Runs in which one look-at-me waits longer than the bounds of services and the rates say: the script leaves it up, or the modules break a rate."""
 
     T = '[[type]]\nname = "T"\ncommands = [ { f = 0, a = 0, to = 15, width = 12 }, { f = 8, a = 0, to = 15 }, { f = 10, a = 0, to = 15 } ]\n'
     PLAN = T + '[[crate]]\nnumber = 1\nstation = [ { n = 5, type = "T", gl = 1 }, { n = 6, type = "T", gl = 2 } ]\n'
     S = "service s within 2 cycles event 1 words {\n  cdreg r 1 1 6 1\n  cfsa 0 r -> v  put v\n  cclc s\n}\n"
     LONG = "service t within 10 cycles event 9 words { cdreg r 1 %s 5 1  cclc t  for i = 1 to 9 { cfsa 0 r -> v put v } }\n"
+
+    def test_one_that_is_left_up(self):
+        """t never clears its look-at-me, so all 30 demands call t, and s waits for ever."""
+        t = "service t within 1 cycles event 1 words { cdreg r 1 1 5 1  cfsa 0 r -> v  put v }\n"
+        script = "cdlam t 1 1 5 0\ncdlam s 1 1 6 0\nvar v\n" + t + self.S
+        lines = "service t gl 1 cycles 1 once start - end - longest -\nservice s gl 2 cycles 2 once start - end - longest -\n"
+        self.assertEqual(self.call("response", self.PLAN, script), (1, f"{lines}unkept t line 4: does not clear its look-at-me\n"))
+        listing = self.call("run", self.PLAN, script, answers=30 * "0 0 000000 0 000003\n1 1 000000 0 000000\n")[1]
+        self.assertEqual((listing.count(" t\n"), listing.count(" s\n")), (30, 0))
 
     def test_one_that_was_up_before(self):
         """t was up when the run began, and is raised again after 10 cycles: that breaks its rate of 100, since it counts as raised at the start."""

@@ -1,5 +1,5 @@
 #!/usr/bin/env python3
-"""Tests of tools/mutants, on a repository of two small crates that is made for them. The prover judges; it takes some minutes.
+"""Tests of tools/mutants and of tools/plants, on a repository of two small crates that is made for them. The prover judges; it takes some minutes.
 
 usage: tests/mutants_test.py [-v] [TEST ..]     from any folder, with the toolchain
 """
@@ -17,8 +17,10 @@ sys.path.insert(0, f"{TOP}/tools")
 
 from rounds import repository
 from rounds.bodies import bodies_of, packed
+from rounds.plants import plants_of
 from rounds.prover import Round
 from rounds.refusals import Refusals
+from rounds.trials import Report
 
 # Functions beside one another, functions that call one another, and a conversion, which `?` calls.
 SOURCE = """\
@@ -185,6 +187,15 @@ class Parts(Tool):
         ):
             self.assertEqual(Round(body.crate, [body]).verdicts(f"only=1 holes=0\n{said}")[body][0], kind, said)
 
+    def test_others_go_on_where_one_does_not_compile(self):
+        bodies = [self.body(f"sample/{name}") for name in ("half_of_nothing", "weak_is_half", "sum_and_one")]
+        verdicts = Round(bodies[0].crate, bodies).verdicts("src/lib.rt:6:57: error[unknown-name]: cannot find value `nothing` in this scope\n")
+        with mock.patch("builtins.print"):
+            again = Report(True, False).tell_tried(bodies[0].crate, bodies, verdicts)
+        self.assertEqual(([kind for kind, _ in verdicts.values()], again), (["not", "again", "again"], [bodies[1:]]))
+        elsewhere = Round(bodies[0].crate, bodies).verdicts("src/lib.rt:1:1: error: of no body\n")
+        self.assertEqual({kind for kind, _ in elsewhere.values()}, {"alone"})
+
     def test_the_rounds_of_this_repository_can_be_planned(self):
         with mock.patch.object(repository, "TOP", TOP):
             for crate in repository.crates().values():
@@ -192,6 +203,26 @@ class Parts(Tool):
                 self.assertEqual([it.fault for it in bodies if it.fault], [])
                 for some in packed(bodies):
                     self.assertFalse(Round(crate, some).holes() & {crate.proof_of(it) for body in some for it in body.functions}, crate.name)
+
+
+class Plants(Tool):
+    def test_wrong_bodies(self):
+        crate = repository.crates()["sample"]
+        found = {it.path: [plant.what.split(" -> ") for plant in plants_of(crate, it)] for it in crate.functions}
+        self.assertEqual(found["half"], [["n / 2", "0"], ["n / 2", "1"], ["2", "3"]])
+        self.assertEqual(found["sum"][2:], [["+", "-"]])
+        down = "if n == 0 { 0 } else { further(n - 1) }"
+        turned = [["if n == 0", "if !(n == 0)"], ["==", "!="], ["-", "+"], ["0", "1"], ["0", "1"], ["1", "2"]]
+        self.assertEqual(found["down"], [[down, "0"], [down, "1"], *turned])
+        for it in crate.functions:
+            for plant in plants_of(crate, it):
+                self.assertTrue(plant.lines and all(it.first <= at <= it.last for at in plant.lines["src/lib.rt"]), plant.what)
+
+    def test_the_seed_chooses_the_functions(self):
+        said = [subprocess.run([TOP / "tools/plants", "6", "--list", "--seed", it], stdout=subprocess.PIPE, text=True, check=True).stdout for it in "112"]
+        self.assertEqual((said[0], len({it.partition(":")[0] for it in said[0].splitlines()})), (said[1], 7))
+        self.assertNotEqual(said[1].splitlines()[1:], said[2].splitlines()[1:])
+        self.assertEqual(subprocess.run([TOP / "tools/plants", "1", "nobody"], stderr=subprocess.DEVNULL).returncode, 2)
 
 
 class Kept(Tool):

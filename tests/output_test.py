@@ -95,7 +95,7 @@ COMMANDS = {
     "camac-check --keeps --write": Command(("check", "--keeps", "--write", "@sample", "OUT"), old=KEEPS, new=KEPT),
     "camac-fmt": Command(("fmt", "OUT"), old="var a  var b", new="var a\nvar b\n"),
     "camac-report -o": Command(("report", "@sample", "script", "answers", "-o", "OUT")),
-    "camac-report --record": Command(("report", "@sample", "script", "answers", "-o", "page.html", "--record", "OUT")),
+    "camac-report --write-record": Command(("report", "@sample", "script", "answers", "-o", "page.html", "--write-record", "OUT")),
     "camac-survey -o": Command(("survey", "@sample", "--driver", "mock", "-o", "OUT")),
     "python3 -m camac draw -o": Command(("draw", "plan", "@sample", "-o", "OUT")),
     "python3 -m camac simulate -o": Command((*SIMULATE, "-o", "OUT")),

@@ -25,11 +25,12 @@ from camac import __main__ as commands
 from camac import pictures
 from camac.bodies import calls_of, opened, parse_costs
 from camac.columns import Naming
-from camac.events import read_events
+from camac.events import NEW_FILE, read_events, record
+from camac.histograms import Spectrum
 from camac.pictures import svg
 from camac.pictures.costs import nodes_of
 from camac.pictures.lines import line_of
-from camac.pictures.spectra import LOGARITHMIC
+from camac.pictures.spectra import LOGARITHMIC, Shown, draw_panel
 from camac.printed import read_plan, read_responses, read_services
 from camac.program import knows_option, output_of
 from camac.report import report
@@ -616,16 +617,58 @@ class InChromium(laboratory.BenchCase):
             self.assertEqual(browser.ask("getComputedStyle(document.querySelector('.theme')).display"), "none")
             browser.ask("delete document.documentElement.dataset.theme")
 
+    def test_zoom(self):
+        """A drag over a spectrum draws the numbers below it, a double click or the button by the keyboard all again."""
+        values = [(at * at) % 4096 for at in range(3000)]
+        events = self.room / "zoom.events"
+        events.write_bytes(NEW_FILE + b"".join(record(camac.Event(at, 3, 2, 0, (it,))) for at, it in enumerate(values, 1)))
+        text = "cdlam adc 1 1 5 12\nvar v\nservice adc within 3 cycles event 1 words {\n  cdreg r 1 1 5 0\n  cfsa 0 r -> v\n  put v\n}\n"
+        made = report(Inputs("@sample", self.write("zoom.script", text), events), naming=Naming(over=events))
+        with Browser() as browser:
+            self.opened(browser, made.text)
+            browser.ask("window.r=document.querySelector('rect[data-fine]');r.scrollIntoView({block:'center'})")
+            left, top, wide, high = browser.ask("(b=>[b.left,b.top,b.width,b.height])(r.getBoundingClientRect())")
+            shown = "[+r.dataset.first,+r.dataset.width,r.dataset.counts]"
+            before = browser.ask(shown)
+
+            def mouse(kind, part, count=1):
+                place = {"x": left + wide * part, "y": top + high / 2}
+                browser.call("Input.dispatchMouseEvent", type=kind, button="left", buttons=1, clickCount=count, **place)
+
+            def zoomed(begin, end):
+                for kind, part in (("mousePressed", begin), ("mouseMoved", end), ("mouseReleased", end)):
+                    mouse(kind, part)
+                first, width, counts = browser.ask(shown)
+                wanted = [sum(first + k * width <= it < first + (k + 1) * width for it in values) for k in range(len(counts.split()))]
+                self.assertEqual([int(it) for it in counts.split()], wanted)
+                self.assertEqual([float(it) for it in browser.ask("r.dataset.line").split()], wanted)
+                self.assertEqual(browser.ask("r.ownerSVGElement.querySelectorAll('.zoomed').length"), 1)
+                return first, width, first + width * len(wanted)
+
+            first, width, end = zoomed(0.5, 0.25)
+            self.assertTrue(width == 8 and abs(first - 1024) < 40 and abs(end - 2048) < 40)
+            again = zoomed(0.5, 0.55)
+            self.assertTrue(again[1] == 1 and first < again[0] and again[2] < end)
+            for count in (1, 2):
+                mouse("mousePressed", 0.5, count)
+                mouse("mouseReleased", 0.5, count)
+            self.assertEqual((browser.ask(shown), browser.ask("r.ownerSVGElement.querySelectorAll('.zoomed').length")), (before, 0))
+            zoomed(0.1, 0.2)
+            browser.ask("document.querySelector('.whole').focus()")
+            for kind in ("keyDown", "keyUp"):
+                browser.call("Input.dispatchKeyEvent", type=kind, key="Enter", code="Enter", windowsVirtualKeyCode=13, text="\r")
+            self.assertEqual((browser.ask(shown), browser.ask("document.querySelector('.whole').hidden")), (before, True))
+            self.assertEqual(browser.said, [])
+
     def test_narrow_window(self):
-        """Tables scroll in their places, and no picture is wider than the window, until it is clicked."""
+        """Tables and pictures scroll in their places, and a picture's words are large enough to read."""
         with Browser() as browser:
             browser.call("Emulation.setDeviceMetricsOverride", width=400, height=800, deviceScaleFactor=1, mobile=False)
             self.opened(browser, report(self.inputs).text)
             self.assertEqual(browser.ask("document.documentElement.scrollWidth"), 400)
-            cut = "Array.from(document.querySelectorAll('svg')).filter(it=>it.getBoundingClientRect().right>400).length"
-            self.assertEqual(browser.ask(cut), 0)
-            browser.ask("document.querySelector('.figure').click()")
-            self.assertEqual((browser.ask(cut), browser.ask("document.documentElement.scrollWidth")), (1, 400))
+            size = "Math.min(...Array.from(document.querySelectorAll('svg')).map(it=>it.getBoundingClientRect().width/it.width.baseVal.value))"
+            self.assertGreaterEqual(browser.ask(size), 0.75)
+            self.assertEqual(browser.ask("Array.from(document.querySelectorAll('.panels svg')).filter(it=>it.getBoundingClientRect().right>400).length"), 0)
 
     def test_logarithmic_counts(self):
         """A click shows the other axis of all spectra."""
@@ -638,12 +681,18 @@ class InChromium(laboratory.BenchCase):
 
     @needed("poppler-utils")
     def test_paper(self):
-        """No page of paper ends with a heading, and the lines of calls are open."""
+        """No page of paper ends with a heading, none begins with what is said of the picture before, and the lines of calls are open."""
+        events = self.room / "paper.events"
+        laboratory.call("run", *self.inputs, events)
         headings = "Array.from(document.querySelectorAll('h2,h3,h4,summary')).map(it=>it.textContent)"
         with Browser() as browser:
             self.opened(browser, report(self.inputs).text)
             names = set(browser.ask(headings))
             browser.paper(self.room / "page.pdf")
+            self.opened(browser, report(self.inputs._replace(source=events)).text)
+            browser.paper(self.room / "events.pdf")
+        told = subprocess.run(["pdftotext", self.room / "events.pdf", "-"], capture_output=True, text=True, check=True).stdout
+        self.assertRegex(told, r"[^\f]An event file does not show how late")
         pages = subprocess.run(["pdftotext", "-layout", self.room / "page.pdf", "-"], capture_output=True, text=True, check=True).stdout.split("\f")
         self.assertGreater(len(pages), 5)
         for page in pages[:-1]:
@@ -677,6 +726,10 @@ class InChromium(laboratory.BenchCase):
             for inputs in (self.inputs, Inputs(plan, script, answers)):
                 self.opened(browser, report(inputs).text)
                 self.assertEqual(browser.ask(outside), [])
+            many = Spectrum(8)
+            many.add_all([5] * 99_999)
+            self.opened(browser, f"<style>{svg.page_style()}</style>" + draw_panel(Shown("adc", "", many, "ours", "words")).figure())
+            self.assertEqual((browser.ask("document.querySelector('.lin .r:last-of-type').textContent"), browser.ask(outside)), ("99,999", []))
 
 
 def keep():

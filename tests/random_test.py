@@ -20,7 +20,8 @@ from support.lsp import SCRIPT, Client
 import camac
 from camac.events import NEW_FILE, Event, record
 from camac.export import Given
-from camac.watch import Watch
+from camac.alarms import read_alarm
+from camac.watch import Look, Watch
 
 SEED = os.environ.get("SEED") or datetime.date.today().strftime("%Y%m%d")
 COUNT = 1_000
@@ -153,7 +154,8 @@ class Files(Seeded):
             records.append((self.room / f"{name}.json").read_bytes())
             script.write_text(script.read_text() + "# another\n")
         self.texts = {self.events: [self.made() for _ in range(4)], self.record: records}
-        self.watch = Watch(Given(self.events, record=self.record))
+        alarms = [*map(read_alarm, ("silence=1", "x0=9", "rate=2", "rate:adc=3.5", "rate:nobody=1"))]
+        self.watch = Watch(Given(self.events, record=self.record), alarms)
 
     def made(self):
         """Events of the bench; each differs from that of another file."""
@@ -217,7 +219,9 @@ class Files(Seeded):
         self.fail("it never has enough")
 
     def shown(self):
-        self.watch.due = 0.0
+        """The parts of the page, of all events and of some of them."""
+        self.watch.drawn.clear()
+        self.watch.parts(Look(self.random.randrange(500), self.random.choice((0, 1)), self.random.choice((0, 0, 50)), "x", self.random.randrange(1 << 25), self.random.randrange(1 << 25)))
         return self.watch.parts()
 
     def test_files(self):
@@ -230,7 +234,7 @@ class Files(Seeded):
         for path, right in ((self.record, self.texts[self.record][1]), (self.events, wanted)):
             self.put(path, right[:100] + bytes(len(right) - 100))
             self.look()
-            self.assertIn('class="bad"', self.watch.notes())
+            self.assertNotEqual(self.watch.alarms(), [])
             self.write_over(path, 0, right)
             self.look()
         self.watch.follower.restarts.clear()

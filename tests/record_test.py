@@ -192,7 +192,7 @@ camac.drive("@sample", {str(SCRIPT)!r}, Killed(), "run.events", program={PROGRAM
     def test_report(self):
         """It writes a record without times, writes over its own alone, and refuses before any work."""
         self.drive(branch(3))
-        call = ["report", PLAN_FILE, SCRIPT, self.events, "-o", "page.html", "--record", "run.json"]
+        call = ["report", PLAN_FILE, SCRIPT, self.events, "-o", "page.html", "--write-record", "run.json"]
         for _ in range(2):
             self.assertEqual(self.package(*call)[0], 0)
             told = self.told()

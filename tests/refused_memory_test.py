@@ -7,11 +7,11 @@ usage: tests/refused_memory_test.py [-v] [TEST ..]     from any folder; takes so
 A small library in front of the C library's allocator answers null; it is compiled here by cc or clang.
 """
 import pathlib
-import shutil
 import subprocess
 import tempfile
 import unittest
 
+from support.needs import needed
 from support.program import PROGRAM, STRAIGHT_LINE, TOP
 
 SHIM = r"""
@@ -128,6 +128,7 @@ MANY = b"1 1 000001 0 000004\n" * 40
 MEMORY = (3, b"", b"fault memory\n")
 
 
+@needed("gcc")
 class RefusedMemory(unittest.TestCase):
     @classmethod
     def setUpClass(cls):
@@ -136,8 +137,7 @@ class RefusedMemory(unittest.TestCase):
         cls.room = pathlib.Path(room.name)
         (cls.room / "refuse.c").write_text(SHIM)
         cls.library = str(cls.room / "refuse.so")
-        compiler = shutil.which("cc") or shutil.which("clang")
-        subprocess.run([compiler, "-shared", "-fPIC", "-O1", "-o", cls.library, str(cls.room / "refuse.c"), "-ldl"], check=True)
+        subprocess.run(["cc", "-shared", "-fPIC", "-O1", "-o", cls.library, str(cls.room / "refuse.c"), "-ldl"], check=True)
 
     def ended(self, words, given, **environment):
         """Returns the status, what was written to both outputs, and the event file, or None if there is none."""

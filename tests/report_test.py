@@ -336,7 +336,7 @@ class Pages(unittest.TestCase):
         return re.findall(r"^  (?:-(\w)(?: [A-Z]+)?, )?--(\w+)", told, re.M)
 
     def test_manual_pages(self):
-        for command, count in (("check", 7), ("fmt", 2), ("lsp", 1), ("report", 10), ("survey", 10)):
+        for command, count in (("check", 7), ("fmt", 2), ("lsp", 1), ("report", 12), ("survey", 10)):
             page = (TOP / f"man/camac-{command}.1").read_text()
             self.assertEqual(len(self.options(command)), count)
             for short, long in self.options(command):
@@ -363,7 +363,7 @@ class Pages(unittest.TestCase):
             self.assertEqual(offered(command, "sample_p"), ["sample_plan.toml"])
             self.assertEqual(offered(command, "@sample", "stra"), ["straight_line.script"])
             self.assertEqual(offered(command, "@sample", "@"), [])
-        self.assertEqual(offered("report", "@sample", "-"), ["--every", "--gate", "--help", "--out", "--overwrite", "--pair", "--record", "--region", "--survey", "--words", "-h", "-o"])
+        self.assertEqual(offered("report", "@sample", "-"), ["--bins", "--every", "--gate", "--help", "--out", "--over", "--overwrite", "--pair", "--region", "--survey", "--words", "--write-record", "-h", "-o"])
         self.assertEqual(offered("survey", "@sample", "--driver", "m"), ["mock", "modules"])
         self.assertEqual(offered("check", "@sample", "--f"), ["--format"])
         self.assertEqual(offered("check", "--format", "g"), ["github"])

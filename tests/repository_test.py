@@ -178,6 +178,10 @@ class Lemmas(unittest.TestCase):
                     dead |= {f"{file.relative_to(TOP)}: {name}"} if named[name] <= len(own) and name not in self.found else set()
         self.assertEqual(dead, set())
 
+    def test_a_source_rests_on_each_definition(self):
+        """What only proofs name stands there, and what nothing names nowhere."""
+        self.assertEqual(run(TOP / "tools/believe.py", "--dead").stdout, "")
+
 
 class Hooks(unittest.TestCase):
     def test_hooks(self):

@@ -16,11 +16,10 @@ sys.dont_write_bytecode = True
 from oracle.calls import Program
 from oracle.reader.engines import Inputs, tell
 
-READ = "cfsa 0 r -> v"
 # Services of bits 1 to 4, by name; before each cycle of the last one there are up to 14 waits.
 PLAN = b"""[[type]]
 name = "A"
-commands = [ { f = 0, a = 0 } ]
+commands = [ { f = 0, a = 0 }, { f = 10, a = 0 } ]
 [[crate]]
 number = 1
 station = [ { n = 1, type = "A", gl = 1 }, { n = 2, type = "A", gl = 2 }, { n = 3, type = "A", gl = 3 } ]
@@ -30,47 +29,42 @@ waits = 14
 station = [ { n = 4, type = "A", gl = 4 } ]
 """
 STATIONS = {"low": "1 1", "tick": "1 2", "high": "1 3", "long": "2 4"}
-# 286,331,153 cycles with 14 waits each are 4,294,967,295.
-GREATEST = f"for i = 1 to 4369 {{ for k = 1 to 65535 {{ {READ} }} }} for k = 1 to 8738 {{ {READ} }}"
+# So many cycles with 14 waits each are 4,294,967,295.
+GREATEST = 286_331_153
 
-
-def cycles(count):
-    return f"for i = 1 to {count} {{ {READ} }}"
-
-
-# Services, options, and the lines.
+# Services with their cycles, options, and the lines.
 EDGES = [
     # The last call of high in its stretch, the second one, waits longest: 15 - 9 cycles, the first one 5.
-    ({"high": cycles(2), "tick": cycles(2), "low": cycles(3)}, "--every low=6 --every tick=9 --every high=9", """\
+    ({"high": 2, "tick": 2, "low": 3}, "--every low=6 --every tick=9 --every high=9", """\
 service low gl 1 cycles 3 every 6 start 2 end 5 longest 5
 service tick gl 2 cycles 2 every 9 start 5 end 7 longest 15
 service high gl 3 cycles 2 every 9 start 6 end 8 longest 17
 """),
-    # tick takes 2 rounds for the longest stretch and 2 for each of 32,766 calls, then for one more.
-    ({"tick": "", "high": cycles(32_765)}, "--every tick=1", """\
-service tick gl 2 cycles 0 every 1 start 32765 end 32765 longest 32765
-service high gl 3 cycles 32765 once start 0 end 32765 longest 32765
+    # tick takes 17 rounds for the longest stretch and 2 for each of 32,759 calls, then for one more.
+    ({"tick": 1, "high": 32_758}, "--every tick=2", """\
+service tick gl 2 cycles 1 every 2 start 32758 end 32759 longest 65517
+service high gl 3 cycles 32758 once start 1 end 32759 longest 65517
 """),
-    ({"tick": "", "high": cycles(32_766)}, "--every tick=1", """\
-service tick gl 2 cycles 0 every 1 start - end - longest -
-service high gl 3 cycles 32766 once start 0 end 32766 longest 32766
+    ({"tick": 1, "high": 32_759}, "--every tick=2", """\
+service tick gl 2 cycles 1 every 2 start - end - longest -
+service high gl 3 cycles 32759 once start 1 end 32760 longest 65519
 """),
-    # Where low is called twice, tick takes 3 rounds each time, so 65,535 with 21,844 calls.
-    ({"high": cycles(21_841), "tick": "", "low": READ}, "--every tick=1 --every low=20000", """\
-service low gl 1 cycles 1 every 20000 start 21841 end 21842 longest 21843
-service tick gl 2 cycles 0 every 1 start 21843 end 21843 longest 21843
-service high gl 3 cycles 21841 once start 1 end 21842 longest 21843
+    # Where low is called twice, tick takes 3 rounds, so 65,535 with 21,839 calls.
+    ({"high": 21_835, "tick": 1, "low": 1}, "--every tick=2 --every low=20000", """\
+service low gl 1 cycles 1 every 20000 start 21835 end 21836 longest 21837
+service tick gl 2 cycles 1 every 2 start 21837 end 21838 longest 43677
+service high gl 3 cycles 21835 once start 3 end 21838 longest 43677
 """),
-    ({"high": cycles(21_842), "tick": "", "low": READ}, "--every tick=1 --every low=20000", """\
-service low gl 1 cycles 1 every 20000 start 21842 end 21843 longest 21844
-service tick gl 2 cycles 0 every 1 start - end - longest -
-service high gl 3 cycles 21842 once start 1 end 21843 longest 21844
+    ({"high": 21_836, "tick": 1, "low": 1}, "--every tick=2 --every low=20000", """\
+service low gl 1 cycles 1 every 20000 start 21836 end 21837 longest 21838
+service tick gl 2 cycles 1 every 2 start - end - longest -
+service high gl 3 cycles 21836 once start 3 end 21839 longest 43679
 """),
-    ({"long": GREATEST, "tick": ""}, "--within long=4294967295", """\
-service tick gl 2 cycles 0 once start 4294967295 end 4294967295 longest 4294967295
-service long gl 4 cycles 4294967295 once start 0 end 4294967295 of 4294967295 longest 4294967295
+    ({"long": GREATEST - 1, "tick": 15}, "--within long=4294967295", """\
+service tick gl 2 cycles 15 once start 4294967280 end 4294967295 longest 4294967295
+service long gl 4 cycles 4294967280 once start 15 end 4294967295 of 4294967295 longest 4294967295
 """),
-    ({"long": GREATEST, "low": READ}, "--every low=4294967295", """\
+    ({"long": GREATEST, "low": 1}, "--every low=4294967295", """\
 service low gl 1 cycles 1 every 4294967295 start - end - longest -
 service long gl 4 cycles 4294967295 once start - end - longest -
 """),
@@ -78,10 +72,16 @@ service long gl 4 cycles 4294967295 once start - end - longest -
 ]
 
 
+def edge_service(name, cycles):
+    """It reads, and clears its look-at-me by the last cycle."""
+    turns, rest = divmod(cycles - 1, 65_535)
+    block = f"for i = 1 to {turns} {{ for k = 1 to 65535 {{ cfsa 0 r -> v }} }} for k = 1 to {rest} {{ cfsa 0 r -> v }} cclc {name}"
+    return f"service {name} within 4294967295 cycles event 0 words {{ cdreg r 1 {STATIONS[name]} 0 {block} }}\n"
+
+
 def edge_script(services):
     lams = "".join(f"cdlam {it} 1 {STATIONS[it]} 0\n" for it in services)
-    heading = "service {} within 4294967295 cycles event 0 words {{ cdreg r 1 {} 0 {} }}\n"
-    return f"{lams}var v i k\n{''.join(heading.format(it, STATIONS[it], block) for it, block in services.items())}".encode()
+    return f"{lams}var v i k\n{''.join(edge_service(*it) for it in services.items())}".encode()
 
 
 class Edges(unittest.TestCase):

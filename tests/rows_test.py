@@ -233,7 +233,8 @@ class NoRows(Playing):
         self.assertEqual(self.play("run", {"PLAN": plan.encode(), "SCRIPT": script, "ANSWERS": answers + b"\n"}), (0, listed, events))
 
     def test_no_final_line_feed(self):
-        self.expect("plan", 1, b"refused P4: value out of range\n", PLAN=b"buffer = 0")
+        for size in (b"0", b"4097"):
+            self.expect("plan", 1, b"refused P4: value out of range\n", PLAN=b"buffer = " + size)
         self.expect("plan", 1, b"refused P3: missing key or wrong kind\n", PLAN=b'buffer = "4"')
         self.expect("check", 1, b"refused P1: not TOML\n", PLAN=b"=", SCRIPT=b"!")
         self.expect("check", 1, b"refused S2 line 1: unexpected token\n", SCRIPT=b"table g =")

@@ -327,7 +327,7 @@ class Command(Case):
         for driver, status, said in (("d.py", 0, "nothing differs from the plan"), (TOP / "examples/live/my_branch.py", 1, "1 difference from the plan")):
             self.assertEqual(self.package("survey", "@sample", "--driver", driver, "-o", "s.json", "--overwrite")[0], status)
             for plan, more in (("@sample", ""), ("plan.toml", ""), ("other.toml", "; it was another plan")):
-                words = ["report", plan, "straight.script", "answers", "-o", "r.html", "--survey", "s.json", "--record", "r.json", "--overwrite"]
+                words = ["report", plan, "straight.script", "answers", "-o", "r.html", "--survey", "s.json", "--write-record", "r.json", "--overwrite"]
                 self.assertEqual(self.package(*words)[0], 1 if more else status)
                 at = json.loads((self.room / "s.json").read_text())["at"]
                 self.assertIn(f"crates and plan: surveyed at {at} by 81 commands: {said}{more}", (self.room / "r.html").read_text())

@@ -274,13 +274,16 @@ class Histograms(unittest.TestCase):
         self.assertEqual((its.per, set(its.means().values())), (8, {7.0}))
 
     def test_pairs(self):
-        its = Pairs(4096, None)
+        for most, shifts in ((64, (6, 11)), (100, (6, 11)), (512, (3, 8)), (9999, (3, 8))):
+            self.pairs(Pairs(4096, None, most=most), *shifts)
+
+    def pairs(self, its, *shifts):
         chance = random.Random(2)
         pairs = [(chance.randint(0, 4095), chance.randint(0, 99_999)) for _ in range(500)]
-        its.add_all(pairs[:1])
-        its.add_all(pairs[1:])
+        for some in (pairs[:1], pairs[1:]):
+            its.add_all(*zip(*some))
         self.assertEqual((its.ends, its.count), ([4096, 1 << 17], 500))
-        wanted = collections.Counter((across // 64, up // 2048) for across, up in pairs)
+        wanted = collections.Counter((across >> shifts[0], up >> shifts[1]) for across, up in pairs)
         self.assertEqual(its.cells, wanted)
 
 

@@ -15,14 +15,22 @@ from camac.warn import Code
 
 ACCEPTED = re.compile(r"^```camac accepted([^\n]*)\n(.*?)^```$", re.M | re.S)
 READ = "cdreg r 1 1 5 0\ncfsa 0 r -> v"
+# Two modules that may call.
+TWO = """[[type]]
+name = "T"
+commands = [ { f = 10, a = 0 }, { f = 24, a = 0 }, { f = 26, a = 0 } ]
+[[crate]]
+number = 1
+station = [ { n = 5, type = "T", gl = 3 }, { n = 6, type = "T", gl = 7 } ]
+"""
 # Headings over several lines, with comments, and numbers that are right in another spelling.
 DRAFT = b"""cdlam adc 1 1 5 12  # service x within 9 cycles\r\nproc read(a in 0..15)\r
   within 90 # within 7 cycles {\r
   cycles event 001 words\tsteps 99{ cdreg r 1 1 5 a cfsa 0 r -> a put a }\r
 \r
 # \xff\xfe\r
-service adc within 0 cycles event 2 words { call read(0)\rcall read(11) }  # the end"""
-LEAST = DRAFT.replace(b"within 90", b"within 3").replace(b"steps 99", b"steps 3").replace(b"within 0", b"within 6")
+service adc within 0 cycles event 2 words { call read(0)\rcall read(11) cclc adc }  # the end"""
+LEAST = DRAFT.replace(b"within 90", b"within 3").replace(b"steps 99", b"steps 3").replace(b"within 0", b"within 9")
 
 
 class Warnings(Case):
@@ -33,8 +41,9 @@ class Warnings(Case):
         self.addCleanup(patch.stop)
 
     def codes(self, text):
-        """The lines and codes of the warnings of a script on the plan @sample."""
-        return [(it.line, it.code.value) for it in camac.warnings("@sample", self.write("a.script", text))]
+        """The lines and codes of the warnings of a script on the plan @sample, but for W3."""
+        found = camac.warnings("@sample", self.write("a.script", text))
+        return [(it.line, it.code.value) for it in found if it.code is not Code.UNKEPT]
 
     def test_page(self):
         """It has a section for each code, where the editors' links lead."""
@@ -60,30 +69,33 @@ class Warnings(Case):
         self.assertEqual(self.codes(backwards.replace("last max 12", "r max 0")), [(6, "W2")])
         self.assertEqual(self.codes(backwards.replace("0 r last", "0 last r")), [])
 
-    def test_left_calling(self):
-        for body, is_told in [
-            (["put 1"], True),
-            (["cdreg r 1 1 6 0", "cfsa 0 r -> v"], True),
-            (["cdreg r 1 1 5 12", "cfsa 8 r"], True),
-            (["ctlm adc"], True),
-            (["cclm adc on"], True),
-            (READ.split("\n"), False),
-            (["cclc adc"], False),
-            (["cclm adc off"], False),
-            (["cccz 1"], False),
-            (["i = 5", "cdreg r 1 1 i 0", "cfsa 0 r -> v"], False),
-            (["cdreg r 1 1 (2 + 3) 0", "cfsa 0 r -> v"], False),
-            (["cdreg r 1 1 5 0", "cdreg last 1 1 5 11", "cfmad 0 r last max 12 tally t"], False),
-            (["cdreg r 1 1 5 0", "cfubc 0 r max 12 tally t"], False),
-        ]:
-            with self.subTest(body=body):
-                self.assertEqual(self.codes(script(body)), [(3, "W3")] if is_told else [])
+    def unkept(self, plan, text):
+        """The lines and sentences of W3."""
+        found = camac.warnings(plan, self.write("a.script", text))
+        return [(it.line, it.text) for it in found if it.code is Code.UNKEPT]
 
-    def test_left_calling_through_procedures(self):
-        procedure = "proc p() within 9 cycles event 0 words steps 9 { %s }\nproc o() within 9 cycles event 0 words steps 10 { call p() }\n"
-        for body, is_told in (("cclc adc", False), ("ctlm adc", True)):
-            text = script(["call o()"]).replace("service", procedure % body + "service")
-            self.assertEqual(self.codes(text), [(5, "W3")] if is_told else [])
+    def test_unkept(self):
+        """Each line `unkept` of `response` is a warning at its line."""
+        plan = self.write("plan", TWO)
+        left = "this service does not clear its look-at-me on every way: write `cclc {0}`"
+        cleared, hidden = "`{1}` may clear the look-at-me of `{0}`: leave that to `{0}`", "`{1}` may hide the look-at-me of `{0}`: leave it enabled, and the demand output on"
+        for adc, reg, wanted in [
+            ("cclc adc", "cclc reg", []),
+            ("if q { cclc adc }", "cclc reg", [(2, left.format("adc"))]),
+            ("", "cclc reg", [(2, left.format("adc"))]),
+            ("cclc adc", "cclc reg\ncclc adc", [(7, cleared.format("adc", "reg"))]),
+            ("cclc adc\ncclm adc off", "cclc reg", [(4, hidden.format("adc", "adc"))]),
+            ("cclc adc", "cccd 1 off", [(5, left.format("reg")), (6, hidden.format("adc", "reg")), (6, hidden.format("reg", "reg"))]),
+            ("cclc adc", "cclc reg cccz 1", [(6, cleared.format("adc", "reg")), (6, hidden.format("adc", "reg")), (6, hidden.format("reg", "reg"))]),
+            # a script that initialises crates, and keeps nothing of it
+            ("cccz 1 cclm adc on cclm reg on", "cccd 1 on call start()", []),
+        ]:
+            with self.subTest(adc=adc, reg=reg):
+                start = "proc start() within 1 cycles event 0 words steps 1 { cccz 1 } "
+                text = f"{start}cdlam adc 1 1 5 0 cdlam reg 1 1 6 0\n" + "".join(
+                    f"service {name} within 9 cycles event 0 words {{\n{body}\n}}\n" for name, body in (("adc", adc), ("reg", reg))
+                )
+                self.assertEqual(self.unkept(plan, text), wanted)
 
     def test_deep_procedures(self):
         """Each procedure is looked at once: 13 of them, each of which calls the one before four times, take no second."""
@@ -92,7 +104,7 @@ class Warnings(Case):
         text = script(["call p12()"]).replace("service", "".join(f"{head}{body} }}\n" for head, body in zip(heads, bodies)) + "service")
         for head, least in zip(heads, camac.bounds("@sample", self.write("a.script", text))):
             text = text.replace(head, f"{least.line} {{")
-        self.assertTrue(is_within(1, lambda: self.assertEqual(self.codes(text), [(16, "W3")])))
+        self.assertTrue(is_within(1, lambda: self.assertEqual([line for line, _ in self.unkept("@sample", text)], [16])))
 
     def test_unused_and_wide_keep(self):
         loop = "for i = 0 to 3 keep {} {{ {} }}"
@@ -116,7 +128,7 @@ class Warnings(Case):
                 self.assertEqual(self.codes(script([loop.format(keep, body), after, "cclc adc"])), wanted)
 
     def test_least_ranges_are_told(self):
-        text = script(["for i = 0 to 11", "keep k in 0..16777215 {", *READ.split("\n"), "if v > k { k = v } }", "put k"])
+        text = script(["for i = 0 to 11", "keep k in 0..16777215 {", *READ.split("\n"), "if v > k { k = v } }", "put k", "cclc adc"])
         (found,) = camac.warnings("@sample", self.write("a.script", text))
         self.assertEqual((found.line, found.text), (5, "this kept bound of `k` is wider than it has to be: `k in 0..4095` is accepted, too"))
 
@@ -189,15 +201,16 @@ class Warnings(Case):
         self.assertEqual(camac.warnings("@sample", self.room / "a.script"), [])
 
     def test_examples(self):
-        """Nothing is found in them but services without a clear."""
+        """Nothing is found in them."""
         alone = {"too_few_cycles.script", "three_modules.script"}
         on_sample = [it for it in sorted((TOP / "examples").glob("*.script")) if it.name not in alone]
         for plan, its in [("@sample", on_sample), (TOP / "examples/three_crates.toml", [TOP / "examples/three_modules.script"])]:
             for it in its:
                 with self.subTest(script=it.name):
-                    self.assertEqual({its.code for its in camac.warnings(plan, it)} - {Code.LEFT_CALLING}, set())
+                    self.assertEqual(camac.warnings(plan, it), [])
         for bench in sorted((TOP / "examples/benches").iterdir()):
-            self.assertEqual(camac.warnings(bench / "plan.toml", bench / "readout.script"), [])
+            for name in ("start.script", "readout.script"):
+                self.assertEqual(camac.warnings(bench / "plan.toml", bench / name), [])
 
     def test_pages(self):
         """The scripts of the pages that are accepted on @sample are meant, but for the examples of warnings."""
@@ -207,7 +220,7 @@ class Warnings(Case):
                 if " on " not in words and page.name != "REFUSALS.md":
                     tried += 1
                     with self.subTest(page=page.name, script=text):
-                        self.assertEqual({code for _, code in self.codes(text)} - {"W3"}, set())
+                        self.assertEqual(self.codes(text), [])
         self.assertGreater(tried, 10)
 
 
@@ -228,7 +241,7 @@ class Command(Case):
         self.write("bad", script(["put w"]))
         self.write("two", "proc p() within 0 cycles event 1 words steps 1 {\n  put 16777216\n}\n\nproc later() within 0 cycles event 0 words steps 9 { cdreg r 1 1 6 0  cfsa 27 r }\n")
         self.write("plan", "[[types]]\n")
-        calling = "odd:3: warning W3: this service neither reads nor clears the module of `adc` (crate 1, station 5), which may call it for ever\n"
+        calling = "odd:3: warning W3: this service does not clear its look-at-me on every way: write `cclc adc`\n"
         for words, status, printed in [
             (["@sample", "good"], 0, ""),
             (["@sample", "odd"], 0, calling),
@@ -265,7 +278,7 @@ class Command(Case):
         self.write("bad", script(["put w  # 5%"]))
         status, printed = self.command("--format", "github", "@sample", "100%,a:b", "bad", "none")
         odd, bad, none = printed.splitlines()
-        calling = "this service neither reads nor clears the module of `adc` (crate 1, station 5), which may call it for ever"
+        calling = "this service does not clear its look-at-me on every way: write `cclc adc`"
         self.assertEqual((status, odd), (3, f"::warning file=100%25%2Ca%3Ab,line=3,title=warning W3::{calling}"))
         self.assertTrue(bad.startswith("::error file=bad,line=4,col=5,title=refused S5::name not declared%0A    4 | put w  # 5%25%0A"), bad)
         self.assertEqual(none, "::error file=none,title=fault::No such file or directory")
@@ -276,7 +289,7 @@ class Command(Case):
         file.write_bytes(DRAFT)
         file.chmod(0o640)
         (self.room / "link").symlink_to("a.script")
-        printed = "link:2: written: proc read(a in 0..15) within 3 cycles event 1 words steps 3\nlink:7: written: service adc within 6 cycles event 2 words\n"
+        printed = "link:2: written: proc read(a in 0..15) within 3 cycles event 1 words steps 3\nlink:7: written: service adc within 9 cycles event 2 words\n"
         self.assertEqual(self.command("--write", "--strict", "@sample", "link"), (0, printed))
         self.assertEqual((file.read_bytes(), file.stat().st_mode & 0o777, (self.room / "link").is_symlink()), (LEAST, 0o640, True))
         before = file.stat()

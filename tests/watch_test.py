@@ -10,6 +10,7 @@ import dataclasses
 import http.client
 import json
 import os
+import random
 import re
 import signal
 import shutil
@@ -28,11 +29,13 @@ import camac.mock
 from support import two_crates
 from support.browser import CHROMIUM, Browser
 from support.needs import needed
+from camac.alarms import read_alarm, sounding
 from camac.events import NEW_FILE, Event, record
 from camac.export import Given
 from camac.follow import Counts, Follower
 from camac.printed import read_services
 from camac.record import Recording
+from camac.run_list import RunList
 from camac.watch import Server, Watch
 from camac.words import Words
 
@@ -122,13 +125,68 @@ class Following(Case):
             self.add(b"".join(map(record, events(30, 101 + 30 * at))))
             self.poll()
         self.assertAlmostEqual(self.follower.rate(), 30.0)
-        self.assertEqual(set(self.follower.rates), {30.0})
+        self.assertEqual({rate for _, rate in self.follower.rates(600)}, {30.0})
+        self.assertAlmostEqual(self.follower.rate(3), 24.0)
         self.assertEqual(self.follower.age(), 0.0)
         self.poll(7.0)
         self.assertEqual(self.follower.age(), 7.0)
         self.poll(30.0)
         self.poll(1.0)
         self.assertEqual(self.follower.rate(), 0.0)
+
+    def test_history(self):
+        """Moments of a long run are kept the coarser the older they are, and their rates are those of the run."""
+        self.add(NEW_FILE)
+        self.poll()
+        for at in range(12_000):
+            self.follower.counts.events += 3
+            self.clock.now += 1.0
+            self.follower.mark(True)
+        marks = self.follower.marks
+        self.assertEqual((marks[0].events, marks[-1].events), (0, 36_000))
+        self.assertLess(len(marks), 2500)
+        for one, other in zip(marks[:-256], marks[1:]):
+            self.assertLessEqual(other.time - one.time, max(1.0, (marks[-1].time - one.time) / 300 + 1))
+        for span in (600, 12_000):
+            rates = self.follower.rates(span)
+            self.assertEqual({rate for _, rate in rates}, {3.0})
+            self.assertTrue(200 < len(rates) <= 301 and rates[0][0] > 0.97 * span and rates[-1][0] < span / 90, (span, len(rates), rates[0], rates[-1]))
+
+    def test_a_part_of_the_run(self):
+        """What follows from a moment on counts the events behind it."""
+        its = events(500)
+        self.add(NEW_FILE + b"".join(map(record, its[:100])))
+        self.poll()
+        for at in range(100, 500, 40):
+            self.add(b"".join(map(record, its[at : at + 40])))
+            self.poll(3.0)
+        for mark, first in ((self.follower.before(seconds=7), 380), (self.follower.before(events=100), 380), (self.follower.before(events=9999), 100)):
+            part = self.follower.since(mark)
+            while part.poll():
+                pass
+            self.assertEqual((mark.events, part.counts.events, part.counts.fit.count), (first, 500, 500 - first))
+            for gl, bit in part.counts.bits.items():
+                self.assertEqual((bit.count, bit.missed), (sum(it.gl == gl for it in its[first:]), sum(it.missed for it in its[first:] if it.gl == gl)))
+
+    def test_alarms(self):
+        alarms = [*map(read_alarm, ("silence=30", "x0=4", "rate=2", "rate:tick=1", "rate:nobody=1"))]
+        sounds = lambda: [it.partition("=")[0] for it in sounding(alarms, self.follower, SERVICES)]
+        self.add(NEW_FILE)
+        self.poll()
+        self.assertEqual(sounds(), ["rate:nobody"])
+        self.poll(11.0)
+        self.assertEqual(sounds(), ["rate", "rate:tick", "rate:nobody"])
+        for at in range(11):
+            self.add(b"".join(map(record, events(10, 1 + 10 * at))))
+            self.poll()
+        self.assertEqual(sounds(), ["x0", "rate:nobody"])
+        self.clock.now += 29
+        self.assertEqual(sounds(), ["x0", "rate:nobody"])
+        self.poll(1)
+        self.assertEqual(sounds(), ["silence", "rate", "rate:tick", "rate:nobody"])
+        for wrong in ("silence", "silence=", "silence=-1", "x0=a", "rate<5", "rate:=5", "silence=1e3", "noise=4"):
+            with self.assertRaises(ValueError):
+                read_alarm(wrong)
 
     def test_cut(self):
         its = events(40)
@@ -256,8 +314,13 @@ class ServedCase(Case):
         answer = connection.getresponse()
         return answer.status, answer.read().decode(), answer.headers
 
+    def write_words(self, numbers):
+        """Events of the sample's converter, one word each."""
+        self.file.write_bytes(NEW_FILE + b"".join(record(Event(at, 3, 2, 0, (word,))) for at, word in enumerate(numbers, 1)))
+
     def bench_files(self):
         return {"plan": self.room / "bench.toml", "script": self.room / "bench.script"}
+
 
 class Served(ServedCase):
     """What the server answers, and to whom."""
@@ -270,7 +333,7 @@ class Served(ServedCase):
             self.assertEqual(self.ask(server, host=host)[0], 200)
         for host in ("127.0.0.1", "localhost", f"evil.example:{port}", f"127.0.0.1:{port}.evil.example", f"127.0.0.1:{port + 1}", ""):
             self.assertEqual(self.ask(server, host=host or " ")[0], 403, host)
-        for path in ("/x", "/state?a", "/../state", "/run.events", "http://127.0.0.1/state"):
+        for path in ("/x", "/state?a", "/state?low=x", "/state?low=-1", "/?of=x", "/../state", "/run.events", "/run.json/", "http://127.0.0.1/state"):
             self.assertEqual(self.ask(server, path=path)[0], 404, path)
         for method in ("POST", "PUT", "DELETE", "OPTIONS"):
             self.assertEqual(self.ask(server, method)[0], 501, method)
@@ -326,9 +389,9 @@ class Served(ServedCase):
         other = self.write("other.words", '[[word]]\nservice = "nobody"\nname = "x"\n')
         watch.given = watch.given._replace(words=other)
         self.change(script=dataclasses.replace(written.script, data=written.script.data + b"# another\n"))
-        self.assertIn("the record: ", self.state(watch, server)["notes"])
+        self.assertIn("the record: ", self.state(watch, server)["alarms"])
         watch.given = watch.given._replace(words=None)
-        self.assertNotIn("the record: ", self.state(watch, server)["notes"])
+        self.assertEqual(self.state(watch, server)["alarms"], "")
         self.change(script=written.script)
         self.change(end=None, how=None, line=None, demands=None, services=None)
         parts = self.state(watch, server)
@@ -346,12 +409,61 @@ class Served(ServedCase):
                 out.write(data)
                 out.truncate()
             os.utime(path, ns=times)
-            notes = self.state(watch, server)["notes"]
-            (self.assertNotIn if data == right else self.assertIn)("the record: ", notes)
+            (self.assertNotIn if data == right else self.assertIn)("the record: ", self.state(watch, server)["alarms"])
+
+    def test_a_part_of_a_spectrum(self):
+        """Two lines 17 numbers apart, 8 wide at half of their height: each is measured where it is. Spectra of the last events have these alone."""
+        source = random.Random(1)
+        numbers = [int(source.gauss(source.choice((1173, 1190)), 8 / 2.3548) + 0.5) for _ in range(200_000)]
+        self.write_words(numbers)
+        watch, server = self.start(plan="@sample", script=TOP / "examples/straight_line.script")
+        while watch.poll():
+            pass
+        name = "ADC%20crate%201%20station%205%20A0"
+        for low, last, centre in ((1160, 1181, 1173), (1182, 1203, 1190)):
+            one = json.loads(self.ask(server, path=f"/state?of={name}&low={low}&last={last}")[1])["one"]
+            counts = [numbers.count(it) for it in range(low, last + 1)]
+            self.assertIn(f'data-first="{low}" data-width="1" data-counts="{" ".join(map(str, counts))}"', one)
+            cells = re.findall(r"<td[^>]*>([^<]*)</td>", one)
+            self.assertEqual(cells[1], f"{sum(counts):,}")
+            self.assertAlmostEqual(float(cells[3].split()[0].replace(",", "")), centre, delta=0.3)
+            self.assertAlmostEqual(float(cells[4].split()[0]), 8, delta=0.8)
+        self.file.write_bytes(self.file.read_bytes() + b"".join(record(Event(at, 3, 2, 0, (7,))) for at in range(200_001, 200_031)))
+        watch.poll()
+        for window, low, count in (("events=30", 7, 30), ("since=200000", 7, 30), ("events=30", 8, 0), ("since=900000", 0, 200_030), ("seconds=600", 0, 30)):
+            one = json.loads(self.ask(server, path=f"/state?{window}&of={name}&low={low}")[1])["one"]
+            self.assertEqual(re.findall(r"<td[^>]*>([^<]*)</td>", one)[1], f"{count:,}", window)
+
+    def test_folder(self):
+        """The runs of a folder, each with its page."""
+        for name, run in (("a", 7), ("b", 8)):
+            branch = camac.mock.MockBranch({}, {}, [[]] * 3)
+            camac.drive(*self.bench_files().values(), branch, self.room / f"{name} 1.events", record=Recording(self.room / f"{name} 1.json", run, "<b>Co</b>"))
+        going = dataclasses.replace(camac.read_record(self.room / "b 1.json"), end=None, how=None, line=None).text()
+        (self.room / "b 1.json").write_text(going)
+        self.write("survey.json", "{}")
+        runs = RunList(str(self.room), None, lambda given: Watch(given))
+        server = Server(runs, 0)
+        self.addCleanup(server.server_close)
+        threading.Thread(target=server.serve_forever, kwargs={"poll_interval": 0.05}, daemon=True).start()
+        self.addCleanup(server.shutdown)
+        self.addCleanup(runs.stop.set)
+        self.assertIn('<ul id="runs">', self.ask(server)[1])
+        shown = re.findall("<li>(.*?)</li>", json.loads(self.ask(server, path="/state")[1])["runs"])
+        self.assertEqual([it.split(", begun")[0] for it in shown], [
+            '<a href="b%201.json/">b 1.json</a>: <b class="good">goes on</b>, run 8, &lt;b&gt;Co&lt;/b&gt;',
+            '<a href="a%201.json/">a 1.json</a>: <b class="good">ended events 0</b>, run 7, &lt;b&gt;Co&lt;/b&gt;',
+        ])
+        os.utime(self.room / "b 1.json", (time.time() - 600,) * 2)
+        self.assertIn('<b class="bad">not told for 10 min</b>', json.loads(self.ask(server, path="/state")[1])["runs"])
+        self.assertIn("<h1>a 1.events</h1>", self.ask(server, path="/a%201.json/")[1])
+        self.assertIn("ended events 0", json.loads(self.ask(server, path="/a%201.json/state")[1])["notes"])
+        for path in ("/c.json/", "/survey.json/", "/a%201.json", "/..%2Fa%201.json/", "/x/a%201.json/"):
+            self.assertEqual(self.ask(server, path=path)[0], 404, path)
 
     def state(self, watch, server):
         watch.poll()
-        watch.due = 0.0
+        watch.drawn.clear()
         return json.loads(self.ask(server, path="/state")[1])
 
     def change(self, **values):
@@ -363,7 +475,7 @@ class Served(ServedCase):
         """Whatever it is, it is shown until the next look."""
         watch, server = self.start()
         with unittest.mock.patch.object(watch.follower, "poll", side_effect=MemoryError):
-            self.assertIn("the events: MemoryError()", self.state(watch, server)["notes"])
+            self.assertIn("the events: MemoryError()", self.state(watch, server)["alarms"])
         self.assertIn(">follows<", self.state(watch, server)["notes"])
 
     def test_files_that_can_be_read_once(self):
@@ -390,8 +502,8 @@ class Served(ServedCase):
                 started.send_signal(signal.SIGINT)
             self.assertEqual(started.wait(60), -signal.SIGINT)
             self.assertEqual((started.stdout.read(), started.stderr.read()), ("", ""))
-        for words in (["--port", "99999"], ["--plan", "x"]):
-            done = subprocess.run([*command[:-2], *words], env=environment, capture_output=True, text=True, timeout=60)
+        for words in (["--port", "99999"], ["--plan", "x"], ["--alarm", "noise=3"], [self.room, "--record", "x"]):
+            done = subprocess.run([*command[: 4 - (words[0] == self.room)], *words], env=environment, capture_output=True, text=True, timeout=60)
             self.assertEqual((done.returncode, done.stdout), (2, ""), words)
 
 
@@ -426,6 +538,7 @@ class InChromium(ServedCase):
             self.until(browser, shown, there + 1)
             self.assertEqual(browser.said, [])
             self.assertEqual(set(browser.asked), {server.address(), f"{server.address()}state"})
+            self.assertEqual(browser.ask("document.querySelectorAll('[role=alert]').length"), 2)
             self.assertIsNone(browser.ask("document.querySelector('img,main script,svg script')"))
             self.assertEqual(browser.ask("document.title"), "<script>.events: live")
             self.assertIn(self.HARM[:20], browser.ask("document.getElementById('channels').textContent"))
@@ -433,6 +546,55 @@ class InChromium(ServedCase):
             server.shutdown()
             server.server_close()
             self.until(browser, "document.getElementById('lost').hidden", False)
+
+    def test_a_part_of_a_spectrum(self):
+        """By the mouse, and by the keyboard."""
+        self.write_words([100 + at % 9 for at in range(3000)])
+        watch, server = self.start(plan="@sample", script=TOP / "examples/straight_line.script")
+        while watch.poll():
+            pass
+        fields = "[look.elements.of.value,look.elements.low.value,look.elements.last.value,look.elements.window.value].join('|')"
+        with Browser() as browser:
+            browser.said = []
+            browser.call("Page.navigate", url=server.address())
+            self.until(browser, "document.querySelectorAll('#channels rect[data-counts]').length>0", True)
+            name = browser.ask("document.querySelector('#channels rect[data-counts]').closest('svg').getAttribute('aria-label')")
+            self.drag(browser, "#channels", 0.5, 0.5)
+            self.until(browser, "document.querySelectorAll('#one rect[data-counts]').length", 1)
+            self.assertEqual(browser.ask(fields), f"{name}|||")
+            end = browser.ask("(d=>d.counts.split(' ').length*d.width)(document.querySelector('#one rect[data-counts]').dataset)")
+            self.drag(browser, "#one", 0.25, 0.5)
+            low, last = map(int, browser.ask(fields).split("|")[1:3])
+            self.assertTrue(abs(low - end / 4) < end / 200 and abs(last - end / 2) < end / 200, (low, last, end))
+            self.until(browser, "document.querySelector('#one rect[data-counts]').dataset.first", str(low))
+            browser.ask("document.getElementById('whole').focus()")
+            self.key(browser, "Enter")
+            self.until(browser, "document.querySelector('#one rect[data-counts]').dataset.first", "0")
+            self.assertEqual(browser.ask(fields), f"{name}|||")
+            for element, key, wanted in (("clear", " ", f"{name}|||since={watch.follower.counts.events}"), ("sound", " ", None), ("sound", " ", None)):
+                browser.ask(f"document.getElementById('{element}').focus()")
+                before = browser.ask("document.getElementById('sound').ariaPressed")
+                self.key(browser, key)
+                if wanted:
+                    self.assertEqual(browser.ask(fields), wanted)
+                else:
+                    self.assertNotEqual(browser.ask("document.getElementById('sound').ariaPressed"), before)
+            self.until(browser, "document.getElementById('channels').textContent.startsWith('0 events')", True)
+            self.assertEqual(browser.said, [])
+
+    def drag(self, browser, part, begin, end):
+        box = browser.ask(f"(it=>{{it.scrollIntoView({{block:'center'}});let b=it.getBoundingClientRect();return[b.left,b.top,b.width,b.height]}})(document.querySelector('{part} rect[data-counts]'))")
+        x, y = (box[0] + part * box[2] for part in (begin, end)), box[1] + box[3] / 2
+        for at, (kind, x) in enumerate(zip(("mousePressed", "mouseReleased"), x)):
+            if at:
+                browser.call("Input.dispatchMouseEvent", type="mouseMoved", x=x, y=y, button="left", buttons=1)
+            browser.call("Input.dispatchMouseEvent", type=kind, x=x, y=y, button="left", clickCount=1)
+
+    def key(self, browser, key):
+        code = {"Enter": 13, " ": 32}[key]
+        for kind in ("keyDown", "keyUp"):
+            text = {"text": "\r" if key == "Enter" else key} if kind == "keyDown" else {}
+            browser.call("Input.dispatchKeyEvent", type=kind, key=key, windowsVirtualKeyCode=code, **text)
 
     def test_narrow(self):
         watch, server = self.start(**self.bench_files())
@@ -442,7 +604,7 @@ class InChromium(ServedCase):
             browser.call("Page.navigate", url=server.address())
             self.until(browser, "document.querySelectorAll('#channels svg').length>0", True)
             self.assertEqual(browser.ask("document.documentElement.scrollWidth"), 400)
-            cut = "Array.from(document.querySelectorAll('svg')).filter(it=>it.getBoundingClientRect().right>400).length"
+            cut = "Array.from(document.querySelectorAll('.panels svg')).filter(it=>it.getBoundingClientRect().right>400).length"
             self.assertEqual(browser.ask(cut), 0)
 
 

@@ -8,6 +8,7 @@ Tests with numpy or h5py are left out if these are not installed (Debian's packa
 import collections
 import contextlib
 import csv
+import dataclasses
 import io
 import json
 import math
@@ -410,7 +411,7 @@ class Export(Case):
         watch = Watch(Given("run.events", "@sample", "a.script"))
         while watch.poll():
             pass
-        self.assertIn(f'<b class="bad">{told[:-1]}</b>', watch.notes())
+        self.assertIn(told[:-1], watch.alarms())
         (self.room / "run.events").write_bytes(text_of([camac.Event(1, 3, 13, 0, ())]))
         self.assertIn("event 1 took 13 cycles, those of adc at most 12", self.call("run.events", "-o", "c.csv", *files, status=1))
 
@@ -536,6 +537,95 @@ class Spectra(Case):
                     self.assertLess(abs(float(width) - 8), 0.5)
                     self.assertIn(f">{sum(its[it] for it in range(low, low + 19)):,}<", picture)
                     self.assertLess(abs(float(net.replace(",", "")) / sum(its.values()) - 0.16), 0.02)
+
+    def run_of(self, events, *lines, words=""):
+        """The files of a run of these words, of a script with these lines."""
+        text = self.write("a.script", script(lines, 12, len(events[0])))
+        (self.room / "run.events").write_bytes(text_of(camac.Event(at, 3, 6, 0, tuple(it)) for at, it in enumerate(events, 1)))
+        os.environ["CAMAC_PROGRAM"] = PROGRAM
+        return ["@sample", str(text), str(self.room / "run.events"), *(["--words", str(self.write("words.toml", words))] if words else [])]
+
+    def drawn(self, *words, without=()):
+        out = self.room / "words.svg"
+        with unittest.mock.patch.dict(sys.modules, dict.fromkeys(without)):
+            self.assertEqual(main(["draw", "words", *words, "-o", str(out), "--overwrite"]), 0)
+        return out.read_text()
+
+    READ = ["cdreg r 1 1 5 0", "cfsa 0 r -> v", "put v", "cdreg s 1 1 5 1", "cfsa 0 s -> v", "put v"]
+
+    def test_a_gate_in_two_dimensions(self):
+        """Two gates cut a rectangle out of a pair, on the finest cells that there are."""
+        chance = random.Random(4)
+        pairs = [(chance.randrange(4096), chance.randrange(4096)) for _ in range(20_000)]
+        files = self.run_of(pairs, *self.READ)
+        across, up = (f"ADC crate 1 station 5 A{at}" for at in (0, 1))
+        inside = [it for it in pairs if 1000 <= it[0] <= 1999 and 3000 <= it[1] <= 3099]
+        found = set()
+        for without in [["numpy"], []] if numpy else [["numpy"]]:
+            for bins, size in ((512, 8), (9999, 8), (100, 64)):
+                words = ["--pair", across, up, "--gate", across, "1000..1999", "--gate", up, "3000..3099", "--bins", str(bins)]
+                picture = self.drawn(*files, *words, without=without)
+                self.assertIn(f">{len(inside)} events with both<", picture)
+                self.assertIn(f">events in a cell of {size} × {size} numbers<", picture)
+                self.assertIn(f", of events with {across} from 1,000 to 1,999 and {up} from 3,000 to 3,099<", picture)
+                of_map = picture[picture.index(f">{up} against {across}<") :]
+                cells = len({(one // size, other // size) for one, other in inside})
+                boxes = re.findall(r"M(\d+) (\d+)H(\d+)V(\d+)H\d+z", of_map[: of_map.index("events with both")])
+                self.assertEqual(len({it for it in boxes if int(it[0]) < int(it[2]) and int(it[1]) < int(it[3])}), cells)
+                found.add((bins, picture))
+        self.assertEqual(len(found), 3)
+
+    @needed("python3-numpy")
+    def test_numpy_by_hand(self):
+        chance = random.Random(6)
+        values = [(min(int(chance.expovariate(1 / 700)), 4095), chance.randrange(4096)) for _ in range(70_000)]
+        picture = self.drawn(*self.run_of(values, *self.READ), "--bins", "4096", "--region", "ADC crate 1 station 5 A0", "100..299")
+        its = numpy.fromfile(self.room / "run.events", ">u4", offset=8).reshape(-1, 6)
+        for at in (0, 1):
+            counts = numpy.bincount(its[:, 4 + at].astype(int), minlength=4096)
+            panel = picture[picture.index(f">ADC crate 1 station 5 A{at}<") :]
+            self.assertEqual([int(it) for it in re.search('data-counts="([^"]*)"', panel)[1].split()], counts.tolist())
+            self.assertIn(f">mean {its[:, 4 + at].mean():,.1f}, RMS {its[:, 4 + at].std():,.1f}, peak at {counts.argmax():,}<", panel)
+        region = (its[:, 4] >= 100) & (its[:, 4] <= 299)
+        self.assertIn(f">{region.sum():,}<", picture[picture.index("A0 100 to 299<") :])
+
+    def test_a_steady_voltage(self):
+        words = '[[word]]\nservice = "adc"\nname = "HV"\nplace = 1\nunit = "V"\nas = "value"\n'
+        for without in [["numpy"], []] if numpy else [["numpy"]]:
+            picture = self.drawn(*self.run_of([(1500, 7)] * 40_000, *self.READ, words=words), without=without)
+            self.assertIn(">mean 1,500.0 V, RMS 0.0 V<", picture)
+
+    def test_a_region_of_wide_words(self):
+        """A peak at 2,000,000 in words of 24 bits, in a narrow region by number and in a wide one by bins of a few."""
+        chance = random.Random(8)
+        values = [(round(chance.gauss(2_000_000, 20)) if at % 2 else chance.randrange(1 << 24), 1) for at in range(20_000)]
+        words = '[[word]]\nservice = "adc"\nname = "t"\nbits = "0..23"\nplace = 1\nas = "spectrum"\n'
+        files = self.run_of(values, *self.READ, words=words)
+        for low, last in ((1_999_900, 2_000_099), (1_995_000, 2_005_000), (1_900_000, 2_100_000)):
+            row = self.drawn(*files, "--region", "t", f"{low}..{last}").partition(f"t {low:,} to {last:,}<")[2]
+            gross = sum(low <= it <= last for it, _ in values)
+            place, width = re.search(rf">{gross:,}<.*?± .*?>([0-9.,]+) ± [0-9.,]+<.*?>([0-9.,]+) ±", row).groups()
+            self.assertLess(abs(float(place.replace(",", "")) - 2_000_000), 2)
+            self.assertLess(abs(float(width.replace(",", "")) - 20 * 2.355), 6)
+
+    def test_over_another_run(self):
+        """The line of another run is multiplied for as many events, or for the same live time where both records have it."""
+        files = self.run_of([(100, 1)] * 300, *self.READ)
+        os.rename(self.room / "run.events", self.room / "other.events")
+        files = self.run_of([(100, 1)] * 600, *self.READ)
+        name, over = f"ADC crate 1 station 5 A0", ["--over", str(self.room / "other.events")]
+        made = camac.record.describe(camac.record.Played("@sample", files[1], None, PROGRAM))
+        for seconds, told, line in (((), "for as many events", 600), ((8.0, 2.0), "for the same live time (8.0 s, its own 2.0 s)", 1200)):
+            for file, its in zip(("run", "other"), seconds):
+                self.write(f"{file}.json", dataclasses.replace(made, demands=its, services=1.0).text())
+            self.assertIn(f">0 to 4,095; the line: other.events, {told}<", self.drawn(*files, *over))
+            page = self.room / "run.html"
+            self.assertEqual(main(["report", *files, *over, "-o", str(page), "--overwrite"]), 0)
+            panel = page.read_text()[page.read_text().index(f'aria-label="{name}"') :]
+            self.assertEqual(re.search('data-over="([^"]*)"', panel)[1], f"-100 {line} -3995")
+        with contextlib.redirect_stderr(io.StringIO()):
+            self.assertEqual(main(["draw", "run", *files, *over, "-o", "x.svg"]), 2)
+            self.assertEqual(main(["draw", "words", *files, *over, "-o", over[1]]), 2)
 
     def test_words_that_are_wrong(self):
         for words in (["--gate", "x", "9..8"], ["--region", "x", "1..5"], ["--range", "a"], ["--bins", "0"], ["--gate", "x", "0..99999999"]):

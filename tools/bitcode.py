@@ -24,9 +24,11 @@ HINT = re.compile(r"#\[(inline\(always\)|inline\(never\)|inline|cold)\](?:\s*#\[
 WORDS = {"inline": "inlinehint", "inline(always)": "alwaysinline", "inline(never)": "noinline", "cold": "cold noinline"}
 NAME = re.compile(r'@("[^"]*"|[\w.$-]+)')
 FUNCTION = re.compile(r'\n(define internal [^\n]*?)@"([^"]+)"(\([^\n]*\)) #0 \{(?=\n)')
-# A function of fewer lines is compiled in each part that calls it, so that it may be taken in there.
-SMALL = 120
-# The crates of the kit whose functions are made for each use.
+GROUPS = {word: f"#{900 + number}" for number, word in enumerate(sorted(set(WORDS.values())))}
+# A function is compiled in each part that calls it, so that it may be taken in there, if it has no more lines, has a hint to be taken in, or is of a
+# crate whose functions are made for each use. Of these the lines tell little: `from_le_bytes` has 510, and two instructions once it is optimized.
+SMALL = 250
+TAKEN_IN = tuple(f" {GROUPS[word]} {{" for word in ("alwaysinline", "inlinehint"))
 LIBRARIES = {"core", "std", "std_alloc", "std_collections", "std_heap", "std_io", "arrayvec", "os"}
 
 
@@ -56,17 +58,16 @@ def hints(folders):
 def with_hints(text, found):
     """The module in which functions have these hints, which the quick run leaves out."""
     usual = re.search(r"^attributes #0 = \{ (.*) \}", text, re.M)[1]
-    groups = {word: f"#{900 + number}" for number, word in enumerate(sorted(set(WORDS.values())))}
 
     def hinted(function):
         path = function[2].partition("::<")[0]
         for module, word in found.get(path.rpartition("::")[2], ()):
             if path.startswith(module + "::"):
-                return f'\n{function[1]}@"{function[2]}"{function[3]} {groups[word]} {{'
+                return f'\n{function[1]}@"{function[2]}"{function[3]} {GROUPS[word]} {{'
         return function[0]
 
     text = FUNCTION.sub(hinted, text)
-    return text + "".join(f"\nattributes {group} = {{ {word} {usual} }}" for word, group in groups.items()) + "\n"
+    return text + "".join(f"\nattributes {group} = {{ {word} {usual} }}" for word, group in GROUPS.items()) + "\n"
 
 
 class Module:
@@ -120,7 +121,8 @@ class Module:
     @staticmethod
     def _is_small(function):
         head = function[: function.index("\n")]
-        return head.startswith("define internal") and (function.count("\n") <= SMALL or head.endswith(" #900 {"))
+        crate = NAME.search(head)[1].strip('"').partition("::")[0]
+        return head.startswith("define internal") and (crate in LIBRARIES or head.endswith(TAKEN_IN) or function.count("\n") <= SMALL)
 
     def _named(self, large, small):
         """The names in these functions, and in the small functions and values among these."""

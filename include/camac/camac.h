@@ -185,8 +185,8 @@ CAMAC_CALL camac_explain_at(const void *plan, size_t plan_size, const void *scri
 
 /* What `camac response` prints: how long look-at-mes wait for their services. `every` and `within` tell what follows these options, as
  * adc=200 tick=5000: a service, and a number of dataway cycles up to 4294967295, from 1 on in `every`. White space is between two.
- * CAMAC_REFUSED: the text says why, or has a service that may end above its number in `within`. CAMAC_MISUSE: `every` or `within` has
- * another form, a service twice, or, of an accepted script, one that it does not have. */
+ * CAMAC_REFUSED: the text says why, has a line `unkept`, or has a service that may end above its number in `within`. CAMAC_MISUSE: `every` or
+ * `within` has another form, a service twice, or, of an accepted script, one that it does not have. */
 CAMAC_CALL camac_response(const void *plan, size_t plan_size, const void *script, size_t script_size, const void *every, size_t every_size,
                           const void *within, size_t within_size, char *text, size_t room, size_t *size);
 

@@ -2,7 +2,7 @@
 
 It gives what the program prints as values: `plan`, `check`, `bounds`, `costs`, `response` and `run` call its subcommands. `warnings` says what is
 probably not meant, and `propose` what the loops of a refused script have to keep. `read_events` reads an event file and tests it as `camac events`
-does (`whole` and `whole_size`: one that was cut; `event_arrays`: as arrays, if numpy is). A branch driver in Python is run by a checked script
+does (`whole` and `whole_size`: one that was cut; `event_arrays`: as arrays, if numpy is; `open_runs`: those of many runs, over dask if that is). A branch driver in Python is run by a checked script
 (`drive`, and `call` for one service once), and `camac.mock` has a branch without hardware. `play` does what `drive` does in this process, over the
 library for C (`camac.library`), which also answers if no program is there. Both write a record of the run if it is asked for (`Recording`,
 `read_record`). `read_words` and `words_of_script` say what the words of events mean. `python3 -m camac` judges scripts, lays them out, compares what

@@ -1,3 +1,4 @@
+from camac.archive import Runs, open_runs
 from camac.arrays import EventArrays, event_arrays
 from camac.call import call
 from camac.drive import Answer, Branch, DriveFault, ProgramFault, ProtocolFault, Refused, TimeFault, UsageFault
@@ -11,7 +12,7 @@ from camac.printed import parse_listing
 from camac.record import Record, Recording, read_record
 from camac.subcommands import bounds, check, costs, plan, response, run
 from camac.surveys import Survey, survey
-from camac.values import Body, Command, Cost, Crate, Cycle, Declaration, Demand, Ending, Heading, Lock, ModuleType, Move, Plan, Response, Row, RunEnd, Service, Station, Unlock
+from camac.values import Body, Command, Cost, Crate, Cycle, Declaration, Demand, Ending, Harm, Heading, Lock, ModuleType, Move, Plan, Response, Row, RunEnd, Service, Station, Unkept, Unlock
 from camac.warn import Warned, warnings
 from camac.word_file import WordsFault, read_words
 from camac.word_sources import words_of_script
@@ -19,9 +20,9 @@ from camac.words import Column, Field, Words
 
 __all__ = [
     "Answer", "Body", "Branch", "Column", "Command", "Cost", "Crate", "Cycle", "Declaration", "Demand", "DriveFault", "Ending", "Event",
-    "EventArrays", "EventFileFault", "Field", "Heading", "Lock", "ModuleType", "Move", "Plan", "ProgramFault", "Proposal", "Proposals",
-    "ProtocolFault", "Record", "Recording", "Refused", "Response", "Row", "RunEnd", "Service", "Station", "Survey", "TimeFault", "Unlock",
-    "UsageFault", "Warned", "Whole", "Words", "WordsFault", "bounds", "call", "check", "costs", "drive", "driver", "event_arrays", "find_program",
-    "parse_listing", "plan", "play", "propose", "read_events", "read_record", "read_words", "response", "run", "survey", "warnings", "whole", "whole_size",
-    "words_of_script",
+    "EventArrays", "EventFileFault", "Field", "Harm", "Heading", "Lock", "ModuleType", "Move", "Plan", "ProgramFault", "Proposal", "Proposals",
+    "ProtocolFault", "Record", "Recording", "Refused", "Response", "Row", "RunEnd", "Runs", "Service", "Station", "Survey", "TimeFault", "Unkept",
+    "Unlock", "UsageFault", "Warned", "Whole", "Words", "WordsFault", "bounds", "call", "check", "costs", "drive", "driver", "event_arrays",
+    "find_program", "open_runs", "parse_listing", "plan", "play", "propose", "read_events", "read_record", "read_words", "response", "run", "survey",
+    "warnings", "whole", "whole_size", "words_of_script",
 ]

@@ -8,7 +8,7 @@ from typing import Any, Callable, Dict, List, Mapping, Optional, Sequence, TextI
 
 from camac import pictures, tables
 from camac.annotate import FIRST_LINE, annotate
-from camac.columns import Naming, ask, compare_record
+from camac.columns import Naming, gather
 from camac.commands import check as check_command
 from camac.commands import diff, export, fmt, lsp, simulate, survey, watch
 from camac.commands.options import add_every, add_overwrite, add_view, add_words, naming, read_cuts, read_every
@@ -23,13 +23,13 @@ from camac.pictures.regions import draw_regions, names_title
 from camac.program import knows_command
 from camac.record import refuse_foreign, write_played
 from camac.report import report
-from camac.runs import Inputs, Run, collect
+from camac.runs import Inputs, Run
 from camac.subcommands import check, costs, plan, response
 from camac.texts import source_lines
 from camac.values import Response, RunEnd
 
 # The words of a command line that name one file to read.
-INPUTS = ("plan", "script", "source", "answers", "file", "old", "new")
+INPUTS = ("plan", "script", "source", "answers", "file", "old", "new", "over")
 LOST = "{} is an input: it would be lost"
 DESCRIPTION = """\
 Judges scripts, lays them out and compares what they may take, serves editors, draws a plan, a script and a run of camac, and reports a run.
@@ -70,10 +70,7 @@ class Source:
         self.has_run = len(files) > 2
         self.run = Run(has_listing=False)
         if self.has_run:
-            inputs = Inputs(*files)
-            asked = ask(naming, inputs, self.plan, self.services) if naming else None
-            self.run = collect(inputs, self.plan, self.services, None, self.responses, asked)
-            self.run.checks += compare_record(inputs)
+            self.run = gather(Inputs(*files), self.plan, self.services, None, self.responses, naming)
 
 
 def _need(command: str) -> None:
@@ -118,7 +115,7 @@ def _draw_words(of: Source) -> Dict[str, Canvas]:
         stacked.append(("By channel: the words that modules gave with Q = 1, and the words that were sent", groups))
     channels = run.list_channels()
     if channels:
-        stacked.append((names_title(run.asked), pictures.channel_groups(channels, of.scale, of.view)))
+        stacked.append((names_title(run.asked), pictures.channel_groups(channels, of.scale, of.view, run.over)))
     for title, groups in stacked:
         canvas.stack(title, pictures.draw_groups(title, groups))
     if run.asked.regions:
@@ -163,14 +160,14 @@ def draw(args: argparse.Namespace) -> int:
 
 def make_report(args: argparse.Namespace) -> int:
     inputs = Inputs(args.plan, args.script, args.source)
-    if args.record:
-        refuse_loss(args.record, anything if args.overwrite else refuse_foreign)
+    if args.write_record:
+        refuse_loss(args.write_record, anything if args.overwrite else refuse_foreign)
     made = report(inputs, every=args.every, naming=naming(args), survey=args.survey)
     write_made(args.out, made.text, args.overwrite)
-    if args.record:
+    if args.write_record:
         # If plan or script is refused, the page says so.
         with contextlib.suppress(Refused):
-            write_played(args.record, inputs, args.overwrite, args.survey)
+            write_played(args.write_record, inputs, args.overwrite, args.survey)
     return made.status
 
 
@@ -245,7 +242,7 @@ def _add_report(commands: Any) -> None:
     it.add_argument("script", metavar="SCRIPT", help="a script")
     it.add_argument("source", metavar="ANSWERS|EVENTS", help="the answers of the run, or its event file")
     it.add_argument("-o", "--out", required=True, metavar="HTML", help="the file to write")
-    it.add_argument("--record", metavar="JSON", help="writes the record of the run, too; a file of another kind stays as it is")
+    it.add_argument("--write-record", metavar="JSON", help="writes the record of the run, too; a file of another kind stays as it is")
     it.add_argument("--survey", metavar="JSON", help="what camac-survey found: the page says it, and the record has it")
     add_every(it)
     add_words(it)
@@ -263,15 +260,16 @@ def parse(words: List[str]) -> argparse.Namespace:
             its.error(f"draw {args.picture} takes {least} to {most} files" if least < most else f"draw {args.picture} takes {least} files")
         if args.every and args.picture != "response":
             its.error("--every is an option of draw response and of report")
-        if (args.words or args.pair or args.log or args.gate or args.region or args.range or args.bins) and args.picture != "words":
-            its.error("--words, --pair, --gate, --region, --range, --bins and --log are options of draw words")
+        its_words = (args.words, args.pair, args.log, args.gate, args.region, args.over, args.range, args.bins)
+        if any(its_words) and args.picture != "words":
+            its.error("--words, --pair, --gate, --region, --over, --range, --bins and --log are options of draw words")
     if args.command in ("draw", "report"):
         read_cuts(args, its)
     if args.command in ("draw", "report", "diff"):
         args.every = read_every(args.every, its)
     inputs = getattr(args, "files", []) + getattr(args, "scripts", []) + [getattr(args, name, "") or "" for name in INPUTS]
     refuse_pipes(its, inputs, args.command == "fmt" or getattr(args, "what", "") == "listing")
-    for out in (args.out, args.record if args.command == "report" else None):
+    for out in (args.out, getattr(args, "write_record", None)):
         if out and is_one_of(out, inputs):
             its.error(LOST.format(out))
     return args

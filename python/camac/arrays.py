@@ -54,11 +54,13 @@ def groups(events: Events, number: int) -> List[Group]:
     counts = numpy.diff(events.first)
     kinds = events.gl.astype("i8") << 32 | counts
     found = []
-    for kind in numpy.unique(kinds).tolist():
+    for kind in (kinds[:1] if (kinds == kinds[:1]).all() else numpy.unique(kinds)).tolist():
         its = numpy.flatnonzero(kinds == kind)
         at = events.first[its]
         usage = (events.cycles[its], events.missed[its]) if events.cycles is not None and events.missed is not None else ([], [])
-        found.append(Group(kind >> 32, kind & 0xFFFF, its + number, *usage, [events.words[at + place] for place in range(kind & 0xFFFF)]))
+        size = kind & 0xFFFF
+        words = [*events.words.reshape(-1, size).T.copy()] if size and len(its) == len(kinds) else [events.words[at + place] for place in range(size)]
+        found.append(Group(kind >> 32, size, its + number, *usage, words))
     return found
 
 
@@ -148,7 +150,11 @@ def whole_records(numpy: Any, data: Any, number: int) -> Optional[Tuple[EventArr
     another number looks like a marker."""
     head = TWO.head.size // 4
     numbers = numpy.frombuffer(data, ">u4", count=len(data) // 4).astype("u4")
-    starts = numpy.flatnonzero(numbers >> 16 == MARKER)
+    step = head + int(numbers[3] & 0xFFFF) if len(numbers) >= head else head
+    alike = numbers[: len(numbers) // step * step].reshape(-1, step)
+    rest = numbers[alike.size :]
+    is_alike = (alike[:, 0] >> 16 == MARKER).all() and (alike[:, 3] & 0xFFFF == step - head).all() and (len(rest) < head or rest[3] & 0xFFFF == step - head)
+    starts = numpy.arange(0, alike.size, step) if is_alike else numpy.flatnonzero(numbers >> 16 == MARKER)
     starts = starts[starts + head <= len(numbers)]
     counts = (numbers[starts + 3] & 0xFFFF).astype("i8") if len(starts) else starts
     # The rest of the last record may not be read yet.
@@ -158,10 +164,12 @@ def whole_records(numpy: Any, data: Any, number: int) -> Optional[Tuple[EventArr
         return None
     ends = starts + head + counts
     gl, cycles, missed = numbers[starts] & 0xFFFF, numbers[starts + 2], numbers[starts + 3] >> 16
-    is_word = numpy.ones(ends[-1], bool)
-    for at in range(head):
-        is_word[starts + at] = False
-    words = numbers[: ends[-1]][is_word]
+    if is_alike:
+        words = alike[:, head:].ravel()
+    else:
+        is_word = numpy.ones(ends[-1], bool)
+        is_word[starts[:, None] + numpy.arange(head)] = False
+        words = numbers[: ends[-1]][is_word]
     is_good = (
         starts[0] == 0
         and (ends[:-1] == starts[1:]).all()

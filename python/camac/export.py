@@ -48,6 +48,10 @@ class About:
     sources: Words = Words()
     words: Words = Words()
 
+    def names(self) -> Words:
+        """The columns of the words: those of the user, else those of the script."""
+        return self.words if self.words.fields else self.sources
+
     def source_names(self) -> List[str]:
         """The names that the script gives to words, behind the empty one of all others."""
         return ["", *(it.name for it in self.sources.fields)]
@@ -137,18 +141,20 @@ def tables(events: EventArrays, about: About, begin: Begin = Begin()) -> List[Se
     if events.cycles is not None:
         found.append(Series("events", "cycles", events.cycles, "dataway cycles", "with those of auxiliary controllers"))
         found.append(Series("events", "missed", events.missed, "dataway cycles", "those with X = 0"))
-    places = numpy.arange(len(events.words), dtype="i8")
-    places -= numpy.repeat(events.first[:-1] - 1, counts)
+    # Numbers of four bytes, which count modulo 2^32, take half of the time and memory.
+    places = numpy.arange(len(events.words), dtype="u4")
+    places -= numpy.repeat((events.first[:-1] - 1).astype("u4"), counts)
+    of_words = [numpy.repeat(it, counts) for it in (numbers, events.gl)]
     found += [
         Series("events", "first", events.first[:-1].astype("i8") + begin.row, "", "the row of its first word, from 0"),
         Series("events", "count", counts.astype("u2"), "", "how many words it has"),
-        Series("words", "event", numpy.repeat(numbers, counts), "", NUMBER),
-        Series("words", "gl", numpy.repeat(events.gl, counts), "", GL),
+        Series("words", "event", of_words[0], "", NUMBER),
+        Series("words", "gl", of_words[1], "", GL),
         Series("words", "place", places.astype("u2"), "", "its place in the event, from 1"),
         Series("words", "word", events.words, "", "all 24 bits"),
     ]
     if about.sources.fields:
-        found.append(Series("words", "source", _sources(numpy, events, places, about.sources), "", SOURCE))
+        found.append(Series("words", "source", _sources(numpy, events, of_words[1] * numpy.uint32(GREATEST_COUNT + 1) + places, about.sources), "", SOURCE))
     return found + list(_named(numpy, events, about.words, {it.name for it in found if it.table == "words"}))
 
 
@@ -157,8 +163,9 @@ GL = "the bit of the graded-L pattern whose service made it"
 SOURCE = "where it was read: a number in `sources`, and 0 if that is not fixed"
 
 
-def _sources(numpy: Any, events: EventArrays, places: Array, sources: Words) -> Array:
-    """The number of each word's source. A script gives each place of a service one, and others in events of one count alone."""
+def _sources(numpy: Any, events: EventArrays, at: Array, sources: Words) -> Array:
+    """The number of each word's source, by its place in a table of bits and places. A script gives each place of a service one, and others in events of one
+    count alone."""
     always = numpy.zeros((GREATEST_GL + 1, GREATEST_COUNT + 1), "u2" if len(sources.fields) < 1 << 16 else "u4")
     counted, count_of = always.copy(), numpy.full(GREATEST_GL + 1, MISSING)
     for number, its in enumerate(sources.fields, 1):
@@ -166,9 +173,11 @@ def _sources(numpy: Any, events: EventArrays, places: Array, sources: Words) -> 
         if its.count is not None:
             count_of[its.gl] = its.count
     counts = numpy.diff(events.first)
-    gl = numpy.repeat(events.gl, counts)
-    is_counted = numpy.repeat(counts == count_of[events.gl], counts)
-    return numpy.where(is_counted, numpy.maximum(always, counted)[gl, places], always[gl, places])
+    found = always.take(at)
+    if (count_of != MISSING).any():
+        is_counted = numpy.repeat(counts == count_of[events.gl], counts)
+        found[is_counted] = numpy.maximum(always, counted).take(at[is_counted])
+    return found
 
 
 def _named(numpy: Any, events: EventArrays, words: Words, taken: Set[str]) -> Iterator[Series]:

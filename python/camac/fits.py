@@ -45,7 +45,6 @@ class Fit:
         return its if self.first is None else f"{its}: another script or plan made them; event {self.first[0]:,} {self.first[1]}"
 
 
-
 class Check(NamedTuple):
     """Numbers that have to agree, and whether they do."""
 

@@ -10,8 +10,9 @@ from camac.drive import File
 from camac.events import FORMS, HEADER, TWO, Event, EventFileFault, Form, read_further, record_size
 from camac.fits import Fit
 from camac.histograms import Spectrum
+from camac.numbers import is_array, sums
 from camac.regular import open_regular
-from camac.runs import Channel, Channels, Seen, SeenOfBit
+from camac.runs import Channel, Channels
 from camac.values import Service
 from camac.words import Words
 
@@ -19,8 +20,8 @@ from camac.words import Words
 MOST_BYTES, SHOWN_EVENTS, WINDOW = 8 << 20, 12, 10.0
 # So many bytes before the place that was reached have to be as they were: else it is another file.
 TAIL = 64
-# The rates that are kept, and the seconds of each.
-STEP, STEPS = 2.0, 300
+# Moments are as far apart as this part of their age, once so many have come.
+FINE, MANY = 300, 256
 
 
 class _Bit:
@@ -32,9 +33,9 @@ class _Bit:
 
     def take(self, its: Group) -> None:
         self.count += len(its.numbers)
-        self.words.add_all([its.size] * len(its.numbers))
+        self.words.add_all(its.numbers * 0 + its.size if is_array(its.numbers) else [its.size] * len(its.numbers))
         self.cycles.add_all(its.cycles)
-        self.missed += int(sum(its.missed))
+        self.missed += sums(its.missed).total if len(its.missed) else 0
 
 
 class Counts:
@@ -62,16 +63,8 @@ class Counts:
         self.fit.take(its)
         self.channels.take(self.names, its)
 
-    def seen(self) -> Dict[int, SeenOfBit]:
-        """By bit, the counts of its services."""
-        return {gl: SeenOfBit(_seen(it.cycles), _seen(it.words), 0, 0, 0, it.missed) for gl, it in sorted(self.bits.items()) if it.count}
-
     def list_channels(self) -> List[Channel]:
         return self.channels.listed(self.names, self.bits)
-
-
-def _seen(its: Spectrum) -> Seen:
-    return Seen(its.count, its.least or 0, its.mean(), its.greatest or 0)
 
 
 class State(NamedTuple):
@@ -79,6 +72,17 @@ class State(NamedTuple):
 
     text: str
     is_bad: bool = False
+
+
+class Mark(NamedTuple):
+    """What was there at a moment: events, their end in the file and the bytes before it, cycles with X = 0, and the events of each bit."""
+
+    time: float
+    events: int = 0
+    place: int = 0
+    tail: bytes = b""
+    missed: int = 0
+    bits: Dict[int, int] = {}
 
 
 class Follower:
@@ -99,9 +103,7 @@ class Follower:
         self.fault: Optional[EventFileFault] = None
         self.is_there_yet = False
         self.arrived: Optional[float] = None
-        self.samples: Deque[Tuple[float, int]] = collections.deque()
-        self.rates: Deque[float] = collections.deque(maxlen=STEPS)
-        self.step: Tuple[float, int] = (self.clock(), 0)
+        self.marks = [Mark(self.clock())]
 
     def restart(self, why: str) -> None:
         """Begins anew, and keeps why, if something was counted."""
@@ -132,8 +134,8 @@ class Follower:
             return False
         self.take(data, age)
         is_more = len(data) == MOST_BYTES and not self.fault
-        self.sample(not is_more)
-        self.tell(len(data))
+        self.mark(not is_more)
+        self.tell(self.place / max(its.st_size, 1))
         return is_more
 
     def take(self, data: bytes, age: float) -> None:
@@ -169,36 +171,59 @@ class Follower:
         self.place += len(data)
         self.tail = (self.tail + data[-TAIL:])[-TAIL:]
 
-    def sample(self, is_all: bool) -> None:
-        """Keeps how many events there are at this moment. What was there before the first look is no rate."""
-        now, events = self.clock(), self.counts.events
+    def mark(self, is_all: bool) -> None:
+        """Keeps what is there at this moment: the older, the coarser. What was there before the first look is no rate."""
+        counts, now = self.counts, self.clock()
         if not self.is_there_yet:
-            self.samples.clear()
-            self.step = now, events
-            self.is_there_yet = is_all
-        self.samples.append((now, events))
-        while self.samples[0][0] < now - WINDOW:
-            self.samples.popleft()
-        since, before = self.step
-        if now >= since + STEP:
-            self.rates.append((events - before) / (now - since))
-            self.step = now, events
+            self.marks, self.is_there_yet = [], is_all
+        missed, bits = sum(it.missed for it in counts.bits.values()), {gl: it.count for gl, it in counts.bits.items()}
+        self.marks.append(Mark(now, counts.events, self.place, self.tail, missed, bits))
+        if len(self.marks) % MANY == 0:
+            kept = self.marks[:1]
+            for it, after in zip(self.marks[1:], self.marks[2:]):
+                if after.time - kept[-1].time > (now - it.time) / FINE:
+                    kept.append(it)
+            self.marks = [*kept, self.marks[-1]]
 
-    def tell(self, came: int) -> None:
+    def before(self, seconds: float = 0, events: int = 0) -> Mark:
+        """The last moment that is so many seconds and events ago, or else the first one."""
+        end = self.marks[-1]
+        return next((it for it in reversed(self.marks) if it.time <= end.time - seconds and it.events <= end.events - events), self.marks[0])
+
+    def since(self, mark: Mark) -> "Follower":
+        """Follows the same file from a moment on."""
+        its = Follower(self.path, self.make_counts, self.clock)
+        its.form, its.identity, its.place, its.tail, its.counts.events = self.form, self.identity, mark.place, mark.tail, mark.events
+        return its
+
+    def tell(self, part: float) -> None:
         if self.fault:
             self.state = State(f"{self.fault}; the events before it are shown", True)
         elif not self.place:
             self.state = State("the file is empty: waits for its begin")
         else:
-            self.state = State("follows" if came or self.is_there_yet else "reads what is there")
+            self.state = State("follows" if self.is_there_yet else f"reads what is there: {part:.0%}")
 
-    def rate(self) -> float:
-        """Events a second in the last seconds."""
-        if len(self.samples) < 2:
-            return 0.0
-        (begin, before), (end, events) = self.samples[0], self.samples[-1]
-        return (events - before) / max(end - begin, 0.001)
+    def rate(self, gl: Optional[int] = None) -> float:
+        """Events a second in the last seconds, or those of one bit."""
+        begin, end = self.before(WINDOW), self.marks[-1]
+        came = end.events - begin.events if gl is None else end.bits.get(gl, 0) - begin.bits.get(gl, 0)
+        return came / max(end.time - begin.time, 0.001)
+
+    def rates(self, seconds: float) -> List[Tuple[float, float]]:
+        """The rates of the last seconds, at most FINE of them: how long ago each ended, and its events a second."""
+        found, begin, now = [], self.marks[0], self.marks[-1].time
+        for it in self.marks[1:]:
+            if it.time - begin.time >= seconds / FINE:
+                found.append((now - it.time, (it.events - begin.events) / (it.time - begin.time)))
+                begin = it
+        return [it for it in found if it[0] <= seconds]
 
     def age(self) -> Optional[float]:
         """How many seconds ago the last event came; None before the first one."""
         return None if self.arrived is None else self.clock() - self.arrived
+
+    def silence(self) -> float:
+        """The same; before the first event, how long this was looked at."""
+        age = self.age()
+        return self.clock() - self.marks[0].time if age is None else age

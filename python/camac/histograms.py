@@ -1,9 +1,9 @@
 """Histograms, lines over a run, and maps of two numbers: each of a fixed size, however many numbers come."""
 import collections
 import math
-from typing import Counter, Dict, List, NamedTuple, Optional, Sequence, Tuple
+from typing import Counter, Dict, List, NamedTuple, Optional, Tuple
 
-from camac.numbers import Numbers, below, column_sums, differences, scaled, sums, tally
+from camac.numbers import Numbers, added, column_sums, differences, ends, listed, places, scaled, sums, sums_of
 
 
 class Bins(NamedTuple):
@@ -44,7 +44,7 @@ class Spectrum(Totals):
     """Counts on an axis from 0 to `end`, by the number itself, or, of more than `most` numbers, in bins of one width, a power of two. Numbers
     from `end` on are counted as overflow. If no end is given the axis doubles until it holds all numbers."""
 
-    __slots__ = ("end", "is_open", "most", "shift", "counts", "overflow")
+    __slots__ = ("end", "is_open", "most", "shift", "overflow", "_counts", "_recent")
     CHANNELS = 1 << 16
     # The end of an axis that doubles.
     LEAST = 128
@@ -53,19 +53,33 @@ class Spectrum(Totals):
         super().__init__()
         self.end, self.is_open, self.overflow, self.most = end or self.LEAST, end is None, 0, most
         self.shift = max((self.end - 1).bit_length() - most.bit_length() + 1, 0)
-        self.counts: Counter[int] = collections.Counter()
+        self._counts: Counter[int] = collections.Counter()
+        # An array of counts, which are not yet in those.
+        self._recent: Numbers = None
+
+    @property
+    def counts(self) -> Counter[int]:
+        """By number how often it came, without the bits that are not kept."""
+        if self._recent is not None:
+            self._counts.update({at: count for at, count in enumerate(self._recent.tolist()) if count})
+            self._recent = None
+        return self._counts
 
     def add_all(self, numbers: Numbers) -> None:
         """Counts many numbers, in a list or an array."""
         if not len(numbers):
             return
-        its = sums(numbers)
-        self.note(*its)
-        if its.greatest >= self.end:
-            inside = below(numbers, self.end)
-            self.overflow += len(numbers) - len(inside)
-            numbers = inside
-        self.counts.update(tally(numbers, self.shift))
+        counts = places(numbers)
+        if counts is not None:
+            self.note(*sums_of(counts))
+            self.overflow += int(counts[self.end :].sum())
+            self._recent = added(self._recent, counts[: self.end], self.shift)
+            return
+        numbers = listed(numbers)
+        self.note(*sums(numbers))
+        inside = [it >> self.shift for it in numbers if it < self.end]
+        self.overflow += len(numbers) - len(inside)
+        self._counts.update(inside)
 
     def note(self, count: int, total: int, squares: int, least: int, greatest: int) -> None:
         super().note(count, total, squares, least, greatest)
@@ -76,7 +90,9 @@ class Spectrum(Totals):
         self.end *= 2
         if self.end >> self.shift > self.most:
             self.shift += 1
-            self.counts = _halved(self.counts)
+            counts, self._counts = self.counts, collections.Counter()
+            for at, count in counts.items():
+                self._counts[at >> 1] += count
 
     def integral(self) -> int:
         """How many numbers are on the axis."""
@@ -99,13 +115,6 @@ class Spectrum(Totals):
         if not self.counts:
             return None
         return min(self.counts, key=lambda at: (-self.counts[at], at)) << self.shift
-
-
-def _halved(counts: Counter[int]) -> "Counter[int]":
-    halved: Counter[int] = collections.Counter()
-    for at, count in counts.items():
-        halved[at >> 1] += count
-    return halved
 
 
 class Series:
@@ -161,28 +170,27 @@ class Series:
 
 
 class Pairs:
-    """Counts of pairs of numbers, each on an axis from 0 to its end, in at most 64 by 64 cells. If no end is given an axis doubles until it
-    holds all numbers."""
+    """Counts of pairs of numbers, each on an axis from 0 to its end, in at most so many cells across and up. If no end is given an axis doubles until
+    it holds all numbers."""
 
     __slots__ = ("ends", "shifts", "cells", "count")
-    MOST = 64
+    USUAL, MOST = 64, 512
 
-    def __init__(self, *ends: Optional[int]) -> None:
-        self.ends = [end or self.MOST for end in ends]
-        self.shifts = [max((end - 1).bit_length() - self.MOST.bit_length() + 1, 0) for end in self.ends]
+    def __init__(self, *ends: Optional[int], most: int = USUAL) -> None:
+        bits = min(most, self.MOST).bit_length() - 1
+        self.ends = [end or 1 << bits for end in ends]
+        self.shifts = [max((end - 1).bit_length() - bits, 0) for end in self.ends]
         self.cells: Counter[Tuple[int, int]] = collections.Counter()
         self.count = 0
 
-    def add_all(self, pairs: Sequence[Tuple[int, int]]) -> None:
+    def add_all(self, across: Numbers, up: Numbers) -> None:
         """Counts pairs, of which there is one at least."""
-        for axis, numbers in enumerate(zip(*pairs)):
-            self.widen_to(axis, max(numbers))
-        self.count += len(pairs)
-        self.cells.update([(across >> self.shifts[0], up >> self.shifts[1]) for across, up in pairs])
-
-    def widen_to(self, axis: int, number: int) -> None:
-        while number >= self.ends[axis]:
-            self._double(axis)
+        for axis, numbers in enumerate((across, up)):
+            while ends(numbers)[1] >= self.ends[axis]:
+                self._double(axis)
+        self.count += len(across)
+        one, other = ([it >> shift for it in listed(numbers)] for numbers, shift in zip((across, up), self.shifts))
+        self.cells.update(zip(one, other))
 
     def _double(self, axis: int) -> None:
         self.ends[axis] *= 2

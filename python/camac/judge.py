@@ -171,7 +171,7 @@ def status(judged: Sequence[Judged], is_strict: bool) -> int:
     return max(worst, REFUSED) if is_strict and any(found.kind == "warning" for it in judged for found in it.found) else worst
 
 
-NO_COSTS = "this program has no `costs`, so statements that are never reached (W1) and scans without a cycle (W2) are not looked for"
+NO_COSTS = "this program has no `costs` or no `response`, so W1, W2 and W3 are not looked for"
 
 
 def note(program: Optional[File] = None) -> Optional[str]:

@@ -230,8 +230,8 @@ def costs(plan: Text, script: Text) -> Verdict:
 
 def response(plan: Text, script: Text, every: Optional[Mapping[str, int]] = None, within: Optional[Mapping[str, int]] = None) -> Verdict:
     """What `camac response` prints. `every` and `within` have the numbers of dataway cycles that follow these options, by service. It is not
-    accepted, too, where a service may end above its number in `within`. Raises UsageFault if a number is out of range (0 to 4,294,967,295,
-    from 1 on in `every`), or the accepted script does not have the service."""
+    accepted, too, where a line is `unkept`, or a service may end above its number in `within`. Raises UsageFault if a number is out of range
+    (0 to 4,294,967,295, from 1 on in `every`), or the accepted script does not have the service."""
     return _judged("response", plan, script, _settings(settings(every)), _settings(settings(within)))
 
 

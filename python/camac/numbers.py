@@ -1,14 +1,16 @@
 """What is done with many numbers at once, in lists or in arrays of numpy: all that differs between them."""
-import collections
+import heapq
 import importlib
 import itertools
 import operator
-from typing import Any, Dict, Iterable, List, NamedTuple, Optional, Sequence, Set, Tuple
+import sys
+from array import array
+from typing import Any, Dict, Iterable, List, NamedTuple, Optional, Sequence, Tuple
 
 # A list of whole numbers, or an array of numpy, which need not be here.
 Numbers = Any
-# The squares of this number of words of 24 bits add up to less than 2^64; below this number counting needs no order.
-MOST_SQUARES, DENSE = 1 << 15, 1 << 17
+# Below this number, and with so many places for each at most, numbers are counted by place.
+DENSE, PLACES = 1 << 16, 8
 
 
 class Sums(NamedTuple):
@@ -27,36 +29,77 @@ def is_array(numbers: Numbers) -> bool:
 
 def sums(numbers: Numbers) -> Sums:
     """The sums of one number or more."""
-    if not is_array(numbers):
-        return Sums(len(numbers), sum(numbers), sum(map(operator.mul, numbers, numbers)), min(numbers), max(numbers))
-    whole = numbers.astype("u8")
-    squares = sum(int((part * part).sum()) for part in (whole[at : at + MOST_SQUARES] for at in range(0, len(whole), MOST_SQUARES)))
-    return Sums(len(numbers), int(whole.sum()), squares, int(numbers.min()), int(numbers.max()))
+    numbers = listed(numbers)
+    return Sums(len(numbers), sum(numbers), sum(map(operator.mul, numbers, numbers)), min(numbers), max(numbers))
 
 
-def below(numbers: Numbers, end: int) -> Numbers:
-    """Those that are less than `end`."""
-    return numbers[numbers < end] if is_array(numbers) else [it for it in numbers if it < end]
+def listed(numbers: Numbers) -> Sequence[int]:
+    its: Sequence[int] = numbers.tolist() if is_array(numbers) else numbers
+    return its
+
+
+def whole(numbers: Numbers) -> Numbers:
+    """An `array` as one of numpy, where that is loaded."""
+    is_loaded = isinstance(numbers, array) and sys.modules.get("numpy")
+    return sys.modules["numpy"].frombuffer(numbers, numbers.typecode) if is_loaded and len(numbers) else numbers
+
+
+def total(numbers: Numbers) -> int:
+    numbers = whole(numbers)
+    return int(numbers.sum()) if is_array(numbers) else sum(numbers)
+
+
+def ends(numbers: Numbers) -> Tuple[int, int]:
+    """The least and the greatest of one number or more."""
+    return (int(numbers.min()), int(numbers.max())) if is_array(numbers) else (min(numbers), max(numbers))
+
+
+def kinds(numbers: Numbers) -> List[int]:
+    """Each number that is there, in order."""
+    return [*importlib.import_module("numpy").bincount(numbers).nonzero()[0].tolist()] if is_array(numbers) else sorted({*numbers})
+
+
+def places(numbers: Numbers) -> Numbers:
+    """The counts of numbers by number, from 0 on, as an array; None of a list, of large numbers, and of few."""
+    if not is_array(numbers) or int(numbers.max()) >= min(PLACES * len(numbers), DENSE):
+        return None
+    return importlib.import_module("numpy").bincount(numbers)
+
+
+def sums_of(counts: Numbers) -> Sums:
+    """As `sums`, of numbers whose counts by number are given."""
+    numpy = importlib.import_module("numpy")
+    its = counts.nonzero()[0]
+    products = counts[its] * its
+    return Sums(int(counts.sum()), int(products.sum()), int(numpy.dot(products, its)), int(its[0]), int(its[-1]))
+
+
+def added(one: Numbers, other: Numbers, shift: int) -> Numbers:
+    """Counts of both, of which the second are by more bits."""
+    numpy = importlib.import_module("numpy")
+    other = numpy.add.reduceat(other, numpy.arange(0, len(other), 1 << shift)) if shift and len(other) else other
+    if one is None or len(one) < len(other):
+        one, other = other, one
+    if other is not None:
+        one[: len(other)] += other
+    return one
 
 
 def each(numbers: Numbers, low: int, mask: int) -> Numbers:
     """The bits of each number from `low` on that a mask leaves."""
-    return numbers >> low & mask if is_array(numbers) else [it >> low & mask for it in numbers]
+    return (numbers >> low if low else numbers) & mask if is_array(numbers) else [it >> low & mask for it in numbers]
 
 
-def tally(numbers: Numbers, shift: int = 0) -> Dict[int, int]:
-    """How often each number is there, without its last bits."""
-    if not is_array(numbers):
-        return collections.Counter([it >> shift for it in numbers] if shift else numbers)
+def greatest(most: int, numbers: Numbers, others: Numbers) -> List[int]:
+    """Where the greatest numbers are, in order, of those alike by their other number, then the first ones: so many at most."""
+    its = whole(numbers), whole(others)
+    if not is_array(its[0]):
+        return sorted(k for _, _, k in heapq.nsmallest(most, zip(map(operator.neg, numbers), map(operator.neg, others), itertools.count())))
     numpy = importlib.import_module("numpy")
-    numbers = numbers >> shift
-    if not len(numbers) or int(numbers.max()) >= DENSE:
-        values, counts = numpy.unique(numbers, return_counts=True)
-    else:
-        counts = numpy.bincount(numbers)
-        values = counts.nonzero()[0]
-        counts = counts[values]
-    return dict(zip(values.tolist(), counts.tolist()))
+    keys = its[0].astype("u8") << 32 | its[1]
+    least = numpy.partition(keys, -most)[-most] if len(keys) > most else 0
+    found = (keys > least).nonzero()[0].tolist()
+    return sorted(found + (keys == least).nonzero()[0][: most - len(found)].tolist())
 
 
 def join(parts: List[Numbers]) -> Numbers:
@@ -75,20 +118,39 @@ def order(places: Numbers, numbers: Numbers) -> Tuple[Numbers, Numbers]:
     return [at for at, _ in pairs], [number for _, number in pairs]
 
 
-def chosen(numbers: Numbers, its: Set[int], parts: Sequence[Numbers]) -> List[Numbers]:
+def chosen(numbers: Numbers, its: Numbers, parts: Sequence[Numbers]) -> List[Numbers]:
     """Of each part what stands where a number is one of these."""
     if is_array(numbers):
-        numpy = importlib.import_module("numpy")
-        where = numpy.isin(numbers, numpy.fromiter(its, "i8", len(its)))
+        where = importlib.import_module("numpy").isin(numbers, its)
         return [part[where] if len(part) else part for part in parts]
-    where = [number in its for number in numbers]
+    wanted = {*its}
+    where = [number in wanted for number in numbers]
     return [[*itertools.compress(part, where)] for part in parts]
+
+
+def within(numbers: Numbers, low: int, last: int, part: Numbers) -> Numbers:
+    """Of a part what stands where a number is from the first to the last one."""
+    if is_array(numbers):
+        return part[(low <= numbers) & (numbers <= last)]
+    return [it for it, number in zip(part, numbers) if low <= number <= last]
+
+
+def met(*sides: Tuple[Numbers, Numbers]) -> Tuple[Numbers, Numbers]:
+    """Of two sides, each events and their numbers, the first numbers of the events that both have."""
+    if is_array(sides[0][0]):
+        numpy = importlib.import_module("numpy")
+        (one, first), (other, second) = (numpy.unique(events, return_index=True) for events, _ in sides)
+        _, left, right = numpy.intersect1d(one, other, assume_unique=True, return_indices=True)
+        return sides[0][1][first[left]], sides[1][1][second[right]]
+    across, up = (dict(zip(reversed(events), reversed(numbers))) for events, numbers in sides)
+    its = [at for at in across if at in up]
+    return [across[at] for at in its], [up[at] for at in its]
 
 
 def split(tags: Numbers, parts: Iterable[Numbers]) -> Dict[int, List[Numbers]]:
     """The numbers of each part by their tags."""
     if is_array(tags):
-        return {tag: [part[tags == tag] for part in parts] for tag in tally(tags)}
+        return {tag: [part[tags == tag] for part in parts] for tag in kinds(tags)}
     found: Dict[int, List[Numbers]] = {}
     for row in zip(tags, *parts):
         if row[0] not in found:

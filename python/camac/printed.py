@@ -4,8 +4,8 @@ import re
 from typing import Any, Callable, Dict, Generic, Iterable, Iterator, List, Optional, Tuple, TypeVar, Union
 
 from camac.functions import reads, writes
-from camac.values import Body, BodyKind, Command, Cost, Crate, Cycle, Declaration, Demand, Ending, Explanation, Heading, Item, Lock, ModuleType, Move, Near
-from camac.values import Plan, Refusal, Request, Response, Row, RunEnd, Service, Station, Step, Unlock
+from camac.values import Body, BodyKind, Command, Cost, Crate, Cycle, Declaration, Demand, Ending, Explanation, Harm, Heading, Item, Lock, ModuleType, Move
+from camac.values import Near, Plan, Refusal, Request, Response, Row, RunEnd, Service, Station, Step, Unkept, Unlock
 
 T = TypeVar("T")
 ORDINALS = "first second third fourth fifth sixth seventh eighth ninth tenth".split()
@@ -30,6 +30,7 @@ PARTS: Dict[str, Tuple[str, Callable[[str], Any]]] = {
     "head": ("service|proc", lambda it: it == "service"),
     "probe": ("(?: probe)?", bool),
     "clears": ("(?: clears)?", bool),
+    "harm": ("|".join(it.value for it in Harm), Harm),
     "each": (r"cycles \d+ words \d+ steps \d+", lambda it: Cost(*map(int, it.split()[1::2]))),
     "cost": (r"\d+ \d+ \d+", lambda it: Cost(*map(int, it.split()))),
     "about": (r"(?: at \S+ \S+ \S+(?: to \S+ \S+ \S+)?| turns \d+| crate \S+| proc \w+)?", str.lstrip),
@@ -86,7 +87,8 @@ def _declaration(first: int, last: Optional[int], **its: Any) -> Declaration:
 
 SERVICE = Form(Service, "service {name:word} gl {gl} cycles {cycles} of {annotated_cycles} words {words} of {annotated_words} steps {steps}")
 HEADING = Form(Heading, r"{is_service:head} {name:word}(?:\(.*\))? within {cycles} cycles event {words} words(?: steps {steps})?", has_line=True)
-RESPONSE = Form(Response, r"service {name:word} gl {gl} cycles {cycles} (?:once|every {every}) start {start:maybe} end {end:maybe}(?: of \d+)? longest {longest:maybe}")
+RESPONSE = Form(Response, r"service {name:word} gl {gl} cycles {cycles} (?:once|every {every}) start {start:maybe} end {end:maybe}(?: of \d+)? longest {longest:maybe}(?: clears 2)?")
+UNKEPT = Form(Unkept, "unkept {name:word} line {line}: {why:harm}(?: {other:word})?")
 BODY = Form(
     _body,
     r"{kind:kind} {name:word} line {line}(?: gl {gl} at \d+ \d+ \d+)? cycles {cycles} of {of_cycles} words {words} of {of_words} steps {steps}(?: of {of_steps})?",
@@ -166,7 +168,9 @@ def read_headings(printed: str) -> List[Heading]:
 
 def read_responses(printed: str) -> List[Response]:
     """What `camac response` prints of an accepted script."""
-    return [_read(line, RESPONSE) for line in printed.splitlines()]
+    its = [_read(line, RESPONSE, UNKEPT) for line in printed.splitlines()]
+    unkept = [it for it in its if isinstance(it, Unkept)]
+    return [it._replace(unkept=tuple(one for one in unkept if one.name == it.name)) for it in its if isinstance(it, Response)]
 
 
 def read_bodies(printed: str) -> List[Body]:

@@ -77,9 +77,6 @@ class _Reader:
         while self.word():
             if self.word() in ("service", "proc"):
                 script.bodies.append(self.body())
-            elif self.takes("cdlam"):
-                name, _, crate, station = self.next().text, self.next(), self.number(), self.number()
-                script.lams[name] = crate, station
             elif self.takes("var"):
                 # The next declaration begins with a word of the language.
                 while self.word() not in ("", "table", "cdlam", "var", "proc", "service"):

@@ -134,6 +134,10 @@ class Record:
         """The services of the script with their bounds."""
         return read_services("\n".join(self.verdict))
 
+    def seconds(self) -> float:
+        """Live and dead time together, as measured; 0 if nothing was."""
+        return (self.demands or 0.0) + (self.services or 0.0)
+
     def text(self) -> str:
         """The record as JSON."""
         measured = None if self.demands is None else {"demands": round(self.demands, 6), "services": round(self.services or 0.0, 6)}

@@ -27,19 +27,21 @@ class Region(NamedTuple):
     width: Optional[Measured]
 
 
-def measure(low: int, counts: Sequence[int]) -> Region:
-    """Measures the region of which the counts are given, number by number from `low` on; it has twice SIDE numbers at least."""
+def measure(low: int, counts: Sequence[int], each: int = 1) -> Region:
+    """Measures the region of which the counts are given, by so many numbers `each` from `low` on; there are twice SIDE counts at least."""
     size, gross = len(counts), sum(counts)
     left, right = sum(counts[:SIDE]) / SIDE, sum(counts[-SIDE:]) / SIDE
     net = gross - size * (left + right) / 2
     unsure = math.sqrt(gross + size**2 * (left + right) / (4 * SIDE))
-    begin = [max(counts) - (left + right) / 2, float(max(range(size), key=counts.__getitem__)), size / 6, left, (right - left) / size]
+    # The fit begins with the deviation that a peak of this height and area has.
+    height = max(max(counts) - (left + right) / 2, 1.0)
+    begin = [height, float(max(range(size), key=counts.__getitem__)), min(max(net / height / 2.5, 0.5), size / 6), left, (right - left) / size]
     found = _fit(counts, begin) if net > 0 else None
     if found is None:
         return Region(gross, Measured(net, unsure), None, None)
     values, errors = found
-    width = Measured(FULL_WIDTH * abs(values[2]), FULL_WIDTH * errors[2])
-    return Region(gross, Measured(net, unsure), Measured(low + values[1], errors[1]), width)
+    width = Measured(each * FULL_WIDTH * abs(values[2]), each * FULL_WIDTH * errors[2])
+    return Region(gross, Measured(net, unsure), Measured(low + each * (values[1] + 0.5) - 0.5, each * errors[1]), width)
 
 
 def _fit(counts: Sequence[int], begin: List[float]) -> Optional[Tuple[List[float], List[float]]]:

@@ -1,17 +1,16 @@
 """What a run did, in numbers of a fixed size: from the listing of `camac run` and its event file, or from an event file alone."""
 import dataclasses
 import enum
-import itertools
 import tempfile
 from array import array
-from typing import Dict, FrozenSet, Iterable, Iterator, List, NamedTuple, Optional, Sequence, Set, Tuple, Union
+from typing import Dict, FrozenSet, Iterable, Iterator, List, NamedTuple, Optional, Sequence, Tuple, Union
 
 from camac.arrays import BATCH, EventArrays, Events, Group, batches, event_pieces, groups
 from camac.drive import File
 from camac.events import Event, EventFileFault, read_events
 from camac.fits import Check, Fit
 from camac.histograms import Pairs, Series, Spectrum
-from camac.numbers import Numbers, chosen, join, order
+from camac.numbers import Numbers, chosen, ends, join, kinds, met, order, scaled, total, whole, within
 from camac.late import Late, Watch
 from camac.output import Progress
 from camac.program import knows_command
@@ -112,12 +111,13 @@ class Sent:
 
 @dataclasses.dataclass(frozen=True)
 class Asked:
-    """What is asked of the words of events: the columns that they have, two of these that are wanted against each other, a gate that an event has to
-    pass, and regions that are measured."""
+    """What is asked of the words of events: the columns that they have, two of these that are wanted against each other, the most bins, gates that an event
+    has to pass, and regions that are measured."""
 
     names: Words = dataclasses.field(default_factory=Words)
     pair: Optional[Tuple[Column, Column]] = None
-    gate: Optional["Cut"] = None
+    bins: Optional[int] = None
+    gates: Tuple["Cut", ...] = ()
     regions: Tuple["Cut", ...] = ()
 
 
@@ -130,10 +130,8 @@ class Cut(NamedTuple):
 
     def select(self, names: Words, of: Sequence[Group]) -> List[Group]:
         """The events that have such a number."""
-        passed: Set[int] = set()
-        for column, events, numbers in names.numbers(of, {self.column.field}):
-            if column == self.column:
-                passed.update(int(event) for event, number in zip(events, numbers) if self.low <= number <= self.last)
+        its = [it for it in names.numbers(of, {self.column.field}) if it.column == self.column]
+        passed = join([within(it.numbers, self.low, self.last, it.events) for it in its]) if its else []
         found = []
         for it in of:
             numbers, cycles, missed, *words = chosen(it.numbers, passed, [it.numbers, it.cycles, it.missed, *it.words])
@@ -159,25 +157,38 @@ class Channel:
 
 
 class Channels(Dict[Column, Channel]):
-    """The channels of a run, by their columns."""
+    """The channels of a run, by their columns. `regions` have the numbers of each region, from its first one on."""
 
-    def take(self, names: Words, of: Sequence[Group], pair: Sequence[Column] = ()) -> List[Tuple[int, int]]:
+    def __init__(self, regions: Sequence[Cut] = ()) -> None:
+        super().__init__()
+        self.regions = {it: Spectrum(it.last - it.low + 1) for it in regions}
+
+    def take(self, names: Words, of: Sequence[Group], pair: Sequence[Column] = ()) -> Tuple[Numbers, Numbers]:
         """Takes the words of events. Returns of each event that has both columns of a pair the first number of both."""
-        first: Dict[Column, Dict[int, int]] = {it: {} for it in pair}
+        sides: Dict[Column, Tuple[Numbers, Numbers]] = {}
         for column, events, numbers in names.numbers(of, {it.field for it in pair}):
             if column not in self:
                 self[column] = Channel(column)
             self[column].add_all(events, numbers)
-            if column in first:
-                first[column] = {int(event): int(number) for event, number in zip(reversed(events), reversed(numbers))}
-        if not pair:
-            return []
-        across, up = (first[it] for it in pair)
-        return [(number, up[event]) for event, number in across.items() if event in up]
+            for its, spectrum in self.regions.items():
+                if its.column == column:
+                    spectrum.add_all(scaled(within(numbers, its.low, its.last, numbers), its.low, 1))
+            if column in pair:
+                sides[column] = events, numbers
+        return met(*(sides[it] for it in pair)) if pair and len(sides) == len({*pair}) else ([], [])
 
     def listed(self, names: Words, bits: Iterable[int]) -> List[Channel]:
         """Those that have a number, in the order of the columns of these bits."""
         return [self[it] for gl in sorted(bits) for it in names.columns(gl) if it in self]
+
+
+class Over(NamedTuple):
+    """Another run that is drawn over one: the name of its file, its channels, what its counts are multiplied by, by bit, and what that is for."""
+
+    name: str
+    channels: Channels
+    factors: Dict[int, float]
+    why: str
 
 
 class InProgress:
@@ -202,8 +213,8 @@ class Run:
 
     `has_listing` is False of an event file alone, which has no waits, no Q, no commands and no locks; `has_cycles` is False of one of
     version one. `end` is the end of a run, `fault` the fault of an event file. `kept` are services to be shown cycle by cycle.
-    `by_place` has the words by the bit and by their place in the event, `channels` those of a column, `pairs` those of two columns
-    that are in one event, `seen` what was seen of the services of each bit, and `late` how late they ended, where a listing and `camac
+    `by_place` has the words by the bit and by their place in the event, `channels` those of a column, `over` those of another run, `pairs` those of two
+    columns that are in one event, `seen` what was seen of the services of each bit, and `late` how late they ended, where a listing and `camac
     response` show that."""
 
     def __init__(self, has_listing: bool, asked: Optional[Asked] = None) -> None:
@@ -217,8 +228,10 @@ class Run:
         self.kept: Dict[Tuple[Why, int], Kept] = {}
         self.by_place: Dict[Tuple[int, int], Spectrum] = {}
         self.asked = asked or Asked()
-        self.pairs = Pairs(*(None if it.greatest == FULL_WORD else it.greatest + 1 for it in self.asked.pair)) if self.asked.pair else None
-        self.channels = Channels()
+        of_pair = [None if it.greatest == FULL_WORD else it.greatest + 1 for it in self.asked.pair or ()]
+        self.pairs = Pairs(*of_pair, most=self.asked.bins or Pairs.USUAL) if of_pair else None
+        self.channels = Channels(self.asked.regions)
+        self.over: Optional[Over] = None
         self.seen: Dict[int, SeenOfBit] = {}
         self.late: Dict[int, Late] = {}
         self.checks: List[Check] = []
@@ -256,13 +269,14 @@ class Run:
                 by_place.setdefault((it.gl, at), []).append(words)
         for key, parts in by_place.items():
             self.by_place.setdefault(key, Spectrum(None, PLACE_BINS)).add_all(join(parts))
-        named = self.asked.gate.select(self.asked.names, of) if self.asked.gate else of
-        pairs = self.channels.take(self.asked.names, named, self.asked.pair or ())
-        if pairs and self.pairs:
-            self.pairs.add_all(pairs)
+        for gate in self.asked.gates:
+            of = gate.select(self.asked.names, of)
+        across, up = self.channels.take(self.asked.names, of, self.asked.pair or ())
+        if len(across) and self.pairs:
+            self.pairs.add_all(across, up)
 
     def list_channels(self) -> List[Channel]:
-        return self.channels.listed(self.asked.names, {*self.gl})
+        return self.channels.listed(self.asked.names, kinds(whole(self.gl)))
 
 
 def is_event_file(file: File) -> bool:
@@ -297,22 +311,23 @@ def collect(
     return collected
 
 
-def by_bit(bits: Sequence[int], *columns: Sequence[int]) -> Iterator[Tuple[int, List[Sequence[int]]]]:
+def by_bit(bits: Numbers, *columns: Numbers) -> Iterator[Tuple[int, List[Numbers]]]:
     """The numbers of columns by the bits of their services."""
-    its = sorted({*bits})
-    for gl in its:
-        is_its = [it == gl for it in bits] if len(its) > 1 else []
-        yield gl, [array("I", itertools.compress(column, is_its)) if is_its else column for column in columns]
+    bits, *its = map(whole, (bits, *columns))
+    found = kinds(bits)
+    for gl in found:
+        yield gl, its if len(found) == 1 else chosen(bits, [gl], its)
 
 
 def _seen(run: Run) -> Dict[int, SeenOfBit]:
     """By bit, the counts of its services."""
     columns = by_bit(run.gl, run.cycles, run.words, run.waits, run.no_q, run.of_transfers, run.no_x)
-    return {gl: SeenOfBit(_seen_of(its[0]), _seen_of(its[1]), *[sum(it) for it in its[2:]]) for gl, its in columns}
+    return {gl: SeenOfBit(_seen_of(its[0]), _seen_of(its[1]), *map(total, its[2:])) for gl, its in columns}
 
 
 def _seen_of(numbers: Sequence[int]) -> Seen:
-    return Seen(len(numbers), min(numbers), sum(numbers) / len(numbers), max(numbers))
+    least, most = ends(numbers)
+    return Seen(len(numbers), least, total(numbers) / len(numbers), most)
 
 
 class _Collector:

@@ -151,10 +151,9 @@ class Body:
 
 
 class Script:
-    """The crate and station of each LAM, by its name, and the services and procedures in the order of the text."""
+    """The services and procedures in the order of the text."""
 
     def __init__(self) -> None:
-        self.lams: Dict[str, Tuple[int, int]] = {}
         self.bodies: List[Body] = []
 
 

@@ -57,11 +57,32 @@ class Heading(NamedTuple):
     line: str
 
 
+class Harm(enum.Enum):
+    """What a script does to a look-at-me, so that no number holds for it: its service may leave it up, or a service clears or hides it."""
+
+    LEFT = "does not clear its look-at-me"
+    CLEARED = "cleared by"
+    HIDDEN = "hidden by"
+
+
+class Unkept(NamedTuple):
+    """A look-at-me for which a script does not do its part: the name of its service, the line of the statement (if it is left up, of the heading),
+    why, and which service clears or hides it (None if it is left up)."""
+
+    name: str
+    line: int
+    why: Harm
+    other: Optional[str]
+
+    def text(self) -> str:
+        return f"{self.name} line {self.line}: {self.why.value} {self.other or ''}".rstrip()
+
+
 class Response(NamedTuple):
     """How late a service of an accepted script can be, in dataway cycles (with those of auxiliary controllers): the name of its LAM, its
     bit of the graded-L pattern, and its own bound. `every` is how soon its module may raise its look-at-me again, None if nothing was
     said. `start` and `end` are the most cycles from a look-at-me until its service begins and has ended; within `longest` all look-at-mes
-    up to this bit are answered. These three are None if there is no such number."""
+    up to this bit are answered. These three are None if there is no such number. `unkept` has what the script does to its look-at-me."""
 
     name: str
     gl: int
@@ -70,6 +91,7 @@ class Response(NamedTuple):
     start: Optional[int]
     end: Optional[int]
     longest: Optional[int]
+    unkept: Tuple[Unkept, ...] = ()
 
     def calls(self, elapsed: int) -> int:
         """How often the service is called at most within so many cycles."""

@@ -1,18 +1,17 @@
 """Warnings about an accepted script: what is probably not meant. docs/REFUSALS.md has each with an example."""
 import enum
-from typing import Dict, Iterator, List, NamedTuple, Optional, Set, Tuple
+from typing import Iterator, List, NamedTuple, Optional, Sequence, Set, Tuple
 
 from camac.bodies import services_of
 from camac.drive import File
 from camac.edits import Edit
 from camac.loops.loose import Split, splits, wide_keeps
-from camac.loops.ranges import constant
 from camac.program import knows_command
 from camac.reader import read_script
-from camac.subcommands import check, costs
+from camac.subcommands import check, costs, response
 from camac.texts import TextFile
-from camac.tree import Cycle, Plain, Script, SetRegister, Statement, Transfer, all_in
-from camac.values import Body, Service
+from camac.tree import Plain, Script, all_in
+from camac.values import Body, Harm, Response, Service
 
 
 class Code(enum.Enum):
@@ -20,7 +19,7 @@ class Code(enum.Enum):
 
     UNREACHED = "W1"
     EMPTY_SCAN = "W2"
-    LEFT_CALLING = "W3"
+    UNKEPT = "W3"
     UNUSED_KEEP = "W4"
     NO_SERVICE = "W5"
     HELD_UP = "W6"
@@ -37,15 +36,27 @@ class Warned(NamedTuple):
     edits: Tuple[Edit, ...] = ()
 
 
-READS_OR_CLEARS = frozenset([*range(8), 9, 10, 11])
+class Told(NamedTuple):
+    """What the program says of an accepted script: its services, its bodies by `costs`, and its answers by `response`."""
+
+    services: List[Service]
+    bodies: List[Body]
+    responses: List[Response]
+
+
+# What is said of a service, whose name is first, and of the one that clears or hides its look-at-me.
+UNKEPT = {
+    Harm.LEFT: "this service does not clear its look-at-me on every way: write `cclc {0}`",
+    Harm.CLEARED: "`{1}` may clear the look-at-me of `{0}`: leave that to `{0}`",
+    Harm.HIDDEN: "`{1}` may hide the look-at-me of `{0}`: leave it enabled, and the demand output on",
+}
 # A service of so many cycles or fewer is a short one.
 SHORT = 10
-Place = Tuple[int, int]
 
 
 def warnings(plan: File, script: File, program: Optional[File] = None) -> List[Warned]:
-    """Returns what is probably not meant in an accepted script, by lines. If the program has no `costs`, W1 and W2 are not looked for
-    (`looks_for_all`).
+    """Returns what is probably not meant in an accepted script, by lines. If the program has no `costs` or no `response`, W1 to W3 are not looked
+    for (`looks_for_all`).
 
     Raises as `camac.check`."""
     return look(plan, script, program)[1]
@@ -54,23 +65,27 @@ def warnings(plan: File, script: File, program: Optional[File] = None) -> List[W
 def look(plan: File, script: File, program: Optional[File] = None) -> Tuple[List[Service], List[Warned]]:
     """Returns the services of an accepted script, and what `warnings` does: one judgement serves both."""
     script = script if isinstance(script, TextFile) else TextFile(script)
-    bodies = costs(plan, script, program) if looks_for_all(program) else []
-    services = services_of(bodies) if bodies else check(plan, script, program)
-    return services, warnings_of(plan, script.text(), services, bodies, program)
+    if looks_for_all(program):
+        bodies = costs(plan, script, program)
+        told = Told(services_of(bodies), bodies, response(plan, script, program=program))
+    else:
+        told = Told(check(plan, script, program), [], [])
+    return told.services, warnings_of(plan, script.text(), told, program)
 
 
-def warnings_of(plan: File, text: bytes, services: List[Service], bodies: List[Body], program: Optional[File] = None) -> List[Warned]:
-    """What `warnings` returns of an accepted script that is given as its text, with its services and its bodies by `costs`."""
+def warnings_of(plan: File, text: bytes, told: Told, program: Optional[File] = None) -> List[Warned]:
+    """What `warnings` returns of an accepted script that is given as its text."""
+    services = told.services
     if not services:
         return [Warned(1, Code.NO_SERVICE, "this script has no service, so a run of it makes no cycle")]
     its = read_script(text)
-    found = [*_of_costs(bodies), *_left_calling(its), *_held_up(its, services), *_loose(plan, text, its, program)]
+    found = [*_of_costs(told.bodies), *_unkept(its, told.responses), *_held_up(its, services), *_loose(plan, text, its, program)]
     return sorted(found, key=lambda it: (it.line, it.code.value))
 
 
 def looks_for_all(program: Optional[File] = None) -> bool:
-    """Whether the program has `costs`, which W1 and W2 need."""
-    return knows_command("costs", program)
+    """Whether the program has `costs` and `response`, which W1 to W3 need."""
+    return knows_command("costs", program) and knows_command("response", program)
 
 
 def _of_costs(bodies: List[Body]) -> Iterator[Warned]:
@@ -85,44 +100,15 @@ def _of_costs(bodies: List[Body]) -> Iterator[Warned]:
             was_reached = row.times > 0
 
 
-def _left_calling(script: Script) -> Iterator[Warned]:
-    """Services that neither read nor clear the module of their look-at-me."""
-    places = {script.lams[it.name] for it in script.bodies if it.is_service}
-    touched: Dict[str, Set[Place]] = {}
+def _unkept(script: Script, responses: Sequence[Response]) -> Iterator[Warned]:
+    """What services do to look-at-mes, so that `camac response` has no number. A script that initialises crates alone keeps nothing of it."""
+    starting: Set[str] = set()
     # A body calls procedures that end before it, so each is looked at once.
     for it in script.bodies:
-        touched[it.name] = _touched(list(all_in(it.statements)), places, script.lams, touched)
-        if it.is_service and script.lams[it.name] not in touched[it.name]:
-            crate, station = script.lams[it.name]
-            yield Warned(
-                it.line,
-                Code.LEFT_CALLING,
-                f"this service neither reads nor clears the module of `{it.name}` (crate {crate}, station {station}), which may call it for ever",
-            )
-
-
-def _touched(statements: List[Statement], places: Set[Place], lams: Dict[str, Place], before: Dict[str, Set[Place]]) -> Set[Place]:
-    """The places of modules that statements may read or clear, or whose look-at-me they may silence: all of `places` if one is computed.
-    `before` has those of procedures."""
-    registers: Dict[str, Set[Tuple[Optional[int], Optional[int]]]] = {}
-    for it in statements:
-        if isinstance(it, SetRegister):
-            registers.setdefault(it.register, set()).add((constant(it.address[0]), constant(it.address[1])))
-    found: Set[Place] = set()
-    for it in statements:
-        if isinstance(it, Plain):
-            if it.word in ("cccz", "cccc"):
-                return places
-            if it.word == "cclc" or it.word == "cclm" and it.switch == "off":
-                found.add(lams[it.name])
-            elif it.word == "call":
-                found |= before[it.name]
-        elif isinstance(it, (Cycle, Transfer)) and it.function in READS_OR_CLEARS:
-            its = [{(c, n) for c, n in registers[name] if c is not None and n is not None} for name in it.registers]
-            if any(len(known) < len(registers[name]) for known, name in zip(its, it.registers)):
-                return places
-            found |= its[0] if len(its) == 1 else {one for one in places if min(its[0]) <= one <= max(its[1])}
-    return found
+        if any(isinstance(one, Plain) and (one.word == "cccz" or one.word == "call" and one.name in starting) for one in all_in(it.statements)):
+            starting.add(it.name)
+    if any(it.name not in starting for it in responses):
+        yield from (Warned(it.line, Code.UNKEPT, UNKEPT[it.why].format(it.name, it.other)) for its in responses for it in its.unkept)
 
 
 def _held_up(script: Script, services: List[Service]) -> Iterator[Warned]:

@@ -1,87 +1,90 @@
 """A page that follows an event file while a run goes on. The server of the standard library gives it, to this computer alone: it writes nothing,
-and answers GET and HEAD of its own two addresses."""
+and answers GET and HEAD of its own addresses."""
 import http.server
 import json
 import os
+import sys
 import threading
 import time
-from typing import Any, Dict, List, NamedTuple, Optional, Tuple
+import urllib.parse
+from typing import Any, Dict, List, NamedTuple, Optional, Sequence, Tuple, Union
 
+from camac.alarms import Alarm, sounding
 from camac.drive import File, one_line
 from camac.events import Event
 from camac.export import About, Given, checks_of, learn
-from camac.follow import STEP, Counts, Follower, State
-from camac.pictures.bounds import draw_seen
-from camac.pictures.spectra import BOTH, channel_groups, seen_groups
+from camac.follow import Counts, Follower, State
+from camac.pictures.regions import measured_text
+from camac.pictures.spectra import BOTH, View, channel_groups, draw_panel, of_channel, seen_groups
 from camac.pictures.svg import Canvas, escape, number, share, ticks
 from camac.printed import read_responses
 from camac.program import knows_command
-from camac.record import Record, read_record
+from camac.record import read_record
+from camac.regions import LEAST, measure
 from camac.report.page import Column, Row, figure, header, page, panels, table
+from camac.run_list import RunList, stamp
+from camac.runs import Channel
 from camac.subcommands import response
 from camac.values import Response
-from camac.words import Words
+from camac.watch_page import FORM, LOST, MORE, NOTES, SCRIPT, STYLE
 
 HOST = "127.0.0.1"
-# The seconds between two looks at the file, and between two questions of the page.
-POLL, REFRESH = 1.0, 2.0
-# Spectra are drawn again after this multiple of the time that drawing them takes.
-PAUSE = 250
+# The seconds between two looks at the file.
+POLL = 1.0
+# Spectra are drawn again after this multiple of the time that drawing them takes; of so many looks they are kept.
+PAUSE, LOOKS = 250, 16
 SHOWN_WORDS = 16
-PARTS = ("notes", "tiles", "services", "rate", "cycles", "channels", "last")
-SCRIPT = f"""
-var lost=document.getElementById('lost'),shown={{}};
-var ask=function(){{fetch('/state').then(function(r){{if(!r.ok)throw r;return r.json()}}).then(function(parts){{
-lost.hidden=true;
-for(var name in parts)if(shown[name]!==parts[name]){{shown[name]=parts[name];document.getElementById(name).innerHTML=parts[name]}}
-}}).catch(function(){{lost.hidden=false}}).then(function(){{setTimeout(ask,{int(1000 * REFRESH)})}})}};
-ask();
-"""
+# The width and the most bins of a spectrum by itself, and the most numbers of a region that is measured.
+WIDE, MOST_BINS, MOST_REGION = 640, 588, 512
+MINUTES = 600
+# The parts of the page below its head, each with its title.
+PARTS = {"services": "Services", "rate": "Rate", "channels": "Event words by their names", "cycles": "Cycles and words of an event", "last": "The last events"}
 
 
-class Known(NamedTuple):
-    """What is known of a run besides its event file."""
+class Look(NamedTuple):
+    """What of a run is asked for: spectra of all its events, of those behind an event, or of the last seconds or events; and a column by itself, from a
+    first to a last number."""
 
-    about: About
-    responses: Tuple[Response, ...]
+    since: int = 0
+    seconds: int = 0
+    events: int = 0
+    of: str = ""
+    low: int = 0
+    last: Optional[int] = None
 
-    def names(self) -> Words:
-        """The columns of the words: those of the user, else those of the script."""
-        return self.about.words if self.about.words.fields else self.about.sources
+
+def read_look(query: str) -> Look:
+    """Reads the query of an address. Raises ValueError if it is none."""
+    its = {name: value for name, value in urllib.parse.parse_qsl(query, keep_blank_values=True, strict_parsing=bool(query)) if value or name == "of"}
+    if not {*its} <= {*Look._fields} or not all(value.isdecimal() and len(value) < 16 for name, value in its.items() if name != "of"):
+        raise ValueError(query)
+    return Look(of=its.pop("of", ""), **{name: int(value) for name, value in its.items()})
 
 
 class Watch:
     """A file that is followed, and the parts of its page. `given` are the files that were named; the record may come later."""
 
-    def __init__(self, given: Given) -> None:
-        self.given = given
+    def __init__(self, given: Given, alarms: Sequence[Alarm] = ()) -> None:
+        self.given, self.asked_alarms = given, alarms
         self.lock = threading.Lock()
-        self.spectra: Dict[str, str] = {}
-        self.due = 0.0
-        self.record_at = self.stamp()
-        self.known = self.learn()
-        self.record, self.refused = self.known.about.record, ""
-        self.follower = Follower(given.events, lambda: Counts(self.known.about.services, self.known.names()))
+        self.drawn: Dict[Look, Tuple[float, Dict[str, str]]] = {}
+        self.cleared: Dict[int, Follower] = {}
+        self.record_at = stamp(given.record)
+        self.about, self.responses = self.learn()
+        self.record, self.refused = self.about.record, ""
+        self.follower = Follower(given.events, lambda: Counts(self.about.services, self.about.names()))
 
-    def learn(self) -> Known:
+    def learn(self) -> Tuple[About, Sequence[Response]]:
         """Raises as `camac.export.learn`. A record that is not there yet is none; without plan and script the words have no names until then."""
         given = self.given
         if given.record is not None and self.record_at is None:
             given = given._replace(record=None, words=given.words if given.plan is not None else None)
         about = learn(given)
         if about.record:
-            return Known(about, tuple(read_responses("\n".join(about.record.response))))
+            return about, read_responses("\n".join(about.record.response))
         if given.plan is not None and given.script is not None and knows_command("response"):
-            return Known(about, tuple(response(given.plan, given.script)))
-        return Known(about, ())
-
-    def stamp(self) -> Optional[Tuple[int, ...]]:
-        """What changes where the record is written anew; None where none is there."""
-        try:
-            its = os.stat(self.given.record or "")
-        except FileNotFoundError:
-            return None
-        return its.st_ino, its.st_mtime_ns, its.st_size
+            return about, response(given.plan, given.script)
+        return about, ()
 
     def poll(self) -> bool:
         """Looks at the files. Returns whether there may be more events at once. Whatever fails is shown, and tried again at the next look."""
@@ -101,49 +104,79 @@ class Watch:
     def read_record(self, file: File) -> None:
         """Reads the record if it was written again, and until it is right; if it is that of another plan or script, all is counted again. Raises as
         `learn`."""
-        stamp = self.stamp()
-        if stamp is None or stamp == self.record_at and not self.refused:
+        at = stamp(file)
+        if at is None or at == self.record_at and not self.refused:
             return
         record, before = read_record(file), self.record
-        self.record_at = stamp
+        self.record_at = at
         if before is None or (before.plan.sha256, before.script.sha256) != (record.plan.sha256, record.script.sha256):
-            self.known = self.learn()
+            self.about, self.responses = self.learn()
             self.follower.restart("the record is that of another run")
+            self.cleared.clear()
         self.record = record
 
     def follow(self, stop: threading.Event) -> None:
         while not stop.wait(0.0 if self.poll() else POLL):
             pass
 
-    def parts(self) -> Dict[str, str]:
+    def parts(self, look: Look = Look()) -> Dict[str, str]:
         """The parts of the page, as HTML."""
         with self.lock:
-            seen, services = self.follower.counts.seen(), self.known.about.services
-            if time.monotonic() >= self.due:
+            due, drawn = self.drawn.get(look, (0.0, {}))
+            if time.monotonic() >= due:
                 begin = time.thread_time()
-                self.spectra = self.draw_spectra()
-                self.due = time.monotonic() + PAUSE * (time.thread_time() - begin)
+                drawn = self.draw(look)
+                if len(self.drawn) >= LOOKS:
+                    self.drawn.clear()
+                self.drawn[look] = time.monotonic() + PAUSE * (time.thread_time() - begin), drawn
             return {
+                "alarms": "".join(f'<p class="bad">{escape(it)}</p>' for it in self.alarms()),
                 "notes": self.notes(),
                 "tiles": self.tiles(),
-                "services": (figure(draw_seen(services, seen)) if services else "") + self.services(),
-                "rate": figure(_draw_rate(list(self.follower.rates))),
-                **self.spectra,
+                "services": self.services(),
+                "rate": self.rates(),
+                **drawn,
                 "last": self.last(),
             }
 
-    def draw_spectra(self) -> Dict[str, str]:
-        counts, services = self.follower.counts, self.known.about.services
+    def counts_of(self, look: Look) -> Counts:
+        """The counts of the events that are asked for, which may begin a little before."""
+        its, there = self.follower, self.follower.counts.events
+        if look.seconds or look.events:
+            its = its.since(its.before(look.seconds, look.events))
+        elif 0 < look.since <= there:
+            if look.since not in self.cleared:
+                self.cleared = dict([*self.cleared.items()][1 - LOOKS :])
+                self.cleared[look.since] = its.since(its.before(events=there - look.since))
+            its = self.cleared[look.since]
+        while its is not self.follower and its.poll():
+            pass
+        return its.counts
+
+    def draw(self, look: Look) -> Dict[str, str]:
+        counts, services = self.counts_of(look), self.about.services
         spectra = {gl: it.cycles for gl, it in counts.bits.items()}, {gl: it.words for gl, it in counts.bits.items()}
+        channels = counts.list_channels()
+        taken = counts.fit.count
+        of = "" if taken == counts.events else f'<p class="mute">{taken:,} events, from event {counts.events - taken + 1:,} on</p>'
         return {
-            "cycles": panels(seen_groups(*spectra, services, BOTH)) if services else "",
-            "channels": panels(channel_groups(counts.list_channels(), BOTH)),
+            "cycles": of + (panels(seen_groups(*spectra, services, BOTH)) if services else ""),
+            "channels": of + panels(channel_groups(channels, BOTH)),
+            "names": "".join(f'<option value="{escape(it.column.name)}">' for it in channels),
+            "one": next((_draw_one(it, look) for it in channels if it.column.name == look.of), ""),
         }
+
+    def alarms(self) -> List[str]:
+        """What is wrong now: with the files, with the script of the events, and what the user asked for, until the run is over."""
+        follower, is_over = self.follower, self.record is not None and self.record.end is not None
+        its = [follower.state.text if follower.state.is_bad else "", self.refused]
+        its += [it.text for it in checks_of(follower.counts.fit, self.about) if not it.agrees]
+        return [*filter(None, its), *sounding([] if is_over else self.asked_alarms, follower, self.about.services)]
 
     def notes(self) -> str:
         state = self.follower.state
-        lines = [f'<b class="{"bad" if state.is_bad else "good"}">{escape(state.text)}</b>']
-        lines += [f'<b class="bad">{escape(it)}</b>' for it in (*self.follower.restarts, self.refused, *self.misfits()) if it]
+        lines = [] if state.is_bad else [f'<b class="good">{escape(state.text)}</b>']
+        lines += [f'<b class="bad">{escape(it)}</b>' for it in self.follower.restarts]
         its = self.record
         if its and its.line:
             lines.append(f'The record: <b class="{"good" if its.how == "ended" else "bad"}">{escape(its.line)}</b>, {escape(its.end or "")}')
@@ -151,24 +184,28 @@ class Watch:
             lines.append(f"The record: run in progress since {escape(its.begin or '')}, told {escape(its.told or '')}")
         return "".join(f"<p>{it}</p>" for it in lines)
 
-    def misfits(self) -> List[str]:
-        """Why the file is not of the script."""
-        return [it.text for it in checks_of(self.follower.counts.fit, self.known.about) if not it.agrees]
-
     def tiles(self) -> str:
         follower, age = self.follower, self.follower.age()
         missed = sum(it.missed for it in follower.counts.bits.values())
         its = [(f"{follower.counts.events:,}", "events", ""), (f"{follower.rate():,.1f}", "events a second", "")]
         its.append(("none" if age is None else _duration(age), "since the last event", ""))
         its.append((f"{missed:,}", "cycles with X = 0", "bad" if missed else ""))
-        its += _live(self.record)
+        if self.record and self.record.seconds() > 0:
+            parts = ((self.record.demands, "live, measured"), (self.record.services, "dead, measured"))
+            its += [(share(part or 0, self.record.seconds()), word, "") for part, word in parts]
         drawn = (f'<div class="tile"><b class="{kind}">{value}</b><span>{word}</span></div>' for value, word, kind in its)
-        return f'<div class="tiles">{"".join(drawn)}</div>'
+        return f'<div class="tiles" data-events="{follower.counts.events}">{"".join(drawn)}</div>'
+
+    def rates(self) -> str:
+        """The rates of the last minutes, and of the whole run where it is longer."""
+        length = self.follower.marks[-1].time - self.follower.marks[0].time
+        drawn = [_draw_rate(self.follower.rates(it), it).figure() for it in ([MINUTES, length] if length > MINUTES else [MINUTES])]
+        return f'<div class="panels">{"".join(drawn)}</div>'
 
     def services(self) -> str:
         """A line for each bit: what was seen, beside bound and the most cycles from its look-at-me to its end."""
         rows: List[Row] = []
-        services, ends = {it.gl: it for it in self.known.about.services}, {it.gl: it.end for it in self.known.responses}
+        services, ends = {it.gl: it for it in self.about.services}, {it.gl: it.end for it in self.responses}
         for gl, its in sorted(self.follower.counts.bits.items()):
             service = services.get(gl)
             cycles = (its.cycles.mean(), its.cycles.greatest or 0) if its.cycles.count else ("", "")
@@ -177,30 +214,21 @@ class Watch:
             end = ends.get(gl)
             rows.append((service.name if service else "", gl, its.count, *cycles, bound[0], "-" if end is None else end, *words, bound[1], its.missed))
         titles = "GL,events,cycles mean,most,bound,from look-at-me at most,words mean,most,bound,X = 0".split(",")
-        return table([Column("service", True), *map(Column, titles)], rows)
+        return table([Column("service", True), *map(Column, titles)], rows, False)
 
     def last(self) -> str:
-        names = {it.gl: it.name for it in self.known.about.services}
-        rows = [(it.number, names.get(it.gl, f"GL {it.gl}"), *_numbers(it), _shown(it)) for it in reversed(self.follower.counts.last)]
-        return table([Column("event"), Column("service", True), Column("cycles"), Column("X = 0"), Column("words", True)], rows)
+        names = {it.gl: it.name for it in self.about.services}
+        rows = [(it.number, names.get(it.gl, f"GL {it.gl}"), *("" if its is None else its for its in it[2:4]), _shown(it)) for it in reversed(self.follower.counts.last)]
+        return table([Column("event"), Column("service", True), Column("cycles"), Column("X = 0"), Column("words", True)], rows, False)
 
     def page(self) -> str:
         """The page, whose parts come later."""
         name = os.path.basename(os.fsdecode(self.given.events))
         record = self.record
         run = " ".join(filter(None, [f"run {record.number}" if record and record.number is not None else "", record.title if record else ""]))
-        head = header(name, [f'<p class="mute">{escape(run)}</p>', '<p class="bad" id="lost" hidden>The command <code>watch</code> does not answer.</p>'])
-        titles = {"rate": "Rate", "cycles": "Cycles and words of an event", "channels": "Event words by their names", "services": "Services", "last": "The last events"}
-        parts = [(f"<h2>{titles[it]}</h2>" if it in titles else "") + f'<div id="{it}"></div>' for it in PARTS]
-        return page(f"{name}: live", head, parts, SCRIPT, ";connect-src 'self'")
-
-
-def _live(record: Optional[Record]) -> List[Tuple[str, str, str]]:
-    """Live and dead share, as the record has them measured."""
-    if record is None or record.demands is None or record.services is None or record.demands + record.services <= 0:
-        return []
-    total = record.demands + record.services
-    return [(share(record.demands, total), "live, measured", ""), (share(record.services, total), "dead, measured", "")]
+        head = header(name, [f'<p class="mute">{escape(run)}</p>', LOST])
+        parts = [f'<h2>{title}</h2><div id="{it}"></div>' for it, title in PARTS.items()]
+        return page(f"{name}: live", head, [STYLE, NOTES, *parts[:2], FORM, *parts[2:]], SCRIPT, MORE)
 
 
 def _duration(seconds: float) -> str:
@@ -209,33 +237,41 @@ def _duration(seconds: float) -> str:
     return f"{seconds / 60:.0f} min" if seconds < 3600 else f"{seconds / 3600:.1f} h"
 
 
-def _numbers(it: Event) -> Tuple[object, object]:
-    return ("", "") if it.cycles is None else (it.cycles, it.missed)
-
-
 def _shown(it: Event) -> str:
     more = len(it.words) - SHOWN_WORDS
     return " ".join(map(str, it.words[:SHOWN_WORDS])) + (f" … and {more:,} more" if more > 0 else "")
 
 
-def _draw_rate(rates: List[float]) -> Canvas:
-    """Events a second over the last minutes."""
-    canvas = Canvas("Events a second")
-    left, wide, high = 64, 860, 90
-    top = max([*rates, 1.0])
+def _draw_one(it: Channel, look: Look) -> str:
+    """A spectrum by itself, and what is in its range."""
+    its = it.spectrum
+    low = min(look.low, its.end - 1)
+    last = its.end - 1 if look.last is None else max(low, min(look.last, its.end - 1))
+    counts = its.bins(low, last + 1)
+    row: List[object] = [f"{look.of}, {low:,} to {last:,}", sum(counts.counts)]
+    if counts.width == 1 and LEAST <= last - low + 1 <= MOST_REGION:
+        found = measure(low, counts.counts)
+        row += [measured_text(found.net, 0), measured_text(found.centroid, 2), measured_text(found.width, 2)]
+    titles = ("counts", "above the line", "centroid", "FWHM")
+    return figure(draw_panel(of_channel(it), BOTH, View(low, last, MOST_BINS), WIDE)) + table([Column("region", True), *map(Column, titles)], [row], False)
+
+
+def _draw_rate(rates: Sequence[Tuple[float, float]], span: float) -> Canvas:
+    """Events a second over the last seconds."""
+    left, wide, high = 64, 390, 90
+    canvas = Canvas(f"Events a second of the last {_duration(span)}", left + wide + 10)
+    top = max([*(it for _, it in rates), 1.0])
     canvas.line((left, 10.5 + high), (left + wide, 10.5 + high), "l-mute thin")
     for value in ticks(top, 3):
         y = 10 + high * (1 - value / top)
         canvas.text(left - 6, y + 4, f"{value:,}", "mute s10 r")
         canvas.line((left, y), (left + wide, y), "l-grid thin")
-    step = wide / 300
-    begin = left + wide - step * (len(rates) - 1)
-    places = [f"{number(begin + at * step)} {number(10 + high * (1 - it / top))}" for at, it in enumerate(rates)]
+    places = [f"{number(left + wide * (1 - age / span))} {number(10 + high * (1 - it / top))}" for age, it in rates]
     if places:
         canvas.path("M" + "L".join(places), "l-ours")
-    for minutes in (0, 5, 10):
-        x = left + wide - minutes * 60 / STEP * step
-        canvas.text(x, 24 + high, "now" if not minutes else f"{minutes} min ago", "mute s10" + (" r" if not minutes else " m"))
+    for part in (0, 0.5, 1):
+        text = f"{_duration(part * span)} ago" if part else "now"
+        canvas.text(left + wide * (1 - part), 24 + high, text, "mute s10" + (" m" if part else " r"))
     canvas.grow(30 + high)
     return canvas
 
@@ -245,14 +281,33 @@ class Server(http.server.ThreadingHTTPServer):
 
     daemon_threads = True
 
-    def __init__(self, watch: Watch, port: int) -> None:
+    def __init__(self, watch: Union[Watch, RunList], port: int) -> None:
         self.watch = watch
         super().__init__((HOST, port), _Handler)
+
+    def find(self, path: str) -> Optional[str]:
+        """The text of a page, or of its parts as JSON; None if there is no such page."""
+        way, _, query = path.partition("?")
+        folder, _, name = way.rpartition("/")
+        its: Any = self.watch if folder == "" else self.watch.open(os.fsdecode(urllib.parse.unquote_to_bytes(folder[1:]))) if isinstance(self.watch, RunList) else None
+        if its is None or not way.startswith("/") or name not in ("", "state"):
+            return None
+        if name == "":
+            return None if query else str(its.page())
+        try:
+            return json.dumps(its.parts(read_look(query)))
+        except ValueError:
+            return None
 
     def hosts(self) -> Tuple[str, ...]:
         """How a browser of this computer names the server. Another name comes from a page of somebody else."""
         port = self.server_address[1]
         return tuple(f"{name}:{port}" for name in (HOST, "localhost")) + ((HOST, "localhost") if port == 80 else ())
+
+    def handle_error(self, request: Any, client_address: Any) -> None:
+        """A browser that left is no fault."""
+        if not isinstance(sys.exc_info()[1], ConnectionError):
+            super().handle_error(request, client_address)
 
     def address(self) -> str:
         return f"http://{HOST}:{self.server_address[1]}/"
@@ -269,12 +324,12 @@ class _Handler(http.server.BaseHTTPRequestHandler):
     def do_GET(self) -> None:
         if self.headers.get("Host", "") not in self.server.hosts():
             self.answer(403, "text/plain", "This page is for a browser on this computer.\n")
-        elif self.path == "/":
-            self.answer(200, "text/html", self.server.watch.page())
-        elif self.path == "/state":
-            self.answer(200, "application/json", json.dumps(self.server.watch.parts()))
-        else:
+            return
+        text = self.server.find(self.path)
+        if text is None:
             self.answer(404, "text/plain", "There is no such page.\n")
+        else:
+            self.answer(200, "text/html" if self.path.endswith("/") else "application/json", text)
 
     do_HEAD = do_GET
 

@@ -181,15 +181,17 @@ static void texts(void) {
 }
 
 #define RESPONSE(code, every, within, wanted) expect_response((code), (every), (within), (wanted), __LINE__)
+/* Of one service, of 3 cycles. */
 static void expect_response(int code, const char *every, const char *within, const char *wanted, int line) {
     char out[200] = "#";
+    const char *its = "cdlam adc 1 1 5 12 service adc within 3 cycles event 0 words { cclc adc }";
     size_t size = 9;
-    expect(code, camac_response(plan.bytes, plan.size, script.bytes, script.size, every, every ? strlen(every) : 0, within,
+    expect(code, camac_response(plan.bytes, plan.size, its, strlen(its), every, every ? strlen(every) : 0, within,
                                 within ? strlen(within) : 0, out, sizeof out, &size), "camac_response", line);
     if (size != strlen(wanted) || memcmp(out, size ? wanted : "#", size ? size : 1)) fail("line %d: it tells %.*s", line, (int)size, out);
 }
 
-/* What is told of services, in each form: one of 3 cycles is alone in the script. */
+/* What is told of services, in each form. */
 static void responses(void) {
     static char long_text[CAMAC_TEXT_BYTES + 1];
     char out[200] = "#";
@@ -208,6 +210,8 @@ static void responses(void) {
     }
     RESPONSE(CAMAC_MISUSE, "adc=0", NULL, "");
     RESPONSE(CAMAC_REFUSED, NULL, "adc=0", "service adc gl 3 cycles 3 once start 0 end 3 of 0 longest 3\n");
+    EXPECT(CAMAC_REFUSED, camac_response(plan.bytes, plan.size, script.bytes, script.size, NULL, 0, NULL, 0, out, sizeof out, &size));
+    if (size != 104 || memcmp(out + 55, "unkept adc line 3: does not clear its look-at-me\n", 49)) fail("nothing is unkept");
     EXPECT(CAMAC_REFUSED, camac_response(plan.bytes, plan.size, "!", 1, "nobody=3", 8, NULL, 0, out, sizeof out, &size));
     if (size < 27 || memcmp(out, "refused S1 line 1: bad byte", 27)) fail("a refusal says otherwise");
     memset(long_text, ' ', sizeof long_text);

@@ -12,6 +12,7 @@ sys.dont_write_bytecode = True
 OPENING = "cdlam adc 1 1 5 12\nvar v k i t\nservice adc within {} cycles event {} words {{\n"
 PATIENCE = 60
 STRAIGHT_LINE = program.STRAIGHT_LINE.decode()
+CLEARED = "cdlam adc 1 1 5 12\nservice adc within 3 cycles event 0 words {\n  cclc adc\n}\n"
 LOCKOUT = OPENING.format(6, 100) + "cdreg r 1 1 5 0\nlock 1 {\n" + "  cfsa 0 r -> v\n" * 4 + "}\n}\n"
 REQUESTS = (b"demand", b"cycle", b"lock")
 

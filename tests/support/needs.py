@@ -10,7 +10,8 @@ PACKAGES = {
     "binutils": "ld ar nm objcopy", "chromium": "", "elpa-eglot": "", "emacs-nox": "emacs", "g++": "c++ g++", "gcc": "cc gcc",
     "hdf5-tools": "h5dump", "lintian": "lintian", "mandoc": "mandoc", "mypy": "mypy", "neovim": "nvim", "nodejs": "node", "pkg-config": "pkg-config",
     "poppler-utils": "pdftotext", "python3-h5py": "import h5py", "python3-jsonschema": "import jsonschema", "python3-numpy": "import numpy",
-    "python3-pip": "import pip", "util-linux": "unshare", "valgrind": "valgrind", "vim": "vim", "vim-ale": "vim",
+    "python3-dask": "import dask", "python3-distributed": "import distributed", "python3-pip": "import pip",
+    "util-linux": "unshare", "valgrind": "valgrind", "vim": "vim", "vim-ale": "vim",
 }
 
 

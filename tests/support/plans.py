@@ -17,6 +17,11 @@ FIELDS = [
     ('name = "ADC"', 'name = "a b"', "P4: value out of range"),
     ("a = 12, to = 15", "a = 12, to = 11", "P4: value out of range"),
     ("probe = true", "probe = true, width = 12", "P4: value out of range"),
+    ("width = 12", "width = 25", "P4: value out of range"),
+    ("a = 12, to = 15", "a = 12, to = 16", "P4: value out of range"),
+    ("number = 1", "number = 8", "P4: value out of range"),
+    ("waits = 2", "waits = 16", "P4: value out of range"),
+    ("n = 5", "n = 24", "P4: value out of range"),
 ]
 
 TYPE = '[[type]]\nname = "ADC"\ncommands = [ { f = 0, a = 0, to = 11 } ]\n'

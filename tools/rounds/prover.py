@@ -96,14 +96,15 @@ class Round:
             return rattle("check", [*self.crate.words(), "--incremental", kept, *words], room).stdout
 
     def verdicts(self, said):
-        """Returns what became of each body: ('refused' | 'waits' | 'alone' | 'not', why)."""
+        """Returns what became of each body: ('refused' | 'waits' | 'alone' | 'again' | 'not', why)."""
         lines = said.split("\n")
         if re.search(r"the kept work of|is stale|was built over", said) and not re.search(r"^fn ", said, re.M):
             return dict.fromkeys(self.bodies, ("not", "COULD NOT RUN: the libraries below do not fit: run rt ci, or remove crates/*/out"))
         if not re.search(r"^(only=\d+ holes=\d+|logic=)", said, re.M):
             first = next((it for it in lines if "error" in it), lines[0])
             how = "does not compile" if re.search(r"^\S*src/\S+: error|^error\[", said, re.M) else "COULD NOT RUN"
-            return dict.fromkeys(self.bodies, ("not" if len(self.bodies) == 1 else "alone", f"{how}: {first[:200]}"))
+            wrong = dict(self.errors(lines)) or dict.fromkeys(self.bodies, ("not" if len(self.bodies) == 1 else "alone", f"{how}: {first[:200]}"))
+            return {body: wrong.get(body, ("again", "")) for body in self.bodies}
         if self.bodies[0].is_wide:
             refused = next((it for it in lines if it.startswith("fn ") and "did not prove" in it), None)
             return {self.bodies[0]: ("refused", refused) if refused else ("not", "no function is refused for itself")}
@@ -112,6 +113,14 @@ class Round:
             return dict.fromkeys(self.bodies, ("not", f"COULD NOT RUN: {stray}"))
         rank = lambda it: (("refused", "waits", "alone", "not").index(it[0]), it[1] == STILL_PROVED)
         return {body: min((self.judge(it, lines) for it in body.functions), key=rank) for body in self.bodies}
+
+    def errors(self, lines):
+        """Yields the bodies in which the compiler found an error."""
+        for line in lines:
+            found = re.match(r"(?:\./)?(src/\S+?):(\d+):\d+: error", line)
+            for body in self.bodies if found else ():
+                if any(it.file == found[1] and it.first < int(found[2]) <= it.last + 1 for it in body.functions):
+                    yield body, ("not", f"does not compile: {line[:200]}")
 
     def stray(self, lines):
         """Returns a function that shares no proof with a changed one and is not proved all the same, though it waits for none."""

@@ -49,9 +49,9 @@ class Report:
         sums, again, apart = self.refusals.sums(crate, bodies), [], set()
         for body, (kind, why) in verdicts.items():
             others = [it for it in bodies if it is not body]
-            if kind in ("waits", "alone") and others:
+            if kind in ("waits", "alone", "again") and others:
                 named = [it for it in others if any(f"{crate.name}::{f.path}" in why.split(", ") for f in it.functions)]
-                apart |= {frozenset((body, it)) for it in named or others}
+                apart |= {frozenset((body, it)) for it in named or others} if kind != "again" else set()
                 again.append(body)
                 continue
             self.tell(body, kind, f"COULD NOT RUN: it waits for {why}" if kind == "waits" else why)

@@ -6,7 +6,7 @@ use Rattle.camac_tokens.specs.declared.token.Sign.TheVariants.{LeftBrace, RightB
 use Rattle.camac_tokens.specs.declared.token.Token.{Token}
 use Rattle.camac_tokens.specs.declared.token.TokenKind.{TokenKind}
 use Rattle.camac_tokens.specs.declared.token.TokenKind.TheVariants.{Name, Number, Keyword as Word, Sign}
-use Rattle.camac_text_cursor.specs.Choice.{begins_declaration, begins_statement as begins_anywhere}
+use Rattle.camac_text_cursor.specs.Choice.{begins_anywhere, begins_declaration}
 use Rattle.camac_engines.specs.declared.spot.Spot.{Spot}
 use Rattle.camac_engines.specs.declared.spot.Counted.{Counted}
 

@@ -1,5 +1,5 @@
 -- The sentences on the rules of linking and of the checker: what the rule knew, with numbers in decimal and names in quotes.
-use Rattle.std.specs.Prelude.{ℕ, ◌+◌, ◌-◌, ◌^◌, Bool, true, false, List, [], ◌∷◌, ◌++◌, Option, Some, None, codes, decimal, min, nat_eq, if◌then◌else◌}
+use Rattle.std.specs.Prelude.{ℕ, ◌-◌, ◌^◌, Bool, true, false, List, [], ◌∷◌, ◌++◌, Option, Some, None, codes, decimal, nat_eq, if◌then◌else◌}
 use Rattle.std.specs.List.{concat}
 use Rattle.camac_func.specs.declared.code.FunctionClass.{FunctionClass}
 use Rattle.camac_func.specs.declared.code.FunctionClass.TheVariants as class
@@ -19,6 +19,7 @@ use Rattle.camac_rules.specs.declared.case.Operator.TheVariants.{Add, Sub, Mul}
 use Rattle.camac_rules.specs.declared.rule.CheckRule.{CheckRule}
 use Rattle.camac_rules.specs.declared.rule.CheckRule.TheVariants.{KeepFailsAtEntry, TooManyWords, TooManyCycles, TooManySteps}
 use Rattle.camac_lines.specs.Words.{quoted}
+use Rattle.camac_explain_plan.specs.Path.{place_from_one}
 use Rattle.camac_explain.specs.declared.finding.Finding.{Finding}
 use Rattle.camac_explain.specs.declared.finding.Finding.TheVariants as finding
 use Rattle.camac_explain.specs.Names.{lam_at, parameter_of, register_of, served_at, shown, variable_of}
@@ -33,10 +34,6 @@ span n = if nat_eq n.low n.high then decimal n.low else decimal n.low ++ codes "
 -- a cost past 64 bits is given as the greatest number of them
 abbrev pub cost : ℕ → List ℕ
 cost n = (if nat_eq n (2 ^ 64 - 1) then codes "more than " else []) ++ decimal n
-
--- from 1
-abbrev pub place_from_one : ℕ → ℕ
-place_from_one n = min (n + 1) (2 ^ 64 - 1)
 
 -- what a function or a statement of this class does
 abbrev pub does : FunctionClass → List ℕ

@@ -83,24 +83,7 @@ pub enum Form<'a> {
 }
 
 impl Expr {
-    ghost use Rattle.camac_lang.specs.Tree.{number, variable};
     ghost use Rattle.camac_lang.specs.View.{expression_of, term_of};
-
-    /// A literal.
-    #[tactic(auto, unfolding(crate::specs::Nodes::expression_in))]
-    pub fn of_number(n: u32) -> Expr
-        ensures { expression_of result ≡ number n }
-    {
-        Expr::of_node(Node::Number(n))
-    }
-
-    /// A variable or parameter, by its number. An `Err` is out of memory.
-    #[tactic(auto, unfolding(crate::specs::Nodes::expression_in))]
-    pub fn of_variable(x: usize) -> Result<Expr, AllocError>
-        ensures { IfOk result (λ e. expression_of e ≡ variable x) }
-    {
-        Ok(Expr::of_node(Node::of_variable(x)?))
-    }
 
     /// The expression of this node, which is all that it has.
     #[inline(always)]

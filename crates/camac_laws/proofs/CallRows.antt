@@ -7,7 +7,8 @@ use Rattle.camac_lang.specs.View.{block_of}
 use Rattle.camac_lang.specs.Scope.{is_well_formed}
 use Rattle.camac_branch.specs.Branch.{Answer}
 use Rattle.camac_model.specs.Behaviour.{Behaviour, pieces, stop_of, event_left, wrong}
-use Rattle.camac_model.specs.Sample.{sample_plan, script_of, opening, get, demand, good, reply, cycle_at, event, called, doing, served}
+use Rattle.camac_model.specs.Sample.{sample_plan}
+use Rattle.camac_model.proofs.SampleScripts.{script_of, opening, get, demand, good, reply, cycle_at, event, called, doing, served}
 use Rattle.camac_laws.specs.Calls.{guarded_run}
 
 -- called for sub-address 0, and then for this one

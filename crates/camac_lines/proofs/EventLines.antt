@@ -1,39 +1,9 @@
 -- The lines of events.
-use Rattle.std.proofs.Common.{◌≡◌, ℕ, ◌+◌, ◌≤◌, List, [], ◌∷◌, ◌++◌, length, drop, Some, ap, sym, ◌∙◌, zero, suc, refl, append_assoc, add-one, arith}
-use Rattle.std.specs.Prelude.{slice_get, codes}
+use Rattle.std.proofs.Common.{◌≡◌, ℕ, ◌+◌, List, [], ◌∷◌, ◌++◌, ap, sym, ◌∙◌, append_assoc}
+use Rattle.std.specs.Prelude.{codes}
 use Rattle.std.specs.List.{flat_map}
 use Rattle.camac_event.specs.Spelling.{Entry}
 use Rattle.camac_lines.specs.Events.{event_start, event_line, event_lines, word_text}
-
--- the lines from an event on begin with that event's
-event_lines-drop : (es : List Entry) (number i : ℕ) (e : Entry) → slice_get es i ≡ Some e → event_lines number (drop i es) ≡ event_line number e ++ event_lines (number + 1) (drop (suc i) es)
-event_lines-drop [] number i e at = absurd cc
-event_lines-drop (x ∷ xs) number zero e at =
-    let same : x ≡ e = cc in
-    ap (λ (y : Entry). event_line number y ++ event_lines (number + 1) xs) same
-event_lines-drop (x ∷ xs) number (suc i) e at = event_lines-drop xs number i e at
-
--- the same with what comes after the events
-pub event_lines-next : (es : List Entry) (number i : ℕ) (e : Entry) (last : List ℕ) → slice_get es i ≡ Some e
-    → event_lines number (drop i es) ++ last ≡ event_line number e ++ (event_lines (number + 1) (drop (i + 1) es) ++ last)
-event_lines-next es number i e last at =
-    let line = event_line number e in
-    let after : List ℕ = event_lines (number + 1) (drop (i + 1) es) in
-    let lines : event_lines number (drop i es) ≡ line ++ after =
-    event_lines-drop es number i e at ∙ ap (λ (j : ℕ). line ++ event_lines (number + 1) (drop j es)) (sym (add-one i)) in
-    ap (λ (l : List ℕ). l ++ last) lines ∙ append_assoc line after last
-
-drop-none : (es : List Entry) (i : ℕ) → length es ≤ i → drop i es ≡ []
-drop-none [] zero le = refl
-drop-none [] (suc i) le = refl
-drop-none (x ∷ xs) zero le = absurd (omega (arith, le))
-drop-none (x ∷ xs) (suc i) le =
-    let less : length xs ≤ i = omega (arith, le) in
-    drop-none xs i less
-
--- after the events
-pub event_lines-none : (es : List Entry) (number i : ℕ) (last : List ℕ) → length es ≤ i → event_lines number (drop i es) ++ last ≡ last
-event_lines-none es number i last le = ap (λ (l : List Entry). event_lines number l ++ last) (drop-none es i le)
 
 -- the first of the events that are left, and the others
 pub event_lines-first : (es others : List Entry) (read after number : ℕ) (e : Entry) (last : List ℕ) → es ≡ e ∷ others → number ≡ after → after ≡ read + 1

@@ -2,32 +2,19 @@
 
 ghost use Rattle.std.specs.Prelude.{◌≡◌, ◌≤◌, ◌<◌, ◌+◌, ◌||◌, ◌++◌, length, is_err, codes, decimal, OnOk, Some};
 ghost use Rattle.std.specs.List.{flat_map};
-ghost use Rattle.camac_event.specs.Spelling.{entry_of};
 ghost use Rattle.camac_event.specs.Found.{entry_in};
 ghost use Rattle.camac_lines.specs.Events.{usage_text, start_text, word_text, event_line, last_line, events_text};
 ghost use Rattle.camac_lines.specs.Texts.{Puts};
 ghost use Rattle.camac_word.specs.Watched.{inner_of, has_failed};
 ghost use Rattle.camac_word.specs.Writing.{Writes};
 
-use crate::digits::{hex_word, spaced};
 use crate::line::{LONGEST_LINE, Line};
-use camac_event::{Event, EventFile, EventRecord, EventWords, Events, Usage};
-use camac_word::{GlBit, Watched, Word24, WriteFault};
+use camac_event::{EventFile, EventRecord, EventWords, Usage};
+use camac_word::{GlBit, Watched, WriteFault};
 use std::io::Write;
 
-/// Writes a list of events: of each a line of its number from 1, its GL bit, its usage in version Two, and its words; then a line of how
-/// many there are. After a write fault a prefix of this was written.
-pub fn write_events<W: Write>(out: &mut Watched<W>, events: &Events) -> Result<(), WriteFault>
-    ensures text { Writes (W.contents (inner_of out.old)) (W.contents (inner_of out.new)) result (events_text events.now.events) }
-    ensures failed { has_failed out.new ≡ (has_failed out.old || is_err result) }
-{
-    'events: for i in 0..events.len() {
-        write_event(out, i + 1, events.get(i).unwrap())?;
-    }
-    out.write_text(line_of_number(events.len()).as_bytes())
-}
-
-/// Writes the events of a file as `write_events` writes those of a list, and takes no memory.
+/// Writes the events of a file: of each a line of its number from 1, its GL bit, its usage in version Two, and its words; then a line of how
+/// many there are. After a write fault a prefix of this was written. It takes no memory.
 pub fn write_event_file<W: Write>(
     out: &mut Watched<W>,
     file: &EventFile<'_>,
@@ -42,19 +29,6 @@ pub fn write_event_file<W: Write>(
     }
     push_last(&mut line, records.read());
     out.write_text(line.as_bytes())
-}
-
-fn write_event<W: Write>(
-    out: &mut Watched<W>,
-    number: usize,
-    event: &Event,
-) -> Result<(), WriteFault>
-    ensures text { Writes (W.contents (inner_of out.old)) (W.contents (inner_of out.new)) result (event_line number (entry_of event.now)) }
-    ensures failed { has_failed out.new ≡ (has_failed out.old || is_err result) }
-{
-    let mut line = Line::new();
-    push_start(&mut line, number, event.gl, event.usage, event.words.len());
-    write_words(out, &mut line, &event.words)
 }
 
 // Puts the line of an event after what is laid out and not written yet.
@@ -135,27 +109,6 @@ fn push_usage(line: &mut Line, usage: Usage)
     line.push_number(usage.missed);
 }
 
-// Writes the line, and the words and an LF after it, in as few pieces as there is room for.
-fn write_words<W: Write>(
-    out: &mut Watched<W>,
-    line: &mut Line,
-    words: &[Word24],
-) -> Result<(), WriteFault>
-    requires room { length line.old < LONGEST_LINE }
-    ensures text { Writes (W.contents (inner_of out.old)) (W.contents (inner_of out.new)) result (line.old ++ flat_map word_text words.now ++ codes "\n") }
-    ensures failed { has_failed out.new ≡ (has_failed out.old || is_err result) }
-{
-    'words: for word in words {
-        if line.len() >= LAST_WORD {
-            out.write_text(line.as_bytes())?;
-            line.clear();
-        }
-        line.push_bytes(&spaced(hex_word(*word)));
-    }
-    line.push_str("\n");
-    out.write_text(line.as_bytes())
-}
-
 // Puts the words of a file and an LF after what is laid out. Where there is no more room, that is written.
 fn put_file_words<W: Write>(
     out: &mut Watched<W>,
@@ -188,14 +141,6 @@ const LAST_WORD: usize = LONGEST_LINE - 7;
 
 /// The greatest length after which a line has room for the numbers of another event.
 const FULL: usize = LONGEST_LINE - 116;
-
-fn line_of_number(events: usize) -> Line
-    ensures { result ≡ last_line events }
-{
-    let mut line = Line::new();
-    push_last(&mut line, events);
-    line
-}
 
 fn push_last(line: &mut Line, events: usize)
     requires { length line.old ≤ FULL }

@@ -19,7 +19,7 @@ pub use bytes::{bytes_in, small_in, text_in};
 pub use code::Code;
 pub use cycle::cycle_in;
 pub use digits::hex_word;
-pub use events::{write_event_file, write_events};
+pub use events::write_event_file;
 pub use headings::write_headings;
 pub use line::{LONGEST_LINE, Line};
 pub use plan::{write_plan, write_plan_with_commands};

@@ -11,7 +11,8 @@ use Rattle.camac_lang.specs.Scope.{is_well_formed}
 use Rattle.camac_branch.specs.Branch.{Answer}
 use Rattle.camac_model.specs.Behaviour.{stop_of, events, event_left, short, wrong, more}
 use Rattle.camac_model.specs.Run.{run}
-use Rattle.camac_model.specs.Sample.{sample_plan, v, k, i, with_r, r, register, script, answer, demand, good, busy, reply, cycle_at, event, called, doing, served, left_by}
+use Rattle.camac_model.specs.Sample.{sample_plan}
+use Rattle.camac_model.proofs.SampleScripts.{v, k, i, with_r, r, register, script, answer, demand, good, busy, reply, cycle_at, event, called, doing, served, left_by}
 
 -- poll-loop: Q always 0, and 1 at once
 abbrev poll : Script

@@ -7,7 +7,8 @@ use Rattle.camac_lang.specs.declared.word.LamCall.TheVariants as lam_word
 use Rattle.camac_lang.specs.Tree.{number, into, single, crate_call, lam_call, Script}
 use Rattle.camac_lang.specs.Scope.{is_well_formed}
 use Rattle.camac_model.specs.Behaviour.{items, event_left}
-use Rattle.camac_model.specs.Sample.{times, v, with_r, r, register, script, answer, demand, busy, reply, cycle_at, event, called, doing, served}
+use Rattle.camac_model.specs.Sample.{times}
+use Rattle.camac_model.proofs.SampleScripts.{v, with_r, r, register, script, answer, demand, busy, reply, cycle_at, event, called, doing, served}
 
 -- read-gl: the bits of the crate's own stations
 abbrev read_gl : Script

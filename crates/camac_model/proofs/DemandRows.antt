@@ -11,7 +11,8 @@ use Rattle.camac_branch.specs.Branch.{Answer, Reply}
 use Rattle.camac_branch.specs.Plan.{Layout}
 use Rattle.camac_model.specs.Behaviour.{stop_of, items, events, Piece, demanded, cycled, event_left, short}
 use Rattle.camac_model.specs.Run.{the_run}
-use Rattle.camac_model.specs.Sample.{gap, adc, reg, sample_plan, v, with_r, r, script, answer, demand, reply, cycle_at, event, called, doing}
+use Rattle.camac_model.specs.Sample.{gap, adc, reg, sample_plan}
+use Rattle.camac_model.proofs.SampleScripts.{v, with_r, r, script, answer, demand, reply, cycle_at, event, called, doing}
 
 -- demand-disabled: a crate with a disabled demand output adds no bits
 abbrev demand_disabled : Script

@@ -1,3 +1,4 @@
+pub mod SampleScripts
 mod StraightRows
 mod TransferRows
 mod ControlRows

@@ -10,7 +10,8 @@ use Rattle.camac_branch.specs.Branch.{Answer}
 use Rattle.camac_branch.specs.Plan.{Layout}
 use Rattle.camac_model.specs.Behaviour.{Behaviour, stop_of, items, events, Piece, lock_taken, lock_released, event_left, short, overrun, wrong}
 use Rattle.camac_model.specs.Run.{the_run}
-use Rattle.camac_model.specs.Sample.{gap, sample_plan, v, with_r, with_r_s, r, s, register, script, answer, demand, good, reply, cycle_at, event, called, doing, served, left_by}
+use Rattle.camac_model.specs.Sample.{gap, sample_plan}
+use Rattle.camac_model.proofs.SampleScripts.{v, with_r, with_r_s, r, s, register, script, answer, demand, good, reply, cycle_at, event, called, doing, served, left_by}
 
 -- lockout: a locked crate permits no wait
 abbrev read_v : Statement

@@ -7,7 +7,7 @@ use Rattle.camac_lang.specs.Tree.{plain, flag_q, add, number, variable, no_data,
 use Rattle.camac_lang.specs.View.{block_of}
 use Rattle.camac_lang.specs.Scope.{is_well_formed}
 use Rattle.camac_model.specs.Behaviour.{stop_of, items, lock_taken, lock_released, event_left, wrong}
-use Rattle.camac_model.specs.Sample.{script_of, opening, get, v, k, with_r, r, register, answer, good, reply, cycle_at, event, called, doing, served, left_by}
+use Rattle.camac_model.proofs.SampleScripts.{script_of, opening, get, v, k, with_r, r, register, answer, good, reply, cycle_at, event, called, doing, served, left_by}
 
 -- procedure-calls: the callee's variables and registers are its own
 abbrev calls : Script

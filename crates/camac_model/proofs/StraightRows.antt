@@ -7,7 +7,8 @@ use Rattle.camac_lang.specs.Tree.{add, subtract, multiply, number, variable, gro
 use Rattle.camac_lang.specs.Scope.{is_well_formed}
 use Rattle.camac_model.specs.Behaviour.{stop_of, items, events, event_left, short, overrun, wrong}
 use Rattle.camac_model.specs.Run.{the_run}
-use Rattle.camac_model.specs.Sample.{sample_plan, script_of, v, with_r, r, register, script, answer, demand, reply, cycle_at, event, called, doing, served}
+use Rattle.camac_model.specs.Sample.{sample_plan}
+use Rattle.camac_model.proofs.SampleScripts.{script_of, v, with_r, r, register, script, answer, demand, reply, cycle_at, event, called, doing, served}
 
 -- straight-line
 abbrev straight_line : Script

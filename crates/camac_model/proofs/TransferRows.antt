@@ -9,7 +9,7 @@ use Rattle.camac_lang.specs.Scope.{is_well_formed}
 use Rattle.camac_branch.specs.Branch.{Answer}
 use Rattle.camac_model.specs.State.{State}
 use Rattle.camac_model.specs.Behaviour.{stop_of, items, events, demanded, event_left, wrong}
-use Rattle.camac_model.specs.Sample.{script_of, opening, t, with_r, with_r_s, r, s, register, script, answer, good, busy, reply, cycle_at, event, called, doing, served, left_by}
+use Rattle.camac_model.proofs.SampleScripts.{script_of, opening, t, with_r, with_r_s, r, s, register, script, answer, good, busy, reply, cycle_at, event, called, doing, served, left_by}
 
 -- scan-through-probes: Q always 1, and the first Q=0
 abbrev scan : Script

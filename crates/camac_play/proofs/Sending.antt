@@ -1,10 +1,14 @@
 -- Texts one after another over two writers.
 use Rattle.std.proofs.Common.{◌≡◌, ℕ, ◌<◌, List, [], ◌∷◌, ◌++◌, length, Option, Some, None, refl, sym, ap, subst, ◌∙◌, append_assoc, append-nil, length-append, arith}
-use Rattle.std.specs.Prelude.{Result, Ok, Err}
+use Rattle.std.specs.Prelude.{Result, Ok, Err, MatchResult}
 use Rattle.std.specs.Io.KnownBytes.{Appends, Keeps}
 use Rattle.std.proofs.KnownBytes.{Appends-trans, Appends-kept}
 use Rattle.camac_word.specs.Writing.{AppendsPrefix, Writes}
-use Rattle.camac_play.specs.Sent.{Sent, listed, recorded, to_listing, to_events, listing_of, events_of, Outputs, Sends, SendsPrefix, SendsLastPart, SendsBy}
+use Rattle.camac_play.specs.Sent.{Sent, listed, recorded, to_listing, to_events, listing_of, events_of, Outputs, Sends, SendsPrefix, SendsLastPart}
+
+-- all of it at `Ok`, and else a prefix
+abbrev pub SendsBy : {T E : Type 0} → Outputs → Outputs → Result T E → List Sent → Type 0
+SendsBy old new r sent = MatchResult r (λ _. Sends old new sent) (λ _. SendsPrefix old new sent)
 
 pub listing_of-append : (a b : List Sent) → listing_of (a ++ b) ≡ listing_of a ++ listing_of b
 listing_of-append [] b = refl

@@ -15,7 +15,8 @@ use Rattle.camac_run.specs.Headline.{entry_of, run_events, event_file, RunsByHea
 use Rattle.camac_run.specs.Requested.{RequestsAreSafe}
 use Rattle.camac_play.specs.Headline.{IsByHeadline, KeepsHeadline}
 use Rattle.camac_play.specs.Play.{ReadsNoMore, Plays, Feeds, FeedsOver, PlaysOver}
-use Rattle.camac_play.specs.Sent.{Outputs, Sends, SendsPrefix, SendsBy, Sent, to_listing}
+use Rattle.camac_play.specs.Sent.{Outputs, Sends, SendsPrefix, Sent, to_listing}
+use Rattle.camac_play.proofs.Sending.{SendsBy, Sends-trans, later_part}
 use Rattle.camac_play.specs.Told.{most_answers, is_begun, if_begun, used_of, called_for, report, whole_report, played, ending_text, ending, last_line}
 use Rattle.camac_play.specs.declared.ending.Ending.{Ending}
 use Rattle.camac_play.specs.declared.fault.PlayFault.{PlayFault}
@@ -25,7 +26,6 @@ use Rattle.camac_play.specs.declared.telling.Telling.TheVariants.{Listing, Reque
 use Rattle.camac_play.proofs.Begun.{start}
 use Rattle.camac_play.proofs.EventFile.{report_file, played_file}
 use Rattle.camac_play.proofs.Given.{given_first}
-use Rattle.camac_play.proofs.Sending.{Sends-trans, later_part}
 
 -- what the end of the text may begin
 begun_more : (t : Telling) (answers : List Answer) (ended : Bool) (sent : List Sent) → (more' : List Sent) × (if_begun (is_begun t answers ended) sent ≡ if_begun (is_begun t answers false) sent ++ more')

@@ -1,5 +1,5 @@
 -- What is sent to two writers, byte by byte in one order.
-use Rattle.std.specs.Prelude.{◌≡◌, ℕ, ◌<◌, List, [], ◌∷◌, ◌++◌, length, Option, Result, MatchResult}
+use Rattle.std.specs.Prelude.{◌≡◌, ℕ, ◌<◌, List, [], ◌∷◌, ◌++◌, length, Option}
 use Rattle.std.specs.Io.KnownBytes.{Appends}
 
 -- a byte for the listing, or for the event file
@@ -47,7 +47,3 @@ SendsPrefix old new sent = (prefix rest : List Sent) × (sent ≡ prefix ++ rest
 -- They have got all of the first, and of what follows it in the whole a part, which lacks at least its last byte.
 abbrev pub SendsLastPart : Outputs → Outputs → (first whole : List Sent) → Type 0
 SendsLastPart old new first whole = (part rest : List Sent) × (whole ≡ first ++ (part ++ rest)) × (0 < length rest) × Sends old new (first ++ part)
-
--- all of it at `Ok`, and else a prefix
-abbrev pub SendsBy : {T E : Type 0} → Outputs → Outputs → Result T E → List Sent → Type 0
-SendsBy old new r sent = MatchResult r (λ _. Sends old new sent) (λ _. SendsPrefix old new sent)

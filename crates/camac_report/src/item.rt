@@ -13,21 +13,6 @@ use camac_run::Item;
 use camac_word::{CrateNo, Watched, Word24, WriteFault};
 use std::io::Write;
 
-/// Writes the line of an item. A number of a service that the script does not have gives no name. After a write fault a prefix of the line
-/// was written.
-pub fn write_item<W: Write>(
-    out: &mut Watched<W>,
-    checked: &Checked,
-    item: &Item,
-) -> Result<(), WriteFault>
-    ensures text { Writes (W.contents (inner_of out.old)) (W.contents (inner_of out.new)) result (item_text checked.now.script (piece_of item.now)) }
-    ensures failed { has_failed out.new ≡ (has_failed out.old || is_err result) }
-{
-    let mut line = [0; LONGEST_LINE];
-    let end = item_in(&mut line, 0, checked, item);
-    out.write_text(&line[..end])
-}
-
 /// Writes the line of an item, and in the same write a line for each crate, at most seven, whose lockout was released after it. After a
 /// write fault a prefix of them was written.
 pub fn write_items<W: Write>(

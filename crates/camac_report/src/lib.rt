@@ -2,16 +2,14 @@
 // What needs no runner stands in camac_lines, so that it is proved beside the runner, whose proof is the longest, and not after it.
 #![tactic(auto)]
 
-mod cycle;
 mod end;
 mod item;
 mod request;
 
 pub use camac_lines::{
-    Code, LONGEST_LINE, Line, Refusal, lam_name, refusal_line, write_event_file, write_events,
-    write_headings, write_plan, write_plan_with_commands, write_refusal, write_verdict,
+    Code, LONGEST_LINE, Line, Refusal, lam_name, refusal_line, write_event_file, write_headings,
+    write_plan, write_plan_with_commands, write_refusal, write_verdict,
 };
-pub use cycle::write_cycle;
 pub use end::end_line;
-pub use item::{items_in, write_item, write_items};
+pub use item::{items_in, write_items};
 pub use request::{request_line, unlocks_line};

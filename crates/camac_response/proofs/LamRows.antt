@@ -9,14 +9,14 @@ use Rattle.camac_lang.specs.Tree.{number, crate_call, lam_call, Script, next_lam
 use Rattle.camac_branch.specs.Address.{Address, address}
 use Rattle.camac_branch.specs.Branch.{Answer, IsSet}
 use Rattle.camac_model.specs.Behaviour.{Piece, pieces}
-use Rattle.camac_model.specs.Sample.{answer, demand}
+use Rattle.camac_model.proofs.SampleScripts.{answer, demand}
 use Rattle.camac_model.specs.Moments.{Holds}
 use Rattle.camac_model.specs.Run.{the_run}
 use Rattle.camac_response_times.specs.declared.source.Source.{Source}
 use Rattle.camac_response_times.specs.Response.{is_up_to}
 use Rattle.camac_response_times.specs.Rounds.{response, most_rounds}
 use Rattle.camac_response.specs.Modules.{Raises, Pauses, IsApart, AreApart, paused}
-use Rattle.camac_response.specs.Lams.{Clears, Moods, lams_of, of_lam, may_clear, Book, first_page, book_after, is_shown, NoneHidden, ClearsNoOther, services_watch, Wires, first_wires, wires_after, IsOfLams, RaisesAfter, IsQuiet, ModulesKeep}
+use Rattle.camac_response.specs.Lams.{Clears, Moods, lams_of, of_lam, may_clear, Book, first_page, book_after, is_shown, NoneHidden, ClearsNoOther, services_watch, Wires, first_wires, wires_after, IsOfLams, EndsByRate, RaisesAfter, IsQuiet, ModulesKeep}
 use Rattle.camac_response.proofs.Rows.{source, plan, lam_at, served_by, both, of_both, first_answers}
 
 -- the services of bits 3 and 2: each clears its own look-at-me, in crate 1, which has up to 2 waits, and in crate 2
@@ -40,6 +40,25 @@ at_rate r = source 3 4 None ∷ source 2 1 (Some r) ∷ []
 response_of_2 : response (at_rate 9) (source 2 1 (Some 9)) ≡ Some 4
 unfolding most_rounds
 response_of_2 = refl
+
+-- Its E is 5: at a rate of 5 it has ended when its module calls again, at one of 4 it may not.
+response_at_5 : response (at_rate 5) (source 2 1 (Some 5)) ≡ Some 4
+unfolding most_rounds
+response_at_5 = refl
+
+response_at_4 : response (at_rate 4) (source 2 1 (Some 4)) ≡ Some 4
+unfolding most_rounds
+response_at_4 = refl
+
+ends_at_5 : EndsByRate (at_rate 5) (source 2 1 (Some 5))
+ends_at_5 = record { start = 4; rate = 5; found = response_at_5; given = refl; less = omega arith }
+
+not_at_4 : EndsByRate (at_rate 4) (source 2 1 (Some 4)) → ⊥
+not_at_4 h =
+    let start : 4 ≡ h.start = same_Some 4 h.start (sym response_at_4 ∙ h.found) in
+    let rate : 4 ≡ h.rate = same_Some 4 h.rate h.given in
+    let less = h.less in
+    omega (arith, start, rate, less)
 
 abbrev no_others : Clears
 no_others at f = false
@@ -76,7 +95,7 @@ clears_no_other r x at f p i t it up = of_one (λ j u. (x.called ≡ Some j → 
 
 raises_after : (r : ℕ) (raises : Raises) (x : Wires) (at : Address) (f w : ℕ) → (x.book.called ≡ Some 1 → of_lam (λ lam. may_clear no_others lam at f) (lams_of each 1) ≡ true → x.clock.time + (1 + w) ≤ raises 1 (x.next 1))
     → RaisesAfter (at_rate r) (lams_of each) no_others raises 2 x at f w
-raises_after r raises x at f w p i t it up =
+raises_after r raises x at f w p i t it up early =
     of_one (λ j u. x.book.called ≡ Some j → of_lam (λ lam. may_clear no_others lam at f) (lams_of each j) ≡ true → x.clock.time + (1 + w) ≤ raises j (x.next j)) r i t it up p
 
 shows_one : (r : ℕ) (raises : Raises) (d : ℕ) (x : Wires) (p : ℕ) → (raises 1 (x.cleared 1) < x.clock.time + d → IsSet p 2) → (IsSet p 2 → raises 1 (x.cleared 1) ≤ x.clock.time + d)

@@ -5,19 +5,15 @@ use Rattle.std.proofs.lemmas.Bool.{and_parts, eq-eqb, eqb-true, ltb-true, ltb-fa
 use Rattle.std.proofs.lemmas.Option.{same_Some}
 use Rattle.camac_branch.specs.Address.{Address}
 use Rattle.camac_branch.specs.Branch.{IsSet}
-use Rattle.camac_model.specs.Behaviour.{Piece, demanded, cycled, lock_taken, lock_released, event_left, Behaviour, does, ends, stops}
-use Rattle.camac_model.specs.Moments.{Meets, Any, AnyStop}
-use Rattle.camac_model.specs.Headline.{no_count, nothing}
-use Rattle.camac_model.specs.Run.{the_run}
+use Rattle.camac_model.specs.Behaviour.{Piece, demanded, cycled, lock_taken, lock_released, event_left}
+use Rattle.camac_model.specs.Headline.{nothing}
 use Rattle.camac_response_times.specs.declared.source.Source.{Source}
 use Rattle.camac_response_times.specs.Response.{is_up_to}
-use Rattle.camac_response.specs.Modules.{Raises, Pauses, paused, clock_after, IsOnce}
-use Rattle.camac_response.specs.Lams.{Clears, Moods, Lams, of_lam, clears, may_clear, book_after, IsAskedAgain, ServesWell, ClearsNoOther, Wires, first_wires, clears_now, cleared_by, wires_after, AtOperation, AtCycle, RaisesAfter, IsOfLams, IsQuiet, lams_of}
-use Rattle.camac_response.specs.Laws.{CallsLowest, IsLowest, LookAtMesAreAnswered}
+use Rattle.camac_response.specs.Modules.{Raises, Pauses, paused, IsOnce}
+use Rattle.camac_response.specs.Lams.{Clears, Moods, Lams, of_lam, clears, may_clear, IsAskedAgain, ServesWell, ClearsNoOther, Wires, first_wires, clears_now, cleared_by, wires_after, AtOperation, AtCycle, IsOfLams, IsQuiet}
+use Rattle.camac_response.specs.Laws.{CallsLowest, IsLowest}
 use Rattle.camac_response.proofs.Sources.{one_more_at}
-use Rattle.camac_response.proofs.Lowest.{lowest_are_called}
 use Rattle.camac_response.proofs.Raised.{IsRaised, AreRaised}
-use Rattle.camac_response.proofs.Waits.{raised_are_answered}
 
 -- the service that was called last, or another one
 by_call : (o : Option ℕ) (i : ℕ) (P : Type 0) → (o ≡ Some i → P) → ((o ≡ Some i → ⊥) → P) → P
@@ -148,7 +144,13 @@ module _ (ts : List Source) (lams : Lams) (by_plan : Clears) (moods : Moods) (ra
     closed = λ i t at up e yes. absurd (cc);
   }
 
-  after_cycle : (x : Wires) (at : Address) (f w : ℕ) → Agrees x → ClearsNoOther ts lams by_plan g x.book at f → RaisesAfter ts lams by_plan raises g x at f w
+  -- while a service is in progress, its module raises no look-at-me before the end of a cycle that may clear its own
+  abbrev pub RaisesLate : Wires → Address → (function wait : ℕ) → Type 0
+  RaisesLate x at f w =
+      (i : ℕ) (t : Source) → slice_get ts i ≡ Some t → is_up_to g t ≡ true → x.book.called ≡ Some i → of_lam (λ lam. may_clear by_plan lam at f) (lams i) ≡ true
+      → x.clock.time + (1 + w) ≤ raises i (x.next i)
+
+  after_cycle : (x : Wires) (at : Address) (f w : ℕ) → Agrees x → ClearsNoOther ts lams by_plan g x.book at f → RaisesLate x at f w
       → (x' : Wires) → x'.clock.time ≡ x.clock.time + (1 + w) → x'.clock.calls ≡ x.clock.calls → x'.book.called ≡ x.book.called
       → x'.book.has_cleared ≡ (x.book.has_cleared || of_lam (λ lam. clears by_plan lam at f) (option_and_then lams x.book.called)) → x'.next ≡ x.next
       → ((i : ℕ) → x'.cleared i ≡ cleared_by (clears_now lams by_plan moods at f (x.clock.time + (1 + w)) i) (raises i) (x.clock.time + (1 + w)) (x.cleared i)) → Agrees x'
@@ -229,19 +231,16 @@ module _ (ts : List Source) (lams : Lams) (by_plan : Clears) (moods : Moods) (ra
           inl (ap (λ k. k + 1) (cleared i) ∙ before.0 ∙ sym (ap (λ k. k i) calls), subst (λ k. raises i k ≤ x'.clock.time) (sym (cleared i)) later)
       as_before i (inr done) = inr (cleared i ∙ done ∙ sym (ap (λ k. k i) calls))
 
-  abbrev Once : Wires → Piece → Type 0
+  abbrev pub Once : Wires → Piece → Type 0
   Once = AtOperation pauses (λ x d y p v. IsOnce ts g y.stretch v)
 
-  abbrev Again : Wires → Piece → Type 0
-  Again = AtCycle (RaisesAfter ts lams by_plan raises g)
-
-  abbrev Shown : Wires → Piece → Type 0
+  abbrev pub Shown : Wires → Piece → Type 0
   Shown = AtOperation pauses (λ x d y p v. IsOfLams ts lams raises g x y p)
 
-  abbrev Alone : Wires → Piece → Type 0
+  abbrev pub Alone : Wires → Piece → Type 0
   Alone = AtOperation pauses (λ x d y p v. IsQuiet ts raises g x d y)
 
-  step : (x : Wires) (p : Piece) → Agrees x → CallsLowest ts nothing p → ServesWell ts lams by_plan g x.book p → Once x p → Again x p → Shown x p → Alone x p
+  pub step : (x : Wires) (p : Piece) → Agrees x → CallsLowest ts nothing p → ServesWell ts lams by_plan g x.book p → Once x p → AtCycle RaisesLate x p → Shown x p → Alone x p
       → AreRaised ts raises pauses g x.clock p × Agrees (wires_after ts lams by_plan moods raises pauses g x p)
   step x (demanded p None) h lowest care once again r quiet = (raised_at x p None h care once r quiet (λ i t e at. absurd (cc)), after_none x p h care)
   step x (demanded p (Some j)) h lowest care once again r quiet =
@@ -255,28 +254,10 @@ module _ (ts : List Source) (lams : Lams) (by_plan : Clears) (moods : Moods) (ra
   step x (event_left e) h lowest care once again r quiet =
       (tt, after_other x (wires_after ts lams by_plan moods raises pauses g x (event_left e)) h (omega arith) refl refl refl (λ i. refl))
 
-  abbrev Each : (Wires → Piece → Type 0) → Wires → Behaviour (Unit {0}) → Type 0
-  Each says x b = Meets (wires_after ts lams by_plan moods raises pauses g) says AnyStop Any x b
-
-  walk : (x : Wires) (b : Behaviour (Unit {0})) → Agrees x → Meets no_count (CallsLowest ts) AnyStop Any nothing b
-      → Meets (book_after lams by_plan) (ServesWell ts lams by_plan g) AnyStop Any x.book b → Each Once x b → Each Again x b → Each Shown x b → Each Alone x b
-      → Meets (clock_after ts pauses g) (AreRaised ts raises pauses g) AnyStop Any x.clock b
-  walk x (does p b) h l care once again r quiet =
-      let n = step x p h l.0 care.0 once.0 again.0 r.0 quiet.0 in
-      (n.0, walk (wires_after ts lams by_plan moods raises pauses g x p) b n.1 l.1 care.1 once.1 again.1 r.1 quiet.1)
-  walk x (ends v) h l care once again r quiet = tt
-  walk x (stops w v) h l care once again r quiet = tt
-
-  agrees_first : Agrees first_wires
+  pub agrees_first : Agrees first_wires
   agrees_first = record {
     others = λ i t at up not. refl;
     next = λ i t at up e. absurd (cc);
     own = λ i t at up e. absurd (cc);
     closed = λ i t at up e yes. absurd (cc);
   }
-
-pub look_at_mes_are_answered : LookAtMesAreAnswered
-look_at_mes_are_answered plan is_plan script ks safe ts are s source its start by by_plan moods raises pauses answers care keep =
-    raised_are_answered plan is_plan script ks safe ts are s source its start by raises keep.rates.every pauses answers
-    (walk ts (lams_of script) by_plan moods raises pauses source.bit first_wires (the_run plan script answers) (agrees_first ts (lams_of script) by_plan moods raises pauses source.bit)
-    (lowest_are_called plan is_plan script ks ts are answers) care keep.rates.once keep.again keep.shown keep.alone)

@@ -8,7 +8,8 @@ use Rattle.camac_branch.specs.Branch.{Answer}
 use Rattle.camac_branch.specs.Plan.{Layout}
 use Rattle.camac_model.specs.Behaviour.{pieces, Piece}
 use Rattle.camac_model.specs.Run.{the_run}
-use Rattle.camac_model.specs.Sample.{gap, adc, reg, answer, demand}
+use Rattle.camac_model.specs.Sample.{gap, adc, reg}
+use Rattle.camac_model.proofs.SampleScripts.{answer, demand}
 use Rattle.camac_rules.specs.Accept.{accept}
 use Rattle.camac_rules.specs.Refusal.{go_on, if_reached, required}
 use Rattle.camac_response_times.specs.declared.source.Source.{Source}

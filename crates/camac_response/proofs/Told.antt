@@ -23,8 +23,8 @@ use Rattle.camac_response_times.proofs.Rates.{stretches_are_least}
 use Rattle.camac_response.proofs.Answers.{answers_in_time}
 use Rattle.camac_response.proofs.Lowest.{lowest_are_called}
 use Rattle.camac_response.proofs.Stretches.{stretches_end}
+use Rattle.camac_response.proofs.Again.{look_at_mes_are_answered}
 use Rattle.camac_response.specs.Lams.{plan_clears}
-use Rattle.camac_response.proofs.Lams.{look_at_mes_are_answered}
 use Rattle.camac_response.proofs.Reach.{decided_serve}
 use Rattle.camac_commands.proofs.Counted.{service_listed}
 use Rattle.camac_response.proofs.Decided.{decided}

@@ -233,7 +233,7 @@ module _ (ts : List Source) (s : ℕ) (source : Source) (its : slice_get ts s �
   waits_at d y (event_left v) h after r a =
       λ e. let now = (a e).within h.kept in let most = service_waits y 0 h e (omega (arith, now)) in omega (arith, most)
 
-  begun_first : IsBegun (record { time = 0; operations = 0; calls = λ i. 0; stretch = no_stretch None })
+  pub begun_first : IsBegun (record { time = 0; operations = 0; calls = λ i. 0; stretch = no_stretch None })
   begun_first = begins 0 0 (λ i. 0) None (λ i t at up. omega arith) (λ e. absurd (cc))
 
   -- as long as the next look-at-me is not answered, it has not waited too long: one that can have no call in the longest stretch is not raised yet
@@ -299,28 +299,25 @@ module _ (ts : List Source) (s : ℕ) (source : Source) (its : slice_get ts s �
         let answers : AnswersBy ts s source start y.stretch p = piece_in_time ks ts cover own s source its longest holds start starts m y.stretch p t known c in
         (waits_at d y p h after r answers, (after, known))
 
+    -- a piece of a run, after the pause before it
+    pub step : (m : Moment) (y : Clock) (p : Piece) → IsBegun y → Known m.progress y → CostStays ks m p → CallsLowest ts nothing p → AreRaised ts raises pauses source.bit y p
+        → WaitsBy raises s source start (clock_at pauses y p) p × (IsBegun (clock_after ts pauses source.bit y p) × Known (moment_after m p).progress (clock_after ts pauses source.bit y p))
+    step m y (demanded p v) h t c l r =
+        let d : ℕ = pauses y.operations in
+        on d (record m { progress = before_pause d m.progress }) (paused d y) (demanded p v) (begun_paused d y r.quiet h) (known_paused d m.progress y t) c l r
+    step m y (cycled a f d q w) h t c l r = on 0 m y (cycled a f d q w) h t c l tt
+    step m y (lock_taken k w) h t c l r = on 0 m y (lock_taken k w) h t c l tt
+    step m y (lock_released k) h t c l r = on 0 m y (lock_released k) h t c l tt
+    step m y (event_left e) h t c l r = on 0 m y (event_left e) h t c l tt
+
     walk : {A : Type 0} (P : Moment → Stop → State → Type 0) (Q : Moment → A → Type 0) (m : Moment) (y : Clock) (b : Behaviour A) → IsBegun y → Known m.progress y
         → Meets moment_after (CostStays ks) P Q m b
         → Meets no_count (CallsLowest ts) AnyStop Any nothing b
         → Meets (clock_after ts pauses source.bit) (AreRaised ts raises pauses source.bit) AnyStop Any y b
         → Meets (clock_after ts pauses source.bit) (λ z p. Waited z × WaitsBy raises s source start (clock_at pauses z p) p) (λ z w t. Waited z) (λ z u. Waited z) y b
-    walk P Q m y (does (demanded p v) b) h t c l r =
-        let d : ℕ = pauses y.operations in
-        let z : Clock = paused d y in
-        let n = on d (record m { progress = before_pause d m.progress }) z (demanded p v) (begun_paused d y (r.0.quiet) h) (known_paused d m.progress y t) c.0 l.0 r.0 in
-        ((waited m.progress y h t, n.0), walk P Q (moment_after m (demanded p v)) (clock_after ts pauses source.bit y (demanded p v)) b n.1.0 n.1.1 c.1 l.1 r.1)
-    walk P Q m y (does (cycled a f d q w) b) h t c l r =
-        let n = on 0 m y (cycled a f d q w) h t c.0 l.0 tt in
-        ((waited m.progress y h t, n.0), walk P Q (moment_after m (cycled a f d q w)) (clock_after ts pauses source.bit y (cycled a f d q w)) b n.1.0 n.1.1 c.1 l.1 r.1)
-    walk P Q m y (does (lock_taken k w) b) h t c l r =
-        let n = on 0 m y (lock_taken k w) h t c.0 l.0 tt in
-        ((waited m.progress y h t, n.0), walk P Q (moment_after m (lock_taken k w)) (clock_after ts pauses source.bit y (lock_taken k w)) b n.1.0 n.1.1 c.1 l.1 r.1)
-    walk P Q m y (does (lock_released k) b) h t c l r =
-        let n = on 0 m y (lock_released k) h t c.0 l.0 tt in
-        ((waited m.progress y h t, n.0), walk P Q (moment_after m (lock_released k)) (clock_after ts pauses source.bit y (lock_released k)) b n.1.0 n.1.1 c.1 l.1 r.1)
-    walk P Q m y (does (event_left e) b) h t c l r =
-        let n = on 0 m y (event_left e) h t c.0 l.0 tt in
-        ((waited m.progress y h t, n.0), walk P Q (moment_after m (event_left e)) (clock_after ts pauses source.bit y (event_left e)) b n.1.0 n.1.1 c.1 l.1 r.1)
+    walk P Q m y (does p b) h t c l r =
+        let n = step m y p h t c.0 l.0 r.0 in
+        ((waited m.progress y h t, n.0), walk P Q (moment_after m p) (clock_after ts pauses source.bit y p) b n.1.0 n.1.1 c.1 l.1 r.1)
     walk P Q m y (ends a) h t c l r = waited m.progress y h t
     walk P Q m y (stops w z) h t c l r = waited m.progress y h t
 

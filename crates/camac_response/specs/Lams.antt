@@ -13,6 +13,7 @@ use Rattle.camac_model.specs.Meaning.{lam_address, crate_address, crate_function
 use Rattle.camac_model.specs.Moments.{Meets, Watch, Any, AnyStop}
 use Rattle.camac_response_times.specs.declared.source.Source.{Source}
 use Rattle.camac_response_times.specs.Response.{is_up_to}
+use Rattle.camac_response_times.specs.Rounds.{response}
 use Rattle.camac_response.specs.Modules.{Raises, Pauses, AreApart, Clock, at_start, paused, clock_at, ticked, IsOnce}
 
 -- What a command does to a look-at-me.
@@ -188,11 +189,19 @@ AtCycle says x (lock_taken c w) = Unit {0}
 AtCycle says x (lock_released c) = Unit {0}
 AtCycle says x (event_left e) = Unit {0}
 
--- while its service is in progress, a module raises its look-at-me again only after each command that may clear it
+-- E is at most T: by its rate a service has ended when its module calls again
+pub record EndsByRate (ts : List Source) (t : Source) : Type 0 where
+  pub start : ℕ
+  pub rate : ℕ
+  pub found : response ts t ≡ Some start
+  pub given : t.every ≡ Some rate
+  pub less : start + t.cycles ≤ rate
+
+-- while its service is in progress, a module raises its look-at-me again only after each command that may clear it: where the rate does not say so
 abbrev pub RaisesAfter : List Source → Lams → Clears → Raises → (bit : ℕ) → Wires → Address → (function wait : ℕ) → Type 0
 RaisesAfter ts lams by_plan raises g x at f w =
-    (i : ℕ) (t : Source) → slice_get ts i ≡ Some t → is_up_to g t ≡ true → x.book.called ≡ Some i → of_lam (λ lam. may_clear by_plan lam at f) (lams i) ≡ true
-    → x.clock.time + (1 + w) ≤ raises i (x.next i)
+    (i : ℕ) (t : Source) → slice_get ts i ≡ Some t → is_up_to g t ≡ true → (EndsByRate ts t → ⊥) → x.book.called ≡ Some i
+    → of_lam (λ lam. may_clear by_plan lam at f) (lams i) ≡ true → x.clock.time + (1 + w) ≤ raises i (x.next i)
 
 -- the pattern of an operation
 pub record IsOfLams (ts : List Source) (lams : Lams) (raises : Raises) (g : ℕ) (x : Wires) (y : Clock) (pattern : ℕ) : Type 0 where
@@ -219,7 +228,7 @@ module _ (ts : List Source) (lams : Lams) (by_plan : Clears) (moods : Moods) (ra
     -- Modules keep the rates that you give, and `once` where you give none. These are rates of look-at-mes as they are raised, not of triggers. One
     -- that is up when the run starts counts as raised then.
     pub rates : KeepRates run
-    -- A module raises its look-at-me again only after its service has cleared it.
+    -- A module raises its look-at-me again only after its service has cleared it. Where E is at most T, the rate says so.
     pub again : AtEach (AtCycle (RaisesAfter ts lams by_plan raises g)) run
     -- A station sets its bit for the look-at-me of its service alone. This goes down only by F10 at its address, by what the plan says clears it, by
     -- Z and C of its crate, and by F24 at its address. Till then it is in the pattern. Look-at-mes and demand outputs are enabled when the run

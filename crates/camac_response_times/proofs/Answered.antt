@@ -5,8 +5,8 @@ use Rattle.camac_response_times.specs.declared.source.Source.{Source}
 use Rattle.camac_response_times.specs.declared.search.Settled.{Settled}
 use Rattle.camac_response_times.specs.Response.{before, calls_within, stretch_wants}
 use Rattle.camac_response_times.specs.Rounds.{settle, greatest_wait, response, most_rounds, most_cycles}
-use Rattle.camac_response_times.specs.Found.{answer, told, wants}
-use Rattle.camac_response_times.proofs.Calls.{found_some}
+use Rattle.camac_response_times.specs.Found.{answer, told}
+use Rattle.camac_response_times.proofs.Calls.{wants, found_some}
 use Rattle.camac_response_times.proofs.Rates.{responses_fit}
 
 pub no_stretch : (ts : List Source) (s : Source) → settle (stretch_wants ts s.bit) most_rounds 0 ≡ None → answer ts s ≡ None

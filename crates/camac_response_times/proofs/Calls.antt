@@ -7,7 +7,11 @@ use Rattle.camac_response_times.specs.declared.search.Settled.{Settled}
 use Rattle.camac_response_times.specs.declared.search.Wanted.{Wanted}
 use Rattle.camac_response_times.specs.Response.{called_within, calls_within, period, before, stretch_wants, start_wants}
 use Rattle.camac_response_times.specs.Rounds.{settle, greatest_wait, response_in, most_cycles}
-use Rattle.camac_response_times.specs.Found.{gathered, is_meant, wants, within}
+use Rattle.camac_response_times.specs.Found.{gathered, is_meant, within}
+
+-- what services want beside so much
+abbrev pub wants : (first bit : ℕ) → (own : Bool) → List Source → ℕ → ℕ
+wants first g own ts e = first + called_within (is_meant g own) e ts
 
 -- a number that does not stand still is put in again
 pub round_on : (w : ℕ → ℕ) (left e n : ℕ) → 1 ≤ left → Some n ≡ within (w e) → nat_eq n e ≡ false → settle w left e ≡ settle w (left - 1) n

@@ -19,9 +19,6 @@ FitRates cs = All (λ c. c.cycles ≤ c.rate) cs
 abbrev pub is_meant : (bit : ℕ) → (own : Bool) → Source → Bool
 is_meant g own t = if own then is_up_to g t else is_below g t
 
-abbrev pub wants : (first bit : ℕ) → (own : Bool) → List Source → ℕ → ℕ
-wants first g own ts e = first + called_within (is_meant g own) e ts
-
 -- the cycles of all calls within e cycles but the first ones
 abbrev pub repeated : ℕ → List Caller → ℕ
 repeated e [] = 0

@@ -5,7 +5,8 @@ use Rattle.camac_range.specs.Interval.{Interval, interval, only}
 use Rattle.camac_lang.specs.declared.word.WordSize.TheVariants.{Full}
 use Rattle.camac_lang.specs.Tree.{subtract, group, number, variable, no_data, into, from, plain, negated, flag_q, compare, Condition, Statement, single, put, choose, choose_else, locked, Script}
 use Rattle.camac_lang.specs.View.{block_of}
-use Rattle.camac_model.specs.Sample.{sample_plan, script, register, with_r, with_r_s, r, s, v, k}
+use Rattle.camac_model.specs.Sample.{sample_plan}
+use Rattle.camac_model.proofs.SampleScripts.{script, register, with_r, with_r_s, r, s, v, k}
 use Rattle.camac_rules.specs.declared.case.Case.TheVariants.{Budget, Crate, Locked, Unset, Width}
 use Rattle.camac_rules.specs.declared.case.Operator.TheVariants.{Sub}
 use Rattle.camac_rules.specs.Cases.{operation}

@@ -6,7 +6,8 @@ use Rattle.std.specs.Prelude.{◌++◌}
 use Rattle.camac_range.specs.declared.comparison.Cmp.TheVariants.{Less, More, AtLeast}
 use Rattle.camac_lang.specs.Tree.{Expression, add, subtract, remainder, group, number, variable, plain, negated, flag_q, compare, Part, no_data, into, Statement, assign, set_register, single, put, crate_call, choose, for_, while_, Script}
 use Rattle.camac_lang.specs.View.{block_of}
-use Rattle.camac_model.specs.Sample.{sample_plan, script, register, with_r, r, v, k, i}
+use Rattle.camac_model.specs.Sample.{sample_plan}
+use Rattle.camac_model.proofs.SampleScripts.{script, register, with_r, r, v, k, i}
 use Rattle.camac_range.specs.Interval.{interval}
 use Rattle.camac_rules.specs.declared.case.Case.TheVariants.{Annotation, Budget, Counted, Kept, Measure, NoModule, Turns, Unset, Word}
 use Rattle.camac_rules.specs.declared.case.Operator.TheVariants.{Add, Sub}

@@ -4,7 +4,8 @@ use Rattle.std.specs.Prelude.{codes}
 use Rattle.camac_lang.specs.declared.word.WordSize.TheVariants.{Full}
 use Rattle.camac_lang.specs.Tree.{subtract, add, number, variable, into, Procedure, Statement, assign, set_register, single, put, for_, locked, call, Script}
 use Rattle.camac_lang.specs.View.{block_of}
-use Rattle.camac_model.specs.Sample.{sample_plan, script_of, opening, register, with_r, r, v, i}
+use Rattle.camac_model.specs.Sample.{sample_plan}
+use Rattle.camac_model.proofs.SampleScripts.{script_of, opening, register, with_r, r, v, i}
 use Rattle.camac_range.specs.Interval.{interval}
 use Rattle.camac_rules.specs.declared.case.Case.TheVariants.{Malformed, Argument, Budget, NoCommand, Unset, Word}
 use Rattle.camac_rules.specs.declared.case.Operator.TheVariants.{Sub}

@@ -5,7 +5,8 @@ use Rattle.camac_lang.specs.declared.word.CrateCall.TheVariants.{Initialise, Cle
 use Rattle.camac_lang.specs.declared.word.LamCall as lam_word
 use Rattle.camac_lang.specs.declared.word.WordSize.TheVariants.{Full, Short}
 use Rattle.camac_lang.specs.Tree.{Text, Expression, add, subtract, multiply, divide, remainder, group, number, variable, no_data, into, from, Statement, assign, set_register, single, put, crate_call, lam_call, Script}
-use Rattle.camac_model.specs.Sample.{sample_plan, adc_lam, script, script_of, v, k}
+use Rattle.camac_model.specs.Sample.{sample_plan}
+use Rattle.camac_model.proofs.SampleScripts.{adc_lam, script, script_of, v, k}
 use Rattle.camac_range.specs.Interval.{interval}
 use Rattle.camac_rules.specs.declared.case.Case.TheVariants.{Budget, Crate, Direction, NoCommand, NoCrate, NoModule, Unset, Width, Word}
 use Rattle.camac_rules.specs.declared.case.Operator.TheVariants.{Add, Sub, Mul}

@@ -6,7 +6,8 @@ use Rattle.camac_lang.specs.Tree.{Expression, number, variable, subtract, plain,
 use Rattle.camac_lang.specs.View.{block_of}
 use Rattle.std.specs.Prelude.{codes}
 use Rattle.camac_model.specs.Fine.{Bounds}
-use Rattle.camac_model.specs.Sample.{sample_plan, script, script_of, opening, register, with_r, with_r_s, r, s, k, i, t}
+use Rattle.camac_model.specs.Sample.{sample_plan}
+use Rattle.camac_model.proofs.SampleScripts.{script, script_of, opening, register, with_r, with_r_s, r, s, k, i, t}
 use Rattle.camac_rules.specs.declared.case.Case.TheVariants.{Budget, Count, Counted, Crates, Direction, Measure, NoCommand, NoCrate, NoModule, Unset, Width}
 use Rattle.camac_rules.specs.declared.case.Operator.TheVariants.{Sub}
 use Rattle.camac_rules.specs.Cases.{operation}

@@ -30,29 +30,29 @@ begins_declaration word.Service = true
 begins_declaration _ = false
 
 -- in a procedure, too
-abbrev pub begins_statement : Keyword → Bool
-begins_statement word.Cdreg = true
-begins_statement word.Cfsa = true
-begins_statement word.Cssa = true
-begins_statement word.Cfmad = true
-begins_statement word.Cfubc = true
-begins_statement word.Cfubr = true
-begins_statement word.Put = true
-begins_statement word.Cccz = true
-begins_statement word.Cccc = true
-begins_statement word.Ctci = true
-begins_statement word.Ctcd = true
-begins_statement word.Ctgl = true
-begins_statement word.Ccci = true
-begins_statement word.Cccd = true
-begins_statement word.Cclm = true
-begins_statement word.Cclc = true
-begins_statement word.Ctlm = true
-begins_statement word.If = true
-begins_statement word.For = true
-begins_statement word.While = true
-begins_statement word.Call = true
-begins_statement _ = false
+abbrev pub begins_anywhere : Keyword → Bool
+begins_anywhere word.Cdreg = true
+begins_anywhere word.Cfsa = true
+begins_anywhere word.Cssa = true
+begins_anywhere word.Cfmad = true
+begins_anywhere word.Cfubc = true
+begins_anywhere word.Cfubr = true
+begins_anywhere word.Put = true
+begins_anywhere word.Cccz = true
+begins_anywhere word.Cccc = true
+begins_anywhere word.Ctci = true
+begins_anywhere word.Ctcd = true
+begins_anywhere word.Ctgl = true
+begins_anywhere word.Ccci = true
+begins_anywhere word.Cccd = true
+begins_anywhere word.Cclm = true
+begins_anywhere word.Cclc = true
+begins_anywhere word.Ctlm = true
+begins_anywhere word.If = true
+begins_anywhere word.For = true
+begins_anywhere word.While = true
+begins_anywhere word.Call = true
+begins_anywhere _ = false
 
 abbrev pub is_flag : Keyword → Bool
 is_flag word.Q = true
@@ -95,7 +95,7 @@ takes (choice.Mark s) at = is_sign s at
 takes choice.Name at = is_name at
 takes choice.Number at = is_number at
 takes choice.Declaration at = is_word_that begins_declaration at
-takes choice.Statement at = is_word_that begins_statement at
+takes choice.Statement at = is_word_that begins_anywhere at
 takes choice.Flag at = is_word_that is_flag at
 takes choice.Switch at = is_word_that is_switch at
 takes choice.Arrow at = is_sign_that is_arrow at
@@ -109,7 +109,7 @@ takes choice.Comparison at = is_sign_that compares at
 abbrev pub group_of_word : Keyword → Choice
 group_of_word w =
     if begins_declaration w then choice.Declaration
-    else (if begins_statement w then choice.Statement
+    else (if begins_anywhere w then choice.Statement
     else (if is_flag w then choice.Flag
     else (if is_switch w then choice.Switch else choice.Word w)))
 

@@ -16,10 +16,10 @@ use Rattle.camac_tokens.specs.declared.fault.Limit.TheVariants.{NameBytes}
 use Rattle.camac_tokens.specs.declared.fault.TextCase.TheVariants as told
 use Rattle.camac_tokens.specs.Fault.{Fault}
 use Rattle.camac_tokens.specs.Words.{keyword}
-use Rattle.camac_tokens.specs.Scanning.{is_name_byte, is_blank, decimal_value, keyword_or, pair_at, single_at, pair_or_single, start_of, size, added, wrong, line_number, line_after, tokens_by, tokens_from, tokens_of}
+use Rattle.camac_tokens.specs.Scanning.{is_name_byte, is_blank, decimal_value, keyword_or, pair_at, single_at, pair_or_single, start_of, wrong, line_number, line_after, tokens_by, tokens_from, tokens_of}
+use Rattle.camac_tokens.proofs.Scans.{size, added, line_feeds, feeds-cons, take_run, name_begins, sized_start, with_all, start_step, wrong_is}
 use Rattle.camac_tokens.specs.Cut.{begins, IsRun, IsWord, Piece, IsPiece, joined}
 use Rattle.camac_tokens.specs.Broken.{StandBefore, HasOtherByte, Breaks, TokenFaultsStand}
-use Rattle.camac_tokens.proofs.Scans.{line_feeds, feeds-cons, take_run, name_begins, sized_start, with_all, start_step, wrong_is}
 use Rattle.camac_tokens.proofs.Cuts.{run_is, Stands, start_stands, kind_at, piece_of}
 use Rattle.camac_tokens.proofs.Uncut.{no_letter, digit_high, start_at, piece_starts, piece_step, good_for}
 

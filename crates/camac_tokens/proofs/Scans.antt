@@ -14,8 +14,18 @@ use Rattle.camac_tokens.specs.declared.fault.Limit.TheVariants.{NameBytes}
 use Rattle.camac_tokens.specs.declared.fault.TextCase.{TextCase}
 use Rattle.camac_tokens.specs.declared.fault.TextCase.TheVariants as told
 use Rattle.camac_tokens.specs.Fault.{Fault}
-use Rattle.camac_tokens.specs.Scanning.{is_name_byte, is_blank, is_no_line_feed, keyword_or, number_or_fault, pair_at, single_at, pair_or_single, start_of, size, added, wrong, decimal_value, tokens_from, tokens_by, with_first, line_after, line_number}
+use Rattle.camac_tokens.specs.Scanning.{is_name_byte, is_blank, is_no_line_feed, keyword_or, number_or_fault, pair_at, single_at, pair_or_single, start_of, wrong, decimal_value, tokens_from, tokens_by, with_first, line_after, line_number}
 use Rattle.camac_tokens.specs.Words.{keyword}
+
+-- the bytes that a start takes, and the token that it adds
+abbrev pub size : Start → ℕ
+size (start.Gap n) = n
+size (start.Found k n) = n
+size (start.Wrong case) = 0
+
+abbrev pub added : Start → ℕ → ℕ → List Token
+added (start.Found k n) line left = record { kind = k; line = line; left = left } ∷ []
+added _ line left = []
 
 -- ---- the bytes at the start that pass a test
 

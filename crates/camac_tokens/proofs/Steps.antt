@@ -9,9 +9,9 @@ use Rattle.camac_tokens.specs.Start.{Start}
 use Rattle.camac_tokens.specs.Start as start
 use Rattle.camac_tokens.specs.declared.fault.TextCase.{TextCase}
 use Rattle.camac_tokens.specs.Fault.{Fault}
-use Rattle.camac_tokens.specs.Scanning.{is_blank, is_no_line_feed, start_of, size, wrong, with_first, tokens_by, tokens_from, line_after, line_number, tokens_of, last_line}
+use Rattle.camac_tokens.specs.Scanning.{is_blank, is_no_line_feed, start_of, wrong, with_first, tokens_by, tokens_from, line_after, line_number, tokens_of, last_line}
+use Rattle.camac_tokens.proofs.Scans.{size, line_feeds, feeds-cons, lines_step, take_run, run_some, skip, with_all, none_all, start_step, sized_start, wrong_is}
 use Rattle.camac_tokens.specs.Left.{before_by, tokens_before, end_by, end_from, Ahead, ahead_from, ahead_of, with_next, IsStop, IsPastGaps, BeginsNoGap, IsPut}
-use Rattle.camac_tokens.proofs.Scans.{line_feeds, feeds-cons, lines_step, take_run, run_some, skip, with_all, none_all, start_step, sized_start, wrong_is}
 use Rattle.camac_tokens.proofs.OneLine.{run_feeds, OnOneLine, start_on_one_line, feeds_behind}
 
 on : {A : Type 0} (t : Bool) (x y : A) → t ≡ true → cond t x y ≡ x

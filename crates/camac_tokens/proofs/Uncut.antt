@@ -21,9 +21,9 @@ use Rattle.camac_tokens.specs.declared.fault.TextFault.{TextFault}
 use Rattle.camac_tokens.specs.declared.fault.TextFault.TheVariants as fault
 use Rattle.camac_tokens.specs.Fault.{Fault, AnswersList}
 use Rattle.camac_tokens.specs.Words.{Spelling, spelled_in, keyword, pair_signs, single_signs}
-use Rattle.camac_tokens.specs.Scanning.{is_name_byte, is_blank, is_no_line_feed, decimal_value, keyword_or, number_or_fault, pair_at, pair_or_single, start_of, size, added, wrong, line_number, tokens_from, tokens_of}
+use Rattle.camac_tokens.specs.Scanning.{is_name_byte, is_blank, is_no_line_feed, decimal_value, keyword_or, number_or_fault, pair_at, pair_or_single, start_of, wrong, line_number, tokens_from, tokens_of}
+use Rattle.camac_tokens.proofs.Scans.{size, added, line_feeds, with_all, start_step}
 use Rattle.camac_tokens.specs.Cut.{begins, IsRun, IsWord, IsName, IsKeyword, IsNumber, IsSign, IsGap, Piece, IsPiece, joined, token_at, tokens_in, ArePieces, IsCut, HasTokens}
-use Rattle.camac_tokens.proofs.Scans.{line_feeds, with_all, start_step}
 
 -- ---- bytes
 

@@ -66,16 +66,6 @@ start_of b bytes =
     else (if is_ascii_digit b then number_or_fault (take_while is_ascii_digit bytes)
     else pair_or_single (pair_at bytes) (single_at bytes))))
 
--- the bytes that it takes, the token that it adds, and what is wrong
-abbrev pub size : Start → ℕ
-size (start.Gap n) = n
-size (start.Found k n) = n
-size (start.Wrong case) = 0
-
-abbrev pub added : Start → ℕ → ℕ → List Token
-added (start.Found k n) line left = record { kind = k; line = line; left = left } ∷ []
-added _ line left = []
-
 abbrev pub wrong : Start → Option TextCase
 wrong (start.Wrong case) = Some case
 wrong _ = None

@@ -157,7 +157,9 @@ rule and the line (status 1):
   E  the most cycles from its look-at-me until it has ended
   L  within this many cycles all look-at-mes up to its bit are answered
 A dash: there is no such number. With --within the line has 'end E of W', and the
-status is 1 if E is above W, or a dash. At most one of the two files can be @in.
+status is 1 if E is above W, or a dash. It is 1, too, if lines 'unkept NAME line L:'
+say that the script leaves a look-at-me up, clears or hides it: there are no numbers
+from the bit of NAME on. At most one of the two files can be @in.
 
 Examples:
   camac response plan.toml readout.script

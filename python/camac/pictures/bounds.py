@@ -1,8 +1,8 @@
 """The picture of the bounds of a script: of each service what it may take, of its heading's numbers, and what a run showed."""
-from typing import Mapping, Optional, Sequence, Tuple
+from typing import Optional, Sequence, Tuple
 
 from camac.pictures.svg import Canvas, count, cut
-from camac.runs import Run, Seen, SeenOfBit
+from camac.runs import Run, Seen
 from camac.values import Service
 
 # Of cycles and of words: where the bar begins, and how wide it is.
@@ -11,16 +11,10 @@ CYCLES, WORDS = (160, 210), (580, 150)
 
 def draw_bounds(services: Sequence[Service], run: Optional[Run] = None) -> Canvas:
     """Draws a row for each service: a bar of cycles and a bar of words, and below them what was seen in a run."""
-    return draw_seen(services, run.seen if run else None, run is None or run.has_cycles)
-
-
-def draw_seen(services: Sequence[Service], seen: Optional[Mapping[int, SeenOfBit]], has_cycles: bool = True) -> Canvas:
-    """Draws the same of what was seen, by bit; None if there is no run."""
     canvas = Canvas("The bounds of the script: at most, of annotated")
     canvas.text(CYCLES[0], 14, "cycles: at most, of annotated", "mute s11")
     canvas.text(WORDS[0], 14, "words: at most, of annotated", "mute s11")
-    has_run, seen = seen is not None, seen or {}
-    y = 22
+    seen, y = run.seen if run else {}, 22
     if not services:
         canvas.text(0, y + 14, "The script has no service.", "mute")
         y += 24
@@ -28,9 +22,9 @@ def draw_seen(services: Sequence[Service], seen: Optional[Mapping[int, SeenOfBit
         canvas.text(0, y + 14, f"GL {it.gl}", "mute s11")
         canvas.text(44, y + 14, cut(it.name, 14), "b")
         here = seen.get(it.gl)
-        _draw_bar(canvas, y, CYCLES, "ours", (it.cycles, it.annotated_cycles), here.cycles if here and has_cycles else None)
+        _draw_bar(canvas, y, CYCLES, "ours", (it.cycles, it.annotated_cycles), here.cycles if run and here and run.has_cycles else None)
         _draw_bar(canvas, y, WORDS, "control", (it.words, it.annotated_words), here.words if here else None)
-        y += 32 if has_run else 24
+        y += 32 if run else 24
     if any(it.cycles < it.annotated_cycles or it.words < it.annotated_words for it in services):
         canvas.text(0, y + 12, "A heading promises more than is needed: `camac bounds` prints the least ones.", "mute s11")
         y += 16

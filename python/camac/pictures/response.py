@@ -52,7 +52,8 @@ def _draw_bar(canvas: Canvas, at: Tuple[float, float], of: Response, responses: 
     y, below = at
     if of.end is None:
         canvas.rect((LEFT + 0.5, y + 2.5, WIDE, 15), "l-mute dash")
-        canvas.text(LEFT + 8, y + 14, NO_NUMBER, "s11")
+        unkept = next((f"no number: {it.text()}" for its in responses if its.gl <= of.gl for it in its.unkept), NO_NUMBER)
+        canvas.text(LEFT + 8, y + 14, cut(unkept, SUM), "s11")
         return
     x, pieces = float(LEFT), pieces_of(of, responses)
     for it in pieces:

@@ -1,33 +1,39 @@
 """Small spectra beside each other: cycles and words of events, the words of each command, and the columns of event words.
 
 The panels of a group have one axis. Each is a picture of its own, so that a page can set as many beside each other as it has room for."""
+import itertools
 import math
 from typing import Dict, List, Mapping, NamedTuple, Optional, Sequence, Tuple, Union
 
 from camac.functions import writes
 from camac.histograms import Bins, Series, Spectrum
+from camac.numbers import ends
 from camac.pictures.svg import WIDTH, Canvas, count, cut, number, ticks
-from camac.runs import Channel, Run, by_bit
+from camac.runs import Channel, Over, Run, by_bit
 from camac.values import Plan, Service
 
 ACROSS, GAP = 4, 16
 PANEL = (WIDTH - GAP * (ACROSS - 1)) / ACROSS
-LEFT, WIDE, TOP, HIGH, ROW = 38, PANEL - 52, 46, 80, 164
+LEFT, RIGHT, TOP, HIGH, ROW = 44, 14, 46, 80, 164
 FOOT = TOP + HIGH
 MOST = 96
 # The most bins that are drawn in a panel.
 BINS = 128
+# The most bins of a panel in a page, where it can be zoomed.
+FINE = 1 << 14
 # The most characters in a title.
 TITLE = 32
 # On a logarithmic axis the foot is at this count, so that a count of one is seen.
 LEAST = 0.5
-LINEAR, LOGARITHMIC, BOTH = "lin", "log", "both"
+# In a page both axes are drawn, and the numbers are there by which a reader zooms.
+LINEAR, LOGARITHMIC, BOTH, ZOOMED = "lin", "log", "both", "zoomed"
 Number = Union[int, float]
 
 
 class Shown(NamedTuple):
     """What is drawn in a panel: its title in two parts of which the first may be cut, the spectrum, its colour, what it counts, a bound where
-    it has one, what a number means as scale, offset and unit, and the line over the run that is drawn in its place."""
+    it has one, what a number means as scale, offset and unit, the line over the run that is drawn in its place, and the spectrum of another run with what
+    its counts are multiplied by."""
 
     of: str
     what: str
@@ -37,6 +43,7 @@ class Shown(NamedTuple):
     bound: Optional[int] = None
     meaning: Tuple[Number, Number, str] = (1, 0, "")
     series: Optional[Series] = None
+    over: Optional[Tuple[Spectrum, float]] = None
 
     def value(self, number: Number) -> Number:
         scale, offset, _ = self.meaning
@@ -85,7 +92,7 @@ def seen_groups(cycles: Mapping[int, Spectrum], words: Mapping[int, Spectrum], s
 def _of_bits(bits: Sequence[int], values: Sequence[int], bounds: Dict[int, int]) -> Dict[int, Spectrum]:
     """By bit the spectrum of the values of its services, on an axis that holds the greatest bound and the greatest value."""
     found = {gl: its for gl, (its,) in by_bit(bits, values) if gl in bounds}
-    end = max([*bounds.values(), *(max(it) for it in found.values())], default=0) + 1
+    end = max([*bounds.values(), *(ends(it)[1] for it in found.values())], default=0) + 1
     spectra = {gl: Spectrum(end) for gl in bounds}
     for gl, its in found.items():
         spectra[gl].add_all(its)
@@ -105,17 +112,24 @@ def command_groups(run: Run, plan: Plan, scale: str = LINEAR) -> List[Group]:
     return _grouped(shown, scale)
 
 
-def channel_groups(channels: Sequence[Channel], scale: str = LINEAR, view: View = View()) -> List[Group]:
-    """For each column of event words its numbers, or of a scaler a line over the run."""
-    shown = []
-    for it in channels:
-        its = it.column.field
-        meaning = its.scale, its.offset, its.unit
-        shown.append(Shown(it.column.name, "", it.spectrum, "ours", "words", meaning=meaning, series=it.series))
-    return _grouped(shown, scale, view)
+def channel_groups(channels: Sequence[Channel], scale: str = LINEAR, view: View = View(), over: Optional[Over] = None) -> List[Group]:
+    """For each column of event words its numbers, with those of another run as a line over them; or of a scaler a line over the run."""
+    shown = [of_channel(it, it.series) for it in channels]
+    if over is None:
+        return _grouped(shown, scale, view)
+    for at, it in enumerate(channels):
+        if it.column in over.channels:
+            shown[at] = shown[at]._replace(over=(over.channels[it.column].spectrum, over.factors.get(it.column.field.gl, 0.0)))
+    return _grouped(shown, scale, view, f"; the line: {over.name}, {over.why}")
 
 
-def _grouped(shown: Sequence[Shown], scale: str, view: View = View()) -> List[Group]:
+def of_channel(it: Channel, series: Optional[Series] = None) -> Shown:
+    """The spectrum of a channel, or a line in its place."""
+    its = it.column.field
+    return Shown(it.column.name, "", it.spectrum, "ours", "words", meaning=(its.scale, its.offset, its.unit), series=series)
+
+
+def _grouped(shown: Sequence[Shown], scale: str, view: View = View(), of_line: str = "") -> List[Group]:
     """The panels by their axes: those of one width are beside each other, lines over the run last."""
     groups: Dict[Tuple[bool, int], List[Shown]] = {}
     for it in shown[:MOST]:
@@ -123,7 +137,7 @@ def _grouped(shown: Sequence[Shown], scale: str, view: View = View()) -> List[Gr
     made = []
     for (is_line, end), its in sorted(groups.items(), key=lambda group: group[0][0]):
         last = end - 1 if view.last is None else min(view.last, end - 1)
-        title = "Over the run" if is_line else f"{min(view.low, last):,} to {last:,}"
+        title = "Over the run" if is_line else f"{min(view.low, last):,} to {last:,}{of_line}"
         made.append(Group(title, [draw_panel(it, scale, view) for it in its]))
     if len(shown) > MOST:
         made[-1] = made[-1]._replace(title=f"{made[-1].title} ({len(shown) - MOST:,} more are not drawn)")
@@ -147,9 +161,9 @@ def draw_groups(title: str, groups: Sequence[Group]) -> Canvas:
     return canvas
 
 
-def draw_panel(it: Shown, scale: str = LINEAR, view: View = View()) -> Canvas:
+def draw_panel(it: Shown, scale: str = LINEAR, view: View = View(), width: float = PANEL) -> Canvas:
     """A panel: title, entries, mean, RMS and the place of the greatest bin, and the spectrum, or a line over the run."""
-    canvas = Canvas(it.of + it.what, PANEL)
+    canvas = Canvas(it.of + it.what, width)
     canvas.text(0, 11, cut(it.of, TITLE - len(it.what)) + it.what, "s11 b")
     canvas.grow(ROW - 8)
     if not it.spectrum.count:
@@ -164,17 +178,32 @@ def draw_panel(it: Shown, scale: str = LINEAR, view: View = View()) -> Canvas:
     peak = it.spectrum.peak()
     canvas.text(0, 36, f"mean {_decimal(mean)}, RMS {_decimal(rms)}" + ("" if peak is None else f", peak at {short(it.value(peak))}"), "mute s10")
     bins = view.bins(it.spectrum)
+    over = _laid_over(it, bins)
+    canvas.parts.append('<g class="axis">')
     _draw_axis(canvas, it, bins)
-    for one in (LINEAR, LOGARITHMIC) if scale == BOTH else (scale,):
+    canvas.parts.append("</g>")
+    for one in (LINEAR, LOGARITHMIC) if scale in (BOTH, ZOOMED) else (scale,):
         canvas.parts.append(f'<g class="{one}">')
-        _draw_counts(canvas, it, bins, one == LOGARITHMIC)
+        _draw_counts(canvas, it, bins.counts, over, one == LOGARITHMIC)
         canvas.parts.append("</g>")
     if it.bound is not None:
-        x = LEFT + WIDE * (it.bound + 0.5) / _length(bins)
+        x = LEFT + _wide(canvas) * (it.bound + 0.5) / _length(bins)
         canvas.line((x, TOP), (x, FOOT), "l-ink dash")
-        canvas.text(PANEL, 24, f"bound {it.bound:,}", "s10 r")
-    _draw_hit(canvas, it, bins)
+        canvas.text(width, 24, f"bound {it.bound:,}", "s10 r")
+    if it.meaning[2]:
+        canvas.text(width, FOOT + 26, cut(it.meaning[2], 24), "mute s10 r")
+    _draw_hit(canvas, it, bins, scale == ZOOMED)
     return canvas
+
+
+def _laid_over(it: Shown, bins: Bins) -> List[float]:
+    """The counts of another run in these bins, multiplied as it says; nothing if there is none."""
+    if it.over is None:
+        return []
+    spectrum, factor = it.over
+    # An axis without an end may have bins of another width: they are as high as these.
+    its = spectrum.bins(bins.first, bins.first + _length(bins), len(bins.counts))
+    return [factor * its.counts[at * bins.width // its.width] * bins.width / its.width for at in range(len(bins.counts))]
 
 
 def count_of(entries: int, counts: str) -> str:
@@ -201,38 +230,45 @@ def _length(bins: Bins) -> int:
     return bins.width * len(bins.counts)
 
 
+def _wide(canvas: Canvas) -> float:
+    return canvas.width - LEFT - RIGHT
+
+
 def _draw_axis(canvas: Canvas, it: Shown, bins: Bins) -> None:
     """The axis of numbers, with five ticks where it is cut into quarters."""
     end = _length(bins)
     places = [end * quarter // 4 for quarter in range(5)] if end >= 4 and it.bound is None else ticks(end, 4)
-    canvas.line((LEFT, FOOT + 0.5), (LEFT + WIDE, FOOT + 0.5), "l-mute thin")
+    canvas.line((LEFT, FOOT + 0.5), (LEFT + _wide(canvas), FOOT + 0.5), "l-mute thin")
     for place in places:
-        x = LEFT + WIDE * place / end
+        x = LEFT + _wide(canvas) * place / end
         canvas.line((x, FOOT), (x, FOOT + 4), "l-mute thin")
         _draw_number(canvas, x, short(it.value(bins.first + place)), place == end)
-    if it.meaning[2]:
-        canvas.text(PANEL, FOOT + 26, cut(it.meaning[2], 24), "mute s10 r")
 
 
 def _draw_number(canvas: Canvas, x: float, text: str, is_last: bool) -> None:
     """The number at a tick; that of the last one ends with the panel."""
-    canvas.text(PANEL if is_last else x, FOOT + 14, text, "mute s10" + (" r" if is_last else " m"))
+    canvas.text(canvas.width if is_last else x, FOOT + 14, text, "mute s10" + (" r" if is_last else " m"))
 
 
-def _draw_counts(canvas: Canvas, it: Shown, bins: Bins, is_log: bool) -> None:
-    """The outline of the counts, closed at its foot, and their axis."""
-    peak = max(max(bins.counts), 1)
+def _draw_counts(canvas: Canvas, it: Shown, counts: Sequence[int], over: Sequence[float], is_log: bool) -> None:
+    """The outline of the counts, closed at its foot, with that of another run over it, and their axis."""
+    peak = max([*counts, *(math.ceil(it) for it in over), 1])
 
     def high(entries: float) -> float:
-        return HIGH * (math.log(entries / LEAST) / math.log(peak / LEAST) if entries else 0) if is_log else HIGH * entries / peak
+        part = math.log(max(entries / LEAST, 1)) / math.log(peak / LEAST) if is_log else entries / peak
+        return HIGH * part
 
-    each = WIDE / len(bins.counts)
-    parts, level = [f"M{number(LEFT)} {FOOT}"], 0.0
-    for at, entries in enumerate(bins.counts):
-        if (up := high(entries)) != level:
-            parts.append(f"H{number(LEFT + at * each)}V{number(FOOT - up)}")
-            level = up
-    canvas.path([*parts, f"H{number(LEFT + WIDE)}V{FOOT}z"], it.kind)
+    def outline(levels: Sequence[float]) -> List[str]:
+        each, parts, level = _wide(canvas) / len(levels), [f"M{number(LEFT)} {FOOT}"], 0.0
+        for at, entries in enumerate(levels):
+            if (up := high(entries)) != level:
+                parts.append(f"H{number(LEFT + at * each)}V{number(FOOT - up)}")
+                level = up
+        return [*parts, f"H{number(LEFT + _wide(canvas))}V{FOOT}"]
+
+    canvas.path([*outline(counts), "z"], it.kind)
+    if over:
+        canvas.path(outline(over), "l-waits")
     powers = [10**power for power in range(len(str(peak)) - (0 if str(peak) != "1" else 1))] if is_log else [0]
     labels = [(value, short(value)) for value in powers if peak > 1.8 * value] + [(peak, short(peak))]
     for value, text in labels:
@@ -240,7 +276,13 @@ def _draw_counts(canvas: Canvas, it: Shown, bins: Bins, is_log: bool) -> None:
         canvas.line((LEFT - 3, FOOT - high(value)), (LEFT, FOOT - high(value)), "l-mute thin")
 
 
-def _draw_hit(canvas: Canvas, it: Shown, bins: Bins) -> None:
+def _packed(counts: Sequence[float]) -> str:
+    """Numbers as a page has them: so many zeros as one number below 0."""
+    its = ((is_zero, [*some]) for is_zero, some in itertools.groupby(counts, lambda it: not it))
+    return " ".join(str(-len(some)) if is_zero else " ".join(f"{it:.6g}" if isinstance(it, float) else str(it) for it in some) for is_zero, some in its)
+
+
+def _draw_hit(canvas: Canvas, it: Shown, bins: Bins, can_zoom: bool) -> None:
     tip = f"{it.of}{it.what}: {count_of(it.spectrum.count, it.counts)}, integral {it.spectrum.integral():,}, overflow {it.spectrum.overflow:,}\n"
     least, most = (it.value(value or 0) for value in (it.spectrum.least, it.spectrum.greatest))
     tip += f"least {least:,}, mean {it.value(it.spectrum.mean()):,.1f}, RMS {abs(it.meaning[0]) * it.spectrum.rms():,.1f}, most {most:,}; bins of {bins.width:,}"
@@ -248,7 +290,12 @@ def _draw_hit(canvas: Canvas, it: Shown, bins: Bins) -> None:
     data = f' data-first="{bins.first}" data-width="{bins.width}" data-counts="{" ".join(map(str, bins.counts))}"'
     if (scale, offset) != (1, 0):
         data += f' data-scale="{scale}" data-offset="{offset}"'
-    canvas.hit((LEFT, TOP, WIDE, HIGH), f"{tip} {unit}".rstrip(), data)
+    fine = it.spectrum.bins(bins.first, bins.first + _length(bins), FINE)
+    if can_zoom and (fine.width < bins.width or it.over):
+        data += f' data-each="{fine.width}" data-fine="{_packed(fine.counts)}"'
+        if it.over:
+            data += f' data-line="{" ".join(f"{one:.4g}" for one in _laid_over(it, bins))}" data-over="{_packed(_laid_over(it, fine))}"'
+    canvas.hit((LEFT, TOP, _wide(canvas), HIGH), f"{tip} {unit}".rstrip(), data)
 
 
 def _draw_line(canvas: Canvas, it: Shown, series: Series) -> None:
@@ -263,17 +310,17 @@ def _draw_line(canvas: Canvas, it: Shown, series: Series) -> None:
     canvas.text(0, 36, mean if series.is_counter else f"{mean}, RMS {_decimal(scale * it.spectrum.rms())}{unit}", "mute s10")
     top, low, columns = max([*means.values(), 0]), min([*means.values(), 0]), max(max(means), 1) + 1
     each = HIGH / (top - low) if top > low else 0
-    step = WIDE / columns
+    step = _wide(canvas) / columns
     places = [(LEFT + (at + 0.5) * step, FOOT - each * (value - low)) for at, value in means.items()]
     canvas.path("M" + "L".join(f"{number(x)} {number(y)}" for x, y in places), f"l-{it.kind}")
     if len(places) == 1:
         canvas.rect((places[0][0] - 1.5, places[0][1] - 1.5, 3, 3), it.kind)
-    canvas.line((LEFT, FOOT + 0.5), (LEFT + WIDE, FOOT + 0.5), "l-mute thin")
+    canvas.line((LEFT, FOOT + 0.5), (LEFT + _wide(canvas), FOOT + 0.5), "l-mute thin")
     for value in sorted({0.0, low, top}):
         canvas.text(LEFT - 5, FOOT - each * (value - low) + 4, short(round(value, 1)), "mute s10 r")
     last = columns * series.per
     for place in ticks(last, 4):
-        _draw_number(canvas, LEFT + WIDE * place / last, short(place), place == last)
-    canvas.text(PANEL, FOOT + 26, "service of the run", "mute s10 r")
+        _draw_number(canvas, LEFT + _wide(canvas) * place / last, short(place), place == last)
+    canvas.text(canvas.width, FOOT + 26, "service of the run", "mute s10 r")
     tip = f"{it.of}: {count_of(it.spectrum.count, it.counts)}, {what}; least {it.spectrum.least:,}, most {it.spectrum.greatest:,}"
-    canvas.hit((LEFT, TOP, WIDE, HIGH), f"{tip}\neach point: the mean of {count(series.per, 'service')} of the run, one after another")
+    canvas.hit((LEFT, TOP, _wide(canvas), HIGH), f"{tip}\neach point: the mean of {count(series.per, 'service')} of the run, one after another")

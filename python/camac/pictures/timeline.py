@@ -1,6 +1,7 @@
 """The picture of a run: a panel for each service over the number of the service in the run, with cycles, bounds, Q = 0 and X = 0."""
 from typing import Dict, List, NamedTuple, Sequence, Tuple
 
+from camac.numbers import ends, total, whole
 from camac.pictures.svg import BOLD_12, LEVELS, WIDTH, Canvas, count, number, ticks
 from camac.runs import Run, by_bit
 from camac.values import Service
@@ -92,11 +93,11 @@ def draw_run(run: Run, services: Sequence[Service]) -> Canvas:
 def _gather(run: Run, axis: Axis) -> Dict[int, Dict[int, Column]]:
     """By bit and by column, what the services took."""
     gathered: Dict[int, Dict[int, Column]] = {}
-    numbers = (run.gl, run.cycles, run.waits, run.no_q, run.no_x, run.locked)
+    numbers = [*map(whole, (run.gl, run.cycles, run.waits, run.no_q, run.no_x, run.locked))]
     for at, start in enumerate(range(0, len(run.gl), axis.per)):
         for gl, (cycles, *others) in by_bit(*(it[start : start + axis.per] for it in numbers)):
-            waits, no_q, no_x, locked = [sum(it) for it in others]
-            gathered.setdefault(gl, {})[at] = Column(len(cycles), sum(cycles), waits, max(cycles), no_q, no_x, locked)
+            waits, no_q, no_x, locked = map(total, others)
+            gathered.setdefault(gl, {})[at] = Column(len(cycles), total(cycles), waits, ends(cycles)[1], no_q, no_x, locked)
     return gathered
 
 

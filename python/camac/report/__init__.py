@@ -2,7 +2,7 @@
 import hashlib
 from typing import List, Mapping, NamedTuple, Optional
 
-from camac.columns import Naming, ask, compare_record
+from camac.columns import Naming, gather
 from camac.drive import File, Refused
 from camac.program import knows_command
 from camac.proof import told
@@ -10,7 +10,7 @@ from camac.report import sections
 from camac.report.page import page
 from camac.report.refused import refused_page
 from camac.fits import Check
-from camac.runs import Inputs, collect
+from camac.runs import Inputs
 from camac.subcommands import check, costs, plan as read_plan, response
 from camac.surveys.summary import read_summary
 from camac.texts import plan_text, source_lines
@@ -43,10 +43,9 @@ def report(
         plan = read_plan(inputs.plan, program)
         services = check(inputs.plan, inputs.script, program)
         responses = response(inputs.plan, inputs.script, every, program) if knows_command("response", program) else None
-        run = collect(inputs, plan, services, program, responses or (), ask(naming, inputs, plan, services))
+        run = gather(inputs, plan, services, program, responses or (), naming)
     except Refused as refusal:
         return Report(refused_page(inputs, str(refusal), program), 1)
-    run.checks += compare_record(inputs)
     bodies = costs(inputs.plan, inputs.script, program) if knows_command("costs", program) else None
     if bodies is not None:
         run.checks.append(_shares_check(bodies))

@@ -27,6 +27,7 @@ a{{color:var(--ours)}}
 .figure{{overflow-x:auto;margin:8px 0 14px}}
 .figure svg{{display:block;max-width:100%;height:auto}}
 .figure.full svg{{max-width:none}}
+@media screen and (max-width:720px){{.figure svg{{max-width:none;width:720px}}}}
 .panels svg{{display:inline-block;margin:0 12px 10px 0;vertical-align:top;max-width:100%}}
 svg .log,.logarithmic svg .lin{{display:none}}
 .logarithmic svg .log{{display:inline}}
@@ -52,14 +53,19 @@ pre{{overflow-x:auto}}
 .checks td{{white-space:normal}}
 nav a{{margin-right:14px;display:inline-block}}
 #tip{{position:fixed;pointer-events:none;background:var(--ink);color:var(--ground);font-size:12px;padding:3px 7px;display:none;z-index:9}}
-.theme,.scale{{float:right;margin:22px 0 0 8px;background:var(--face);color:var(--ink);border:1px solid var(--grid);padding:4px 10px;cursor:pointer}}
+.theme,.scale,.whole{{background:var(--face);color:var(--ink);border:1px solid var(--grid);padding:4px 10px;cursor:pointer}}
+.theme,.scale{{float:right;margin:22px 0 0 8px}}
+.whole{{position:fixed;right:16px;bottom:16px}}
+svg.zoom>g:not(.zoomed),svg.zoom>.dash{{display:none}}
+rect[data-counts]{{cursor:crosshair}}
 @page{{size:A4;margin:14mm}}
 @media print{{
 body{{font-size:11pt}}
 main,header{{padding:0}}
-.theme,.scale,nav{{display:none}}
+.theme,.scale,.whole,.hint,nav{{display:none}}
 thead th{{position:static}}
 h2,h3,h4,p,summary{{break-after:avoid}}
+.figure+p,.wrap+p{{break-before:avoid;break-after:auto}}
 .wrap{{max-height:none;overflow:visible;border:0}}
 .wrap table{{font-size:8pt}}
 .wrap th,.wrap td{{padding:2px 4px}}
@@ -75,16 +81,19 @@ pre{{white-space:pre-wrap}}
 # What both pages have: the bin below the pointer, a picture in full size, counts on a logarithmic axis, and the theme.
 SCRIPT = """
 var commas=function(n){return String(n).replace(/\\B(?=(\\d{3})+$)/g,',')};
+var meaning=function(r){var scale=+(r.dataset.scale||1),offset=+(r.dataset.offset||0);
+return function(n){var v=+(n*scale+offset).toPrecision(6);return Number.isInteger(v)?commas(v):v}};
 var root=document.documentElement,tip=document.getElementById('tip');
+var below=function(e){return e.target.closest&&e.target.closest('rect[data-counts]')};
 document.addEventListener('mousemove',function(e){
-var r=e.target.closest&&e.target.closest('rect[data-counts]');
+var r=below(e);
 if(!r){tip.style.display='none';return}
 var counts=r.dataset.counts.split(' ').map(Number),first=+r.dataset.first,width=+r.dataset.width;
-var scale=+(r.dataset.scale||1),offset=+(r.dataset.offset||0),means=function(n){var v=+(n*scale+offset).toPrecision(6);return Number.isInteger(v)?commas(v):v};
+var means=meaning(r),line=r.dataset.line;
 var b=r.getBoundingClientRect(),k=Math.floor((e.clientX-b.left)/b.width*counts.length);
 if(k<0||k>=counts.length){tip.style.display='none';return}
 var from=first+k*width,range=width>1?means(from)+' to '+means(from+width-1):means(from);
-tip.textContent=range+': '+commas(counts[k]);tip.style.display='block';
+tip.textContent=range+': '+commas(counts[k])+(line?'; line '+line.split(' ')[k]:'');tip.style.display='block';
 tip.style.left=Math.min(e.clientX+14,innerWidth-160)+'px';tip.style.top=e.clientY+14+'px'});
 document.addEventListener('click',function(e){
 var it=e.target.closest&&e.target.closest('.figure');
@@ -94,6 +103,54 @@ addEventListener('beforeprint',function(){document.querySelectorAll('details').f
 document.querySelector('.theme').onclick=function(){
 var theme=root.dataset.theme||(matchMedia('(prefers-color-scheme:dark)').matches?'dark':'light');
 root.dataset.theme=theme==='dark'?'light':'dark'};
+"""
+# A drag over a spectrum draws the numbers below it alone, in bins as fine as they are; a double click or the button draws all again.
+ZOOM = """
+var whole=document.createElement('button'),drag=null;
+whole.className='whole';whole.textContent='whole axes';whole.hidden=true;document.body.append(whole);
+var unpacked=function(text){var its=[];text.split(' ').forEach(function(it){var n=+it;if(n<0)while(n++<0)its.push(0);else its.push(n)});return its};
+var summed=function(its,per){var out=[];its.forEach(function(n,k){var at=Math.floor(k/per);out[at]=(out[at]||0)+n});return out};
+var make=function(kind,its,to){var made=document.createElementNS(to.namespaceURI,kind);for(var name in its)made.setAttribute(name,its[name]);return to.appendChild(made)};
+var label=function(to,x,y,kind,text){make('text',{x:x,y:y,class:'mute s10 '+kind},to).textContent=text};
+var box=function(r){return['x','y','width','height'].map(function(name){return+r.getAttribute(name)})};
+var part=function(r,e){var b=r.getBoundingClientRect();return Math.min(Math.max((e.clientX-b.left)/b.width,0),1)};
+var draw=function(r,counts,over){
+var svg=r.ownerSVGElement,b=box(r),x=b[0],w=b[2],h=b[3],foot=b[1]+h,g=make('g',{class:'zoomed'},svg),peak=Math.max.apply(null,counts.concat(over.map(Math.ceil),1));
+svg.insertBefore(g,r);svg.classList.add('zoom');
+['lin','log'].forEach(function(kind){
+var to=make('g',{class:kind},g),high=function(n){return h*(kind==='log'?Math.log(Math.max(2*n,1))/Math.log(2*peak):n/peak)},ticks=[peak];
+[[counts,svg.querySelector('.lin path').getAttribute('class'),'z'],[over,'l-waits','']].forEach(function(it){
+var way='M'+x+' '+foot;it[0].forEach(function(n,k){way+='H'+(x+k*w/it[0].length)+'V'+(foot-high(n))});
+if(it[0].length)make('path',{d:way+'H'+(x+w)+'V'+foot+it[2],class:it[1]},to)});
+if(kind==='log')for(var n=1;n*1.8<peak;n*=10)ticks.push(n);else ticks.push(0);
+ticks.forEach(function(n){label(to,x-5,foot-high(n)+4,'r',n<1e5?commas(n):(n/1e3).toPrecision(3)+'k')})});
+make('path',{d:'M'+x+' '+(foot+.5)+'h'+w,class:'l-mute thin'},g);
+for(var k=0;k<5;k++){make('path',{d:'M'+(x+k*w/4)+' '+foot+'v4',class:'l-mute thin'},g);
+label(g,k<4?x+k*w/4:svg.viewBox.baseVal.width,foot+14,k<4?'m':'r',meaning(r)(Math.round(+r.dataset.first+k*counts.length*r.dataset.width/4)))}};
+var zoom=function(r,from,to){
+var its=r.dataset;
+if(!r.all)r.all={first:+its.first,width:its.width,counts:its.counts,line:its.line,each:+(its.each||its.width),fine:unpacked(its.fine||its.counts),over:its.over?unpacked(its.over):[]};
+var all=r.all,shown=its.counts.split(' ').length*its.width,at=function(part){return(+its.first+part*shown-all.first)/all.each};
+var low=Math.floor(at(from)),size=Math.max(Math.ceil(at(to))-low,4),per=1;while(size/per>128)per*=2;
+size=Math.ceil(size/per)*per;low=Math.max(Math.min(low,all.fine.length-size),0);
+var counts=summed(all.fine.slice(low,low+size),per),over=summed(all.over.slice(low,low+size),per);
+reset(r);its.first=all.first+low*all.each;its.width=per*all.each;its.counts=counts.join(' ');
+if(over.length)its.line=over.map(function(n){return+n.toPrecision(4)}).join(' ');
+draw(r,counts,over);whole.hidden=false};
+var reset=function(r){
+var svg=r.ownerSVGElement,g=svg.querySelector('.zoomed');
+if(g){g.remove();svg.classList.remove('zoom');['first','width','counts','line'].forEach(function(it){if(r.all[it]!==undefined)r.dataset[it]=r.all[it]})}};
+document.addEventListener('pointerdown',function(e){
+var r=below(e);
+if(!r||e.button||e.pointerType==='touch')return;
+e.preventDefault();drag={r:r,from:part(r,e),mark:make('rect',{class:'waits k1',y:box(r)[1],width:0,height:box(r)[3]},r.ownerSVGElement)}});
+['pointermove','pointerup'].forEach(function(kind){document.addEventListener(kind,function(e){
+if(!drag)return;
+var its=drag,b=box(its.r),to=part(its.r,e),low=Math.min(its.from,to),wide=Math.abs(to-its.from);
+its.mark.setAttribute('x',b[0]+b[2]*low);its.mark.setAttribute('width',b[2]*wide);
+if(kind==='pointerup'){drag=null;its.mark.remove();if(wide>.02)zoom(its.r,low,low+wide)}})});
+document.addEventListener('dblclick',function(e){if(below(e))reset(below(e))});
+whole.onclick=function(){document.querySelectorAll('svg.zoom rect[data-counts]').forEach(reset);whole.hidden=true};
 """
 # Sorts a table by a column.
 SORT = """
@@ -129,9 +186,10 @@ class Cell(NamedTuple):
 Row = Sequence[object]
 
 
-def table(columns: Sequence[Column], rows: Sequence[Row]) -> str:
-    """A table that can be sorted by each column."""
-    heads = "".join(f'<th scope="col"{_kind(it)}><button>{escape(it.title)}</button></th>' for it in columns)
+def table(columns: Sequence[Column], rows: Sequence[Row], is_sorted: bool = True) -> str:
+    """A table, which can be sorted by each column."""
+    titles = (f"<button>{escape(it.title)}</button>" if is_sorted else escape(it.title) for it in columns)
+    heads = "".join(f'<th scope="col"{_kind(it)}>{title}</th>' for it, title in zip(columns, titles))
     lines = ("<tr>" + "".join(_cell(column, cell) for column, cell in zip(columns, row)) + "</tr>" for row in rows)
     return f'<div class="wrap"><table class="sort"><thead><tr>{heads}</tr></thead><tbody>{"".join(lines)}</tbody></table></div>'
 
@@ -172,7 +230,7 @@ def header(title: str, parts: Sequence[str] = ()) -> str:
     return f'<header><button class="theme">dark / light</button><button class="scale">log / linear</button><h1>{escape(title)}</h1>{"".join(parts)}</header>'
 
 
-def page(title: str, head: str, parts: Sequence[str], script: str = SORT, more: str = "") -> str:
+def page(title: str, head: str, parts: Sequence[str], script: str = SORT + ZOOM, more: str = "") -> str:
     """A page that runs no script but its own. It fetches nothing, but for what `more` of its policy allows."""
     whole = SCRIPT + script
     digest = base64.b64encode(hashlib.sha256(whole.encode()).digest()).decode()

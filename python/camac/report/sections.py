@@ -1,6 +1,5 @@
 """The parts of the page of a run, from its head to the checks."""
 import hashlib
-import heapq
 import os
 from typing import Dict, List, NamedTuple, Optional, Sequence, Tuple, Union
 
@@ -10,8 +9,9 @@ from camac.values import Body, Ending, Plan, Response, Service
 from camac.pictures import (
     channel_groups, command_groups, draw_bounds, draw_calls, draw_costs, draw_pairs, draw_places, draw_plan, draw_response, draw_run, draw_strip, event_groups,
 )
-from camac.pictures.regions import draw_regions, names_title
-from camac.pictures.spectra import BOTH
+from camac.pictures import regions
+from camac.pictures.spectra import BINS, ZOOMED, View
+from camac.numbers import greatest, total
 from camac.pictures.svg import count, escape, share
 from camac.report.page import Cell, Column, Row, figure, folded, header, panels, table
 from camac.runs import Inputs, Kept, Run, Why
@@ -89,18 +89,18 @@ def _digest(path: File) -> str:
 
 
 def tiles(run: Run) -> str:
-    cycles, waits, missed = sum(run.cycles), sum(run.waits), sum(run.no_x)
+    cycles, waits, missed = total(run.cycles), total(run.waits), total(run.no_x)
     its = [(len(run.gl), "events", "")]
     if run.has_cycles:
         its.append((cycles, "cycles, waits counted", ""))
     if run.has_listing:
         its.append((waits, f"waits, {share(waits, cycles)} of the cycles", ""))
-    its.append((sum(run.words), "event words", ""))
+    its.append((total(run.words), "event words", ""))
     if run.has_cycles:
         its.append((missed, "cycles with X = 0", "bad" if missed else ""))
     if run.has_listing:
-        its.append((sum(run.no_q), "cycles with Q = 0", ""))
-        its.append((sum(run.of_transfers), "Q = 0 of transfers", ""))
+        its.append((total(run.no_q), "cycles with Q = 0", ""))
+        its.append((total(run.of_transfers), "Q = 0 of transfers", ""))
     if run.idle:
         its.append((run.idle, "demands without a service", ""))
     drawn = (f'<div class="tile"><b class="{kind}">{value:,}</b><span>{word}</span></div>' for value, word, kind in its)
@@ -135,10 +135,10 @@ def late(facts: Facts) -> str:
     if facts.responses is None:
         return out[0] + '<p class="mute">This program has no <code>response</code>: how late each service can be is not known.</p>'
     out.append(
-        "<p>From a look-at-me to the end of its service no more cycles pass than these, whatever the modules answer. This holds if "
-        "auxiliary controllers keep to the waits of the plan, each look-at-me stays until its own service clears it, none is hidden and seen "
-        "later, and modules keep the given rates (<code>--every</code>).</p>"
+        "<p>From a look-at-me to the end of its service no more cycles pass than these, whatever the modules answer, if modules and driver do "
+        "what RESPONSE.md asks of them: that modules keep the given rates (<code>--every</code>), for one.</p>"
     )
+    out += [f'<p class="bad">No number from bit {it.gl} on: {escape(one.text())}.</p>' for it in facts.responses for one in it.unkept]
     out.append(figure(draw_response(facts.responses, run)))
     if not run.has_listing:
         return "".join(out) + '<p class="mute">An event file does not show how late a service was: answers do.</p>'
@@ -264,15 +264,17 @@ def _commands_table(facts: Facts) -> str:
 
 def histograms(facts: Facts) -> str:
     run = facts.run
-    out = ['<h2 id="histograms">Histograms</h2><h3>Cycles and words of an event</h3>', panels(event_groups(run, facts.services, BOTH))]
+    out = ['<h2 id="histograms">Histograms</h2><p class="mute hint">Drag over a spectrum to see a part of it; double-click to see all again.</p>']
+    out += ["<h3>Cycles and words of an event</h3>", panels(event_groups(run, facts.services, ZOOMED))]
     if run.has_listing:
         out.append("<h3>By channel: the words that modules gave with Q = 1, and the words that were sent</h3>")
-        out.append(panels(command_groups(run, facts.plan, BOTH)))
+        out.append(panels(command_groups(run, facts.plan, ZOOMED)))
     channels = run.list_channels()
     if channels:
-        out += [f"<h3>{escape(names_title(run.asked))}</h3>", panels(channel_groups(channels, BOTH))]
+        out += [f"<h3>{escape(regions.names_title(run.asked))}</h3>", panels(channel_groups(channels, ZOOMED, View(most=run.asked.bins or BINS), run.over))]
     if run.asked.regions:
-        out += ["<h3>Regions</h3>", figure(draw_regions(run))]
+        titles = [Column("region", True), *(Column(title) for _, title in regions.COLUMNS)]
+        out += ["<h3>Regions</h3>", table(titles, regions.measured(run)), f'<p class="mute">{regions.FOOT}</p>']
     if run.asked.pair and run.pairs:
         out += ["<h3>Two numbers of an event</h3>", figure(draw_pairs(*run.asked.pair, run.pairs))]
     out.append("<h3>By the place of the word in its event</h3>")
@@ -282,9 +284,8 @@ def histograms(facts: Facts) -> str:
 
 def services(facts: Facts) -> str:
     """The table of the services of the run: the first ones, and the worst ones."""
-    run, total, rows = facts.run, len(facts.run.gl), []
-    worst = heapq.nsmallest(WORST_SERVICES, zip(map(int.__neg__, run.no_x), map(int.__neg__, run.cycles), range(total)))
-    chosen = sorted({*(k for _, _, k in worst), *range(min(total, FIRST_SERVICES))})
+    run, many, rows = facts.run, len(facts.run.gl), []
+    chosen = sorted({*greatest(WORST_SERVICES, run.no_x, run.cycles), *range(min(many, FIRST_SERVICES))})
     for k in chosen:
         service = facts.service(run.gl[k])
         part = Cell(round(run.cycles[k] / max(service.cycles, 1), 4), share(run.cycles[k], service.cycles)) if service else ""
@@ -293,8 +294,8 @@ def services(facts: Facts) -> str:
     titles = "cycles,of bound,waits,in a lock,Q = 0,Q end,X = 0,words".split(",")
     columns = [Column("event"), Column("service", True), *map(Column, titles)]
     out = ['<h2 id="services">Services</h2>']
-    if total > len(chosen):
-        text = f"The first {FIRST_SERVICES}, and the {WORST_SERVICES} with most cycles with X = 0, then most cycles, of {total:,}."
+    if many > len(chosen):
+        text = f"The first {FIRST_SERVICES}, and the {WORST_SERVICES} with most cycles with X = 0, then most cycles, of {many:,}."
         out.append(f'<p class="mute">{text}</p>')
     out.append(_known_table(run, columns, rows) if rows else '<p class="mute">none</p>')
     return "".join(out)

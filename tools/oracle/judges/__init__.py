@@ -7,7 +7,7 @@ from oracle.reader.refusals import TEXTS
 from oracle.reader.toml_text import READS_ALL
 
 CODES = tuple(it for it in (*TEXTS, "G4") if READS_ALL or it != "P1")
-LATE = "response", "E12", "words", "without a number", "above a promise", "end reached", "end reached by a later call"
+LATE = "response", "E12", "words", "without a number", "above a promise", "end reached", "end reached by a later call", *response.UNKEPT
 JUDGES = {
     it.name: it
     for it in (

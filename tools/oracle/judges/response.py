@@ -7,11 +7,13 @@ from oracle.comparing import Comparison
 from oracle.maker.modules import Ambush, Careless, Modules
 from oracle.maker.responses import make_inputs
 from oracle.reader.engines import GOOD, REFUSED, Inputs, checked, listed, tell, told
-from oracle.reader.response import rates_of, response_of, services_of
+from oracle.reader.look_at_mes import Looks
+from oracle.reader.response import kept_of, rates_of, response_of, services_of
 from oracle.reader.stretches import Watch, watch
 
 # A service that may take more cycles is not played.
 LONGEST = 1_000
+UNKEPT = "does not clear", "cleared by", "hidden by"
 
 
 def judge(it: Comparison) -> None:
@@ -19,9 +21,11 @@ def judge(it: Comparison) -> None:
     inputs = make_inputs(random)
     wanted = tell("response", inputs)
     it.compare("response", inputs, wanted)
-    it.seen["without a number"] += b" end - " in wanted.out
+    for why in UNKEPT:
+        it.seen[why] += why.encode() in wanted.out
+    it.seen["without a number"] += b" end - " in wanted.out and b"unkept" not in wanted.out
     if wanted.reached == "response":
-        it.seen["above a promise"] += wanted.status == REFUSED
+        it.seen["above a promise"] += wanted.status == REFUSED and b"unkept" not in wanted.out
         play(it, random, inputs)
 
 
@@ -33,7 +37,9 @@ def play(it: Comparison, random: Random, inputs: Inputs) -> None:
         return
     modules = random.choice((Ambush, Ambush, Modules, Careless))(random, checker, services)
     modules.run.play()
-    watches = [Watch(one, response_of(services, one), modules.raised[one.name]) for one in services]
+    # The modules know nothing of look-at-mes that are left up, or cleared or hidden by others.
+    kept = kept_of(services, Looks(checker).unkept())
+    watches = [Watch(one, response_of(services, one), modules.raised[one.name]) for one in kept]
     watch(watches, modules.run.listing)
     faults = [fault for one in watches for fault in one.faults]
     if not isinstance(modules, Careless):

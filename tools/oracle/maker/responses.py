@@ -10,7 +10,26 @@ from oracle.reader.refusals import MOST, Refused
 from oracle.reader.response import response_of, services_of
 
 NAMES = ["adc", "reg", "tick", "trip", "scaler", "busy_1", *(f"lam_{it}" for it in range(17))]
-TYPE = b'[[type]]\nname = "A"\ncommands = [ { f = 0, a = 0 }, { f = 10, a = 0 } ]\n'
+# F2 at 1 and F9 take the look-at-me of their module away, F0 at 1 does not.
+TYPE = b"""[[type]]
+name = "A"
+commands = [ { f = 0, a = 0, to = 1 }, { f = 2, a = 0 }, { f = 2, a = 1, clears = true }, { f = 9, a = 0, clears = true },
+  { f = 8, a = 0 }, { f = 10, a = 0 }, { f = 24, a = 0 }, { f = 26, a = 0 } ]
+"""
+# What clears the look-at-me {0} of crate {1} on every way, and what need not.
+CLEARS = (
+    "cclc {0} ", "cclc {0} ", "if q {{ cclc {0} }} else {{ cclc {0} }} ", "lock {1} {{ cclc {0} }} ", "for i = 1 to 2 {{ cclc {0} }} ",
+    "if q {{ lock {1} {{ cclc {0} }} }} else {{ for k = 0 to 0 {{ cclc {0} }} }} ",
+)
+LEAVES = ("", "if q {{ cclc {0} }} ", "for i = 2 to 1 {{ cclc {0} }} ", "if q {{ cclc {0} }} else {{ }} ", "ctlm {0} ", "for i = 1 to v % 2 {{ cclc {0} }} ")
+# What may clear or hide it, maybe in another service, and what does not; {2} is its station.
+TOUCHES = (
+    "cclc {0} ", "cclm {0} off ", "cclm {0} on ", "cccz {1} ", "cccc {1} ", "cccd {1} off ", "cccd {1} on ", "ccci {1} on ", "ctlm {0} ",
+    "cdreg s 1 {1} {2} 0 cfsa 9 s ", "cdreg s 1 {1} {2} 0 cfsa 2 s -> v ", "cdreg s 1 {1} {2} 1 cfsa 0 s -> v ", "cdreg s 1 {1} {2} (v % 2) cfsa 2 s -> v ",
+    "cdreg s 1 {1} {2} 0 cfsa 10 s ", "cdreg s 1 {1} {2} 0 cfsa 24 s ", "cdreg s 1 {1} 28 8 cfsa 26 s ", "cdreg s 1 {1} 30 10 cfsa 24 s ",
+    "cdreg s 1 {1} {2} 0 cfmad 2 s s max 1 tally k ", "cdreg s 1 {1} {2} 0 cfubc 2 s max 1 tally k ", "cdreg s 1 {1} {2} 1 cfubr 2 s max 1 limit 2 tally k ",
+    "for i = 2 to 1 {{ cclc {0} }} ", "if q {{ cclc {0} }} ", "call p() ",
+)
 
 
 def make_plan(random: Random, bits: List[int]) -> Tuple[bytes, List[Tuple[int, int]]]:
@@ -33,17 +52,24 @@ def make_block(random: Random, crate: int) -> str:
 
 
 def make_script(random: Random, places: List[Tuple[int, int]]) -> bytes:
-    """A service for each place."""
-    names = random.sample(NAMES, len(places))
-    lams, services = "", ""
-    for name, (crate, n) in zip(names, places):
-        lams += f"cdlam {name} 1 {crate} {n} 0\n"
-        block = "".join(make_block(random, crate) for _ in range(random.choice((1, 1, 2))))
+    """A service for each place. Half of the scripts do their part for all look-at-mes."""
+    lams = list(zip(random.sample(NAMES, len(places)), places))
+    is_kept = random.random() < 0.5
+    one = random.choice(lams)[0]
+    text = "".join(f"cdlam {name} 1 {c} {n} 0\n" for name, (c, n) in lams) + "var v i k\n"
+    text += f"proc p() within 99 cycles event 0 words steps 99 {{ {'cclc' if is_kept else random.choice(('cclc', 'ctlm'))} {one} }}\n"
+    for name, (c, n) in lams:
+        clears = random.choice((*CLEARS, "call p() ") if name == one else CLEARS if is_kept or random.random() < 0.7 else LEAVES).format(name, c)
+        parts = [clears, *(make_block(random, c) for _ in range(random.choice((1, 1, 2))))]
+        if not is_kept and random.random() < 0.3:
+            other, (oc, on) = random.choice(lams)
+            parts.append(random.choice(TOUCHES).format(other, oc, on))
+        random.shuffle(parts)
         if random.random() < 0.01:
-            block += f"for i = 1 to {random.choice((9_000, 65_535))} {{ for k = 1 to {random.choice((40, 65_535))} {{ cfsa 0 r -> v }} }}"
-        promised = MOST if random.random() < 0.99 else random.choice((0, 1, 5))
-        services += f"service {name} within {promised} cycles event {random.choice((12, 4096))} words {{ cclc {name} cdreg r 1 {crate} {n} 0 {block}}}\n"
-    return f"{lams}var v i k\n{services}".encode()
+            parts.append(f"for i = 1 to {random.choice((9_000, 65_535))} {{ for k = 1 to {random.choice((40, 65_535))} {{ cfsa 0 r -> v }} }}")
+        linefeed, promised = random.choice(("", "\n")), MOST if random.random() < 0.99 else random.choice((0, 1, 5))
+        text += f"service {name} within {promised} cycles event {random.choice((12, 4096))} words {{ cdreg r 1 {c} {n} 0\n{linefeed.join(parts)}}}\n"
+    return text.encode()
 
 
 def make_rate(random: Random, cycles: int, total: int) -> int:

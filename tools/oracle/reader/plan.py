@@ -1,7 +1,7 @@
 """A plan, as the tables of its TOML text spell it."""
 from __future__ import annotations
 
-from typing import Any, Dict, List, NamedTuple, Optional, Tuple
+from typing import Any, Dict, List, NamedTuple, Optional, Set, Tuple
 
 from oracle.reader.nesting import judge_nesting
 from oracle.reader.refusals import Refused
@@ -26,11 +26,12 @@ def kind_of(function: int) -> str:
 
 
 class Module(NamedTuple):
-    """A type: widths by (function, sub-address), and which of these are probes."""
+    """A type: widths by (function, sub-address), how many of these are probes, and which ones clear the look-at-me."""
 
     name: str
     widths: Dict[Tuple[int, int], int]
     probes: int
+    clears: Set[Tuple[int, int]]
 
 
 class Station(NamedTuple):
@@ -133,21 +134,24 @@ def read_module(table: Table, plan: Plan) -> Module:
     if name in plan.modules:
         raise Refused("P8")
     widths: Dict[Tuple[int, int], int] = {}
-    probes = 0
+    probes, clearing = 0, set()
     for values in commands:
         command = Table(values, "f a to probe width clears")
         function, first = command.number("f", 0, 31), command.number("a", 0, 15)
         last = command.number("to", first, 15, first)
         is_probe = "probe" in command.values and command.value("probe", bool)
         width = command.number("width", WIDEST if is_probe else 1, WIDEST, WIDEST)
-        if "clears" in command.values and command.value("clears", bool) and is_probe:
+        clears = "clears" in command.values and command.value("clears", bool)
+        if clears and is_probe:
             raise Refused("P4")
         for sub in range(first, last + 1):
             if (function, sub) in widths:
                 raise Refused("P8")
             widths[function, sub] = width
             probes += is_probe
-    return Module(name, widths, probes)
+            if clears:
+                clearing.add((function, sub))
+    return Module(name, widths, probes, clearing)
 
 
 def read_crate(table: Table, plan: Plan, bits: List[int]) -> None:

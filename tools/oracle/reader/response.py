@@ -6,6 +6,7 @@ from typing import Dict, List, NamedTuple, Optional, Tuple
 
 from oracle.reader.checker import Checker
 from oracle.reader.linking import gl_of
+from oracle.reader.look_at_mes import Looks, Unkept
 from oracle.reader.refusals import MOST
 
 ROUNDS = 65_535
@@ -75,6 +76,11 @@ def response_of(services: Tuple[Service, ...], its: Service) -> Optional[Respons
     return Response(start, start + its.cycles, longest)
 
 
+def kept_of(services: Tuple[Service, ...], unkept: List[Unkept]) -> List[Service]:
+    """The services that have numbers: there are none from the bit on for which the script does not do its part."""
+    return [it for it in services if not unkept or it.bit < unkept[0].bit]
+
+
 def rates_of(words: List[str]) -> Tuple[Dict[str, int], Dict[str, int]]:
     """The numbers of --every and --within, by service. WordFault if one of them names a service twice."""
     rates: Dict[str, Dict[str, int]] = {it: {} for it in OPTIONS}
@@ -101,13 +107,14 @@ def line_of(its: Service, found: Optional[Response], within: Optional[int]) -> s
 
 
 def response_lines(checker: Checker, every: Dict[str, int], within: Dict[str, int]) -> Tuple[List[str], bool]:
-    """The lines of an accepted script, and whether each end keeps to what --within says. WordFault if a service is not the script's."""
+    """The lines of an accepted script, and whether it does its part and each end keeps to what --within says. WordFault if a service is not the script's."""
     services = services_of(checker, every)
     for option, rates in zip(OPTIONS, (every, within)):
         for name in rates:
             if name not in [it.name for it in services]:
                 raise WordFault(f"{option} {name}: no such service")
-    found = {it.name: response_of(services, it) for it in services}
-    ends = {name: MOST + 1 if it is None else it.end for name, it in found.items()}
-    lines = [line_of(it, found[it.name], within.get(it.name)) for it in services]
-    return lines, all(ends[name] <= most for name, most in within.items())
+    unkept = Looks(checker).unkept()
+    found = {it.name: response_of(services, it) for it in kept_of(services, unkept)}
+    lines = [*(line_of(it, found.get(it.name), within.get(it.name)) for it in services), *(it.text() for it in unkept)]
+    ends = {name: it.end for name, it in found.items() if it}
+    return lines, not unkept and all(name in ends and ends[name] <= most for name, most in within.items())

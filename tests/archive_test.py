@@ -1,0 +1,181 @@
+#!/usr/bin/env python3
+"""Tests of the event files of several runs as one data set: the same as numpy by hand on all of them, over dask, over a cluster of its processes, and
+without it.
+
+usage: tests/archive_test.py [-v] [TEST ..]     from any folder; takes some seconds
+
+It is left out if numpy (package python3-numpy of Debian) is not installed, and the parts with dask without python3-dask and python3-distributed.
+"""
+import contextlib
+import dataclasses
+import importlib
+import logging
+import math
+import os
+import random
+import sys
+import tracemalloc
+from unittest import mock
+
+from support.live import PROGRAM, TOP, Case, run_tests
+from support import laboratory
+from support.needs import has, needed
+import camac
+from camac.events import NEW_FILE, Event, EventFileFault, record
+from camac.record import Played, describe
+
+RUNS, EVENTS = 5, 100_000
+WORDS = """\
+[[word]]
+service = "adc"
+name = "channel"
+bits = "16..19"
+[[word]]
+service = "adc"
+name = "height"
+unit = "keV"
+of = "channel"
+tag = "0..3"
+bits = "0..11"
+scale = 0.5
+[[word]]
+service = "tick"
+name = "first"
+place = 1
+[[word]]
+service = "tick"
+name = "others"
+of = "place"
+place = "2..4"
+bits = "0..7"
+"""
+
+
+@needed("python3-numpy")
+class Archive(Case):
+    @classmethod
+    def setUpClass(cls):
+        super().setUpClass()
+        os.environ["CAMAC_PROGRAM"] = PROGRAM
+        cls.made = Case()
+        cls.made.setUp()
+        cls.addClassCleanup(cls.made.doCleanups)
+        room, chance = cls.made.room, random.Random(11)
+        (room / "bench.toml").write_text(laboratory.PLAN)
+        (room / "bench.script").write_text(laboratory.SCRIPT)
+        (room / "words.toml").write_text(WORDS)
+        played = Played(room / "bench.toml", room / "bench.script", None, None)
+        cls.events = []
+        for run in range(RUNS):
+            its = [cls.event(chance, number) for number in range(1, EVENTS + 1)]
+            if run == 4:
+                # What a head has, but no word, may look like the marker of an event.
+                its[20_000:20_100] = [it._replace(cycles=0xCA4D0003) for it in its[20_000:20_100]]
+            cls.events.append(its)
+            (room / f"run{run}.events").write_bytes(NEW_FILE + b"".join(map(record, its)))
+            record_of = describe(played) if run < 2 else dataclasses.replace(record_of, plan=record_of.plan)
+            record_of = dataclasses.replace(record_of, events=f"run{run}.events", demands=10.0 + run if run else None, services=2.0 if run else None)
+            (room / f"run{run}.json").write_text(record_of.text())
+        cls.by_hand()
+        cls.pattern, cls.words = str(room / "run*.events"), room / "words.toml"
+
+    @staticmethod
+    def event(chance, number):
+        if number % 3 == 0:
+            return Event(number, 5, 20, 0, tuple(chance.getrandbits(24) for _ in range(chance.choice((0, 1, 4)))))
+        return Event(number, 3, 30, 0, tuple(chance.randrange(5) << 16 | int(chance.gauss(1200, 300)) & 0xFFF for _ in range(chance.choice((1, 2, 7)))))
+
+    @classmethod
+    def by_hand(cls):
+        """What is in all files, by numpy."""
+        numpy = importlib.import_module("numpy")
+        adc = [[it.words for it in its if it.gl == 3] for its in cls.events]
+        words = numpy.array([word for its in adc for some in its for word in some])
+        cls.channel, cls.height = words >> 16, words & 0xFFF
+        ticks = [it.words for its in cls.events for it in its if it.gl == 5]
+        cls.first = numpy.array([its[0] for its in ticks if its])
+        cls.others = numpy.bincount([word & 0xFF for its in ticks for word in its[1:4]], minlength=256)
+        is_in = (cls.channel == 1) & (1100 <= cls.height) & (cls.height <= 1300)
+        sizes = numpy.array([len(some) for its in adc for some in its])
+        passed = numpy.add.reduceat(is_in, numpy.cumsum(sizes) - sizes) > 0
+        cls.gated = numpy.repeat(passed, sizes)
+        cls.counts, cls.passed = [*map(len, adc)], [int(it.sum()) for it in numpy.split(passed, numpy.cumsum([*map(len, adc)])[:-1])]
+
+    def check(self, **options):
+        """All numbers are those by hand."""
+        numpy = importlib.import_module("numpy")
+        runs = camac.open_runs(self.pattern, self.words, **options)
+        for name, wanted in (("channel", self.channel), ("height", 0.5 * self.height[self.channel < 4]), ("first", self.first)):
+            self.assertTrue(numpy.array_equal(runs.array(name), wanted), name)
+        self.assertTrue(numpy.array_equal(runs.histogram("others"), self.others))
+        self.assertTrue(numpy.array_equal(runs.histogram("height[2]", 1000, 1400), numpy.bincount(self.height[self.channel == 2], minlength=4096)[1000:1401]))
+        gated = runs.gate("height[1]", 1100, 1300)
+        self.assertTrue(numpy.array_equal(gated.histogram("height[3]"), numpy.bincount(self.height[(self.channel == 3) & self.gated], minlength=4096)))
+        self.assertEqual(len(gated.gate("channel", 9, 9).array("channel")), 0)
+        rates, of_gate = runs.rates(), gated.rates()
+        for run, (name, its) in enumerate(rates.items()):
+            self.assertEqual(os.path.basename(name), f"run{run}.events")
+            if run == 0:
+                self.assertTrue(all(map(math.isnan, its.values())))
+                continue
+            self.assertEqual(its, {"adc": self.counts[run] / (12 + run), "tick": (EVENTS - self.counts[run]) / (12 + run)})
+            self.assertEqual(of_gate[name], {"adc": self.passed[run] / (12 + run), "tick": 0.0})
+        return runs
+
+    def test_one_by_one(self):
+        """Without dask, in partitions of every kind. The memory is that of some partitions."""
+        with mock.patch.dict(sys.modules, {"dask": None}):
+            runs = self.check(partition=1 << 20)
+            self.assertGreater(min(map(len, runs.partitions)), 2)
+            self.check(partition=1 << 30)
+            tracemalloc.start()
+            try:
+                runs.gate("channel", 1, 3).histogram("height")
+                self.assertLess(tracemalloc.get_traced_memory()[1], 16 << 20)
+            finally:
+                tracemalloc.stop()
+
+    def test_dask(self):
+        if not has("python3-dask"):
+            return
+        self.check(partition=1 << 20)
+        if has("python3-distributed"):
+            distributed = importlib.import_module("distributed")
+            with mock.patch.dict(os.environ, {"PYTHONPATH": str(TOP / "python")}), contextlib.ExitStack() as opened:
+                cluster = opened.enter_context(distributed.LocalCluster(2, threads_per_worker=1, processes=True, dashboard_address=None, silence_logs=logging.ERROR))
+                opened.enter_context(distributed.Client(cluster.scheduler_address))
+                self.check(partition=1 << 20)
+
+    def test_what_is_refused(self):
+        with self.assertRaises(FileNotFoundError):
+            camac.open_runs(str(self.room / "*.events"))
+        runs = camac.open_runs(self.pattern)
+        with self.assertRaisesRegex(KeyError, "no word has the name 'nothing'; there are: .*SCALER-12 crate 2"):
+            runs.array("nothing")
+        data = (self.made.room / "run1.events").read_bytes()
+        cut = data.index(record(self.events[1][50_000]))
+        for name, its in (("cut", data[:-3]), ("lost", data[:cut] + data[cut + len(record(self.events[1][50_000])) :]), ("no", b"no event file"), ("empty", NEW_FILE)):
+            (self.room / f"{name}.events").write_bytes(its)
+            (self.room / f"{name}.json").write_text(dataclasses.replace(camac.read_record(self.made.room / "run1.json"), events=f"{name}.events").text())
+            with mock.patch.dict(sys.modules, {"dask": None}):
+                runs = camac.open_runs(str(self.room / f"{name}.events"), self.words, 1 << 20)
+                if name == "empty":
+                    self.assertEqual((len(runs.array("channel")), int(runs.histogram("channel").sum())), (0, 0))
+                    continue
+                with self.assertRaises(EventFileFault) as caught, open(self.room / f"{name}.events", "rb") as file:
+                    runs.array("channel")
+                with self.assertRaises(EventFileFault) as wanted:
+                    list(camac.read_events(self.room / f"{name}.events"))
+                self.assertEqual(str(caught.exception), str(wanted.exception))
+
+    def test_version_one(self):
+        its = [it._replace(cycles=None, missed=None) for it in self.events[0][:1000]]
+        head = lambda it: b"\xca\x4d" + it.gl.to_bytes(2, "big") + it.number.to_bytes(4, "big") + len(it.words).to_bytes(2, "big")
+        (self.room / "one.events").write_bytes(b"CAMACEV1" + b"".join(head(it) + b"".join(word.to_bytes(4, "big") for word in it.words) for it in its))
+        (self.room / "one.json").write_text(dataclasses.replace(camac.read_record(self.made.room / "run1.json"), events="one.events").text())
+        runs = camac.open_runs(str(self.room / "one.events"), self.words, 4096).gate("channel", 0, 2)
+        self.assertEqual(int(runs.histogram("channel").sum()), sum(len(it.words) for it in its if it.gl == 3 and any(word >> 16 < 3 for word in it.words)))
+
+
+if __name__ == "__main__":
+    run_tests()
