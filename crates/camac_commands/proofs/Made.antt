@@ -2,25 +2,28 @@
 use Rattle.std.proofs.Common.{◌≡◌, ℕ, ◌+◌, ◌-◌, ◌<◌, ◌≤◌, zero, suc, List, [], Option, Some, None, Ok, Bool, true, false, refl, sym, ap, ap₂, subst, ◌∙◌, arith}
 use Rattle.std.specs.Prelude.{◌||◌, ◌&&◌, drop, nat_le, nat_lt, slice_get, unwrap_or, if◌then◌else◌}
 use Rattle.std.specs.List.{list_any}
-use Rattle.std.proofs.lemmas.Bool.{and_parts, or_right, false≢true, ltb-true, leb-true}
+use Rattle.std.proofs.lemmas.Bool.{and_parts, and_from, or_right, false≢true, ltb-true, leb-true, lt-ltb}
 use Rattle.std.proofs.lemmas.Option.{same_Some}
 use Rattle.camac_lang.specs.declared.word.LamCall.{LamCall}
 use Rattle.camac_lang.specs.declared.word.WordSize.{WordSize}
 use Rattle.camac_lang.specs.declared.word.WordSize.TheVariants.{Full}
 use Rattle.camac_lang.specs.Tree.{Expression, number, Condition, Keep, Move, no_data, into, from, Statement, assign, set_register, single, address_scan, q_stop, q_repeat, put, crate_call, lam_call, choose, choose_else, for_, while_, locked, call, Block, done, next, Procedure}
+use Rattle.camac_func.specs.declared.data.DataMove.{DataMove}
 use Rattle.camac_func.specs.declared.data.DataMove.TheVariants as moved
 use Rattle.camac_branch.specs.Address.{Address}
 use Rattle.camac_branch.specs.Allowed.{width}
+use Rattle.camac_branch.specs.Branch.{Reply}
 use Rattle.camac_branch.specs.Plan.{Layout, crate_waits}
 use Rattle.camac_esone.specs.Calls.{lam_function}
+use Rattle.camac_esone.specs.Transfers.{NextAddress, when, tally, q_stop_next, q_repeat_next}
 use Rattle.camac_model.specs.State.{State, Variables, stepped, with_variable}
 use Rattle.camac_model.specs.Behaviour.{Piece, demanded, cycled, lock_taken, lock_released, event_left, Behaviour, does, ends, stops, Stop, Action, then_do, given, decide, unless_wrong}
 use Rattle.camac_model.specs.Cycle.{after_lock, take_lock, release, cycle, sized, kept}
 use Rattle.camac_model.specs.Fine.{most_turns, AreInRanges}
-use Rattle.camac_model.specs.Meaning.{fits_size, act, for_state, for_turns, for_from, entered, enter, effect, block_meaning}
+use Rattle.camac_model.specs.Meaning.{fits_size, act, transfer_to, sent, for_state, for_turns, for_from, entered, enter, effect, block_meaning}
 use Rattle.camac_model.specs.Moments.{Meets, AnyStop}
 use Rattle.camac_model.specs.Value.{greatest, in_range, value, values, truth}
-use Rattle.camac_model.proofs.Rules.{then_meets, given_meets, unless_meets, cycle_meets, enter_meets, lock_meets}
+use Rattle.camac_model.proofs.Rules.{then_meets, given_meets, unless_meets, cycle_meets, transfer_meets, enter_meets, lock_meets}
 use Rattle.camac_rules.specs.Refusal.{go_on, if_reached}
 use Rattle.camac_rules.specs.Known.{Region, Facts, Known, with_range}
 use Rattle.camac_rules.specs.Conditions.{Branches, branches, split}
@@ -47,11 +50,11 @@ use Rattle.camac_check_costs.specs.Bodies.{rows_if}
 use Rattle.camac_check_rows.specs.declared.row.Row.{Row}
 use Rattle.camac_check_rows.specs.Rows.{found, ways, Turning, turning_from, for_turning, taken, lock_inside, lock_head, statement_verdict, inside, statement_rows, block_rows}
 use Rattle.camac_check_rows.specs.Statements.{detail_of}
-use Rattle.camac_commands.specs.Commands.{Command, is_told, made_alone, made_at}
-use Rattle.camac_commands.specs.Surely.{has_turn, surely, surely_block, made_one, AnyPiece, IsMade, TellsOf}
+use Rattle.camac_commands.specs.Commands.{Command, is_told, made_at}
+use Rattle.camac_commands.specs.Surely.{has_turn, is_some_number, surely_alone, surely, surely_block, made_one, AnyPiece, IsMade, TellsOf}
 use Rattle.camac_commands.proofs.ByRows.{Begins, begins_all, begins_inside, begins_both, begins_block, behind_first, first_alone, statement_told, block_told, same_after}
 use Rattle.camac_commands.proofs.Listed.{Listed}
-use Rattle.camac_commands.proofs.Actions.{always, with_result, single_listed, lam_listed}
+use Rattle.camac_commands.proofs.Actions.{always, with_result, single_listed, q_stop_listed, q_repeat_listed, lam_listed}
 use Rattle.camac_commands.proofs.Arguments.{GiveAll, AllFit, ranges_each, in_ranges, are_small}
 use Rattle.camac_commands.proofs.Matches.{Matches, matches_at}
 use Rattle.camac_commands.proofs.Statements.{both_allowed}
@@ -60,13 +63,11 @@ use Rattle.camac_commands.proofs.Statements.{both_allowed}
 
 abbrev mutual
   pub statement_surely : Context → (Command → Bool) → List Bool → Around → Statement → Known → Bool
-  statement_surely c test ps around (single line size f r m) k = list_any test (made_alone (single line size f r m) (detail_of c (single line size f r m) k))
-  statement_surely c test ps around (lam_call line which l) k = list_any test (made_alone (lam_call line which l) (detail_of c (lam_call line which l) k))
   statement_surely c test ps around (choose_else line t a b) k = block_surely c test ps around a (ways line t k).holds && block_surely c test ps around b (ways line t k).fails
   statement_surely c test ps around (for_ line x e1 e2 keeps body) k = has_turn e1 e2 && block_surely c test ps (with_fixed x around) body (for_turning around line x e1 e2 keeps body k).head
   statement_surely c test ps around (locked line e body) k = block_surely c test ps (lock_inside (taken c around line e k) around) body (lock_head (taken c around line e k) k)
   statement_surely c test ps around (call line p es) k = unwrap_or (slice_get ps p) false
-  statement_surely c test ps around s k = false
+  statement_surely c test ps around s k = surely_alone test s (detail_of c s k)
 
   pub block_surely : Context → (Command → Bool) → List Bool → Around → Block → Known → Bool
   block_surely c test ps around done k = false
@@ -93,15 +94,15 @@ module _ (c : Context) (test : Command → Bool) (ps : List Bool) where
     statement_sure around (locked line e body) k rows rest h =
         let o = taken (in_code c) around line e k in
         block_sure (lock_inside o around) body (lock_head o k) (drop 1 rows) rest (begins_block _ _ rows _ rest h (λ _. refl))
-    statement_sure around (assign line x e) k rows rest h = refl
-    statement_sure around (set_register line r e1 e2 e3) k rows rest h = refl
-    statement_sure around (single line size f r move) k rows rest h = (first_alone (λ d. list_any test (made_alone (single line size f r move) d)) _ rows rest h).0
-    statement_sure around (address_scan line f r1 r2 max x) k rows rest h = refl
-    statement_sure around (q_stop line f r t max x) k rows rest h = refl
-    statement_sure around (q_repeat line f r t max limit x) k rows rest h = refl
-    statement_sure around (put line e) k rows rest h = refl
-    statement_sure around (crate_call line which e) k rows rest h = refl
-    statement_sure around (lam_call line which l) k rows rest h = (first_alone (λ d. list_any test (made_alone (lam_call line which l) d)) _ rows rest h).0
+    statement_sure around (assign line x e) k rows rest h = (first_alone (surely_alone test (assign line x e)) _ rows rest h).0
+    statement_sure around (set_register line r e1 e2 e3) k rows rest h = (first_alone (surely_alone test (set_register line r e1 e2 e3)) _ rows rest h).0
+    statement_sure around (single line size f r move) k rows rest h = (first_alone (surely_alone test (single line size f r move)) _ rows rest h).0
+    statement_sure around (address_scan line f r1 r2 max x) k rows rest h = (first_alone (surely_alone test (address_scan line f r1 r2 max x)) _ rows rest h).0
+    statement_sure around (q_stop line f r t max x) k rows rest h = (first_alone (surely_alone test (q_stop line f r t max x)) _ rows rest h).0
+    statement_sure around (q_repeat line f r t max limit x) k rows rest h = (first_alone (surely_alone test (q_repeat line f r t max limit x)) _ rows rest h).0
+    statement_sure around (put line e) k rows rest h = (first_alone (surely_alone test (put line e)) _ rows rest h).0
+    statement_sure around (crate_call line which e) k rows rest h = (first_alone (surely_alone test (crate_call line which e)) _ rows rest h).0
+    statement_sure around (lam_call line which l) k rows rest h = (first_alone (surely_alone test (lam_call line which l)) _ rows rest h).0
     statement_sure around (call line p es) k rows rest h = refl
 
     block_sure : (around : Around) (b : Block) (k : Known) (rows rest : List Row) → Begins rows (rows_of around b k) rest → surely_block test ps b rows ≡ block_surely (in_rules c) test ps around b k
@@ -180,18 +181,35 @@ module _ (meant : Address → ℕ → Bool) where
       let d : Command = record { line = line; function = f; region = r } in
       by_or (test d) false (meant at g ≡ true) e (λ passes. by_or (is_told at g d) false (meant at g ≡ true) t (λ there. tells d passes at g there) (λ no. absurd (false≢true no))) (λ no. absurd (false≢true no))
 
--- an action that ends has made a cycle
-act_cycles : (plan : Layout) (at : Address) (f : ℕ) (size : WordSize) (m : Move) (s : State) → Meets (made_one (λ at f. true)) AnyPiece AnyStop IsMade false (act plan at f size m s)
-act_cycles plan at f size no_data s =
-    cycle_meets (made_one (λ at f. true)) AnyPiece AnyStop IsMade false plan at f moved.None s.answers (λ r. ends) s (λ _. tt) (λ _. tt) (λ waits a rest e g p. tt) (λ waits a rest e g p. (tt, refl))
-act_cycles plan at f size (into x) s =
-    cycle_meets (made_one (λ at f. true)) AnyPiece AnyStop IsMade false plan at f moved.In s.answers (λ r t. ends (with_variable x (kept (sized size (width plan at f)) r) t)) s
-    (λ _. tt) (λ _. tt) (λ waits a rest e g p. tt) (λ waits a rest e g p. (tt, refl))
+-- what ends has made a cycle
+abbrev Cycles : Behaviour State → Type 0
+Cycles b = Meets (made_one (λ at f. true)) AnyPiece AnyStop IsMade false b
+
+cycles_given : {A : Type 0} (o : Option A) (go : A → Action) (s : State) → ((v : A) → o ≡ Some v → Cycles (go v s)) → Cycles (given o go s)
+cycles_given o go s h = given_meets (made_one (λ at f. true)) AnyPiece AnyStop IsMade false o go s (λ _. tt) h
+
+cycle_cycles : (plan : Layout) (at : Address) (f : ℕ) (d : DataMove) (go : Reply → Action) (s : State) → ((r : Reply) (t : State) → Meets (made_one (λ at f. true)) AnyPiece AnyStop IsMade true (go r t)) → Cycles (cycle plan at f d s.answers go s)
+cycle_cycles plan at f d go s h = cycle_meets (made_one (λ at f. true)) AnyPiece AnyStop IsMade false plan at f d s.answers go s (λ _. tt) (λ _. tt) (λ waits a rest e g p. tt) (λ waits a rest e g p. (tt, h _ _))
+
+act_cycles : (plan : Layout) (at : Address) (f : ℕ) (size : WordSize) (m : Move) (s : State) → Cycles (act plan at f size m s)
+act_cycles plan at f size no_data s = cycle_cycles plan at f moved.None (λ r. ends) s (λ r t. refl)
+act_cycles plan at f size (into x) s = cycle_cycles plan at f moved.In (λ r t. ends (with_variable x (kept (sized size (width plan at f)) r) t)) s (λ r t. refl)
 act_cycles plan at f size (from e) s =
     let send : ℕ → Action = λ v t. cycle plan at f (moved.Out v) t.answers (λ r. ends) t in
-    given_meets (made_one (λ at f. true)) AnyPiece AnyStop IsMade false (value e s.variables) (λ v. unless_wrong (fits_size size v) (send v)) s (λ _. tt) (λ v _.
-    unless_meets (made_one (λ at f. true)) AnyPiece AnyStop IsMade false (fits_size size v) (send v) s (λ _. tt) (λ _.
-    cycle_meets (made_one (λ at f. true)) AnyPiece AnyStop IsMade false plan at f (moved.Out v) s.answers (λ r. ends) s (λ _. tt) (λ _. tt) (λ waits a rest e g p. tt) (λ waits a rest e g p. (tt, refl))))
+    cycles_given (value e s.variables) (λ v. unless_wrong (fits_size size v) (send v)) s (λ v _.
+    unless_meets (made_one (λ at f. true)) AnyPiece AnyStop IsMade false (fits_size size v) (send v) s (λ _. tt) (λ _. cycle_cycles plan at f (moved.Out v) (λ r. ends) s (λ r t. refl)))
+
+transfer_cycles : (plan : Layout) (f : ℕ) (table : Option (List ℕ)) (next_address : NextAddress) (x : ℕ) (s : State) → (next_address [] ≡ None → false ≡ true) → Cycles (transfer_to plan f table next_address x s)
+transfer_cycles plan f table next_address x s first =
+    transfer_meets (made_one (λ at f. true)) AnyPiece AnyStop IsMade plan f table next_address (λ qs t. ends (with_variable x (tally qs) t)) (λ y qs t. next_address qs ≡ None → y ≡ true)
+    (record {
+      no_word = λ y qs t at i e none. tt;
+      no_crate = λ y qs t at i e none. tt;
+      no_answer = λ y qs t at i e none. tt;
+      no_wait = λ y qs t at waits a rest i e there l p. tt;
+      keeps = λ y qs t at d waits a rest i e data' there l p. (tt, λ _. or_right y true refl);
+    })
+    (λ y qs t i e. i e) s.answers false [] s refl first
 
 -- a number that has a value is that value
 in_it : (n v : ℕ) → in_range n ≡ Some v → v ≡ n
@@ -200,6 +218,15 @@ in_it n v e = go (nat_le n greatest) e
     go : (b : Bool) → (if b then Some n else None) ≡ Some v → v ≡ n
     go true h = sym (same_Some n v h)
     go false h = absurd (cc)
+
+-- that of a number from 1 on wants a first cycle
+one_wanted : (e : Expression) (env : Variables) (m : ℕ) → is_some_number e ≡ true → value e env ≡ Some m → nat_lt 0 m ≡ true
+one_wanted (number a) env m e v = let same = in_it a m v in let le = leb-true 1 a e in lt-ltb 0 m (omega (arith, same, le))
+one_wanted other env m e v = absurd (cc)
+
+wanted : (b : Bool) (at : Address) → b ≡ true → when b at ≡ None → false ≡ true
+wanted true at e none = absurd (cc)
+wanted false at e none = e
 
 module _ (c : Setting) (narrow : HasWidths c.plan) (serves : Serves c) (n : ℕ) (le : most_turns ≤ n) (test : Command → Bool) (meant : Address → ℕ → Bool) (tells : TellsOf test meant)
     (bs : List Bool) (matches : Matches (RoutineMakes meant n) c.routines c.procedures bs) where
@@ -228,13 +255,41 @@ module _ (c : Setting) (narrow : HasWidths c.plan) (serves : Serves c) (n : ℕ)
   single_makes around line size f r m k =
       allowed_more (single_listed c around n line size f r m k) (λ v lists e s i.
       listed_makes meant _ (one_meant meant test tells line f _ e) (effect (of c) n (single line size f r m) (stepped s)) (lists s i)
-      (given_meets (made_one (λ at f. true)) AnyPiece AnyStop IsMade false (s.registers r) (λ at. act c.plan at f size m) (stepped s) (λ _. tt) (λ at _. act_cycles c.plan at f size m (stepped s))))
+      (cycles_given (s.registers r) (λ at. act c.plan at f size m) (stepped s) (λ at _. act_cycles c.plan at f size m (stepped s))))
+
+  q_stop_makes : (around : Place) (line f r : ℕ) (g : Option ℕ) (e : Expression) (x : ℕ) (k : Facts) → Allows (accept_statement (seen c) (around_of around) (q_stop line f r g e x) k) (λ v. MakesIt around (q_stop line f r g e x) k)
+  q_stop_makes around line f r g e x k =
+      allowed_more (q_stop_listed c around n line f r g e x k) (λ v lists so s i.
+      let both = and_parts (is_some_number e) _ so in
+      let last : Option (List ℕ) → Address → ℕ → Action = λ o at m. transfer_to c.plan f o (q_stop_next at m) x in
+      let go : Option (List ℕ) → Address → Action = λ o at. given (value e s.variables) (last o at) in
+      listed_makes meant _ (one_meant meant test tells line f _ both.1) (effect (of c) n (q_stop line f r g e x) (stepped s)) (lists s i)
+      (cycles_given (sent (of c) g) (λ o. given (s.registers r) (go o)) (stepped s) (λ o _.
+      cycles_given (s.registers r) (go o) (stepped s) (λ at _.
+      cycles_given (value e s.variables) (last o at) (stepped s) (λ m is.
+      transfer_cycles c.plan f o (q_stop_next at m) x (stepped s) (wanted (nat_lt 0 m) at (one_wanted e s.variables m both.0 is)))))))
+
+  q_repeat_makes : (around : Place) (line f r : ℕ) (g : Option ℕ) (e1 e2 : Expression) (x : ℕ) (k : Facts) → Allows (accept_statement (seen c) (around_of around) (q_repeat line f r g e1 e2 x) k) (λ v. MakesIt around (q_repeat line f r g e1 e2 x) k)
+  q_repeat_makes around line f r g e1 e2 x k =
+      allowed_more (q_repeat_listed c around n line f r g e1 e2 x k) (λ v lists so s i.
+      let both = and_parts (is_some_number e1 && is_some_number e2) _ so in
+      let limits = and_parts (is_some_number e1) (is_some_number e2) both.0 in
+      let last : Option (List ℕ) → Address → ℕ → ℕ → Action = λ o at m l. transfer_to c.plan f o (q_repeat_next at m l) x in
+      let next_one : Option (List ℕ) → Address → ℕ → Action = λ o at m. given (value e2 s.variables) (last o at m) in
+      let go : Option (List ℕ) → Address → Action = λ o at. given (value e1 s.variables) (next_one o at) in
+      listed_makes meant _ (one_meant meant test tells line f _ both.1) (effect (of c) n (q_repeat line f r g e1 e2 x) (stepped s)) (lists s i)
+      (cycles_given (sent (of c) g) (λ o. given (s.registers r) (go o)) (stepped s) (λ o _.
+      cycles_given (s.registers r) (go o) (stepped s) (λ at _.
+      cycles_given (value e1 s.variables) (next_one o at) (stepped s) (λ m is.
+      cycles_given (value e2 s.variables) (last o at m) (stepped s) (λ l its.
+      transfer_cycles c.plan f o (q_repeat_next at m l) x (stepped s)
+      (wanted (nat_lt 0 m && nat_lt 0 l) at (and_from (nat_lt 0 m) (nat_lt 0 l) (one_wanted e1 s.variables m limits.0 is) (one_wanted e2 s.variables l limits.1 its)))))))))
 
   lam_makes : (around : Place) (line : ℕ) (which : LamCall) (l : ℕ) (k : Facts) → Allows (accept_statement (seen c) (around_of around) (lam_call line which l) k) (λ v. MakesIt around (lam_call line which l) k)
   lam_makes around line which l k =
       allowed_more (lam_listed c around n line which l k) (λ v lists e s i.
       listed_makes meant _ (one_meant meant test tells line _ _ e) (effect (of c) n (lam_call line which l) (stepped s)) (lists s i)
-      (given_meets (made_one (λ at f. true)) AnyPiece AnyStop IsMade false (slice_get c.lams l) (λ at. act c.plan at (lam_function which) Full no_data) (stepped s) (λ _. tt) (λ at _. act_cycles c.plan at (lam_function which) Full no_data (stepped s))))
+      (cycles_given (slice_get c.lams l) (λ at. act c.plan at (lam_function which) Full no_data) (stepped s) (λ at _. act_cycles c.plan at (lam_function which) Full no_data (stepped s))))
 
   call_makes : (around : Place) (line p : ℕ) (es : List Expression) (k : Facts) → Allows (call_rule (seen c) line p es k) (λ v. MakesIt around (call line p es) k)
   call_makes around line p es k =
@@ -348,8 +403,8 @@ module _ (c : Setting) (narrow : HasWidths c.plan) (serves : Serves c) (n : ℕ)
     statement_makes around (set_register line r e1 e2 e3) may k = always _ (λ no. absurd (false≢true no))
     statement_makes around (single line size f r m) may k = single_makes around line size f r m k
     statement_makes around (address_scan line f r1 r2 max x) may k = always _ (λ no. absurd (false≢true no))
-    statement_makes around (q_stop line f r t max x) may k = always _ (λ no. absurd (false≢true no))
-    statement_makes around (q_repeat line f r t max limit x) may k = always _ (λ no. absurd (false≢true no))
+    statement_makes around (q_stop line f r t max x) may k = q_stop_makes around line f r t max x k
+    statement_makes around (q_repeat line f r t max limit x) may k = q_repeat_makes around line f r t max limit x k
     statement_makes around (put line e) may k = always _ (λ no. absurd (false≢true no))
     statement_makes around (crate_call line which e) may k = always _ (λ no. absurd (false≢true no))
     statement_makes around (lam_call line which l) may k = lam_makes around line which l k

@@ -2,39 +2,50 @@
 use Rattle.std.specs.Prelude.{◌≡◌, ℕ, ◌&&◌, ◌||◌, Bool, true, false, List, [], Some, Ok, IsTrue, drop, nat_le, unwrap_or, slice_get}
 use Rattle.std.specs.List.{list_any}
 use Rattle.camac_lang.specs.Scope.{is_well_formed}
-use Rattle.camac_lang.specs.Tree.{Expression, number, Statement, single, lam_call, choose_else, for_, locked, call, Block, done, next, Service, Script}
+use Rattle.camac_lang.specs.Tree.{Expression, number, Statement, single, q_stop, q_repeat, lam_call, choose_else, for_, locked, call, Block, done, next, Service, Script}
 use Rattle.camac_branch.specs.Address.{Address}
 use Rattle.camac_branch.specs.Branch.{Branch, Answer}
 use Rattle.camac_branch.specs.Plan.{Layout, IsPlan}
 use Rattle.camac_model.specs.Behaviour.{Piece, demanded, cycled, lock_taken, lock_released, event_left}
 use Rattle.camac_model.specs.Fine.{Bounds}
-use Rattle.camac_model.specs.Meaning.{context}
+use Rattle.camac_model.specs.Meaning.{context, lam_function}
 use Rattle.camac_model.specs.Moments.{Meets, AnyStop}
 use Rattle.camac_model.specs.Run.{service_meaning}
 use Rattle.camac_model.specs.State.{State}
 use Rattle.camac_rules.specs.Accept.{accept}
 use Rattle.camac_rules.specs.Capped.{capped}
+use Rattle.camac_check_rows.specs.declared.row.Detail.{Detail}
 use Rattle.camac_check_rows.specs.declared.row.Row.{Row}
 use Rattle.camac_check_costs.specs.Bodies.{costs_with, sections_of}
 use Rattle.camac_commands.specs.declared.command.Command.{Command}
-use Rattle.camac_commands.specs.Commands.{is_told, made_alone, detail_told, behind, behind_block, told_over}
+use Rattle.camac_commands.specs.Commands.{is_told, made_at, told_region, detail_told, behind, behind_block, told_over}
 
 -- a `for` that has a turn whatever its variables are
 abbrev pub has_turn : (first last : Expression) → Bool
 has_turn (number a) (number b) = nat_le a b
 has_turn e1 e2 = false
 
--- Whether a statement or block makes a command that passes a test, wherever it ends. Of each procedure before it, by its number, is known whether its
--- body does.
+-- a number from 1 on
+abbrev pub is_some_number : Expression → Bool
+is_some_number (number a) = nat_le 1 a
+is_some_number e = false
+
+-- Whether a statement that holds no others and calls no procedure makes a command that passes a test, wherever it ends: by what its row tells
+abbrev pub surely_alone : (Command → Bool) → Statement → Detail → Bool
+surely_alone test (single line size f r m) told = list_any test (made_at line f (told_region told))
+surely_alone test (q_stop line f r t max x) told = is_some_number max && list_any test (made_at line f (told_region told))
+surely_alone test (q_repeat line f r t max limit x) told = (is_some_number max && is_some_number limit) && list_any test (made_at line f (told_region told))
+surely_alone test (lam_call line which l) told = list_any test (made_at line (lam_function which) (told_region told))
+surely_alone test s told = false
+
+-- The same of any statement or block. Of each procedure before it, by its number, is known whether its body does.
 abbrev mutual
   pub surely : (Command → Bool) → List Bool → Statement → List Row → Bool
-  surely test ps (single line size f r m) rows = list_any test (made_alone (single line size f r m) (detail_told rows))
-  surely test ps (lam_call line which l) rows = list_any test (made_alone (lam_call line which l) (detail_told rows))
   surely test ps (choose_else line c a b) rows = surely_block test ps a (drop 1 rows) && surely_block test ps b (drop 1 (behind_block a (drop 1 rows)))
   surely test ps (for_ line x e1 e2 keeps body) rows = has_turn e1 e2 && surely_block test ps body (drop 1 rows)
   surely test ps (locked line e body) rows = surely_block test ps body (drop 1 rows)
   surely test ps (call line p es) rows = unwrap_or (slice_get ps p) false
-  surely test ps s rows = false
+  surely test ps s rows = surely_alone test s (detail_told rows)
 
   pub surely_block : (Command → Bool) → List Bool → Block → List Row → Bool
   surely_block test ps done rows = false

@@ -5,14 +5,14 @@ ghost use Rattle.std.specs.List.{list_any};
 ghost use Rattle.camac_lang.specs.View.{item_of, lam_of, procedure_of, service_of, statement_of, statements_of, term_of};
 ghost use Rattle.camac_model.specs.Meaning.{lam_address};
 ghost use Rattle.camac_rules.specs.Accept.{sections};
-ghost use Rattle.camac_commands.specs.Commands.{behind, behind_block, detail_told, made_at, told_over, told_region};
-ghost use Rattle.camac_commands.specs.Surely.{has_turn, surely, surely_block};
+ghost use Rattle.camac_commands.specs.Commands.{behind, behind_block, made_at, told_over, told_region};
+ghost use Rattle.camac_commands.specs.Surely.{has_turn, is_some_number, surely, surely_alone, surely_block};
 ghost use Rattle.camac_response.specs.Reach.{clears_lam, must_clear};
 
 use crate::command::must_clear;
 use camac_branch::Plan;
 use camac_check_costs::{BodyCosts, costs_of};
-use camac_check_rows::Row;
+use camac_check_rows::{Detail, Row};
 use camac_checked::Checked;
 use camac_commands::{Command, behind_first, detail_told, told_region};
 use camac_esone::{Address, lam_function};
@@ -123,19 +123,8 @@ fn statement_clears<'r>(
 {
     let inside = behind_first(rows);
     match statement {
-        Stmt::Single(single) => {
-            let clears = command_clears(plan, lam, single.line, single.function, rows);
-            (clears, inside)
-        }
-        Stmt::LamCall(action) => {
-            let function = lam_function(action.call);
-            (
-                command_clears(plan, lam, action.line, function, rows),
-                inside,
-            )
-        }
-        Stmt::If { then, .. } => {
-            let (_, left) = block_clears(plan, lam, called, then, inside);
+        Stmt::If { then: body, .. } | Stmt::While { body, .. } => {
+            let (_, left) = block_clears(plan, lam, called, body, inside);
             (false, left)
         }
         Stmt::IfElse {
@@ -151,22 +140,51 @@ fn statement_clears<'r>(
             let (clears, left) = block_clears(plan, lam, called, body, inside);
             (has_turn(head.from.term(), head.to.term()) && clears, left)
         }
-        Stmt::While { body, .. } => {
-            let (_, left) = block_clears(plan, lam, called, body, inside);
-            (false, left)
-        }
         Stmt::Lock { body, .. } => block_clears(plan, lam, called, body, inside),
         Stmt::Call(call) => (clears_at(called, call.procedure), inside),
-        Stmt::Assign(_) | Stmt::SetRegister(_) | Stmt::Scan(_) | Stmt::Put(_) => (false, inside),
-        Stmt::QStop { .. } | Stmt::QRepeat { .. } | Stmt::CrateCall(_) => (false, inside),
+        Stmt::Assign(_)
+        | Stmt::SetRegister(_)
+        | Stmt::Single(_)
+        | Stmt::Scan(_)
+        | Stmt::QStop { .. }
+        | Stmt::QRepeat { .. }
+        | Stmt::Put(_)
+        | Stmt::CrateCall(_)
+        | Stmt::LamCall(_) => (
+            clears_alone(plan, lam, statement, detail_told(rows)),
+            inside,
+        ),
+    }
+}
+
+// Whether a statement does that holds no others and calls no procedure.
+fn clears_alone(plan: &Plan, lam: Address, statement: &Stmt, detail: Detail) -> bool
+    ensures { result ≡ surely_alone (must_clear plan.now lam) (statement_of statement.now) detail }
+{
+    match statement {
+        Stmt::Single(single) => command_clears(plan, lam, single.line, single.function, detail),
+        Stmt::QStop { transfer } => {
+            is_some_number(transfer.max.term())
+                && command_clears(plan, lam, transfer.line, transfer.function, detail)
+        }
+        Stmt::QRepeat { transfer, limit } => {
+            is_some_number(transfer.max.term())
+                && is_some_number(limit.term())
+                && command_clears(plan, lam, transfer.line, transfer.function, detail)
+        }
+        Stmt::LamCall(action) => {
+            let function = lam_function(action.call);
+            command_clears(plan, lam, action.line, function, detail)
+        }
+        _ => false,
     }
 }
 
 // Whether a command does, at the addresses that its row tells.
-fn command_clears(plan: &Plan, lam: Address, line: u32, function: Function, rows: &[Row]) -> bool
-    ensures { result ≡ list_any (must_clear plan.now lam) (made_at line function (told_region (detail_told rows.now))) }
+fn command_clears(plan: &Plan, lam: Address, line: u32, function: Function, detail: Detail) -> bool
+    ensures { result ≡ list_any (must_clear plan.now lam) (made_at line function (told_region detail)) }
 {
-    match told_region(detail_told(rows)) {
+    match told_region(detail) {
         Some(region) => must_clear(
             plan,
             lam,
@@ -210,6 +228,16 @@ fn has_turn(from: Term<'_>, to: Term<'_>) -> bool
 {
     match (from.form(), to.form()) {
         (Form::Number(first), Form::Number(last)) => first <= last,
+        _ => false,
+    }
+}
+
+// Whether it is a number from 1 on.
+fn is_some_number(term: Term<'_>) -> bool
+    ensures { result ≡ is_some_number (term_of term.entry) }
+{
+    match term.form() {
+        Form::Number(number) => 1 <= number,
         _ => false,
     }
 }

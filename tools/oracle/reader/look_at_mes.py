@@ -83,7 +83,9 @@ class Looks:
         return any(self.is_clearing(it, lam) for it in block)
 
     def is_clearing(self, it: Statement, lam: Lam) -> bool:
-        if isinstance(it, (LamCall, Cycle)):
+        if isinstance(it, Block) and not all(isinstance(most, int) and most >= 1 for most in (it.most, it.limit) if most is not None):
+            return False
+        if isinstance(it, (LamCall, Cycle, Block)):
             its = self.of_statement(it)
             return bool(its) and all(must_clear(self.plan, lam, command) for command in its)
         if isinstance(it, If):
