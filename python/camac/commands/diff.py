@@ -3,7 +3,7 @@ import argparse
 from typing import Any
 
 from camac import diff
-from camac.commands.options import add_every
+from camac.commands.options import add_every, read_every
 from camac.commands.running import DONE, REFUSED
 from camac.drive import Refused
 from camac.output import say
@@ -29,7 +29,11 @@ def add_to(commands: Any) -> None:
     other.add_argument("--plan", metavar="PLAN", help="OLD and NEW are scripts on this plan")
     other.add_argument("--script", metavar="SCRIPT", help="OLD and NEW are plans of this script")
     add_every(it)
-    it.set_defaults(do=do, out=None)
+    it.set_defaults(do=do, out=None, read=read)
+
+
+def read(args: argparse.Namespace, its: argparse.ArgumentParser) -> None:
+    args.every = read_every(args.every, its)
 
 
 def do(args: argparse.Namespace) -> int:

@@ -15,6 +15,7 @@ from camac.texts import is_standard_input
 DONE, REFUSED, USAGE, FAULT = 0, 1, 2, 3
 STATUS = """\
 Status: 0 done; 1 refused, a wait that was not permitted, or numbers that differ; 2 usage; 3 a file or the program failed."""
+LOST = "{} is an input: it would be lost"
 # Reads the words of a command line, and ends with status 2 if they are not understood.
 Parse = Callable[[List[str]], argparse.Namespace]
 

@@ -1,0 +1,50 @@
+"""Options of draw and report: what the words of events are, and what is cut out of their spectra."""
+import argparse
+import re
+from typing import Tuple
+
+from camac.columns import Naming
+from camac.events import GREATEST_WORD
+from camac.histograms import Pairs, Spectrum
+from camac.regions import LEAST as LEAST_REGION
+
+
+def add_words(to: argparse.ArgumentParser) -> None:
+    to.add_argument("--words", metavar="TOML", help="what the words of events are; else their names come from the script")
+    text = "draws two numbers of an event against each other, named as their spectra are: the one across, the one up"
+    to.add_argument("--pair", nargs=2, metavar=("ACROSS", "UP"), help=text)
+    text = "only events in which NAME has a number from LOW to HIGH; several have to hold all"
+    to.add_argument("--gate", nargs=2, action="append", default=[], metavar=("NAME", "LOW..HIGH"), help=text)
+    text = "measures a region of a spectrum: counts, what is above a line, place and width of a peak; as often as you like"
+    to.add_argument("--region", nargs=2, action="append", default=[], metavar=("NAME", "LOW..HIGH"), help=text)
+    text = "draws the spectra of another run of this script as lines over these, for the same live time or, if that is not known, as many events"
+    to.add_argument("--over", metavar="EVENTS", help=text)
+    to.add_argument("--bins", type=int, metavar="BINS", help=f"the most bins of a spectrum (128), and on either side of a pair ({Pairs.USUAL}; {Pairs.MOST} at most)")
+
+
+def add_view(to: argparse.ArgumentParser) -> None:
+    to.add_argument("--range", metavar="LOW..HIGH", help="draws these numbers of the named words alone")
+
+
+def read_range(text: str, its: argparse.ArgumentParser, option: str, least: int = 1) -> Tuple[int, int]:
+    """Reads LOW..HIGH; ends with status 2 if it is none, or has fewer numbers."""
+    found = re.fullmatch(r"([0-9]{1,8})\.\.([0-9]{1,8})", text)
+    low, last = map(int, found.groups()) if found else (1, 0)
+    if last - low + 1 < least or last > GREATEST_WORD:
+        its.error(f"{option} takes LOW..HIGH, {least} numbers or more from 0 to {GREATEST_WORD:,}, not {text!r}")
+    return low, last
+
+
+def read_cuts(args: argparse.Namespace, its: argparse.ArgumentParser) -> None:
+    """Reads the values of --gate, --region, --range and --bins; ends with status 2 if they are not understood."""
+    args.gate = tuple((name, *read_range(text, its, "--gate")) for name, text in args.gate)
+    args.region = tuple((name, *read_range(text, its, "--region", LEAST_REGION)) for name, text in args.region)
+    if args.bins is not None and not 1 <= args.bins <= Spectrum.CHANNELS:
+        its.error(f"--bins is 1 to {Spectrum.CHANNELS:,}, not {args.bins}")
+    if args.command == "draw":
+        args.range = args.range and read_range(args.range, its, "--range")
+
+
+def naming(args: argparse.Namespace) -> Naming:
+    pair = (args.pair[0], args.pair[1]) if args.pair else None
+    return Naming(args.words, pair, args.gate, args.region, args.over, args.bins)

@@ -1,0 +1,168 @@
+"""draw: draws pictures of a plan, a script and a run."""
+import argparse
+import os
+from typing import Any, Callable, Dict, List, Mapping, Optional, Sequence, Tuple
+
+from camac import pictures
+from camac.columns import Naming, gather
+from camac.commands.cuts import add_view, add_words, naming, read_cuts
+from camac.commands.options import add_every, add_overwrite, read_every
+from camac.commands.running import DONE, FAULT, LOST
+from camac.drive import ProgramFault
+from camac.fits import refuse
+from camac.output import anything, is_one_of, made_like, refuse_loss, write_made
+from camac.pictures import Canvas, spectra
+from camac.pictures.regions import draw_regions, names_title
+from camac.program import knows_command
+from camac.runs import Inputs, Run
+from camac.subcommands import check, costs, plan, response
+from camac.texts import source_lines
+from camac.values import Response
+
+DRAW = """\
+  plan      PLAN [SCRIPT [ANSWERS]]           crates, stations, graded-L bits; with a run the cycles at each station
+  bounds    PLAN SCRIPT [ANSWERS|EVENTS]      what each service may take, of its heading's numbers
+  response  PLAN SCRIPT [ANSWERS]             how late each service can be, from its look-at-me to its end
+  costs     PLAN SCRIPT [ANSWERS|EVENTS]      what the cycles consist of: FILE.NAME.svg for each service and procedure
+  run       PLAN SCRIPT ANSWERS|EVENTS        the cycles of each service of a run against its bound
+  words     PLAN SCRIPT ANSWERS|EVENTS        histograms of cycles and words
+
+PLAN may be @sample, the built-in plan. The first bytes tell an event file from answers."""
+
+
+class Source:
+    """The files of a picture, and what the program and a run say of them, each read once. A script or a run that is not given is an empty
+    one. `every` are the rates of modules, if it is drawn how late services can be; `naming` names the words of events, and `scale`
+    how counts are drawn."""
+
+    def __init__(
+        self,
+        files: Sequence[str],
+        every: Optional[Mapping[str, int]] = None,
+        naming: Optional[Naming] = None,
+        scale: str = spectra.LINEAR,
+        view: spectra.View = spectra.View(),
+    ) -> None:
+        self.files, self.scale, self.view = files, scale, view
+        self.plan = plan(files[0])
+        self.services = check(*files[:2]) if len(files) > 1 else []
+        self.responses: List[Response] = []
+        if every is not None:
+            _need("response")
+            self.responses = response(files[0], files[1], every)
+        self.has_run = len(files) > 2
+        self.run = Run(has_listing=False)
+        if self.has_run:
+            self.run = gather(Inputs(*files), self.plan, self.services, None, self.responses, naming)
+
+
+def _need(command: str) -> None:
+    """Raises ProgramFault if the program does not have a subcommand."""
+    if not knows_command(command):
+        raise ProgramFault(f"this program has no `{command}`", FAULT)
+
+
+def _draw_plan(of: Source) -> Dict[str, Canvas]:
+    return {"": pictures.draw_plan(of.plan, of.services if len(of.files) > 1 else None, of.run if of.has_run else None)}
+
+
+def _draw_bounds(of: Source) -> Dict[str, Canvas]:
+    return {"": pictures.draw_bounds(of.services, of.run if of.has_run else None)}
+
+
+def _draw_costs(of: Source) -> Dict[str, Canvas]:
+    _need("costs")
+    seen = of.run.seen if of.run.has_cycles else {}
+    source = source_lines(of.files[1])
+    drawn = {}
+    bodies = costs(*of.files[:2])
+    for body in bodies:
+        its = seen.get(body.gl) if body.gl else None
+        drawn[body.name] = pictures.draw_costs(body, source, its.cycles if its else None, bodies)
+    return drawn
+
+
+def _draw_response(of: Source) -> Dict[str, Canvas]:
+    return {"": pictures.draw_response(of.responses, of.run if of.has_run else None)}
+
+
+def _draw_run(of: Source) -> Dict[str, Canvas]:
+    return {"": pictures.draw_run(of.run, of.services)}
+
+
+def _draw_words(of: Source) -> Dict[str, Canvas]:
+    canvas, run = Canvas("Histograms of a run: cycles and words of its events, and the words of each channel"), of.run
+    stacked = [("Cycles and words of an event", pictures.event_groups(run, of.services, of.scale))]
+    if run.has_listing:
+        groups = pictures.command_groups(run, of.plan, of.scale)
+        stacked.append(("By channel: the words that modules gave with Q = 1, and the words that were sent", groups))
+    channels = run.list_channels()
+    if channels:
+        stacked.append((names_title(run.asked), pictures.channel_groups(channels, of.scale, of.view, run.over)))
+    for title, groups in stacked:
+        canvas.stack(title, pictures.draw_groups(title, groups))
+    if run.asked.regions:
+        canvas.stack("Regions", draw_regions(run))
+    if run.asked.pair and run.pairs:
+        canvas.stack("Two numbers of an event", pictures.draw_pairs(*run.asked.pair, run.pairs))
+    for service in of.services:
+        canvas.stack(f"Words of {service.name} by their place in the event", pictures.draw_places(run, service))
+    return {"": canvas}
+
+
+# By picture the function that draws it, and how many files it takes at least and at most.
+PICTURES: Dict[str, Tuple[Callable[[Source], Dict[str, Canvas]], int, int]] = {
+    "plan": (_draw_plan, 1, 3),
+    "bounds": (_draw_bounds, 2, 3),
+    "response": (_draw_response, 2, 3),
+    "costs": (_draw_costs, 2, 3),
+    "run": (_draw_run, 3, 3),
+    "words": (_draw_words, 3, 3),
+}
+
+
+def draw(args: argparse.Namespace) -> int:
+    root, end = os.path.splitext(args.out)
+    every = args.every if args.picture == "response" else None
+    its = naming(args) if args.picture == "words" else None
+    low, last = args.range or (0, None)
+    view = spectra.View(low, last, args.bins or spectra.BINS)
+    source = Source(args.files, every, its, spectra.LOGARITHMIC if args.log else spectra.LINEAR, view)
+    drawn = PICTURES[args.picture][0](source)
+    pictures_of = {f"{root}.{name}{end}" if name else args.out: canvas for name, canvas in drawn.items()}
+    texts = {out: canvas.picture() for out, canvas in pictures_of.items()}
+    for out, text in texts.items():
+        if is_one_of(out, args.files):
+            raise ProgramFault(LOST.format(out), FAULT)
+        refuse_loss(out, anything if args.overwrite else made_like(text))
+    for out, text in texts.items():
+        write_made(out, text, args.overwrite)
+    refuse(source.run.checks)
+    return DONE
+
+
+def add_to(commands: Any) -> None:
+    it = commands.add_parser("draw", help="Draws a picture", epilog=DRAW, formatter_class=argparse.RawDescriptionHelpFormatter)
+    it.add_argument("picture", choices=PICTURES, metavar="PICTURE", help="plan, bounds, response, costs, run or words")
+    it.add_argument("files", nargs="+", metavar="FILE", help="the files that the picture is of, see below")
+    it.add_argument("-o", "--out", required=True, metavar="SVG", help="the file to write")
+    add_every(it)
+    add_words(it)
+    add_view(it)
+    it.add_argument("--log", action="store_true", help="counts on a logarithmic axis")
+    add_overwrite(it)
+    it.set_defaults(do=draw, read=read)
+
+
+def read(args: argparse.Namespace, its: argparse.ArgumentParser) -> None:
+    """Reads the values of options; ends with status 2 if they are not understood."""
+    _, least, most = PICTURES[args.picture]
+    if not least <= len(args.files) <= most:
+        its.error(f"draw {args.picture} takes {least} to {most} files" if least < most else f"draw {args.picture} takes {least} files")
+    if args.every and args.picture != "response":
+        its.error("--every is an option of draw response and of report")
+    its_words = (args.words, args.pair, args.log, args.gate, args.region, args.over, args.range, args.bins)
+    if any(its_words) and args.picture != "words":
+        its.error("--words, --pair, --gate, --region, --over, --range, --bins and --log are options of draw words")
+    read_cuts(args, its)
+    args.every = read_every(args.every, its)
