@@ -228,10 +228,13 @@ class Plans(Served):
         uri = self.open(SCRIPT)
         self.assertEqual(self.shown(uri), [])
         plan.write_text(PLAN.replace("waits = 2", "waits = 3"))
-        self.client.until(lambda: self.client.diagnostics[uri][1])
-        self.assertEqual([it["code"] for it in self.client.diagnostics[uri][1]], ["E12", "E12"])
+
+        def codes():
+            return [it["code"] for it in self.client.diagnostics[uri][1]]
+
+        self.client.until(lambda: codes() == ["E12", "E12"])
         plan.unlink()
-        self.client.until(lambda: not self.client.diagnostics[uri][1])
+        self.client.until(lambda: "E12" not in codes())
         self.assertIn("judged on the plan @sample", self.client.logged[-1])
 
     def test_plan_that_is_not_there(self):
