@@ -3,13 +3,13 @@
 ghost use Rattle.std.specs.Prelude.{◌≡◌, ◌++◌, [], IfOk, OnOk, drop, map, slice_get, unwrap_or};
 ghost use Rattle.camac_lang.specs.View.{item_of, procedure_of, service_of, statement_of, statements_of};
 ghost use Rattle.camac_rules.specs.Accept.{sections};
-ghost use Rattle.camac_commands.specs.Commands.{behind, behind_block, commands_of, commands_over, detail_told, made, made_block};
+ghost use Rattle.camac_check_costs.specs.Bodies.{sections_of};
+ghost use Rattle.camac_commands.specs.Commands.{behind, behind_block, commands_over, detail_told, made, made_block};
 
 use crate::command::{Command, push_made};
-use camac_check_costs::{BodyCosts, costs_of};
+use camac_check_costs::BodyCosts;
 use camac_check_rows::{Detail, Row};
-use camac_checked::Checked;
-use camac_lang::{Item, Procedure, Service, Stmt};
+use camac_lang::{Item, Procedure, Script, Service, Stmt};
 use std::alloc::{AllocError, Global};
 use std::marker::Model;
 
@@ -37,12 +37,14 @@ impl BodyCommands {
     }
 }
 
-/// The commands that each service of an accepted script may make, in the order of the services. The error is want of memory.
-pub fn commands_of(alloc: Global, checked: &Checked) -> Result<Vec<BodyCommands>, AllocError>
-    ensures { IfOk result (λ v. v.items ≡ commands_of checked.now.plan checked.now.script) }
+/// The commands that each service of a script may make by these rows of its bodies, in the order of the services. The error is want of memory.
+pub fn commands_of(
+    alloc: Global,
+    script: &Script,
+    costs: &[BodyCosts],
+) -> Result<Vec<BodyCommands>, AllocError>
+    ensures { IfOk result (λ v. v.items ≡ commands_over [] (sections_of script.now) costs.now) }
 {
-    let script = checked.script();
-    let costs = costs_of(alloc, checked)?;
     let mut called = Vec::new(alloc);
     let mut served = Vec::new(alloc);
     push_bodies(
@@ -50,7 +52,7 @@ pub fn commands_of(alloc: Global, checked: &Checked) -> Result<Vec<BodyCommands>
         script.order(),
         script.procedures(),
         script.services(),
-        &costs,
+        costs,
         &mut called,
         &mut served,
     )?;

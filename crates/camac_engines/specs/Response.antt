@@ -2,7 +2,6 @@
 use Rattle.std.specs.Prelude.{◌≡◌, ℕ, List, Option, Some, None, Result, Ok, Err}
 use Rattle.std.specs.Io.KnownBytes.{Keeps}
 use Rattle.camac_checked.specs.Checked.{CheckedScript}
-use Rattle.camac_commands.specs.Commands.{commands_of}
 use Rattle.camac_explain.specs.Finding.{refusal_of}
 use Rattle.camac_response_times.specs.declared.setting.Misuse.{Misuse}
 use Rattle.camac_response_times.specs.declared.setting.Settings.{Settings}
@@ -27,7 +26,7 @@ use Rattle.camac_engines.specs.declared.response.Responded.TheVariants.{Told, Mi
 
 -- what a checked script does not do of its part of the promise
 abbrev pub unkept_in : CheckedScript → List Source → List Unkept
-unkept_in c ts = unkept_of c.plan c.script (commands_of c.plan c.script) ts
+unkept_in c ts = unkept_of c.plan c.script ts
 
 -- the outcome says whether the script does it, and each service ends within the number that is asked for
 abbrev pub SaysKept : (IsKept : Type 0) → Outcome → Type 0

@@ -1,11 +1,11 @@
 // The engine of how long look-at-mes wait for their services.
 
-ghost use Rattle.std.specs.Prelude.{◌≡◌, ◌||◌, IfOk, length};
+ghost use Rattle.std.specs.Prelude.{◌≡◌, ◌||◌, length};
 ghost use Rattle.camac_response.specs.Kept.{AreKept};
 ghost use Rattle.camac_engines.specs.Engine.{is_write_fault};
 ghost use Rattle.camac_engines.specs.Plan.{plan_failed};
 ghost use Rattle.camac_engines.specs.Reading.{is_read_fault};
-ghost use Rattle.camac_engines.specs.Response.{Responds, RespondsOn, SaysKept, unkept_in};
+ghost use Rattle.camac_engines.specs.Response.{Responds, RespondsOn, SaysKept};
 ghost use Rattle.camac_engines.specs.declared.judging.Judged.TheVariants.{Accepted};
 ghost use Rattle.camac_word.specs.Watched.{inner_of, has_failed};
 
@@ -15,13 +15,12 @@ use crate::judging::{Judged, read_judged};
 use crate::outcome::Outcome;
 use crate::plan::PlanSource;
 use camac_check::Checked;
-use camac_commands::commands_of;
 use camac_response::{
-    Misuse, Responses, Settings, Source, Unkept, are_kept, no_service, sources_of, unkept_of,
+    Misuse, Responses, Settings, Unkept, are_kept, no_service, sources_of, unkept_of,
     write_responses,
 };
 use camac_word::Watched;
-use std::alloc::{AllocError, Global};
+use std::alloc::Global;
 use std::io::{Read, Write};
 
 /// What became of the words and of the inputs.
@@ -81,23 +80,11 @@ fn respond_to<'a, W: Write>(
         return Ok(Responded::Misused(misuse));
     }
     let sources = sources_of(alloc, checked, &settings.every)?;
-    let unkept = unkept_in(alloc, checked, &sources)?;
+    let unkept = unkept_of(alloc, checked, &sources)?;
     let responses = Responses::of(alloc, sources)?;
     let outcome = outcome_of(checked, &responses, &unkept, settings);
     write_responses(out, checked, &responses, &unkept, &settings.within)?;
     Ok(Responded::Told(outcome))
-}
-
-// What the script does not do of its part of the promise.
-fn unkept_in(
-    alloc: Global,
-    checked: &Checked,
-    sources: &[Source],
-) -> Result<Vec<Unkept>, AllocError>
-    ensures { IfOk result (λ v. v.items ≡ unkept_in checked.now sources.now) }
-{
-    let commands = commands_of(alloc, checked)?;
-    unkept_of(alloc, checked, &commands, sources)
 }
 
 fn outcome_of(

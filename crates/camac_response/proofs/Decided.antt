@@ -12,6 +12,9 @@ use Rattle.camac_model.specs.Fine.{Bounds}
 use Rattle.camac_model.specs.Meaning.{context}
 use Rattle.camac_model.specs.Run.{service_bit}
 use Rattle.camac_rules.specs.Accept.{accept}
+use Rattle.camac_rules.specs.Capped.{capped}
+use Rattle.camac_check_costs.specs.Body.{BodyRows}
+use Rattle.camac_check_costs.specs.Bodies.{costs_with}
 use Rattle.camac_commands.specs.declared.command.Command.{Command}
 use Rattle.camac_commands.specs.Commands.{commands_of}
 use Rattle.camac_commands.specs.Surely.{surely_of}
@@ -113,33 +116,33 @@ module _ (g : ℕ) where
       go first others zero ds at = subst (λ l. least_line (could_hide lam) None l ≡ None) (same_Some cs ds at) first
       go first others (suc k) ds at = others k ds at
 
-  module _ (plan : Layout) (script : Script) (lists : List (List Command)) where
+  module _ (plan : Layout) (script : Script) (bodies : List BodyRows) (lists : List (List Command)) where
     -- nothing is told of the look-at-me of service number j
     record IsKept (j : ℕ) (lam : Address) (v : Service) : Type 0 where
-      clears : clears_lam plan script lam j ≡ true
+      clears : clears_lam plan script bodies lam j ≡ true
       others : (k : ℕ) (cs : List Command) → slice_get lists k ≡ Some cs → clears_from plan lam j k cs ≡ None
       shown : (k : ℕ) (cs : List Command) → slice_get lists k ≡ Some cs → least_line (could_hide lam) None cs ≡ None
 
-    of_split : (bit j : ℕ) (w : Option Service) (o : Option Address) (us : List Unkept) → NoneUp (told_if plan script lists bit j w o us)
+    of_split : (bit j : ℕ) (w : Option Service) (o : Option Address) (us : List Unkept) → NoneUp (told_if plan script bodies lists bit j w o us)
         → (nat_le bit g ≡ true → (lam : Address) (v : Service) → o ≡ Some lam → w ≡ Some v → IsKept j lam v) × NoneUp us
     of_split bit j None o us e = (λ low lam v at its. absurd (cc), e)
     of_split bit j (Some v) None us e = (λ low lam' v' at its. absurd (cc), e)
     of_split bit j (Some v) (Some lam) us e =
-        let hidden = hidden_split lam bit j 0 lists (told_cleared plan lam bit j 0 lists (told bit j NotCleared (not_cleared plan script lam j v) us)) e in
-        let cleared = cleared_split plan lam bit j 0 lists (told bit j NotCleared (not_cleared plan script lam j v) us) hidden.1 in
-        let own = told_split bit j NotCleared (not_cleared plan script lam j v) us cleared.1 in (
+        let hidden = hidden_split lam bit j 0 lists (told_cleared plan lam bit j 0 lists (told bit j NotCleared (not_cleared plan script bodies lam j v) us)) e in
+        let cleared = cleared_split plan lam bit j 0 lists (told bit j NotCleared (not_cleared plan script bodies lam j v) us) hidden.1 in
+        let own = told_split bit j NotCleared (not_cleared plan script bodies lam j v) us cleared.1 in (
           λ low lam' v' at its.
               subst (λ l. IsKept j l v') (same_Some lam lam' at)
               (subst (λ x. IsKept j lam x) (same_Some v v' its)
-              (record { clears = its_heading (clears_lam plan script lam j) v.line (own.0 low); others = λ k cs at_k. let number : 0 + k ≡ k = omega arith in subst (λ n. clears_from plan lam j n cs ≡ None) number (cleared.0 low k cs at_k); shown = hidden.0 low })),
+              (record { clears = its_heading (clears_lam plan script bodies lam j) v.line (own.0 low); others = λ k cs at_k. let number : 0 + k ≡ k = omega arith in subst (λ n. clears_from plan lam j n cs ≡ None) number (cleared.0 low k cs at_k); shown = hidden.0 low })),
           own.1,
         )
 
-    from_split : (j : ℕ) (ts : List Source) (us : List Unkept) → NoneUp (told_from plan script lists j ts us)
+    from_split : (j : ℕ) (ts : List Source) (us : List Unkept) → NoneUp (told_from plan script bodies lists j ts us)
         → ((k : ℕ) (t : Source) → slice_get ts k ≡ Some t → is_up_to g t ≡ true → (lam : Address) (v : Service) → lams_of script (j + k) ≡ Some lam → slice_get script.services (j + k) ≡ Some v → IsKept (j + k) lam v) × NoneUp us
     from_split j [] us e = (λ k t at up. absurd (cc), e)
     from_split j (t ∷ ts) us e =
-        let later = from_split (j + 1) ts (told_if plan script lists t.bit j (slice_get script.services j) (lams_of script j) us) e in
+        let later = from_split (j + 1) ts (told_if plan script bodies lists t.bit j (slice_get script.services j) (lams_of script j) us) e in
         let here = of_split t.bit j (slice_get script.services j) (lams_of script j) us later.1 in
         (go here.0 later.0, here.1)
       where
@@ -155,12 +158,12 @@ module _ (g : ℕ) where
             let number : j + 1 + k ≡ j + suc k = omega arith in
             subst (λ n. IsKept n lam v) number (others k u at low lam v (ap (lams_of script) number ∙ its) (ap (slice_get script.services) number ∙ is))
 
-    kept : (ts : List Source) → is_kept_to (unkept_of plan script lists ts) g ≡ true → (k : ℕ) (t : Source) → slice_get ts k ≡ Some t → is_up_to g t ≡ true
+    kept : (ts : List Source) → is_kept_to (told_from plan script bodies lists 0 ts []) g ≡ true → (k : ℕ) (t : Source) → slice_get ts k ≡ Some t → is_up_to g t ≡ true
         → (lam : Address) (v : Service) → lams_of script k ≡ Some lam → slice_get script.services k ≡ Some v → IsKept k lam v
     kept ts e k t at low lam v its is =
         let number : 0 + k ≡ k = omega arith in
         subst (λ n. IsKept n lam v) number
-        ((from_split 0 ts [] (none (list_any up (unkept_of plan script lists ts)) e)).0 k t at low lam v (ap (lams_of script) number ∙ its) (ap (slice_get script.services) number ∙ is))
+        ((from_split 0 ts [] (none (list_any up (told_from plan script bodies lists 0 ts [])) e)).0 k t at low lam v (ap (lams_of script) number ∙ its) (ap (slice_get script.services) number ∙ is))
       where
         none : (b : Bool) → not b ≡ true → b ≡ false
         none true e = absurd (cc)
@@ -172,7 +175,10 @@ has_lam plan None b e = absurd (cc)
 has_lam plan (Some lam) b e = (lam, refl)
 
 module _ (plan : Layout) (is_plan : IsPlan plan) (script : Script) (formed : IsTrue (is_well_formed script)) (ks : List Bounds) (accepted : accept plan script ≡ Ok ks)
-    (ts : List Source) (are : AreSources plan script ks ts) (g : ℕ) (e : is_kept_to (unkept_of plan script (commands_of plan script) ts) g ≡ true) where
+    (ts : List Source) (are : AreSources plan script ks ts) (g : ℕ) (e : is_kept_to (unkept_of plan script ts) g ≡ true) where
+  abbrev bodies : List BodyRows
+  bodies = costs_with capped plan script
+
   abbrev lists : List (List Command)
   lists = commands_of plan script
 
@@ -181,10 +187,10 @@ module _ (plan : Layout) (is_plan : IsPlan plan) (script : Script) (formed : IsT
   none_of (Some lam) test h = h lam refl
 
   -- what is known of the look-at-me of a source up to the bit
-  its_kept : (j : ℕ) (t : Source) → slice_get ts j ≡ Some t → is_up_to g t ≡ true → (lam : Address) → lams_of script j ≡ Some lam → (v : Service) × IsKept g plan script lists j lam v
+  its_kept : (j : ℕ) (t : Source) → slice_get ts j ≡ Some t → is_up_to g t ≡ true → (lam : Address) → lams_of script j ≡ Some lam → (v : Service) × IsKept g plan script bodies lists j lam v
   its_kept j t at low lam its =
       let there = same_at (service_bit (context plan script)) (λ u. Some u.bit) script.services ts are.bits j t at in
-      (there.0, kept g plan script lists ts e j t at low lam there.0 its there.1)
+      (there.0, kept g plan script bodies lists ts e j t at low lam there.0 its there.1)
 
   pub decided : (i : ℕ) (v : Service) → slice_get script.services i ≡ Some v → (cs : List Command) → slice_get lists i ≡ Some cs → IsDecided plan script ts g i v
   decided i v at cs listed =
@@ -202,7 +208,7 @@ module _ (plan : Layout) (is_plan : IsPlan plan) (script : Script) (formed : IsT
           hide_none = λ j t at_t low. none_of (lams_of script j) _ (λ lam its_lam. no_line (could_hide lam) cs ((its_kept j t at_t low lam its_lam).1.shown i cs listed));
         };
         clears = λ t at_t low. sure_ones_are_made plan is_plan script ks formed accepted (must_clear plan found.0) (clears (plan_clears plan) found.0) (must_tell plan found.0) i v at
-            (is_there (slice_get (surely_of (must_clear plan found.0) plan script) i) (kept g plan script lists ts e i t at_t low found.0 v its at).clears);
+            (is_there (slice_get (surely_of (must_clear plan found.0) plan script) i) (kept g plan script bodies lists ts e i t at_t low found.0 v its at).clears);
       }
     where
       is_there : (o : Option Bool) → unwrap_or o false ≡ true → o ≡ Some true

@@ -18,7 +18,6 @@ use Rattle.camac_names.specs.Linked.{IsLinked, bit_of_service}
 use Rattle.camac_checked.specs.Checked.{CheckedScript, linked_of, IsChecked}
 use Rattle.camac_response_times.specs.declared.source.Source.{Source}
 use Rattle.camac_response_times.specs.Rounds.{longest, response}
-use Rattle.camac_commands.specs.Commands.{commands_of}
 use Rattle.camac_model.specs.Headline.{nothing}
 use Rattle.camac_response.specs.Stretch.{no_stretch, answers_watch, stretch_watch}
 use Rattle.camac_response.specs.Laws.{lowest_watch}
@@ -70,7 +69,7 @@ pub record RunsRespond (c : CheckedScript) (ts : List Source) : Type 0 where
   -- of a bit up to which the script does its part: where modules do what a user believes of them, each look-at-me is answered in time, and none
   -- waits longer
   pub look_at_mes : (s : ℕ) (source : Source) → slice_get ts s ≡ Some source → (start : ℕ) → response ts source ≡ Some start
-      → is_kept_to (unkept_of c.plan c.script (commands_of c.plan c.script) ts) source.bit ≡ true
+      → is_kept_to (unkept_of c.plan c.script ts) source.bit ≡ true
       → (moods : Moods) (raises : Raises) (pauses : Pauses) (answers : List Answer)
       → ModulesKeep ts (lams_of c.script) (plan_clears c.plan) moods raises pauses source.bit (the_run c.plan c.script answers)
       → Holds (waits_watch ts raises pauses s source start) at_start (the_run c.plan c.script answers)

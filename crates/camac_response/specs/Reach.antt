@@ -1,5 +1,5 @@
 -- What a list of commands tells of a service: which look-at-mes it may clear or hide.
-use Rattle.std.specs.Prelude.{◌≡◌, ℕ, ◌&&◌, ◌||◌, Bool, true, false, List, Some, nat_eq, nat_le, nat_lt, not, slice_get, unwrap_or}
+use Rattle.std.specs.Prelude.{◌≡◌, ℕ, ◌&&◌, ◌||◌, Bool, true, false, List, [], Some, nat_eq, nat_le, nat_lt, not, slice_get, unwrap_or}
 use Rattle.std.specs.List.{list_any, range_with_len}
 use Rattle.camac_lang.specs.declared.word.CrateCall.{CrateCall}
 use Rattle.camac_lang.specs.declared.word.CrateCall.TheVariants as crate_word
@@ -14,8 +14,10 @@ use Rattle.camac_model.specs.Meaning.{crate_address, crate_function, lam_functio
 use Rattle.camac_model.specs.Moments.{Holds}
 use Rattle.camac_model.specs.Run.{the_run}
 use Rattle.camac_commands.specs.declared.command.Command.{Command}
-use Rattle.camac_commands.specs.Commands.{lies_in, MakesOnly}
-use Rattle.camac_commands.specs.Surely.{surely_of, MakesOne}
+use Rattle.camac_check_costs.specs.Body.{BodyRows}
+use Rattle.camac_check_costs.specs.Bodies.{sections_of}
+use Rattle.camac_commands.specs.Commands.{lies_in, told_over, MakesOnly}
+use Rattle.camac_commands.specs.Surely.{surely_block, MakesOne}
 use Rattle.camac_response_times.specs.declared.source.Source.{Source}
 use Rattle.camac_response_times.specs.Response.{is_up_to}
 use Rattle.camac_response.specs.Lams.{plan_clears, clears, lams_of, of_lam, first_page, services_watch}
@@ -54,9 +56,9 @@ spares_at plan lam c a =
 abbrev pub must_clear : Layout → (lam : Address) → Command → Bool
 must_clear plan lam c = must_be_at lam c && (nat_lt c.region.sub_addresses.hi 16 && not (list_any (spares_at plan lam c) (range_with_len 0 16)))
 
--- whether the service of this number makes such a command, wherever it ends
-abbrev pub clears_lam : Layout → Script → (lam : Address) → (service : ℕ) → Bool
-clears_lam plan script lam j = unwrap_or (slice_get (surely_of (must_clear plan lam) plan script) j) false
+-- whether the service of this number makes such a command, wherever it ends, by these rows of the bodies
+abbrev pub clears_lam : Layout → Script → List BodyRows → (lam : Address) → (service : ℕ) → Bool
+clears_lam plan script bodies lam j = unwrap_or (slice_get (told_over (surely_block (must_clear plan lam)) [] (sections_of script) bodies) j) false
 
 -- it may clear it, or hide it
 abbrev pub could_clear : Layout → (lam : Address) → Command → Bool

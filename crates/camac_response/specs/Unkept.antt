@@ -4,7 +4,11 @@ use Rattle.std.specs.List.{list_any}
 use Rattle.camac_lang.specs.Tree.{Service, Script}
 use Rattle.camac_branch.specs.Address.{Address}
 use Rattle.camac_branch.specs.Plan.{Layout}
+use Rattle.camac_rules.specs.Capped.{capped}
+use Rattle.camac_check_costs.specs.Body.{BodyRows}
+use Rattle.camac_check_costs.specs.Bodies.{costs_with}
 use Rattle.camac_commands.specs.declared.command.Command.{Command}
+use Rattle.camac_commands.specs.Commands.{commands_of}
 use Rattle.camac_response_times.specs.declared.source.Source.{Source}
 use Rattle.camac_response.specs.declared.unkept.Unkept.{Unkept}
 use Rattle.camac_response.specs.declared.unkept.Why.{Why}
@@ -41,8 +45,8 @@ told bit j why None us = us
 told bit j why (Some line) us = with_unkept (record { bit = bit; service = j; line = line; why = why }) us
 
 -- The look-at-me of service number j, whose address and bit are these. Its service does not clear it on every way: the line of its heading
-abbrev pub not_cleared : Layout → Script → Address → (j : ℕ) → Service → Option ℕ
-not_cleared plan script lam j v = if clears_lam plan script lam j then None else Some v.line
+abbrev pub not_cleared : Layout → Script → List BodyRows → Address → (j : ℕ) → Service → Option ℕ
+not_cleared plan script bodies lam j v = if clears_lam plan script bodies lam j then None else Some v.line
 
 -- other services may clear it, by their commands: the services from number i on
 abbrev pub clears_from : Layout → Address → (j : ℕ) → ℕ → List Command → Option ℕ
@@ -57,24 +61,24 @@ abbrev pub told_hidden : Address → (bit j : ℕ) → ℕ → List (List Comman
 told_hidden lam bit j i [] us = us
 told_hidden lam bit j i (cs ∷ rest) us = told_hidden lam bit j (i + 1) rest (told bit j (HiddenBy i) (least_line (could_hide lam) None cs) us)
 
--- all of this, with the commands of each service
-abbrev pub told_of : Layout → Script → List (List Command) → (bit j : ℕ) → Address → Service → List Unkept → List Unkept
-told_of plan script lists bit j lam v us =
-    told_hidden lam bit j 0 lists (told_cleared plan lam bit j 0 lists (told bit j NotCleared (not_cleared plan script lam j v) us))
+-- all of this, by these rows of the bodies and with the commands of each service
+abbrev pub told_of : Layout → Script → List BodyRows → List (List Command) → (bit j : ℕ) → Address → Service → List Unkept → List Unkept
+told_of plan script bodies lists bit j lam v us =
+    told_hidden lam bit j 0 lists (told_cleared plan lam bit j 0 lists (told bit j NotCleared (not_cleared plan script bodies lam j v) us))
 
-abbrev pub told_if : Layout → Script → List (List Command) → (bit j : ℕ) → Option Service → Option Address → List Unkept → List Unkept
-told_if plan script lists bit j None lam us = us
-told_if plan script lists bit j (Some v) None us = us
-told_if plan script lists bit j (Some v) (Some lam) us = told_of plan script lists bit j lam v us
+abbrev pub told_if : Layout → Script → List BodyRows → List (List Command) → (bit j : ℕ) → Option Service → Option Address → List Unkept → List Unkept
+told_if plan script bodies lists bit j None lam us = us
+told_if plan script bodies lists bit j (Some v) None us = us
+told_if plan script bodies lists bit j (Some v) (Some lam) us = told_of plan script bodies lists bit j lam v us
 
 -- of the services from number j on, which are these sources
-abbrev pub told_from : Layout → Script → List (List Command) → ℕ → List Source → List Unkept → List Unkept
-told_from plan script lists j [] us = us
-told_from plan script lists j (t ∷ ts) us =
-    told_from plan script lists (j + 1) ts (told_if plan script lists t.bit j (slice_get script.services j) (lams_of script j) us)
+abbrev pub told_from : Layout → Script → List BodyRows → List (List Command) → ℕ → List Source → List Unkept → List Unkept
+told_from plan script bodies lists j [] us = us
+told_from plan script bodies lists j (t ∷ ts) us =
+    told_from plan script bodies lists (j + 1) ts (told_if plan script bodies lists t.bit j (slice_get script.services j) (lams_of script j) us)
 
-abbrev pub unkept_of : Layout → Script → List (List Command) → List Source → List Unkept
-unkept_of plan script lists ts = told_from plan script lists 0 ts []
+abbrev pub unkept_of : Layout → Script → List Source → List Unkept
+unkept_of plan script ts = told_from plan script (costs_with capped plan script) (commands_of plan script) 0 ts []
 
 -- whether a number is told for a bit: nothing is told of a look-at-me up to it
 abbrev pub is_kept_to : List Unkept → (bit : ℕ) → Bool

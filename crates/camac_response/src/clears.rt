@@ -11,7 +11,7 @@ ghost use Rattle.camac_response.specs.Reach.{clears_lam, must_clear};
 
 use crate::command::must_clear;
 use camac_branch::Plan;
-use camac_check_costs::{BodyCosts, costs_of};
+use camac_check_costs::BodyCosts;
 use camac_check_rows::{Detail, Row};
 use camac_checked::Checked;
 use camac_commands::{Command, behind_first, detail_told, told_region};
@@ -20,17 +20,17 @@ use camac_lang::{Form, Item, Lam, Procedure, Service, Stmt, Term};
 use camac_word::Function;
 use std::alloc::{AllocError, Global};
 
-/// Whether the service of this number clears the look-at-me at an address, wherever it ends. The error is want of memory.
+/// Whether the service of this number clears the look-at-me at an address, wherever it ends, by these rows of its bodies. The error is want of memory.
 pub fn clears_lam(
     alloc: Global,
     checked: &Checked,
+    costs: &[BodyCosts],
     lam: Address,
     number: usize,
 ) -> Result<bool, AllocError>
-    ensures { IfOk result (λ b. b ≡ clears_lam checked.now.plan checked.now.script lam number) }
+    ensures { IfOk result (λ b. b ≡ clears_lam checked.now.plan checked.now.script costs.now lam number) }
 {
     let script = checked.script();
-    let costs = costs_of(alloc, checked)?;
     let mut called = Vec::new(alloc);
     let mut served = Vec::new(alloc);
     push_bodies(
@@ -39,7 +39,7 @@ pub fn clears_lam(
         script.order(),
         script.procedures(),
         script.services(),
-        &costs,
+        costs,
         &mut called,
         &mut served,
     )?;

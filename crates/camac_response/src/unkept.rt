@@ -9,8 +9,9 @@ ghost use Rattle.camac_response.specs.Unkept.{comes_after, is_kept_to, least_lin
 use crate::clears::{clears_lam, lam_at};
 use crate::command::{could_clear, could_hide};
 use camac_branch::Plan;
+use camac_check_costs::{BodyCosts, costs_of};
 use camac_checked::Checked;
-use camac_commands::{BodyCommands, Command};
+use camac_commands::{BodyCommands, Command, commands_of};
 use camac_esone::Address;
 use camac_lang::Service;
 use camac_response_times::Source;
@@ -37,18 +38,18 @@ pub struct Unkept {
     pub why: Why,
 }
 
-/// What is told of the look-at-mes of these services, by the commands that each service may make, in the order of bits, then of lines. The error
-/// is want of memory.
+/// What is told of the look-at-mes of these services, in the order of bits, then of lines. The error is want of memory.
 pub fn unkept_of(
     alloc: Global,
     checked: &Checked,
-    commands: &[BodyCommands],
     sources: &[Source],
 ) -> Result<Vec<Unkept>, AllocError>
-    ensures { IfOk result (λ v. v.items ≡ unkept_of checked.now.plan checked.now.script commands.now sources.now) }
+    ensures { IfOk result (λ v. v.items ≡ unkept_of checked.now.plan checked.now.script sources.now) }
 {
+    let costs = costs_of(alloc, checked)?;
+    let commands = commands_of(alloc, checked.script(), &costs)?;
     let mut found = Vec::new(alloc);
-    tell_from(alloc, &mut found, checked, commands, 0, sources)?;
+    tell_from(alloc, &mut found, checked, &costs, &commands, 0, sources)?;
     Ok(found)
 }
 
@@ -57,18 +58,19 @@ fn tell_from(
     alloc: Global,
     found: &mut Vec<Unkept>,
     checked: &Checked,
+    costs: &[BodyCosts],
     commands: &[BodyCommands],
     number: usize,
     sources: &[Source],
 ) -> Result<(), AllocError>
     requires { number + length sources.now < 2 ^ 64 }
-    ensures { OnOk result (found.new.items ≡ told_from checked.now.plan checked.now.script commands.now number sources.now found.old.items) }
+    ensures { OnOk result (found.new.items ≡ told_from checked.now.plan checked.now.script costs.now commands.now number sources.now found.old.items) }
 {
     let [source, rest @ ..] = sources else {
         return Ok(());
     };
-    tell_if(alloc, found, checked, commands, source.bit, number)?;
-    tell_from(alloc, found, checked, commands, number + 1, rest)
+    tell_if(alloc, found, checked, costs, commands, source.bit, number)?;
+    tell_from(alloc, found, checked, costs, commands, number + 1, rest)
 }
 
 // Of the service of this number, if there is one.
@@ -76,11 +78,12 @@ fn tell_if(
     alloc: Global,
     found: &mut Vec<Unkept>,
     checked: &Checked,
+    costs: &[BodyCosts],
     commands: &[BodyCommands],
     bit: GlBit,
     number: usize,
 ) -> Result<(), AllocError>
-    ensures { OnOk result (found.new.items ≡ told_if checked.now.plan checked.now.script commands.now bit number (slice_get checked.now.script.services number) (lams_of checked.now.script number) found.old.items) }
+    ensures { OnOk result (found.new.items ≡ told_if checked.now.plan checked.now.script costs.now commands.now bit number (slice_get checked.now.script.services number) (lams_of checked.now.script number) found.old.items) }
 {
     let script = checked.script();
     let Some(service) = script.services().get(number) else {
@@ -89,22 +92,25 @@ fn tell_if(
     let Some(lam) = lam_at(script.lams(), service.lam) else {
         return Ok(());
     };
-    tell_of(alloc, found, checked, commands, bit, number, lam, service)
+    tell_of(
+        alloc, found, checked, costs, commands, bit, number, lam, service,
+    )
 }
 
 fn tell_of(
     alloc: Global,
     found: &mut Vec<Unkept>,
     checked: &Checked,
+    costs: &[BodyCosts],
     commands: &[BodyCommands],
     bit: GlBit,
     number: usize,
     lam: Address,
     service: &Service,
 ) -> Result<(), AllocError>
-    ensures { OnOk result (found.new.items ≡ told_of checked.now.plan checked.now.script commands.now bit number lam (service_of service.now) found.old.items) }
+    ensures { OnOk result (found.new.items ≡ told_of checked.now.plan checked.now.script costs.now commands.now bit number lam (service_of service.now) found.old.items) }
 {
-    let heading = not_cleared(alloc, checked, lam, number, service)?;
+    let heading = not_cleared(alloc, checked, costs, lam, number, service)?;
     tell(found, bit, number, Why::NotCleared, heading)?;
     tell_cleared(found, checked.plan(), lam, bit, number, 0, commands)?;
     tell_hidden(found, lam, bit, number, 0, commands)
@@ -114,13 +120,14 @@ fn tell_of(
 fn not_cleared(
     alloc: Global,
     checked: &Checked,
+    costs: &[BodyCosts],
     lam: Address,
     number: usize,
     service: &Service,
 ) -> Result<Option<u32>, AllocError>
-    ensures { IfOk result (λ line. line ≡ not_cleared checked.now.plan checked.now.script lam number (service_of service.now)) }
+    ensures { IfOk result (λ line. line ≡ not_cleared checked.now.plan checked.now.script costs.now lam number (service_of service.now)) }
 {
-    let clears = clears_lam(alloc, checked, lam, number)?;
+    let clears = clears_lam(alloc, checked, costs, lam, number)?;
     Ok(if clears { None } else { Some(service.line) })
 }
 
