@@ -81,6 +81,11 @@ made_alone (crate_call line which e) told = made_at line (crate_function which) 
 made_alone (lam_call line which l) told = made_at line (lam_function which) (told_region told)
 made_alone s told = []
 
+-- as a list of one or none
+abbrev pub as_list : Option Command → List Command
+as_list None = []
+as_list (Some c) = c ∷ []
+
 -- what the first row tells
 abbrev pub detail_told : List Row → Detail
 detail_told [] = detail.Nothing

@@ -1,9 +1,9 @@
 // A command that a service may make, by a statement of its text and the detail of that statement's row.
 
-ghost use Rattle.std.specs.Prelude.{◌≡◌, ◌++◌, OnOk};
+ghost use Rattle.std.specs.Prelude.{◌≡◌};
 ghost use Rattle.camac_lang.specs.View.{statement_of};
 ghost use Rattle.camac_esone.specs.Calls.{command_at, crate_address, crate_function};
-ghost use Rattle.camac_commands.specs.Commands.{called_at, made_alone, made_at, span, told_region};
+ghost use Rattle.camac_commands.specs.Commands.{as_list, called_at, made_alone, made_at, span, told_region};
 
 use camac_branch::Command as BranchCommand;
 use camac_check_known::Region;
@@ -13,7 +13,6 @@ use camac_func::DataMove;
 use camac_lang::{CrateCall, Stmt};
 use camac_range::Range;
 use camac_word::{CrateNo, Function};
-use std::alloc::AllocError;
 
 /// A command that a service may make: its line, its function, and the addresses at which it may be made.
 #[derive(Clone, Copy)]
@@ -23,62 +22,38 @@ pub struct Command {
     pub region: Region,
 }
 
-/// Puts the command of a statement that holds no others and calls no procedure, if it has one.
-pub fn push_made(
-    commands: &mut Vec<Command>,
-    statement: &Stmt,
-    detail: Detail,
-) -> Result<(), AllocError>
-    ensures { OnOk result (commands.new.items ≡ commands.old.items ++ made_alone (statement_of statement.now) detail) }
+/// The command of a statement that holds no others and calls no procedure, if it has one.
+pub fn made_alone(statement: &Stmt, detail: Detail) -> Option<Command>
+    ensures { as_list result ≡ made_alone (statement_of statement.now) detail }
 {
     match statement {
-        Stmt::Single(single) => push_at(
-            commands,
-            single.line,
-            single.function,
-            told_region(detail),
-        ),
-        Stmt::Scan(scan) => push_at(commands, scan.line, scan.function, told_region(detail)),
+        Stmt::Single(single) => made_at(single.line, single.function, told_region(detail)),
+        Stmt::Scan(scan) => made_at(scan.line, scan.function, told_region(detail)),
         Stmt::QStop { transfer } | Stmt::QRepeat { transfer, .. } => {
-            push_at(
-                commands,
-                transfer.line,
-                transfer.function,
-                told_region(detail),
-            )
+            made_at(transfer.line, transfer.function, told_region(detail))
         }
         Stmt::CrateCall(action) => {
             let function = called(action.call).f;
-            push_at(
-                commands,
-                action.line,
-                function,
-                called_at(action.call, detail),
-            )
+            made_at(action.line, function, called_at(action.call, detail))
         }
         Stmt::LamCall(action) => {
             let function = lam_function(action.call);
-            push_at(commands, action.line, function, told_region(detail))
+            made_at(action.line, function, told_region(detail))
         }
-        _ => Ok(()),
+        _ => None,
     }
 }
 
-fn push_at(
-    commands: &mut Vec<Command>,
-    line: u32,
-    function: Function,
-    region: Option<Region>,
-) -> Result<(), AllocError>
-    ensures { OnOk result (commands.new.items ≡ commands.old.items ++ made_at line function region) }
+fn made_at(line: u32, function: Function, region: Option<Region>) -> Option<Command>
+    ensures { as_list result ≡ made_at line function region }
 {
     match region {
-        Some(region) => Ok(commands.push(Command {
+        Some(region) => Some(Command {
             line,
             function,
             region,
-        })?),
-        None => Ok(()),
+        }),
+        None => None,
     }
 }
 

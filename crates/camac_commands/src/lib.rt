@@ -5,5 +5,5 @@ mod command;
 mod commands;
 pub mod laws;
 
-pub use command::{Command, told_region};
-pub use commands::{BodyCommands, behind_first, commands_of, detail_told};
+pub use command::{Command, made_alone, told_region};
+pub use commands::{behind_first, detail_told};

@@ -1,6 +1,6 @@
 -- Where nothing is told of look-at-mes up to a bit, the script does its part for them.
 use Rattle.std.proofs.Common.{◌≡◌, ℕ, zero, suc, ◌+◌, List, [], ◌∷◌, Option, Some, None, Bool, true, false, refl, sym, ap, ◌∙◌, subst, arith}
-use Rattle.std.specs.Prelude.{◌||◌, insert, nat_eq, nat_le, not, option_and_then, slice_get, unwrap_or, if◌then◌else◌, IsTrue, Ok}
+use Rattle.std.specs.Prelude.{insert, nat_eq, nat_le, not, option_and_then, slice_get, unwrap_or, if◌then◌else◌, IsTrue, Ok}
 use Rattle.std.specs.List.{list_any}
 use Rattle.std.proofs.lemmas.Bool.{eqb-true, true≢false}
 use Rattle.std.proofs.lemmas.Option.{same_Some}
@@ -14,7 +14,7 @@ use Rattle.camac_model.specs.Run.{service_bit}
 use Rattle.camac_rules.specs.Accept.{accept}
 use Rattle.camac_rules.specs.Capped.{capped}
 use Rattle.camac_check_costs.specs.Body.{BodyRows}
-use Rattle.camac_check_costs.specs.Bodies.{costs_with}
+use Rattle.camac_check_costs.specs.Bodies.{costs_with, sections_of}
 use Rattle.camac_commands.specs.declared.command.Command.{Command}
 use Rattle.camac_commands.specs.Commands.{commands_of}
 use Rattle.camac_commands.specs.Surely.{surely_of}
@@ -27,14 +27,13 @@ use Rattle.camac_response.specs.declared.unkept.Why.TheVariants.{NotCleared, Cle
 use Rattle.camac_response.specs.Lams.{plan_clears, clears, lams_of, of_lam}
 use Rattle.camac_response.specs.Laws.{AreSources}
 use Rattle.camac_response.specs.Reach.{could_clear, could_hide, must_clear, clears_lam, IsDecided}
-use Rattle.camac_response.specs.Unkept.{with_line, least_line, place_of, told, not_cleared, clears_from, told_cleared, told_hidden, told_if, told_from, unkept_of, is_kept_to}
+use Rattle.camac_response.specs.Unkept.{place_of, told, not_cleared, of_other, told_cleared, told_hidden, told_if, told_from, unkept_of, is_kept_to}
+use Rattle.camac_response.specs.First.{lines_of}
+use Rattle.camac_response.specs.declared.least.Question.TheVariants.{Clears, Hides}
+use Rattle.camac_response.proofs.First.{both_false, line_of}
 use Rattle.camac_response.proofs.Lams.{or_false}
 use Rattle.camac_response.proofs.Lowest.{same_at}
 use Rattle.camac_response.proofs.Reach.{must_tell}
-
-both_false : (a b : Bool) → a ≡ false → b ≡ false → (a || b) ≡ false
-both_false true b e f = e
-both_false false b e f = f
 
 -- what was put in does not pass, and neither do the others
 inserted : (test : Unkept → Bool) (us : List Unkept) (n : ℕ) (u : Unkept) → list_any test (insert us n u) ≡ false → (test u ≡ false) × (list_any test us ≡ false)
@@ -44,23 +43,6 @@ inserted test (x ∷ us) (suc n) u e =
     let parts = or_false (test x) (list_any test (insert us n u)) e in
     let rest = inserted test us n u parts.1 in
     (rest.0, both_false (test x) (list_any test us) parts.0 rest.1)
-
--- where no command has a line, none passes the test
-some_line : (test : Command → Bool) (n : ℕ) (cs : List Command) → least_line test (Some n) cs ≡ None → ⊥
-some_line test n [] e = absurd (cc)
-some_line test n (c ∷ cs) e = go (test c) e (λ m. some_line test m cs)
-  where
-    go : (b : Bool) → least_line test (with_line b c.line (Some n)) cs ≡ None → ((m : ℕ) → least_line test (Some m) cs ≡ None → ⊥) → ⊥
-    go true e ih = ih _ e
-    go false e ih = ih n e
-
-no_line : (test : Command → Bool) (cs : List Command) → least_line test None cs ≡ None → list_any test cs ≡ false
-no_line test [] e = refl
-no_line test (c ∷ cs) e = go (test c) refl e (no_line test cs)
-  where
-    go : (b : Bool) → test c ≡ b → least_line test (with_line b c.line None) cs ≡ None → (least_line test None cs ≡ None → list_any test cs ≡ false) → (test c || list_any test cs) ≡ false
-    go true is e ih = absurd (some_line test c.line cs e)
-    go false is e ih = both_false (test c) (list_any test cs) is (ih e)
 
 -- a service that clears it has no line
 its_heading : (b : Bool) (n : ℕ) → (if b then None else Some n) ≡ None → b ≡ true
@@ -85,64 +67,64 @@ module _ (g : ℕ) where
       let parts = inserted up us (place_of bit line us) u e in
       (λ low. absurd (true≢false (sym low ∙ parts.0)), parts.1)
 
-  cleared_split : (plan : Layout) (lam : Address) (bit j i : ℕ) (lists : List (List Command)) (us : List Unkept) → NoneUp (told_cleared plan lam bit j i lists us)
-      → (nat_le bit g ≡ true → (k : ℕ) (cs : List Command) → slice_get lists k ≡ Some cs → clears_from plan lam j (i + k) cs ≡ None) × NoneUp us
-  cleared_split plan lam bit j i [] us e = (λ low k cs at. absurd (cc), e)
-  cleared_split plan lam bit j i (cs ∷ rest) us e =
-      let later = cleared_split plan lam bit j (i + 1) rest (told bit j (ClearedBy i) (clears_from plan lam j i cs) us) e in
-      let here = told_split bit j (ClearedBy i) (clears_from plan lam j i cs) us later.1 in
+  cleared_split : (bit j i : ℕ) (lines : List (Option ℕ)) (us : List Unkept) → NoneUp (told_cleared bit j i lines us)
+      → (nat_le bit g ≡ true → (k : ℕ) (o : Option ℕ) → slice_get lines k ≡ Some o → of_other j (i + k) o ≡ None) × NoneUp us
+  cleared_split bit j i [] us e = (λ low k o at. absurd (cc), e)
+  cleared_split bit j i (line ∷ rest) us e =
+      let later = cleared_split bit j (i + 1) rest (told bit j (ClearedBy i) (of_other j i line) us) e in
+      let here = told_split bit j (ClearedBy i) (of_other j i line) us later.1 in
       (λ low. go low (here.0 low) (later.0 low), here.1)
     where
-      go : nat_le bit g ≡ true → clears_from plan lam j i cs ≡ None → ((k : ℕ) (ds : List Command) → slice_get rest k ≡ Some ds → clears_from plan lam j (i + 1 + k) ds ≡ None)
-          → (k : ℕ) (ds : List Command) → slice_get (cs ∷ rest) k ≡ Some ds → clears_from plan lam j (i + k) ds ≡ None
-      go low first others zero ds at =
-          let same : cs ≡ ds = same_Some cs ds at in
+      go : nat_le bit g ≡ true → of_other j i line ≡ None → ((k : ℕ) (o : Option ℕ) → slice_get rest k ≡ Some o → of_other j (i + 1 + k) o ≡ None)
+          → (k : ℕ) (o : Option ℕ) → slice_get (line ∷ rest) k ≡ Some o → of_other j (i + k) o ≡ None
+      go low first others zero o at =
+          let same : line ≡ o = same_Some line o at in
           let number : i ≡ i + 0 = omega arith in
-          subst (λ n. clears_from plan lam j n ds ≡ None) number (subst (λ l. clears_from plan lam j i l ≡ None) same first)
-      go low first others (suc k) ds at =
+          subst (λ n. of_other j n o ≡ None) number (subst (λ l. of_other j i l ≡ None) same first)
+      go low first others (suc k) o at =
           let number : i + 1 + k ≡ i + suc k = omega arith in
-          subst (λ n. clears_from plan lam j n ds ≡ None) number (others k ds at)
+          subst (λ n. of_other j n o ≡ None) number (others k o at)
 
-  hidden_split : (lam : Address) (bit j i : ℕ) (lists : List (List Command)) (us : List Unkept) → NoneUp (told_hidden lam bit j i lists us)
-      → (nat_le bit g ≡ true → (k : ℕ) (cs : List Command) → slice_get lists k ≡ Some cs → least_line (could_hide lam) None cs ≡ None) × NoneUp us
-  hidden_split lam bit j i [] us e = (λ low k cs at. absurd (cc), e)
-  hidden_split lam bit j i (cs ∷ rest) us e =
-      let later = hidden_split lam bit j (i + 1) rest (told bit j (HiddenBy i) (least_line (could_hide lam) None cs) us) e in
-      let here = told_split bit j (HiddenBy i) (least_line (could_hide lam) None cs) us later.1 in
+  hidden_split : (bit j i : ℕ) (lines : List (Option ℕ)) (us : List Unkept) → NoneUp (told_hidden bit j i lines us)
+      → (nat_le bit g ≡ true → (k : ℕ) (o : Option ℕ) → slice_get lines k ≡ Some o → o ≡ None) × NoneUp us
+  hidden_split bit j i [] us e = (λ low k o at. absurd (cc), e)
+  hidden_split bit j i (line ∷ rest) us e =
+      let later = hidden_split bit j (i + 1) rest (told bit j (HiddenBy i) line us) e in
+      let here = told_split bit j (HiddenBy i) line us later.1 in
       (λ low. go (here.0 low) (later.0 low), here.1)
     where
-      go : least_line (could_hide lam) None cs ≡ None → ((k : ℕ) (ds : List Command) → slice_get rest k ≡ Some ds → least_line (could_hide lam) None ds ≡ None)
-          → (k : ℕ) (ds : List Command) → slice_get (cs ∷ rest) k ≡ Some ds → least_line (could_hide lam) None ds ≡ None
-      go first others zero ds at = subst (λ l. least_line (could_hide lam) None l ≡ None) (same_Some cs ds at) first
-      go first others (suc k) ds at = others k ds at
+      go : line ≡ None → ((k : ℕ) (o : Option ℕ) → slice_get rest k ≡ Some o → o ≡ None)
+          → (k : ℕ) (o : Option ℕ) → slice_get (line ∷ rest) k ≡ Some o → o ≡ None
+      go first others zero o at = sym (same_Some line o at) ∙ first
+      go first others (suc k) o at = others k o at
 
-  module _ (plan : Layout) (script : Script) (bodies : List BodyRows) (lists : List (List Command)) where
+  module _ (plan : Layout) (script : Script) (bodies : List BodyRows) where
     -- nothing is told of the look-at-me of service number j
     record IsKept (j : ℕ) (lam : Address) (v : Service) : Type 0 where
       clears : clears_lam plan script bodies lam j ≡ true
-      others : (k : ℕ) (cs : List Command) → slice_get lists k ≡ Some cs → clears_from plan lam j k cs ≡ None
-      shown : (k : ℕ) (cs : List Command) → slice_get lists k ≡ Some cs → least_line (could_hide lam) None cs ≡ None
+      others : (k : ℕ) (o : Option ℕ) → slice_get (lines_of plan script bodies Clears lam) k ≡ Some o → of_other j k o ≡ None
+      shown : (k : ℕ) (o : Option ℕ) → slice_get (lines_of plan script bodies Hides lam) k ≡ Some o → o ≡ None
 
-    of_split : (bit j : ℕ) (w : Option Service) (o : Option Address) (us : List Unkept) → NoneUp (told_if plan script bodies lists bit j w o us)
+    of_split : (bit j : ℕ) (w : Option Service) (o : Option Address) (us : List Unkept) → NoneUp (told_if plan script bodies bit j w o us)
         → (nat_le bit g ≡ true → (lam : Address) (v : Service) → o ≡ Some lam → w ≡ Some v → IsKept j lam v) × NoneUp us
     of_split bit j None o us e = (λ low lam v at its. absurd (cc), e)
     of_split bit j (Some v) None us e = (λ low lam' v' at its. absurd (cc), e)
     of_split bit j (Some v) (Some lam) us e =
-        let hidden = hidden_split lam bit j 0 lists (told_cleared plan lam bit j 0 lists (told bit j NotCleared (not_cleared plan script bodies lam j v) us)) e in
-        let cleared = cleared_split plan lam bit j 0 lists (told bit j NotCleared (not_cleared plan script bodies lam j v) us) hidden.1 in
+        let hidden = hidden_split bit j 0 (lines_of plan script bodies Hides lam) (told_cleared bit j 0 (lines_of plan script bodies Clears lam) (told bit j NotCleared (not_cleared plan script bodies lam j v) us)) e in
+        let cleared = cleared_split bit j 0 (lines_of plan script bodies Clears lam) (told bit j NotCleared (not_cleared plan script bodies lam j v) us) hidden.1 in
         let own = told_split bit j NotCleared (not_cleared plan script bodies lam j v) us cleared.1 in (
           λ low lam' v' at its.
               subst (λ l. IsKept j l v') (same_Some lam lam' at)
               (subst (λ x. IsKept j lam x) (same_Some v v' its)
-              (record { clears = its_heading (clears_lam plan script bodies lam j) v.line (own.0 low); others = λ k cs at_k. let number : 0 + k ≡ k = omega arith in subst (λ n. clears_from plan lam j n cs ≡ None) number (cleared.0 low k cs at_k); shown = hidden.0 low })),
+              (record { clears = its_heading (clears_lam plan script bodies lam j) v.line (own.0 low); others = λ k o at_k. let number : 0 + k ≡ k = omega arith in subst (λ n. of_other j n o ≡ None) number (cleared.0 low k o at_k); shown = hidden.0 low })),
           own.1,
         )
 
-    from_split : (j : ℕ) (ts : List Source) (us : List Unkept) → NoneUp (told_from plan script bodies lists j ts us)
+    from_split : (j : ℕ) (ts : List Source) (us : List Unkept) → NoneUp (told_from plan script bodies j ts us)
         → ((k : ℕ) (t : Source) → slice_get ts k ≡ Some t → is_up_to g t ≡ true → (lam : Address) (v : Service) → lams_of script (j + k) ≡ Some lam → slice_get script.services (j + k) ≡ Some v → IsKept (j + k) lam v) × NoneUp us
     from_split j [] us e = (λ k t at up. absurd (cc), e)
     from_split j (t ∷ ts) us e =
-        let later = from_split (j + 1) ts (told_if plan script bodies lists t.bit j (slice_get script.services j) (lams_of script j) us) e in
+        let later = from_split (j + 1) ts (told_if plan script bodies t.bit j (slice_get script.services j) (lams_of script j) us) e in
         let here = of_split t.bit j (slice_get script.services j) (lams_of script j) us later.1 in
         (go here.0 later.0, here.1)
       where
@@ -158,12 +140,12 @@ module _ (g : ℕ) where
             let number : j + 1 + k ≡ j + suc k = omega arith in
             subst (λ n. IsKept n lam v) number (others k u at low lam v (ap (lams_of script) number ∙ its) (ap (slice_get script.services) number ∙ is))
 
-    kept : (ts : List Source) → is_kept_to (told_from plan script bodies lists 0 ts []) g ≡ true → (k : ℕ) (t : Source) → slice_get ts k ≡ Some t → is_up_to g t ≡ true
+    kept : (ts : List Source) → is_kept_to (told_from plan script bodies 0 ts []) g ≡ true → (k : ℕ) (t : Source) → slice_get ts k ≡ Some t → is_up_to g t ≡ true
         → (lam : Address) (v : Service) → lams_of script k ≡ Some lam → slice_get script.services k ≡ Some v → IsKept k lam v
     kept ts e k t at low lam v its is =
         let number : 0 + k ≡ k = omega arith in
         subst (λ n. IsKept n lam v) number
-        ((from_split 0 ts [] (none (list_any up (told_from plan script bodies lists 0 ts [])) e)).0 k t at low lam v (ap (lams_of script) number ∙ its) (ap (slice_get script.services) number ∙ is))
+        ((from_split 0 ts [] (none (list_any up (told_from plan script bodies 0 ts [])) e)).0 k t at low lam v (ap (lams_of script) number ∙ its) (ap (slice_get script.services) number ∙ is))
       where
         none : (b : Bool) → not b ≡ true → b ≡ false
         none true e = absurd (cc)
@@ -187,10 +169,10 @@ module _ (plan : Layout) (is_plan : IsPlan plan) (script : Script) (formed : IsT
   none_of (Some lam) test h = h lam refl
 
   -- what is known of the look-at-me of a source up to the bit
-  its_kept : (j : ℕ) (t : Source) → slice_get ts j ≡ Some t → is_up_to g t ≡ true → (lam : Address) → lams_of script j ≡ Some lam → (v : Service) × IsKept g plan script bodies lists j lam v
+  its_kept : (j : ℕ) (t : Source) → slice_get ts j ≡ Some t → is_up_to g t ≡ true → (lam : Address) → lams_of script j ≡ Some lam → (v : Service) × IsKept g plan script bodies j lam v
   its_kept j t at low lam its =
       let there = same_at (service_bit (context plan script)) (λ u. Some u.bit) script.services ts are.bits j t at in
-      (there.0, kept g plan script bodies lists ts e j t at low lam there.0 its there.1)
+      (there.0, kept g plan script bodies ts e j t at low lam there.0 its there.1)
 
   pub decided : (i : ℕ) (v : Service) → slice_get script.services i ≡ Some v → (cs : List Command) → slice_get lists i ≡ Some cs → IsDecided plan script ts g i v
   decided i v at cs listed =
@@ -203,12 +185,15 @@ module _ (plan : Layout) (is_plan : IsPlan plan) (script : Script) (formed : IsT
         its = its;
         makes = cycles_are_listed plan is_plan script ks formed accepted i v cs at listed;
         careful = record {
-          clear_no_other = λ j t at_t low other. none_of (lams_of script j) _ (λ lam its_lam.
-              no_line (could_clear plan lam) cs (other_line (nat_eq i j) _ (not_same i j other) ((its_kept j t at_t low lam its_lam).1.others i cs listed)));
-          hide_none = λ j t at_t low. none_of (lams_of script j) _ (λ lam its_lam. no_line (could_hide lam) cs ((its_kept j t at_t low lam its_lam).1.shown i cs listed));
+          clear_no_other = λ j t at_t low other. none_of (lams_of script j) _ (λ lam its_lam. (
+              let (o, here, none) = line_of (could_clear plan lam) [] [] tt (sections_of script) bodies i cs listed in
+              none (other_line (nat_eq i j) o (not_same i j other) ((its_kept j t at_t low lam its_lam).1.others i o here))));
+          hide_none = λ j t at_t low. none_of (lams_of script j) _ (λ lam its_lam. (
+              let (o, here, none) = line_of (could_hide lam) [] [] tt (sections_of script) bodies i cs listed in
+              none ((its_kept j t at_t low lam its_lam).1.shown i o here)));
         };
         clears = λ t at_t low. sure_ones_are_made plan is_plan script ks formed accepted (must_clear plan found.0) (clears (plan_clears plan) found.0) (must_tell plan found.0) i v at
-            (is_there (slice_get (surely_of (must_clear plan found.0) plan script) i) (kept g plan script bodies lists ts e i t at_t low found.0 v its at).clears);
+            (is_there (slice_get (surely_of (must_clear plan found.0) plan script) i) (kept g plan script bodies ts e i t at_t low found.0 v its at).clears);
       }
     where
       is_there : (o : Option Bool) → unwrap_or o false ≡ true → o ≡ Some true

@@ -4,6 +4,7 @@ pub mod Lams
 pub mod Laws
 pub mod Served
 pub mod Reach
+pub mod First
 pub mod Unkept
 pub mod Checked
 pub mod Lines

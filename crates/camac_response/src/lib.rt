@@ -5,6 +5,7 @@ mod clears;
 mod command;
 mod kept;
 pub mod laws;
+mod least;
 mod lines;
 mod of_checked;
 mod unkept;

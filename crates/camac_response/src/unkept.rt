@@ -1,17 +1,14 @@
 // What a script does not do of its part in the promise of look-at-mes.
 
-ghost use Rattle.std.specs.Prelude.{◌≡◌, ◌<◌, ◌≤◌, ◌+◌, ◌^◌, IfOk, OnOk, None, length, slice_get};
+ghost use Rattle.std.specs.Prelude.{◌≡◌, ◌<◌, ◌≤◌, ◌+◌, ◌^◌, IfOk, OnOk, length, slice_get};
 ghost use Rattle.camac_lang.specs.View.{service_of};
 ghost use Rattle.camac_response.specs.Lams.{lams_of};
-ghost use Rattle.camac_response.specs.Reach.{could_clear, could_hide};
-ghost use Rattle.camac_response.specs.Unkept.{comes_after, is_kept_to, least_line, not_cleared, place_of, told, told_cleared, told_from, told_hidden, told_if, told_of, unkept_of, with_line};
+ghost use Rattle.camac_response.specs.Unkept.{comes_after, is_kept_to, not_cleared, place_of, told, told_cleared, told_from, told_hidden, told_if, told_of, unkept_of};
 
 use crate::clears::{clears_lam, lam_at};
-use crate::command::{could_clear, could_hide};
-use camac_branch::Plan;
+use crate::least::{Question, lines_of};
 use camac_check_costs::{BodyCosts, costs_of};
 use camac_checked::Checked;
-use camac_commands::{BodyCommands, Command, commands_of};
 use camac_esone::Address;
 use camac_lang::Service;
 use camac_response_times::Source;
@@ -47,9 +44,8 @@ pub fn unkept_of(
     ensures { IfOk result (λ v. v.items ≡ unkept_of checked.now.plan checked.now.script sources.now) }
 {
     let costs = costs_of(alloc, checked)?;
-    let commands = commands_of(alloc, checked.script(), &costs)?;
     let mut found = Vec::new(alloc);
-    tell_from(alloc, &mut found, checked, &costs, &commands, 0, sources)?;
+    tell_from(alloc, &mut found, checked, &costs, 0, sources)?;
     Ok(found)
 }
 
@@ -59,18 +55,17 @@ fn tell_from(
     found: &mut Vec<Unkept>,
     checked: &Checked,
     costs: &[BodyCosts],
-    commands: &[BodyCommands],
     number: usize,
     sources: &[Source],
 ) -> Result<(), AllocError>
     requires { number + length sources.now < 2 ^ 64 }
-    ensures { OnOk result (found.new.items ≡ told_from checked.now.plan checked.now.script costs.now commands.now number sources.now found.old.items) }
+    ensures { OnOk result (found.new.items ≡ told_from checked.now.plan checked.now.script costs.now number sources.now found.old.items) }
 {
     let [source, rest @ ..] = sources else {
         return Ok(());
     };
-    tell_if(alloc, found, checked, costs, commands, source.bit, number)?;
-    tell_from(alloc, found, checked, costs, commands, number + 1, rest)
+    tell_if(alloc, found, checked, costs, source.bit, number)?;
+    tell_from(alloc, found, checked, costs, number + 1, rest)
 }
 
 // Of the service of this number, if there is one.
@@ -79,11 +74,10 @@ fn tell_if(
     found: &mut Vec<Unkept>,
     checked: &Checked,
     costs: &[BodyCosts],
-    commands: &[BodyCommands],
     bit: GlBit,
     number: usize,
 ) -> Result<(), AllocError>
-    ensures { OnOk result (found.new.items ≡ told_if checked.now.plan checked.now.script costs.now commands.now bit number (slice_get checked.now.script.services number) (lams_of checked.now.script number) found.old.items) }
+    ensures { OnOk result (found.new.items ≡ told_if checked.now.plan checked.now.script costs.now bit number (slice_get checked.now.script.services number) (lams_of checked.now.script number) found.old.items) }
 {
     let script = checked.script();
     let Some(service) = script.services().get(number) else {
@@ -92,9 +86,7 @@ fn tell_if(
     let Some(lam) = lam_at(script.lams(), service.lam) else {
         return Ok(());
     };
-    tell_of(
-        alloc, found, checked, costs, commands, bit, number, lam, service,
-    )
+    tell_of(alloc, found, checked, costs, bit, number, lam, service)
 }
 
 fn tell_of(
@@ -102,18 +94,19 @@ fn tell_of(
     found: &mut Vec<Unkept>,
     checked: &Checked,
     costs: &[BodyCosts],
-    commands: &[BodyCommands],
     bit: GlBit,
     number: usize,
     lam: Address,
     service: &Service,
 ) -> Result<(), AllocError>
-    ensures { OnOk result (found.new.items ≡ told_of checked.now.plan checked.now.script costs.now commands.now bit number lam (service_of service.now) found.old.items) }
+    ensures { OnOk result (found.new.items ≡ told_of checked.now.plan checked.now.script costs.now bit number lam (service_of service.now) found.old.items) }
 {
     let heading = not_cleared(alloc, checked, costs, lam, number, service)?;
     tell(found, bit, number, Why::NotCleared, heading)?;
-    tell_cleared(found, checked.plan(), lam, bit, number, 0, commands)?;
-    tell_hidden(found, lam, bit, number, 0, commands)
+    let clearing = lines_of(alloc, checked, costs, Question::Clears, lam)?;
+    tell_cleared(found, bit, number, 0, &clearing)?;
+    let hiding = lines_of(alloc, checked, costs, Question::Hides, lam)?;
+    tell_hidden(found, bit, number, 0, &hiding)
 }
 
 // The line of the heading, where the service has a way on which it does not clear its look-at-me.
@@ -131,84 +124,40 @@ fn not_cleared(
     Ok(if clears { None } else { Some(service.line) })
 }
 
-// By the services from this number on, which make these commands.
+// By the services from this number on, of which these are the lines.
 fn tell_cleared(
     found: &mut Vec<Unkept>,
-    plan: &Plan,
-    lam: Address,
     bit: GlBit,
     number: usize,
     by: usize,
-    commands: &[BodyCommands],
+    lines: &[Option<u32>],
 ) -> Result<(), AllocError>
-    requires { by + length commands.now < 2 ^ 64 }
-    ensures { OnOk result (found.new.items ≡ told_cleared plan.now lam bit number by commands.now found.old.items) }
+    requires { by + length lines.now < 2 ^ 64 }
+    ensures { OnOk result (found.new.items ≡ told_cleared bit number by lines.now found.old.items) }
 {
-    let [first, rest @ ..] = commands else {
+    let [line, rest @ ..] = lines else {
         return Ok(());
     };
-    let line = if by == number {
-        None
-    } else {
-        clearing_line(plan, lam, first.commands())
-    };
+    let line = if by == number { None } else { *line };
     tell(found, bit, number, Why::ClearedBy(by), line)?;
-    tell_cleared(found, plan, lam, bit, number, by + 1, rest)
+    tell_cleared(found, bit, number, by + 1, rest)
 }
 
 fn tell_hidden(
     found: &mut Vec<Unkept>,
-    lam: Address,
     bit: GlBit,
     number: usize,
     by: usize,
-    commands: &[BodyCommands],
+    lines: &[Option<u32>],
 ) -> Result<(), AllocError>
-    requires { by + length commands.now < 2 ^ 64 }
-    ensures { OnOk result (found.new.items ≡ told_hidden lam bit number by commands.now found.old.items) }
+    requires { by + length lines.now < 2 ^ 64 }
+    ensures { OnOk result (found.new.items ≡ told_hidden bit number by lines.now found.old.items) }
 {
-    let [first, rest @ ..] = commands else {
+    let [line, rest @ ..] = lines else {
         return Ok(());
     };
-    tell(
-        found,
-        bit,
-        number,
-        Why::HiddenBy(by),
-        hiding_line(lam, first.commands()),
-    )?;
-    tell_hidden(found, lam, bit, number, by + 1, rest)
-}
-
-// The least line of the commands that could clear a look-at-me.
-fn clearing_line(plan: &Plan, lam: Address, commands: &[Command]) -> Option<u32>
-    ensures { result ≡ least_line (could_clear plan.now lam) None commands.now }
-{
-    let mut least = None;
-    'commands: for command in commands {
-        least = with_line(could_clear(plan, lam, command), command.line, least);
-    }
-    least
-}
-
-fn hiding_line(lam: Address, commands: &[Command]) -> Option<u32>
-    ensures { result ≡ least_line (could_hide lam) None commands.now }
-{
-    let mut least = None;
-    'commands: for command in commands {
-        least = with_line(could_hide(lam, command), command.line, least);
-    }
-    least
-}
-
-fn with_line(passes: bool, line: u32, so_far: Option<u32>) -> Option<u32>
-    ensures { result ≡ with_line passes line so_far }
-{
-    match (passes, so_far) {
-        (false, _) => so_far,
-        (true, None) => Some(line),
-        (true, Some(other)) => Some(line.min(other)),
-    }
+    tell(found, bit, number, Why::HiddenBy(by), *line)?;
+    tell_hidden(found, bit, number, by + 1, rest)
 }
 
 // One more, where there is a line.

@@ -2,4 +2,4 @@ use Rattle.std.proofs.Common.{length}
 use Rattle.camac_response.proofs.unkept.+tell_hidden.Given as goal
 
 abbrev pub decreases-tell_hidden : goal.decreases-tell_hidden
-decreases-tell_hidden l = length l.commands.now
+decreases-tell_hidden l = length l.lines.now
