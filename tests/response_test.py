@@ -8,7 +8,7 @@ import sys
 import tempfile
 import unittest
 
-from support.program import PROGRAM, TOP
+from support.program import PROGRAM, TOP, called
 
 sys.path.insert(0, str(TOP / "tools"))
 sys.dont_write_bytecode = True
@@ -82,6 +82,20 @@ def edge_service(name, cycles):
 def edge_script(services):
     lams = "".join(f"cdlam {it} 1 {STATIONS[it]} 0\n" for it in services)
     return f"{lams}var v i k\n{''.join(edge_service(*it) for it in services.items())}".encode()
+
+
+class Calls(unittest.TestCase):
+    def test_many(self):
+        """15 procedures, each of which calls the one before it four times: its cycles are counted, and not listed."""
+        cycles, steps, bodies = 3, 1, ["proc p0() within 3 cycles event 0 words steps 1 { cclc adc }"]
+        for k in range(1, 15):
+            cycles, steps = 4 * cycles, 4 * (1 + steps)
+            bodies.append(f"proc p{k}() within {cycles} cycles event 0 words steps {steps} {{ {f'call p{k - 1}() ' * 4}}}")
+        script = "\n".join(["cdlam adc 1 1 5 12", *bodies, f"service adc within {cycles} cycles event 0 words {{ call p14() }}\n"])
+        with tempfile.TemporaryDirectory() as room:
+            (pathlib.Path(room) / "script").write_text(script)
+            status, out, _ = called("response", "@sample", f"{room}/script", timeout=5)
+        self.assertEqual((status, out.decode()), (0, f"service adc gl 3 cycles {cycles} once start 0 end {cycles} longest {cycles}\n"))
 
 
 class Edges(unittest.TestCase):
