@@ -353,7 +353,8 @@ class Calls(Case):
         self.assertLess(int(re.findall(r"(\d+) after", told)[0]), MOST_KIB)
 
     def test_each_allocation_refused(self):
-        status, told = call(self.program("refuse"), SAMPLE, self.write("its.script", STRAIGHT_LINE))
+        its = STRAIGHT_LINE.replace("within 3", "within 6").replace("put v\n", "put v\n  cclc adc\n")
+        status, told = call(self.program("refuse"), SAMPLE, self.write("its.script", its))
         self.assertEqual(status, 0, told)
         self.assertGreater(int(told), 50)
 

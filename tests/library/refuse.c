@@ -1,7 +1,7 @@
 /* refuse.c: refuses each allocation of each call in turn, alone and with all after it. Nothing may be lost, and between open and close none may
  * be asked for. What asks for memory can be found, up to `main`.
  *
- *     refuse PLAN SCRIPT     tells how many allocations there were */
+ *     refuse PLAN SCRIPT     tells how many allocations there were; SCRIPT makes two cycles for `adc`, and clears it */
 #include "common.h"
 
 #include <execinfo.h>
@@ -47,7 +47,7 @@ void free(void *block) {
 }
 
 static text plan, script;
-static const char answers[] = "0 0 000000 0 000004\n1 1 123fff 0 000000\n";
+static const char answers[] = "0 0 000000 0 000004\n1 1 123fff 0 000000\n1 1 000000 0 000000\n";
 static char out[65536], file[65536];
 static camac_session s = CAMAC_NONE;
 
@@ -70,7 +70,7 @@ static int call(int which) {
     case 6: code = camac_costs(plan.bytes, plan.size, script.bytes, script.size, out, sizeof out, &size); break;
     case 7: code = camac_events("CAMACEV2", 8, out, sizeof out, &size); break;
     case RESPONSE:
-        code = camac_response(plan.bytes, plan.size, script.bytes, script.size, "adc=200", 7, "adc=3", 5, out, sizeof out, &size);
+        code = camac_response(plan.bytes, plan.size, script.bytes, script.size, "adc=200", 7, "adc=6", 5, out, sizeof out, &size);
         break;
     default: code = camac_open(&s, plan.bytes, plan.size, script.bytes, script.size, out, sizeof out, &size); break;
     }
