@@ -18,7 +18,7 @@ import sources_sum  # noqa: E402
 import speed  # noqa: E402
 
 CASES = ("start-up", "check: 4,096 short", "check: the same", "check: 1 MB of comments", "run: mixed", "run: nested", "run: scans", "run: calls")
-# The loop over a comment has 3.5 instructions a byte in place of 3.
+# The loop over a comment has 3.4 instructions a byte in place of 2.9.
 MOST, OF_COMMENTS = 1.1, 1.15
 
 
