@@ -3,7 +3,7 @@ use Rattle.std.proofs.Common.{◌≡◌, ℕ, ◌≤◌, suc, max, Option, Some,
 use Rattle.std.specs.Prelude.{option_and_then}
 use Rattle.camac_lang.specs.Expressions.{Scope}
 use Rattle.camac_lang.specs.Statements.{head_fits, begun, after, after_block}
-use Rattle.camac_lang.specs.Tree.{Statement, set_register, choose, choose_else, for_, while_, locked, Block, done, next}
+use Rattle.camac_lang.specs.Tree.{Statement, set_register, choose, choose_else, for_, for_each, while_, locked, Block, done, next}
 use Rattle.camac_lang.proofs.Options.{unless_parts, then_parts}
 
 begun_grows : (c : Scope) (seen n : ℕ) (s : Statement) → begun c seen s ≡ Some n → seen ≤ n
@@ -28,6 +28,7 @@ mutual
       let g : p.0 ≤ n = block_grows c p.0 n b p.2 in
       omega (arith, f, g)
   statement_grows c seen n (for_ line x e1 e2 ks body) h = inner_grows c seen n (for_ line x e1 e2 ks body) body (λ k. block_grows c k n body) h
+  statement_grows c seen n (for_each line x v last body) h = inner_grows c seen n (for_each line x v last body) body (λ k. block_grows c k n body) h
   statement_grows c seen n (while_ line t turns x ks body) h = inner_grows c seen n (while_ line t turns x ks body) body (λ k. block_grows c k n body) h
   statement_grows c seen n (locked line e body) h = inner_grows c seen n (locked line e body) body (λ k. block_grows c k n body) h
   statement_grows c seen n s h = begun_grows c seen n s h

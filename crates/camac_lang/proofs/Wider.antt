@@ -6,7 +6,7 @@ use Rattle.camac_lang.specs.Depth.{inner_depth, statement_depth, depth_of, expre
 use Rattle.camac_lang.specs.Expressions.{Callable, Scope, refers, is_grouped, operators, expression_fits, test_fits, part_fits, condition_fits}
 use Rattle.camac_lang.specs.Statements.{keeps_fit, table_fits, move_fits, head_fits, begun, after, after_block}
 use Rattle.camac_lang.specs.Tests.{each, has, most, is_number, is_function, are_distinct}
-use Rattle.camac_lang.specs.Tree.{Expression, number, variable, group, add, subtract, multiply, divide, remainder, Test, flag_q, flag_x, compare, Part, plain, negated, Condition, Move, no_data, into, from, Keep, Statement, assign, set_register, single, address_scan, q_stop, q_repeat, put, crate_call, lam_call, choose, choose_else, for_, while_, locked, call, Block, done, next}
+use Rattle.camac_lang.specs.Tree.{Expression, number, variable, group, add, subtract, multiply, divide, remainder, Test, flag_q, flag_x, compare, Part, plain, negated, Condition, Move, no_data, into, from, Keep, Statement, assign, set_register, single, address_scan, q_stop, q_repeat, put, crate_call, lam_call, choose, choose_else, for_, for_each, while_, locked, call, Block, done, next}
 use Rattle.camac_lang.proofs.Options.{Implies, unless_parts, then_parts, unless_implies, then_implies, and_implies, and_keeps}
 
 -- a scope that has all that another has
@@ -98,6 +98,7 @@ module _ (c d : Scope) (wide : IsWider c d) where
   head_wider seen (for_ line x e1 e2 ks body) =
       and_implies _ _ _ _ (variable_wider x) (and_implies _ _ _ _ (expression_wider e1)
       (and_implies _ _ _ _ (expression_wider e2) (keeps_wider x ks)))
+  head_wider seen (for_each line x v last body) = and_implies _ _ _ _ (variable_wider x) (λ h. h)
   head_wider seen (while_ line t turns x ks body) =
       and_implies _ _ _ _ (condition_wider t) (and_keeps (is_number turns) _ _ (and_implies _ _ _ _ (variable_wider x) (keeps_wider x ks)))
   head_wider seen (locked line e body) = and_implies _ _ _ _ kind_wider (expression_wider e)
@@ -118,6 +119,7 @@ module _ (c d : Scope) (wide : IsWider c d) where
     statement_wider seen (choose_else line t a b) =
         then_implies (λ k. after_block c k b) (λ k. after_block d k b) (option_and_then (λ k. after_block c k a) (begun c seen (choose_else line t a b))) (option_and_then (λ k. after_block d k a) (begun d seen (choose_else line t a b))) (inner_wider seen (choose_else line t a b) a (λ k. block_wider k a)) (λ k. block_wider k b)
     statement_wider seen (for_ line x e1 e2 ks body) = inner_wider seen (for_ line x e1 e2 ks body) body (λ k. block_wider k body)
+    statement_wider seen (for_each line x v last body) = inner_wider seen (for_each line x v last body) body (λ k. block_wider k body)
     statement_wider seen (while_ line t turns x ks body) = inner_wider seen (while_ line t turns x ks body) body (λ k. block_wider k body)
     statement_wider seen (locked line e body) = inner_wider seen (locked line e body) body (λ k. block_wider k body)
     statement_wider seen s = begun_wider seen s
@@ -154,6 +156,7 @@ module _ (c d : Scope) (wide : IsWider c d) where
         rw (e, g) refl
     statement_depth_wider seen n (for_ line x e1 e2 ks body) h =
         ap (λ k. max (expression_depth e1) (max (expression_depth e2) (suc k))) (inner_depth_wider n (begun c seen (for_ line x e1 e2 ks body)) body (λ i m. block_depth_wider i m body) h)
+    statement_depth_wider seen n (for_each line x v last body) h = ap suc (inner_depth_wider n (begun c seen (for_each line x v last body)) body (λ i m. block_depth_wider i m body) h)
     statement_depth_wider seen n (while_ line t turns x ks body) h =
         ap (λ k. max (most part_depth t) (suc k)) (inner_depth_wider n (begun c seen (while_ line t turns x ks body)) body (λ i m. block_depth_wider i m body) h)
     statement_depth_wider seen n (locked line e body) h =

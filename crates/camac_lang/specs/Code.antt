@@ -8,7 +8,7 @@ use Rattle.camac_range.specs.contracts.comparison.Cmp as comparison
 use Rattle.camac_lang.specs.contracts.word.CrateCall as crate_call_word
 use Rattle.camac_lang.specs.contracts.word.LamCall as lam_call_word
 use Rattle.camac_lang.specs.contracts.word.WordSize as word_size
-use Rattle.camac_lang.specs.Tree.{Text, Expression, number, variable, group, add, subtract, multiply, divide, remainder, Test, flag_q, flag_x, compare, Part, plain, negated, Move, no_data, into, from, Keep, Statement, assign, set_register, single, address_scan, q_stop, q_repeat, put, crate_call, lam_call, choose, choose_else, for_, while_, locked, call, Block, done, next, Table, Lam, Parameter, Procedure, Service, Item, next_table, next_lam, next_variables, next_procedure, next_service, Script}
+use Rattle.camac_lang.specs.Tree.{Text, Expression, number, variable, group, add, subtract, multiply, divide, remainder, Test, flag_q, flag_x, compare, Part, plain, negated, Move, no_data, into, from, Keep, Statement, assign, set_register, single, address_scan, q_stop, q_repeat, put, crate_call, lam_call, choose, choose_else, for_, for_each, while_, locked, call, Block, done, next, Table, Lam, Parameter, Procedure, Service, Item, next_table, next_lam, next_variables, next_procedure, next_service, Script}
 
 -- the number at the start of a code
 abbrev pub tag : Gv → ℕ
@@ -147,6 +147,7 @@ abbrev mutual
   statement_code (while_ x0 x1 x2 x3 x4 x5) = gcons (gnum 12) (gcons (gnum x0) (gcons (condition_coded.code x1) (gcons (gnum x2) (gcons (gnum x3) (gcons (keeps_coded.code x4) (gcons (block_code x5) gnil))))))
   statement_code (locked x0 x1 x2) = gcons (gnum 13) (gcons (gnum x0) (gcons (expression_coded.code x1) (gcons (block_code x2) gnil)))
   statement_code (call x0 x1 x2) = gcons (gnum 14) (gcons (gnum x0) (gcons (gnum x1) (gcons (expressions_coded.code x2) gnil)))
+  statement_code (for_each x0 x1 x2 x3 x4) = gcons (gnum 15) (gcons (gnum x0) (gcons (gnum x1) (gcons (gnum x2) (gcons (gnum x3) (gcons (block_code x4) gnil)))))
 
   pub block_code : Block → Gv
   block_code done = gnil
@@ -215,6 +216,9 @@ mutual
   same_statement (call x0 x1 x2) (call y0 y1 y2) e =
       let h2 : expressions_coded.code x2 ≡ expressions_coded.code y2 = cc in
       cc (expressions_coded.inj x2 y2 h2)
+  same_statement (for_each x0 x1 x2 x3 x4) (for_each y0 y1 y2 y3 y4) e =
+      let h4 : block_code x4 ≡ block_code y4 = cc in
+      cc (same_block x4 y4 h4)
   same_statement x y e = clash (statement_code x) (statement_code y) e refl
 
   pub same_block : (a b : Block) → block_code a ≡ block_code b → a ≡ b

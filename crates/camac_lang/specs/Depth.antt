@@ -2,7 +2,7 @@
 use Rattle.std.specs.Prelude.{ℕ, suc, max, List, [], ◌∷◌, ◌++◌, Option, Some, None, length, slice_get}
 use Rattle.camac_lang.specs.Expressions.{Callable}
 use Rattle.camac_lang.specs.Tests.{most}
-use Rattle.camac_lang.specs.Tree.{Expression, number, variable, group, add, subtract, multiply, divide, remainder, Test, flag_q, flag_x, compare, Part, plain, negated, Move, no_data, into, from, Statement, assign, set_register, single, address_scan, q_stop, q_repeat, put, crate_call, lam_call, choose, choose_else, for_, while_, locked, call, Block, done, next, Procedure, Script}
+use Rattle.camac_lang.specs.Tree.{Expression, number, variable, group, add, subtract, multiply, divide, remainder, Test, flag_q, flag_x, compare, Part, plain, negated, Move, no_data, into, from, Statement, assign, set_register, single, address_scan, q_stop, q_repeat, put, crate_call, lam_call, choose, choose_else, for_, for_each, while_, locked, call, Block, done, next, Procedure, Script}
 
 -- the most open brackets and braces at once
 abbrev pub expression_depth : Expression → ℕ
@@ -49,6 +49,7 @@ abbrev mutual
   statement_depth qs (choose_else line t a b) = max (most part_depth t) (max (suc (inner_depth qs a)) (suc (inner_depth qs b)))
   statement_depth qs (for_ line x e1 e2 ks body) =
       max (expression_depth e1) (max (expression_depth e2) (suc (inner_depth qs body)))
+  statement_depth qs (for_each line x v last body) = suc (inner_depth qs body)
   statement_depth qs (while_ line t turns x ks body) = max (most part_depth t) (suc (inner_depth qs body))
   statement_depth qs (locked line e body) = max (expression_depth e) (suc (inner_depth qs body))
   statement_depth qs (call line p es) = max (suc (most expression_depth es)) (depth_of (slice_get qs p))

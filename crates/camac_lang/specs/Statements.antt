@@ -2,7 +2,7 @@
 use Rattle.std.specs.Prelude.{ℕ, ◌+◌, suc, max, List, ◌∷◌, Option, Some, None, Bool, true, not, ◌&&◌, nat_eq, nat_lt, nat_le, length, map, slice_get, option_and_then}
 use Rattle.camac_lang.specs.Expressions.{Scope, expression_fits, condition_fits}
 use Rattle.camac_lang.specs.Tests.{each, has, unless_broken, are_distinct, is_number, is_function}
-use Rattle.camac_lang.specs.Tree.{Move, no_data, into, from, Keep, Statement, assign, set_register, single, address_scan, q_stop, q_repeat, put, crate_call, lam_call, choose, choose_else, for_, while_, locked, call, Block, done, next}
+use Rattle.camac_lang.specs.Tree.{Move, no_data, into, from, Keep, Statement, assign, set_register, single, address_scan, q_stop, q_repeat, put, crate_call, lam_call, choose, choose_else, for_, for_each, while_, locked, call, Block, done, next}
 
 -- kept variables are distinct, and not the loop's own
 abbrev pub keeps_fit : Scope → ℕ → List Keep → Bool
@@ -38,6 +38,7 @@ head_fits c seen (choose line t a) = condition_fits c t
 head_fits c seen (choose_else line t a b) = condition_fits c t
 head_fits c seen (for_ line x e1 e2 ks body) =
     nat_lt x c.variables && (expression_fits c e1 && (expression_fits c e2 && keeps_fit c x ks))
+head_fits c seen (for_each line x v last body) = nat_lt x c.variables && (is_number v && is_number last)
 head_fits c seen (while_ line t turns x ks body) =
     condition_fits c t && (is_number turns && (nat_lt x c.variables && keeps_fit c x ks))
 head_fits c seen (locked line e body) = not c.is_procedure && expression_fits c e
@@ -56,6 +57,7 @@ abbrev mutual
   after c seen (choose_else line t a b) =
       option_and_then (λ k. after_block c k b) (option_and_then (λ k. after_block c k a) (begun c seen (choose_else line t a b)))
   after c seen (for_ line x e1 e2 ks body) = option_and_then (λ k. after_block c k body) (begun c seen (for_ line x e1 e2 ks body))
+  after c seen (for_each line x v last body) = option_and_then (λ k. after_block c k body) (begun c seen (for_each line x v last body))
   after c seen (while_ line t turns x ks body) =
       option_and_then (λ k. after_block c k body) (begun c seen (while_ line t turns x ks body))
   after c seen (locked line e body) = option_and_then (λ k. after_block c k body) (begun c seen (locked line e body))
@@ -71,6 +73,7 @@ abbrev mutual
   statements_in (choose line t a) = suc (statements a)
   statements_in (choose_else line t a b) = suc (statements a + statements b)
   statements_in (for_ line x e1 e2 ks body) = suc (statements body)
+  statements_in (for_each line x v last body) = suc (statements body)
   statements_in (while_ line t turns x ks body) = suc (statements body)
   statements_in (locked line e body) = suc (statements body)
   statements_in _ = 1

@@ -75,6 +75,8 @@ mutual
     choose_else : (line : ℕ) → Condition → Block → Block → Statement
     -- `for`: variable, first and last value, kept ranges, body
     for_ : (line : ℕ) → ℕ → Expression → Expression → List Keep → Block → Statement
+    -- `for` with `each`, which is judged turn by turn: variable, first and last value, body
+    for_each : (line : ℕ) → (variable first last : ℕ) → Block → Statement
     -- `while`: condition, annotated turns, measure, kept ranges, body
     while_ : (line : ℕ) → Condition → ℕ → ℕ → List Keep → Block → Statement
     -- `lock`: crate, body
@@ -100,6 +102,7 @@ line_of (lam_call line which l) = line
 line_of (choose line test a) = line
 line_of (choose_else line test a b) = line
 line_of (for_ line x e1 e2 keeps body) = line
+line_of (for_each line x v last body) = line
 line_of (while_ line test most m keeps body) = line
 line_of (locked line e body) = line
 line_of (call line p es) = line

@@ -125,6 +125,7 @@ fn statement_depth(callables: &[Callable], statement: &Stmt) -> u32
         Stmt::For { head, body } => expression_depth(&head.from).max(expression_depth(&head.to).max(
             1 + block_depth(callables, body),
         )),
+        Stmt::ForEach { body, .. } => 1 + block_depth(callables, body),
         Stmt::While { head, body } => {
             parts_depth(&head.test.parts).max(1 + block_depth(callables, body))
         }

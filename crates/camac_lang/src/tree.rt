@@ -233,6 +233,14 @@ pub enum Stmt {
         head: ForHead,
         body: Vec<Stmt>,
     },
+    /// `for` with `each`: from a number up to another, judged turn by turn (own)
+    ForEach {
+        line: u32,
+        variable: usize,
+        first: u32,
+        last: u32,
+        body: Vec<Stmt>,
+    },
     While {
         head: WhileHead,
         body: Vec<Stmt>,
@@ -263,7 +271,10 @@ impl Stmt {
             Stmt::For { head, .. } => head.line,
             Stmt::While { head, .. } => head.line,
             Stmt::Call(call) => call.line,
-            Stmt::If { line, .. } | Stmt::IfElse { line, .. } | Stmt::Lock { line, .. } => *line,
+            Stmt::If { line, .. }
+            | Stmt::IfElse { line, .. }
+            | Stmt::ForEach { line, .. }
+            | Stmt::Lock { line, .. } => *line,
         }
     }
 }

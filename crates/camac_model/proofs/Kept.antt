@@ -3,7 +3,7 @@ use Rattle.std.proofs.Common.{◌≡◌, ℕ, zero, suc, ◌+◌, ◌-◌, List,
 use Rattle.std.specs.Prelude.{slice_get, nat_eq, if◌then◌else◌}
 use Rattle.camac_lang.specs.declared.word.WordSize.{WordSize}
 use Rattle.camac_lang.specs.declared.word.WordSize.TheVariants.{Full}
-use Rattle.camac_lang.specs.Tree.{Condition, Move, no_data, into, from, Statement, assign, set_register, single, address_scan, q_stop, q_repeat, put, crate_call, lam_call, choose, choose_else, for_, while_, locked, call, Block, done, next, Script}
+use Rattle.camac_lang.specs.Tree.{Condition, Move, no_data, into, from, Statement, assign, set_register, single, address_scan, q_stop, q_repeat, put, crate_call, lam_call, choose, choose_else, for_, for_each, while_, locked, call, Block, done, next, Script}
 use Rattle.camac_func.specs.declared.data.DataMove.{DataMove}
 use Rattle.camac_func.specs.declared.data.DataMove.TheVariants as moved
 use Rattle.camac_branch.specs.Address.{Address, address}
@@ -164,6 +164,7 @@ module _ {X : Type 0} (step : X → Piece → X) (S : X → Piece → Type 0) (I
             given_keeps (value e1 s.variables) (λ first. given (value e2 s.variables) (second first)) x s i (λ first _.
             given_keeps (value e2 s.variables) (second first) x s i (λ last _.
             count_keeps (last + 1 - first) n v first last (block_meaning c n body) (λ y t j. block_keeps body y t j) x s i))
+        statement_keeps (for_each line v first last body) x s i = count_keeps (last + 1 - first) n v first last (block_meaning c n body) (λ y t j. block_keeps body y t j) x s i
         statement_keeps (while_ line test turns' measure keeps body) x s i =
             turns_keep n test (block_meaning c n body) (λ y t j. block_keeps body y t j) x s i
         statement_keeps (locked line e body) x s i =

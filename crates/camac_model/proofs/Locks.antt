@@ -4,7 +4,7 @@ use Rattle.std.proofs.lemmas.Bool.{eqb-true}
 use Rattle.std.specs.Prelude.{nat_eq, if◌then◌else◌, slice_get}
 use Rattle.camac_lang.specs.declared.word.WordSize.{WordSize}
 use Rattle.camac_lang.specs.declared.word.WordSize.TheVariants.{Full}
-use Rattle.camac_lang.specs.Tree.{Condition, Move, no_data, into, from, Statement, assign, set_register, single, address_scan, q_stop, q_repeat, put, crate_call, lam_call, choose, choose_else, for_, while_, locked, call, Block, done, next}
+use Rattle.camac_lang.specs.Tree.{Condition, Move, no_data, into, from, Statement, assign, set_register, single, address_scan, q_stop, q_repeat, put, crate_call, lam_call, choose, choose_else, for_, for_each, while_, locked, call, Block, done, next}
 use Rattle.camac_func.specs.declared.data.DataMove.{DataMove}
 use Rattle.camac_func.specs.declared.data.DataMove.TheVariants as moved
 use Rattle.camac_branch.specs.Address.{Address, address}
@@ -176,6 +176,7 @@ module _ (c : Context) (routines : AllRoutines LeavesWithin c) (n : ℕ) where
         let second : ℕ → ℕ → Action = λ v w. for_from (w + 1 - v) n x v w (block_meaning c n body) in
         given_leaves s (value e1 s.variables) (λ v. given (value e2 s.variables) (second v)) (λ v _.
         given_leaves s (value e2 s.variables) (second v) (λ w _. counts_leave (w + 1 - v) n x v w (block_meaning c n body) (λ t. block_leaves body t) s))
+    statement_leaves (for_each line x v last body) s = counts_leave (last + 1 - v) n x v last (block_meaning c n body) (λ t. block_leaves body t) s
     statement_leaves (while_ line test m k keeps body) s = turns_leave n test (block_meaning c n body) (λ t. block_leaves body t) s
     statement_leaves (locked line e body) s =
         let held : ℕ → Action = λ d u. then_do (block_meaning c n body u) (release d) in

@@ -2,7 +2,7 @@
 use Rattle.std.proofs.Common.{◌≡◌, ℕ, ◌+◌, ◌-◌, List, [], Option, None, Bool, false, refl}
 use Rattle.std.specs.Prelude.{slice_get, nat_eq}
 use Rattle.camac_lang.specs.declared.word.WordSize.TheVariants.{Full}
-use Rattle.camac_lang.specs.Tree.{no_data, Statement, assign, set_register, single, address_scan, q_stop, q_repeat, put, crate_call, lam_call, choose, choose_else, for_, while_, locked, call, Block, done, next, Script}
+use Rattle.camac_lang.specs.Tree.{no_data, Statement, assign, set_register, single, address_scan, q_stop, q_repeat, put, crate_call, lam_call, choose, choose_else, for_, for_each, while_, locked, call, Block, done, next, Script}
 use Rattle.camac_branch.specs.Address.{Address, address}
 use Rattle.camac_branch.specs.Branch.{Answer}
 use Rattle.camac_branch.specs.Plan.{Layout, crate_waits}
@@ -79,6 +79,7 @@ module _ (open' : Stop → Bool) (n m : ℕ) (bs : List Answer) (k : Further ope
           given_extends open' bs (value e1 s.variables) (first n) (first m) s (λ v _.
           given_extends open' bs (value e2 s.variables) (second n v) (second m v) s (λ w _.
           count_extends open' bs (w + 1 - v) n m k x v w (block_meaning c n body) (block_meaning c m body) (λ t. block_extends body t) s))
+      statement_extends (for_each line x v last body) s = count_extends open' bs (last + 1 - v) n m k x v last (block_meaning c n body) (block_meaning c m body) (λ t. block_extends body t) s
       statement_extends (while_ line test turns' measure keeps body) s =
           turns_extend open' bs n m k test (block_meaning c n body) (block_meaning c m body) (λ t. block_extends body t) s
       statement_extends (locked line e body) s =

@@ -3,7 +3,7 @@ use Rattle.std.proofs.Common.{◌<◌, ◌≤◌, length, arith, ◌≡◌, ℕ,
 use Rattle.std.specs.Prelude.{nat_eq, if◌then◌else◌, slice_get}
 use Rattle.camac_lang.specs.declared.word.WordSize.{WordSize}
 use Rattle.camac_lang.specs.declared.word.WordSize.TheVariants.{Full}
-use Rattle.camac_lang.specs.Tree.{Condition, Move, no_data, into, from, Statement, assign, set_register, single, address_scan, q_stop, q_repeat, put, crate_call, lam_call, choose, choose_else, for_, while_, locked, call, Block, done, next}
+use Rattle.camac_lang.specs.Tree.{Condition, Move, no_data, into, from, Statement, assign, set_register, single, address_scan, q_stop, q_repeat, put, crate_call, lam_call, choose, choose_else, for_, for_each, while_, locked, call, Block, done, next}
 use Rattle.camac_func.specs.declared.data.DataMove.{DataMove}
 use Rattle.camac_func.specs.declared.data.DataMove.TheVariants as moved
 use Rattle.camac_branch.specs.Address.{Address, address}
@@ -164,6 +164,7 @@ module _ (total : ℕ) where
           let second : ℕ → ℕ → Action = λ v w. for_from (w + 1 - v) n x v w (block_meaning c n body) in
           given_spends s (value e1 s.variables) (λ v. given (value e2 s.variables) (second v)) (λ v _.
           given_spends s (value e2 s.variables) (second v) (λ w _. counts_spend (w + 1 - v) n x v w (block_meaning c n body) (λ t j. block_spends body t j) s (ready_spent s i)))
+      statement_spends (for_each line x v last body) s i = counts_spend (last + 1 - v) n x v last (block_meaning c n body) (λ t j. block_spends body t j) s (ready_spent s i)
       statement_spends (while_ line test m k keeps body) s i = turns_spend n test (block_meaning c n body) (λ t j. block_spends body t j) s (ready_spent s i)
       statement_spends (locked line e body) s i =
           let held : ℕ → Action = λ d u. then_do (block_meaning c n body u) (release d) in

@@ -5,7 +5,7 @@
 use Rattle.std.specs.Prelude.{ℕ, zero, suc, ◌+◌, ◌-◌, List, [], ◌∷◌, ◌++◌, Option, Some, None, Bool, true, option_map, nat_eq, nat_le, map, slice_get, unwrap_or}
 use Rattle.camac_lang.specs.declared.word.WordSize.{WordSize}
 use Rattle.camac_lang.specs.declared.word.WordSize.TheVariants.{Full, Short}
-use Rattle.camac_lang.specs.Tree.{Condition, Move, no_data, into, from, Statement, assign, set_register, single, address_scan, q_stop, q_repeat, put, crate_call, lam_call, choose, choose_else, for_, while_, locked, call, Block, done, next, Lam, Procedure, Script}
+use Rattle.camac_lang.specs.Tree.{Condition, Move, no_data, into, from, Statement, assign, set_register, single, address_scan, q_stop, q_repeat, put, crate_call, lam_call, choose, choose_else, for_, for_each, while_, locked, call, Block, done, next, Lam, Procedure, Script}
 use Rattle.camac_func.specs.declared.data.DataMove.TheVariants as moved
 use Rattle.camac_branch.specs.Address.{Address, address}
 use Rattle.camac_branch.specs.Allowed.{width}
@@ -129,6 +129,7 @@ abbrev mutual
     first ← value e1 s.variables
     last ← value e2 s.variables
     for_from (last + 1 - first) n x first last (block_meaning c n body)) s
+  effect c n (for_each line x v last body) s = for_from (last + 1 - v) n x v last (block_meaning c n body) s
   effect c n (while_ line test m k keeps body) s = turns n test (block_meaning c n body) s
   effect c n (locked line e body) s = (do
     crate_no ← value e s.variables

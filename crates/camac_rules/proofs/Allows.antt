@@ -41,6 +41,12 @@ pub allowed_more : {A : Type 0} {r : Result A Fault} {P Q : A → Type 0} → Al
 allowed_more {r = Ok x} h k = record { holds = k x h.holds }
 allowed_more {r = Err e} h k = record { holds = tt }
 
+-- a step of which nothing is said
+pub after_any : {A B : Type 0} (r : Result A Fault) {f : A → Result B Fault} {Q : B → Type 0} → ((x : A) → Allows (f x) Q) → Allows (r >>= f) Q
+unfolding go_on
+after_any (Ok x) h = h x
+after_any (Err e) h = record { holds = tt }
+
 -- what is not reached is not checked
 pub if_reached_allowed : {A S : Type 0} (nothing : A) (o : Option S) (check : S → Result A Fault) (P : Option S → A → Type 0) → P None nothing → ((s : S) → Allows (check s) (P (Some s))) → Allows (if_reached nothing o check) (P o)
 unfolding if_reached

@@ -2,7 +2,7 @@
 use Rattle.std.proofs.Common.{◌≡◌, ℕ, zero, suc, ◌+◌, ◌-◌, ◌<◌, ◌≤◌, Bool, true, false, cond, Option, Some, None, refl, sym, ap, ◌∙◌, subst, arith}
 use Rattle.std.specs.Prelude.{nat_eq, nat_le}
 use Rattle.std.proofs.lemmas.Bool.{eqb-true, leb-true, cond-true}
-use Rattle.camac_lang.specs.Tree.{Expression, number, variable, group, add, subtract, multiply, divide, remainder, Statement, assign, set_register, single, address_scan, q_stop, q_repeat, put, crate_call, lam_call, choose, choose_else, for_, while_, locked, call, Block, done, next}
+use Rattle.camac_lang.specs.Tree.{Expression, number, variable, group, add, subtract, multiply, divide, remainder, Statement, assign, set_register, single, address_scan, q_stop, q_repeat, put, crate_call, lam_call, choose, choose_else, for_, for_each, while_, locked, call, Block, done, next}
 use Rattle.camac_range.specs.Number.{greatest, difference_of}
 use Rattle.camac_model.specs.State.{State, Variables, stepped, with_variable}
 use Rattle.camac_model.specs.Behaviour.{Behaviour, does, ends, stops}
@@ -124,6 +124,7 @@ fall_in_positive m (lam_call line which l) k h = none_some h
 fall_in_positive m (choose line test a) k h = none_some h
 fall_in_positive m (choose_else line test a b) k h = none_some h
 fall_in_positive m (for_ line x e1 e2 keeps body) k h = none_some h
+fall_in_positive m (for_each line x v last body) k h = none_some h
 fall_in_positive m (while_ line test most x keeps body) k h = none_some h
 fall_in_positive m (locked line e body) k h = none_some h
 fall_in_positive m (call line p es) k h = none_some h
@@ -164,6 +165,7 @@ module _ (c : Context) (n m k : ℕ) where
   statement_falls (choose line test a) s h = none_some h
   statement_falls (choose_else line test a b) s h = none_some h
   statement_falls (for_ line x e1 e2 keeps body) s h = none_some h
+  statement_falls (for_each line x v last body) s h = none_some h
   statement_falls (while_ line test most x keeps body) s h = none_some h
   statement_falls (locked line e body) s h = none_some h
   statement_falls (call line p es) s h = none_some h

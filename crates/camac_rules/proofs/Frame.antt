@@ -4,7 +4,7 @@ use Rattle.std.specs.Prelude.{◌||◌, nat_eq, slice_get}
 use Rattle.std.proofs.lemmas.Bool.{or_parts, cond_both, cond-false}
 use Rattle.camac_lang.specs.declared.word.WordSize.{WordSize}
 use Rattle.camac_lang.specs.declared.word.WordSize.TheVariants.{Full}
-use Rattle.camac_lang.specs.Tree.{Move, no_data, into, from, Statement, assign, set_register, single, address_scan, q_stop, q_repeat, put, crate_call, lam_call, choose, choose_else, for_, while_, locked, call, Block, done, next}
+use Rattle.camac_lang.specs.Tree.{Move, no_data, into, from, Statement, assign, set_register, single, address_scan, q_stop, q_repeat, put, crate_call, lam_call, choose, choose_else, for_, for_each, while_, locked, call, Block, done, next}
 use Rattle.camac_func.specs.declared.data.DataMove.{DataMove}
 use Rattle.camac_func.specs.declared.data.DataMove.TheVariants as moved
 use Rattle.camac_branch.specs.Address.{Address, address}
@@ -37,6 +37,7 @@ abbrev mutual
   sets (choose line test a) r = block_sets a r
   sets (choose_else line test a b) r = block_sets a r || block_sets b r
   sets (for_ line x e1 e2 keeps body) r = block_sets body r
+  sets (for_each line x v last body) r = block_sets body r
   sets (while_ line test most m keeps body) r = block_sets body r
   sets (locked line e body) r = block_sets body r
   sets (call line p es) r = false
@@ -135,6 +136,21 @@ transfer_leaves w g s plan f o next_address x h =
     (λ u qs t i e. same_written w g x (tally qs) s t h i) s.answers tt [] s refl (same_self w g s)
 
 module _ (c : Context) (n : ℕ) where
+  -- the turns of a `for`
+  abbrev Wrote : ℕ → Block → ℕ → Bool
+  Wrote x body y = nat_eq y x || block_writes body y
+
+  all_turns : (x : ℕ) (body : Block) (s : State) → ((t : State) → Leaves (block_writes body) (block_sets body) t (block_meaning c n body t)) → (m first last : ℕ) → Leaves (Wrote x body) (block_sets body) s (for_from m n x first last (block_meaning c n body) s)
+  all_turns x body s each zero first last = same_self (Wrote x body) (block_sets body) s
+  all_turns x body s each (suc m) first last =
+      let w : ℕ → Bool = Wrote x body in
+      let g : ℕ → Bool = block_sets body in
+      counts_meet step AnyPiece AnyStop (Left w g s) x last (block_meaning c n body) (λ u k v t. Same w g s t) (λ u k v t i. tt)
+      (λ u k v t i. leaves_from (block_writes body) g w g s (for_state x v t) (block_meaning c n body (for_state x v t))
+      (λ y f. (or_parts (nat_eq y x) (block_writes body y) f).1) (λ r f. f)
+      (same_for_state w g x v s t (same_written w g x v s t (λ y f. (or_parts (nat_eq y x) (block_writes body y) f).0) i)) (each (for_state x v t)))
+      (λ u v t i. same_written w g x last s t (λ y f. (or_parts (nat_eq y x) (block_writes body y) f).0) i) (suc m) n tt first s (same_self w g s)
+
   mutual
     pub statement_leaves : (st : Statement) (s : State) → Leaves (writes st) (sets st) s (effect c n st s)
     statement_leaves (assign line x e) s =
@@ -210,18 +226,8 @@ module _ (c : Context) (n : ℕ) where
         let g : ℕ → Bool = block_sets body in
         let second : ℕ → ℕ → Action = λ first last. for_from (last + 1 - first) n x first last (block_meaning c n body) in
         given_leaves w g s (value e1 s.variables) (λ first. given (value e2 s.variables) (second first)) (λ first.
-        given_leaves w g s (value e2 s.variables) (second first) (λ last. all_turns (λ t. block_leaves body t) (last + 1 - first) first last))
-      where
-        all_turns : ((t : State) → Leaves (block_writes body) (block_sets body) t (block_meaning c n body t)) → (m first last : ℕ) → Leaves (writes (for_ line x e1 e2 keeps body)) (block_sets body) s (for_from m n x first last (block_meaning c n body) s)
-        all_turns each zero first last = same_self (writes (for_ line x e1 e2 keeps body)) (block_sets body) s
-        all_turns each (suc m) first last =
-            let w : ℕ → Bool = writes (for_ line x e1 e2 keeps body) in
-            let g : ℕ → Bool = block_sets body in
-            counts_meet step AnyPiece AnyStop (Left w g s) x last (block_meaning c n body) (λ u k v t. Same w g s t) (λ u k v t i. tt)
-            (λ u k v t i. leaves_from (block_writes body) g w g s (for_state x v t) (block_meaning c n body (for_state x v t))
-            (λ y f. (or_parts (nat_eq y x) (block_writes body y) f).1) (λ r f. f)
-            (same_for_state w g x v s t (same_written w g x v s t (λ y f. (or_parts (nat_eq y x) (block_writes body y) f).0) i)) (each (for_state x v t)))
-            (λ u v t i. same_written w g x last s t (λ y f. (or_parts (nat_eq y x) (block_writes body y) f).0) i) (suc m) n tt first s (same_self w g s)
+        given_leaves w g s (value e2 s.variables) (second first) (λ last. all_turns x body s (λ t. block_leaves body t) (last + 1 - first) first last))
+    statement_leaves (for_each line x first last body) s = all_turns x body s (λ t. block_leaves body t) (last + 1 - first) first last
     statement_leaves (while_ line test most m keeps body) s =
         let w : ℕ → Bool = block_writes body in
         let g : ℕ → Bool = block_sets body in

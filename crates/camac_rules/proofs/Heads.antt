@@ -2,7 +2,7 @@
 use Rattle.std.proofs.Common.{◌≡◌, ℕ, ◌≤◌, Bool, true, false, cond, List, [], ◌∷◌, Some, None, get_or, refl, sym, ap, ◌∙◌, subst, arith}
 use Rattle.std.specs.Prelude.{◌||◌, nat_eq, nat_le}
 use Rattle.std.proofs.lemmas.Bool.{cond_both, eqb-true, eqb-false, and_parts, leb-true}
-use Rattle.camac_lang.specs.Tree.{Move, no_data, into, from, Keep, Statement, assign, set_register, single, address_scan, q_stop, q_repeat, put, crate_call, lam_call, choose, choose_else, for_, while_, locked, call, Block, done, next}
+use Rattle.camac_lang.specs.Tree.{Move, no_data, into, from, Keep, Statement, assign, set_register, single, address_scan, q_stop, q_repeat, put, crate_call, lam_call, choose, choose_else, for_, for_each, while_, locked, call, Block, done, next}
 use Rattle.camac_range.specs.Number.{greatest}
 use Rattle.camac_range.specs.Interval.{Interval, only, is_inside, IsWithin}
 use Rattle.camac_model.specs.State.{State, Variables, Registers}
@@ -60,6 +60,9 @@ mutual
   forget_range (for_ line x e1 e2 keeps body) k y =
       forgotten_first (nat_eq y x) (block_writes body y) any_range (range_at k.ranges y) (range_at (forget_variable x (forget_block body k)).ranges y)
       (range_at (forget_block body k).ranges y) (write_at (only 0) (forget_block body k).ranges x y any_range) (forget_block_range body k y)
+  forget_range (for_each line x v last body) k y =
+      forgotten_first (nat_eq y x) (block_writes body y) any_range (range_at k.ranges y) (range_at (forget_variable x (forget_block body k)).ranges y)
+      (range_at (forget_block body k).ranges y) (write_at (only 0) (forget_block body k).ranges x y any_range) (forget_block_range body k y)
   forget_range (while_ line test most m keeps body) k y = forget_block_range body k y
   forget_range (locked line e body) k y = forget_block_range body k y
   forget_range (call line p es) k y = refl
@@ -86,6 +89,7 @@ mutual
       forgotten_twice (block_sets a r) (block_sets b r) None (region_at k.registers r) (region_at (forget_block b (forget_block a k)).registers r)
       (region_at (forget_block a k).registers r) (forget_block_register b (forget_block a k) r) (forget_block_register a k r)
   forget_register_at (for_ line x e1 e2 keeps body) k r = forget_block_register body k r
+  forget_register_at (for_each line x v last body) k r = forget_block_register body k r
   forget_register_at (while_ line test most m keeps body) k r = forget_block_register body k r
   forget_register_at (locked line e body) k r = forget_block_register body k r
   forget_register_at (call line p es) k r = refl

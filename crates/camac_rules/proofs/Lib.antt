@@ -17,6 +17,8 @@ pub mod Frame
 pub mod Heads
 pub mod Turns
 pub mod ForLoops
+pub mod EachLoops
+pub mod EachCosts
 pub mod Falls
 pub mod WhileLoops
 pub mod Driven
@@ -33,4 +35,5 @@ mod Rows
 mod Arms
 mod TransferRows
 mod LoopRows
+mod EachRows
 mod ProcedureRows

@@ -4,7 +4,7 @@ use Rattle.std.specs.Prelude.{◌||◌, not, option_and_then}
 use Rattle.std.proofs.lemmas.Bool.{and_parts, not-true, false≢true}
 use Rattle.camac_lang.specs.Expressions.{Scope, expression_fits}
 use Rattle.camac_lang.specs.Tests.{unless_broken}
-use Rattle.camac_lang.specs.Tree.{Statement, assign, set_register, single, address_scan, q_stop, q_repeat, put, crate_call, lam_call, choose, choose_else, for_, while_, locked, call, Block, done, next}
+use Rattle.camac_lang.specs.Tree.{Statement, assign, set_register, single, address_scan, q_stop, q_repeat, put, crate_call, lam_call, choose, choose_else, for_, for_each, while_, locked, call, Block, done, next}
 use Rattle.camac_lang.specs.Statements.{head_fits, begun, after, after_block}
 
 abbrev mutual
@@ -21,6 +21,7 @@ abbrev mutual
   has_lock (choose line test a) = block_has_lock a
   has_lock (choose_else line test a b) = block_has_lock a || block_has_lock b
   has_lock (for_ line x e1 e2 qs body) = block_has_lock body
+  has_lock (for_each line x v last body) = block_has_lock body
   has_lock (while_ line test most m qs body) = block_has_lock body
   has_lock (locked line e body) = true
   has_lock (call line p es) = false
@@ -63,6 +64,9 @@ module _ (c : Scope) (in_procedure : c.is_procedure ≡ true) where
         both_false (block_has_lock a) (block_has_lock b) (block_lockless a q.0 p.0 q.2) (block_lockless b p.0 n p.2)
     statement_lockless (for_ line x e1 e2 qs body) seen n h =
         let p = found (λ k. after_block c k body) (begun c seen (for_ line x e1 e2 qs body)) n h in
+        block_lockless body p.0 n p.2
+    statement_lockless (for_each line x v last body) seen n h =
+        let p = found (λ k. after_block c k body) (begun c seen (for_each line x v last body)) n h in
         block_lockless body p.0 n p.2
     statement_lockless (while_ line test most m qs body) seen n h =
         let p = found (λ k. after_block c k body) (begun c seen (while_ line test most m qs body)) n h in

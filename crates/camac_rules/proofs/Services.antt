@@ -19,8 +19,9 @@ use Rattle.camac_rules.specs.declared.case.Body.TheVariants as body
 use Rattle.camac_rules.specs.Cycles.{alone_in}
 use Rattle.camac_rules.specs.Laws.{EventsFit}
 use Rattle.camac_rules.specs.Statements.{accept_block}
+use Rattle.camac_rules.specs.EachLimit.{count_block}
 use Rattle.camac_rules.specs.Accept.{at_start, own_body, accept_procedure, accept_service, accept_items}
-use Rattle.camac_rules.proofs.Allows.{Allows, allowed, then_allowed, required_allowed, for_each, allowed_more}
+use Rattle.camac_rules.proofs.Allows.{after_any, Allows, allowed, then_allowed, required_allowed, for_each, allowed_more}
 use Rattle.camac_rules.proofs.Stores.{Place, Inside}
 use Rattle.camac_rules.proofs.Sound.{Paid, Sound, SoundFor}
 use Rattle.camac_rules.proofs.Actions.{HasWidths, Setting, of, seen}
@@ -69,13 +70,13 @@ pub record IsAccepted (plan : Layout) (script : Script) (v : Service) (k : Bound
 
 service_accepted : (plan : Layout) (script : Script) → HasWidths plan → (done : List Procedure) → Serves (setting plan script (context plan script).routines done) → (v : Service) → Allows (accept_service (seen (setting plan script (context plan script).routines done)) v) (IsAccepted plan script v)
 service_accepted plan script narrow done serves v =
-    then_allowed (block_sound (setting plan script (context plan script).routines done) narrow serves (outermost (body.Service v.lam)) v.body (λ e c. refl) at_start) (λ found h.
+    after_any (count_block (body.Service v.lam) v.body 0) (λ judged. then_allowed (block_sound (setting plan script (context plan script).routines done) narrow serves (outermost (body.Service v.lam)) v.body (λ e c. refl) at_start) (λ found h.
     required_allowed _ v.line _ (λ words.
     required_allowed _ v.line _ (λ cycles.
     required_allowed _ v.line _ (λ steps. allowed (record {
       fine = λ n le b answers. sound_fine plan (outermost (body.Service v.lam)) found.after found.costs b answers (block_meaning (context plan script) n v.body (fresh b answers)) (h.each n le (fresh b answers) (start_inside (body.Service v.lam) b answers));
       costs = record { cycles = leb-true found.costs.cycles v.cycles cycles; words = leb-true found.costs.words v.words words; steps = leb-true found.costs.steps greatest steps };
-    })))))
+    }))))))
 
 -- each of these services by the costs in its place, as far as there are costs
 abbrev pub AreAccepted : Layout → Script → List Bounds → List Service → Type 0
@@ -114,9 +115,9 @@ procedure_accepted : (plan : Layout) (script : Script) → HasWidths plan → (r
 procedure_accepted plan script narrow rs done m p free =
     let c : Setting = setting plan script rs done in
     let run : ℕ → Action = λ n. block_meaning (of c) n p.body in
-    routine_sound plan (own_body (seen c)) p run (accept_block (seen c) (alone_in (own_body (seen c))) p.body) (λ k.
+    after_any (count_block (own_body (seen c)) p.body 0) (λ judged. routine_sound plan (own_body (seen c)) p run (accept_block (seen c) (alone_in (own_body (seen c))) p.body) (λ k.
     for_each (λ outside. Unit {0}) (λ outside v. SoundFor plan (called (own_body (seen c)) outside) (Some k) run v) (λ outside u.
-    block_sound c narrow (serves_own plan script rs done m) (called (own_body (seen c)) outside) p.body (λ e. absurd (false≢true (sym free ∙ e))) k))
+    block_sound c narrow (serves_own plan script rs done m) (called (own_body (seen c)) outside) p.body (λ e. absurd (false≢true (sym free ∙ e))) k)))
 
 none_left : (plan : Layout) (script : Script) (rs : List (ℕ → Action)) (done ps : List Procedure) → Matched plan rs done → routines_with (bare_with plan script rs) ps ≡ (context plan script).routines → 0 ≡ length ps → Matched plan (context plan script).routines (done ++ ps)
 none_left plan script rs done [] m e n = subst (λ l. Matched plan (context plan script).routines l) (sym (append-nil done)) (subst (λ l. Matched plan l done) e m)

@@ -1,7 +1,7 @@
 -- What the rules accept of statements runs safely: one induction over statements.
 use Rattle.std.proofs.Common.{◌≡◌, ℕ, ◌+◌, ◌≤◌, [], ◌∷◌, ◌++◌, length, length-append, Option, Some, None, Bool, true, false, refl, arith, ap}
 use Rattle.std.proofs.lemmas.Bool.{leb-true, or_right}
-use Rattle.camac_lang.specs.Tree.{Expression, Statement, assign, set_register, single, address_scan, q_stop, q_repeat, put, crate_call, lam_call, choose, choose_else, for_, while_, locked, call, Block, done, next}
+use Rattle.camac_lang.specs.Tree.{Expression, Statement, assign, set_register, single, address_scan, q_stop, q_repeat, put, crate_call, lam_call, choose, choose_else, for_, for_each, while_, locked, call, Block, done, next}
 use Rattle.camac_branch.specs.Address.{address}
 use Rattle.camac_branch.specs.Plan.{Layout}
 use Rattle.camac_model.specs.State.{State, stepped, with_variable, with_register, with_word}
@@ -25,6 +25,7 @@ use Rattle.camac_rules.proofs.Actions.{Setting, of, HasWidths, seen, with_given,
 use Rattle.camac_rules.proofs.Calls.{crate_sound, lam_sound}
 use Rattle.camac_rules.proofs.Held.{MayLock, lock_allowed, lock_sound}
 use Rattle.camac_rules.proofs.ForLoops.{limits_allowed, for_sound}
+use Rattle.camac_rules.proofs.EachLoops.{each_sound}
 use Rattle.camac_rules.proofs.WhileLoops.{head_allowed, while_sound}
 use Rattle.camac_rules.proofs.Blocks.{q_stop_sound, q_repeat_sound}
 use Rattle.camac_rules.proofs.Scans.{scan_sound}
@@ -147,6 +148,8 @@ mutual
       then_allowed (limits_allowed around line x e1 e2 keeps k) (λ l m.
       then_allowed (reached_sound c (fixing x around) body (for_head x l keeps body k) (λ q. block_sound c narrow serves (fixing x around) body may q)) (λ turn h.
       required_allowed _ line _ (λ keep. allows (for_sound c around line x e1 e2 keeps body k l turn m keep h))))
+  statement_sound c narrow serves around (for_each line x v last body) may k =
+      each_sound c around line x v last body (accept_block (seen c) (around_of (fixing x around)) body) (λ q. block_sound c narrow serves (fixing x around) body may q) k
   statement_sound c narrow serves around (while_ line test most m keeps body) may k =
       then_allowed (head_allowed around.body line most m keeps body k) (λ top begins.
       then_allowed (split_each around line test top) (λ arms d.

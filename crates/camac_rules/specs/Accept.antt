@@ -14,6 +14,7 @@ use Rattle.camac_rules.specs.Costs.{costs}
 use Rattle.camac_rules.specs.Cycles.{Context, alone_in}
 pub use Rattle.camac_rules.specs.Procedures.{within, procedure_rule}
 use Rattle.camac_rules.specs.Statements.{accept_block}
+use Rattle.camac_rules.specs.EachLimit.{count_block}
 
 -- variables are 0, registers unset
 abbrev pub at_start : Facts
@@ -24,7 +25,9 @@ abbrev pub own_body : Context → Body
 own_body c = body.Procedure (length c.procedures)
 
 abbrev pub accept_procedure : Context → Procedure → Result Bounds Fault
-accept_procedure c p = procedure_rule (own_body c) (accept_block c (alone_in (own_body c)) p.body) p
+accept_procedure c p = do
+  judged ← count_block (own_body c) p.body 0
+  procedure_rule (own_body c) (accept_block c (alone_in (own_body c)) p.body) p
 
 -- a procedure can be called after it
 abbrev pub with_procedure : Procedure → Context → Context
@@ -33,6 +36,7 @@ with_procedure p c = record c { procedures = c.procedures ++ p ∷ [] }
 -- what a service can cost
 abbrev pub accept_service : Context → Service → Result Bounds Fault
 accept_service c s = do
+  judged ← count_block (body.Service s.lam) s.body 0
   v ← accept_block c (alone_in (body.Service s.lam)) s.body at_start
   within (body.Service s.lam) (costs s.cycles s.words greatest) v.costs s.line
 

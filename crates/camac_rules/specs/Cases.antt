@@ -5,7 +5,7 @@ use Rattle.camac_func.specs.Class.{class_of}
 use Rattle.camac_func.specs.declared.code.FunctionClass.{FunctionClass}
 use Rattle.camac_rules.specs.declared.case.Body.{Body}
 use Rattle.camac_rules.specs.declared.case.Case.{Case}
-use Rattle.camac_rules.specs.declared.case.Case.TheVariants.{Operation, Direction, Kept, Crates, Crate, Budget}
+use Rattle.camac_rules.specs.declared.case.Case.TheVariants.{Operation, Direction, Kept, Crates, Crate, Judged, Budget}
 use Rattle.camac_rules.specs.declared.case.Operator.{Operator}
 use Rattle.camac_rules.specs.declared.case.Numbers.{Numbers}
 
@@ -35,3 +35,7 @@ crate_of r = Crate (numbers_of r)
 -- a cost and what is allowed; a cost past 64 bits is given as their greatest number
 abbrev pub budget : Body → ℕ → ℕ → Case
 budget body needed allowed = Budget body (min needed (2 ^ 64 - 1)) allowed
+
+-- how much the `each` loops of a body judge, and what is allowed, as in a budget
+abbrev pub judged_case : Body → ℕ → ℕ → Case
+judged_case body needed allowed = Judged body (min needed (2 ^ 64 - 1)) allowed

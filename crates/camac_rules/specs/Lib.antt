@@ -11,6 +11,8 @@ pub mod Cycles
 pub mod Calls
 pub mod Writes
 pub mod Loops
+pub mod Each
+pub mod EachLimit
 pub mod Windows
 pub mod Transfers
 pub mod Procedures

@@ -1,6 +1,6 @@
 -- The rules of all statements: what is known after each and what it can cost, or the first rule that it breaks.
 use Rattle.std.specs.Prelude.{ℕ, Some, Result, Ok, nat_le, unwrap_or}
-use Rattle.camac_lang.specs.Tree.{Expression, Statement, assign, set_register, single, address_scan, q_stop, q_repeat, put, crate_call, lam_call, choose, choose_else, for_, while_, locked, call, Block, done, next}
+use Rattle.camac_lang.specs.Tree.{Expression, Statement, assign, set_register, single, address_scan, q_stop, q_repeat, put, crate_call, lam_call, choose, choose_else, for_, for_each, while_, locked, call, Block, done, next}
 use Rattle.camac_branch.specs.Plan.{crate_waits}
 use Rattle.camac_rules.specs.declared.case.Case.TheVariants.{Word, Counted}
 use Rattle.camac_rules.specs.declared.rule.CheckRule.TheVariants.{WordTooWide, LoopVariableAssigned}
@@ -14,6 +14,7 @@ use Rattle.camac_rules.specs.Costs.{costs, no_costs, plus, choice_costs, lock_co
 use Rattle.camac_rules.specs.Cycles.{Context, Around, with_locked, may_write, single_rule}
 use Rattle.camac_rules.specs.Calls.{crate_rule, lam_rule, lock_rule}
 use Rattle.camac_rules.specs.Loops.{with_fixed, for_rule, while_rule}
+use Rattle.camac_rules.specs.Each.{each_rule}
 use Rattle.camac_rules.specs.Transfers.{scan_rule, q_stop_rule, q_repeat_rule}
 use Rattle.camac_rules.specs.Procedures.{call_rule}
 
@@ -66,6 +67,7 @@ abbrev mutual
   accept_statement c around (lam_call line which l) k = lam_rule c around line which l k
   accept_statement c around (for_ line x e1 e2 keeps body) k =
       for_rule c around line x e1 e2 keeps body (accept_block c (with_fixed x around) body) k
+  accept_statement c around (for_each line x v last body) k = each_rule c around line x v last (accept_block c (with_fixed x around) body) k
   accept_statement c around (while_ line test most m keeps body) k = while_rule c around line test most m keeps body (accept_block c around body) k
   accept_statement c around (call line p es) k = call_rule c line p es k
 

@@ -1,7 +1,7 @@
 -- What a statement writes anywhere in it, what is forgotten at the head of a loop, and by how much a turn lowers its measure.
 -- All is read from the text, so statements that can't be reached count.
 use Rattle.std.specs.Prelude.{ℕ, suc, Bool, false, ◌||◌, Option, Some, None, nat_eq, if◌then◌else◌}
-use Rattle.camac_lang.specs.Tree.{Expression, number, group, subtract, Move, no_data, into, from, Statement, assign, set_register, single, address_scan, q_stop, q_repeat, put, crate_call, lam_call, choose, choose_else, for_, while_, locked, call, Block, done, next}
+use Rattle.camac_lang.specs.Tree.{Expression, number, group, subtract, Move, no_data, into, from, Statement, assign, set_register, single, address_scan, q_stop, q_repeat, put, crate_call, lam_call, choose, choose_else, for_, for_each, while_, locked, call, Block, done, next}
 use Rattle.camac_range.specs.Number.{greatest}
 use Rattle.camac_range.specs.Interval.{Interval, interval}
 use Rattle.camac_rules.specs.Known.{write, Facts, facts, with_range}
@@ -27,6 +27,7 @@ abbrev mutual
   writes (choose line test a) y = block_writes a y
   writes (choose_else line test a b) y = block_writes a y || block_writes b y
   writes (for_ line x e1 e2 keeps body) y = nat_eq y x || block_writes body y
+  writes (for_each line x v last body) y = nat_eq y x || block_writes body y
   writes (while_ line test most m keeps body) y = block_writes body y
   writes (locked line e body) y = block_writes body y
   writes (call line p es) y = false
@@ -64,6 +65,7 @@ abbrev mutual
   forget (choose line test a) k = forget_block a k
   forget (choose_else line test a b) k = forget_block b (forget_block a k)
   forget (for_ line x e1 e2 keeps body) k = forget_variable x (forget_block body k)
+  forget (for_each line x v last body) k = forget_variable x (forget_block body k)
   forget (while_ line test most m keeps body) k = forget_block body k
   forget (locked line e body) k = forget_block body k
   forget (call line p es) k = k

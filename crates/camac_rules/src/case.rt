@@ -95,6 +95,12 @@ pub enum Case {
         turns: u32,
         allowed: u32,
     },
+    /// E10: the statements and turns that the `each` loops of the body judge, 2^64 - 1 where it is more, and the most that are allowed.
+    Judged {
+        body: Body,
+        needed: u64,
+        allowed: u32,
+    },
     /// E11, E12, E18: what the body may cost, 2^64 - 1 where it is more, and what is allowed.
     Budget {
         body: Body,
