@@ -1,3 +1,4 @@
 pub mod Statements
 pub mod Weights
+pub mod Turns
 pub mod Rows

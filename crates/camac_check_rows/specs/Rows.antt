@@ -1,7 +1,7 @@
 -- What each statement has of the bound of its body: rows over what the checker's rules find. No rule is stated here.
 use Rattle.std.specs.Prelude.{ℕ, ◌+◌, List, [], ◌∷◌, ◌++◌, map, Option, Some, None, Result, Ok, Err, option_map, unwrap_or}
 use Rattle.camac_range.specs.Interval.{only}
-use Rattle.camac_lang.specs.Tree.{Expression, Condition, Keep, Statement, choose, choose_else, for_, while_, locked, Block, done, next, line_of}
+use Rattle.camac_lang.specs.Tree.{Expression, Condition, Keep, Statement, choose, choose_else, for_, for_each, while_, locked, Block, done, next, line_of}
 use Rattle.camac_branch.specs.Plan.{crate_waits}
 use Rattle.camac_model.specs.Fine.{Bounds}
 use Rattle.camac_rules.specs.Fault.{Fault}
@@ -19,6 +19,7 @@ use Rattle.camac_check_rows.specs.declared.row.Detail.TheVariants as detail
 use Rattle.camac_check_rows.specs.declared.row.Row.{Row}
 use Rattle.camac_check_rows.specs.declared.inside.Weight.{Weight}
 use Rattle.camac_check_rows.specs.Statements.{kind_of, detail_of, first_row}
+use Rattle.camac_check_rows.specs.Turns.{Turned, turned, each_turned}
 use Rattle.camac_check_rows.specs.Weights.{once, turning, first_arm, second_arm, inside_row}
 
 -- what is found where it is reached and not refused
@@ -127,6 +128,10 @@ choice_rows c own first rows otherwise second others =
 abbrev pub loop_rows : Context → Around → Statement → Known → Turning → (rows : List Row) → List Row
 loop_rows c around s k turn rows = own_row c around s k (loop_share k turn.turns) (loop_detail k turn.turns) ∷ inside c (turning turn.turns) rows
 
+-- of an `each`: its own, and those of all turns as one
+abbrev pub each_rows : Context → Around → Statement → Known → Turned → List Row
+each_rows c around s k t = own_row c around s k (loop_share k t.turns) (loop_detail k t.turns) ∷ inside c once t.rows
+
 abbrev pub lock_rows : Context → Around → Statement → Known → Option ℕ → (rows : List Row) → List Row
 lock_rows c around s k o rows = own_row c around s k (lock_share c o) (lock_detail o) ∷ inside c once rows
 
@@ -142,6 +147,9 @@ abbrev mutual
   statement_rows c around (for_ line x e1 e2 keeps body) k =
       let turn = for_turning around line x e1 e2 keeps body k in
       loop_rows c around (for_ line x e1 e2 keeps body) k turn (block_rows c (with_fixed x around) body turn.head)
+  statement_rows c around (for_each line x v last body) k =
+      each_rows c around (for_each line x v last body) k
+      (each_turned c.limit x v last (block_verdict c (with_fixed x around) body) (block_rows c (with_fixed x around) body) k)
   statement_rows c around (while_ line test most m keeps body) k =
       let turn = while_turning around line test most m keeps body k in
       loop_rows c around (while_ line test most m keeps body) k turn (block_rows c around body turn.head)

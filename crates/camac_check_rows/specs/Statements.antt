@@ -7,7 +7,7 @@ use Rattle.camac_lang.specs.declared.word.CrateCall.TheVariants as crate_word
 use Rattle.camac_lang.specs.declared.word.LamCall.{LamCall}
 use Rattle.camac_lang.specs.declared.word.LamCall.TheVariants as lam_word
 use Rattle.camac_range.specs.Interval.{Interval}
-use Rattle.camac_lang.specs.Tree.{Expression, Statement, assign, set_register, single, address_scan, q_stop, q_repeat, put, crate_call, lam_call, choose, choose_else, for_, while_, locked, call}
+use Rattle.camac_lang.specs.Tree.{Expression, Statement, assign, set_register, single, address_scan, q_stop, q_repeat, put, crate_call, lam_call, choose, choose_else, for_, for_each, while_, locked, call}
 use Rattle.camac_model.specs.Fine.{Bounds}
 use Rattle.camac_rules.specs.Known.{Region, Known, region_at}
 use Rattle.camac_rules.specs.Fault.{Fault}
@@ -29,6 +29,7 @@ abbrev pub is_simple : Statement → Bool
 is_simple (choose line test a) = false
 is_simple (choose_else line test a b) = false
 is_simple (for_ line x e1 e2 keeps body) = false
+is_simple (for_each line x v last body) = false
 is_simple (while_ line test most m keeps body) = false
 is_simple (locked line e body) = false
 is_simple s = true
@@ -67,6 +68,7 @@ kind_of (lam_call line which l) = lam_kind which
 kind_of (choose line test a) = kind.If
 kind_of (choose_else line test a b) = kind.If
 kind_of (for_ line x e1 e2 keeps body) = kind.For
+kind_of (for_each line x v last body) = kind.For
 kind_of (while_ line test most m keeps body) = kind.While
 kind_of (locked line e body) = kind.Lock
 kind_of (call line p es) = kind.Call

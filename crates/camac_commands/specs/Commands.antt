@@ -5,7 +5,7 @@ use Rattle.camac_range.specs.Interval.{interval}
 use Rattle.camac_range.specs.Interval as numbers
 use Rattle.camac_lang.specs.declared.word.CrateCall.{CrateCall}
 use Rattle.camac_lang.specs.Scope.{is_well_formed}
-use Rattle.camac_lang.specs.Tree.{Statement, single, address_scan, q_stop, q_repeat, crate_call, lam_call, choose, choose_else, for_, while_, locked, call, Block, done, next, Service, Script}
+use Rattle.camac_lang.specs.Tree.{Statement, single, address_scan, q_stop, q_repeat, crate_call, lam_call, choose, choose_else, for_, for_each, while_, locked, call, Block, done, next, Service, Script}
 use Rattle.camac_branch.specs.Address.{Address}
 use Rattle.camac_branch.specs.Branch.{Branch, Answer}
 use Rattle.camac_branch.specs.Plan.{Layout, IsPlan}
@@ -66,9 +66,9 @@ told_region (detail.At g) = Some g
 told_region (detail.Between g h) = span g h
 told_region told = None
 
--- where a crate call goes: its crate is one number
+-- where a crate call goes: its crate is one number each time, in the turns of an `each` one after the other
 abbrev pub called_at : CrateCall → Detail → Option Region
-called_at which (detail.Crates r) = Some (single_region (crate_address which r.lo))
+called_at which (detail.Crates r) = Some (record (single_region (crate_address which r.lo)) { crates = r })
 called_at which told = None
 
 -- the command of a statement that holds no others and calls no procedure, by what its row tells
@@ -98,6 +98,7 @@ abbrev mutual
   behind (choose line test a) rows = behind_block a (drop 1 rows)
   behind (choose_else line test a b) rows = behind_block b (drop 1 (behind_block a (drop 1 rows)))
   behind (for_ line x e1 e2 keeps body) rows = behind_block body (drop 1 rows)
+  behind (for_each line x v last body) rows = behind_block body (drop 1 rows)
   behind (while_ line test most m keeps body) rows = behind_block body (drop 1 rows)
   behind (locked line e body) rows = behind_block body (drop 1 rows)
   behind s rows = drop 1 rows
@@ -112,6 +113,7 @@ abbrev mutual
   made ps (choose line test a) rows = made_block ps a (drop 1 rows)
   made ps (choose_else line test a b) rows = made_block ps a (drop 1 rows) ++ made_block ps b (drop 1 (behind_block a (drop 1 rows)))
   made ps (for_ line x e1 e2 keeps body) rows = made_block ps body (drop 1 rows)
+  made ps (for_each line x v last body) rows = made_block ps body (drop 1 rows)
   made ps (while_ line test most m keeps body) rows = made_block ps body (drop 1 rows)
   made ps (locked line e body) rows = made_block ps body (drop 1 rows)
   made ps (call line p es) rows = unwrap_or (slice_get ps p) []

@@ -2,7 +2,7 @@
 use Rattle.std.specs.Prelude.{◌≡◌, ℕ, ◌&&◌, ◌||◌, Bool, true, false, List, [], Some, Ok, IsTrue, drop, nat_le, unwrap_or, slice_get}
 use Rattle.std.specs.List.{list_any}
 use Rattle.camac_lang.specs.Scope.{is_well_formed}
-use Rattle.camac_lang.specs.Tree.{Expression, number, Statement, single, q_stop, q_repeat, lam_call, choose_else, for_, locked, call, Block, done, next, Service, Script}
+use Rattle.camac_lang.specs.Tree.{Expression, number, Statement, single, q_stop, q_repeat, lam_call, choose_else, for_, for_each, locked, call, Block, done, next, Service, Script}
 use Rattle.camac_branch.specs.Address.{Address}
 use Rattle.camac_branch.specs.Branch.{Branch, Answer}
 use Rattle.camac_branch.specs.Plan.{Layout, IsPlan}
@@ -43,6 +43,7 @@ abbrev mutual
   pub surely : (Command → Bool) → List Bool → Statement → List Row → Bool
   surely test ps (choose_else line c a b) rows = surely_block test ps a (drop 1 rows) && surely_block test ps b (drop 1 (behind_block a (drop 1 rows)))
   surely test ps (for_ line x e1 e2 keeps body) rows = has_turn e1 e2 && surely_block test ps body (drop 1 rows)
+  surely test ps (for_each line x v last body) rows = nat_le v last && surely_block test ps body (drop 1 rows)
   surely test ps (locked line e body) rows = surely_block test ps body (drop 1 rows)
   surely test ps (call line p es) rows = unwrap_or (slice_get ps p) false
   surely test ps s rows = surely_alone test s (detail_told rows)
