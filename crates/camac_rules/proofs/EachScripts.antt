@@ -3,7 +3,8 @@ use Rattle.std.proofs.Common.{◌≡◌, ℕ, List, [], ◌∷◌, Ok, Err, refl
 use Rattle.camac_lang.specs.declared.word.WordSize.TheVariants.{Full}
 use Rattle.camac_lang.specs.Tree.{add, number, variable, into, Statement, assign, set_register, single, put, for_, for_each, Script}
 use Rattle.camac_lang.specs.View.{block_of}
-use Rattle.camac_model.specs.Sample.{sample_plan, script, register, with_r, r, v, k, i, t}
+use Rattle.camac_model.specs.Sample.{sample_plan}
+use Rattle.camac_model.proofs.SampleScripts.{script, register, with_r, r, v, k, i, t}
 use Rattle.camac_range.specs.Interval.{interval}
 use Rattle.camac_rules.specs.declared.case.Case.TheVariants.{Judged, Word}
 use Rattle.camac_rules.specs.declared.case.Operator.TheVariants.{Add}
