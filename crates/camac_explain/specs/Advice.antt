@@ -14,7 +14,7 @@ use Rattle.camac_range.specs.Number.{greatest}
 use Rattle.camac_rules.specs.Loops.{turn_limit}
 use Rattle.camac_rules.specs.declared.case.Case.{Case}
 use Rattle.camac_rules.specs.declared.case.Body.TheVariants.{Procedure}
-use Rattle.camac_rules.specs.declared.case.Case.TheVariants.{Direction, Operation, Turns, Budget, Width, Word}
+use Rattle.camac_rules.specs.declared.case.Case.TheVariants.{Direction, Operation, Turns, Judged, Budget, Width, Word}
 use Rattle.camac_rules.specs.declared.case.Numbers.{Numbers}
 use Rattle.camac_rules.specs.declared.case.Operator.TheVariants.{Sub}
 
@@ -137,7 +137,7 @@ is_side_forgotten case = false
 abbrev pub operation_fix : Case → List ℕ
 operation_fix case =
     if is_right_forgotten case then codes "a loop forgets what its body writes: let it `keep` such a right side in a range, as `camac-check --keeps` finds it; then add its greatest number first, as in `v + 4095 - w`, and test the result by `if`."
-    else if is_side_forgotten case then codes "bound the variable by `if` or `%` before. A loop forgets what its body writes: let it `keep` such a variable in a range, as `camac-check --keeps` finds it."
+    else if is_side_forgotten case then codes "bound the variable by `if` or `%` before. A loop forgets what its body writes: write `each` after the ends of a `for`, or let it `keep` such a variable in a range. `camac-check --keeps` finds what it needs."
     else known_fix case
 
 -- E5, E16: of a value that may be any number
@@ -148,12 +148,12 @@ is_any case = false
 
 abbrev pub width_fix : Case → List ℕ
 width_fix case =
-    if is_any case then codes "bound the value by `%` or `if`. A loop forgets what its body writes: let it `keep` such a variable in a range, as `camac-check --keeps` finds it."
+    if is_any case then codes "bound the value by `%` or `if`. A loop forgets what its body writes: write `each` after the ends of a `for`, or let it `keep` such a variable in a range. `camac-check --keeps` finds what it needs."
     else codes "bound the value by `%` or `if`, write a smaller word into the table, or correct the `width` in the plan."
 
 abbrev pub word_fix : Case → List ℕ
 word_fix case =
-    if is_any case then codes "bound the value by `% 16777216` or `if`. A loop forgets what its body writes: for such a variable write `keep v in 0..16777215` after its head, as `camac-check --keeps` finds it."
+    if is_any case then codes "bound the value by `% 16777216` or `if`. A loop forgets what its body writes: write `each` after the ends of a `for`, or `keep v in 0..16777215` after its head. `camac-check --keeps` finds what it needs."
     else codes "bound the value by `% 16777216`, or by an `if` on a variable that has it; let a loop `keep` it in a range, or put it as two words."
 
 -- E10: a larger number after `turns`, where that is allowed
@@ -161,6 +161,7 @@ abbrev pub turns_fix : Case → List ℕ
 turns_fix (Turns needed allowed) =
     if nat_le needed turn_limit then codes "write a larger number after `turns`, or begin with a smaller value."
     else codes "no larger number is allowed: bound the variable after `by` or the ends of the `for` by `if` or `%`, or write two loops, one in the other."
+turns_fix (Judged whose needed allowed) = codes "leave `each` out of the loop with the most turns and let it `keep` what it needs, or make fewer turns."
 turns_fix case = codes "write at most 65535 after `turns`; for more turns write two loops, one in the other."
 
 -- E11, E12, E18: a larger number in the heading, where one is large enough
@@ -221,7 +222,7 @@ check_told check.KeepFailsAtEntry case =
     (codes "set the variable before the loop, widen its range after `keep`, or leave out a variable that the body does not write. For one that it writes, `camac-check --keeps` finds the range.")
 check_told check.KeepFailsAfterTurn case =
     told (codes "a kept variable is in its range again after each turn, for all values that it may have.")
-    (codes "a sum grows in each turn, so a wider range is refused again: add only where an `if` leaves room, as in `if k <= 49140 - 4095 { k = k + v }`. A value that is set again needs a bound or a wider range. `camac-check --keeps` finds what a loop has to keep.")
+    (codes "a sum grows in each turn, so a wider range is refused again: for a sum write `each` in place of `keep`, as in `for i = 0 to 11 each { k = k + v }`. A value that is set again needs a bound or a wider range. `camac-check --keeps` finds what a loop needs.")
 check_told check.TooManyTurns case =
     told (codes "a loop makes at most 65535 turns, and a `while` at most those after `turns`.")
     (turns_fix case)

@@ -8,7 +8,7 @@ use Rattle.camac_rules.specs.declared.rule.CheckRule.TheVariants as check
 use Rattle.camac_rules.specs.declared.case.Body.{Body}
 use Rattle.camac_rules.specs.declared.case.Body.TheVariants as body
 use Rattle.camac_rules.specs.declared.case.Case.{Case}
-use Rattle.camac_rules.specs.declared.case.Case.TheVariants.{Budget, Direction, Malformed, Operation, Turns, Word}
+use Rattle.camac_rules.specs.declared.case.Case.TheVariants.{Budget, Direction, Judged, Malformed, Operation, Turns, Word}
 use Rattle.camac_rules.specs.declared.case.Numbers.{Numbers}
 use Rattle.camac_rules.specs.declared.case.Operator.TheVariants.{Sub}
 use Rattle.camac_lines.specs.Codes.{plan_code, text_code, link_code, check_code}
@@ -73,6 +73,9 @@ any_value = Word greatest
 abbrev pub turns : ℕ → Case
 turns needed = Turns needed 0
 
+abbrev pub judged : Case
+judged = Judged (body.Service 0) 65537 0
+
 abbrev pub needing : Body → ℕ → Case
 needing whose needed = Budget whose needed 0
 
@@ -98,6 +101,7 @@ check_fixes check.TooManyTurns =
     fix_line check.TooManyTurns (codes ", where at most 65535 turns are needed") (turns 65535)
     ++ fix_line check.TooManyTurns (codes ", where more are needed") (turns 65536)
     ++ fix_line check.TooManyTurns (codes ", where the number after `turns` is above 65535") Malformed
+    ++ fix_line check.TooManyTurns (codes ", where all `each` judge more than 65536") judged
 check_fixes check.TooManyWords =
     fix_line check.TooManyWords (codes ", up to 4,096 words") (of_service 4096)
     ++ fix_line check.TooManyWords (codes ", above that") (of_service 4097)

@@ -135,6 +135,9 @@ check_sentence_of s rule (case.Turns needed allowed) =
     says (codes "The loop may take " ∷ decimal needed ∷ codes " turns, and " ∷ decimal allowed ∷ codes " are allowed." ∷ [])
 check_sentence_of s rule (case.Annotation turns allowed) =
     says (codes "The number after `turns` is " ∷ decimal turns ∷ codes ", and no loop may take more than " ∷ decimal allowed ∷ codes " turns." ∷ [])
+check_sentence_of s rule (case.Judged body needed allowed) =
+    says (codes "The `each` loops of the " ∷ who body ∷ codes " judge " ∷ cost needed ∷ codes " statements and turns, and " ∷ decimal allowed
+    ∷ codes " are allowed." ∷ [])
 check_sentence_of s rule (case.Budget body needed allowed) = Some (budget_text rule body needed allowed)
 check_sentence_of s rule (case.Crates first last) =
     says (codes "The first register holds crate " ∷ span first ∷ codes ", the last one crate " ∷ span last ∷ codes "." ∷ [])

@@ -178,7 +178,7 @@ pub fn check_advice(rule: CheckRule, case: Case) -> Advice
         ),
         CheckRule::KeepFailsAfterTurn => (
             "a kept variable is in its range again after each turn, for all values that it may have.",
-            "a sum grows in each turn, so a wider range is refused again: add only where an `if` leaves room, as in `if k <= 49140 - 4095 { k = k + v }`. A value that is set again needs a bound or a wider range. `camac-check --keeps` finds what a loop has to keep.",
+            "a sum grows in each turn, so a wider range is refused again: for a sum write `each` in place of `keep`, as in `for i = 0 to 11 each { k = k + v }`. A value that is set again needs a bound or a wider range. `camac-check --keeps` finds what a loop needs.",
         ),
         CheckRule::TooManyTurns => (
             "a loop makes at most 65535 turns, and a `while` at most those after `turns`.",
@@ -247,7 +247,7 @@ fn operation_fix(case: Case) -> &'static str
     if is_right_forgotten(case) {
         "a loop forgets what its body writes: let it `keep` such a right side in a range, as `camac-check --keeps` finds it; then add its greatest number first, as in `v + 4095 - w`, and test the result by `if`."
     } else if is_side_forgotten(case) {
-        "bound the variable by `if` or `%` before. A loop forgets what its body writes: let it `keep` such a variable in a range, as `camac-check --keeps` finds it."
+        "bound the variable by `if` or `%` before. A loop forgets what its body writes: write `each` after the ends of a `for`, or let it `keep` such a variable in a range. `camac-check --keeps` finds what it needs."
     } else if is_difference(case) {
         "ranges know no relation between two variables: add the greatest number of the right side first, as in `v + 4095 - w`, and test the result by `if`."
     } else {
@@ -310,7 +310,7 @@ fn width_fix(case: Case) -> &'static str
     ensures { result.now ≡ width_fix case }
 {
     if is_any(case) {
-        "bound the value by `%` or `if`. A loop forgets what its body writes: let it `keep` such a variable in a range, as `camac-check --keeps` finds it."
+        "bound the value by `%` or `if`. A loop forgets what its body writes: write `each` after the ends of a `for`, or let it `keep` such a variable in a range. `camac-check --keeps` finds what it needs."
     } else {
         "bound the value by `%` or `if`, write a smaller word into the table, or correct the `width` in the plan."
     }
@@ -321,7 +321,7 @@ fn word_fix(case: Case) -> &'static str
     ensures { result.now ≡ word_fix case }
 {
     if is_any(case) {
-        "bound the value by `% 16777216` or `if`. A loop forgets what its body writes: for such a variable write `keep v in 0..16777215` after its head, as `camac-check --keeps` finds it."
+        "bound the value by `% 16777216` or `if`. A loop forgets what its body writes: write `each` after the ends of a `for`, or `keep v in 0..16777215` after its head. `camac-check --keeps` finds what it needs."
     } else {
         "bound the value by `% 16777216`, or by an `if` on a variable that has it; let a loop `keep` it in a range, or put it as two words."
     }
@@ -346,6 +346,8 @@ fn turns_fix(case: Case) -> &'static str
         Case::Turns { needed, .. } if needed <= u64::from(limits::TURNS) => {
             "write a larger number after `turns`, or begin with a smaller value."
         }
+        Case::Judged { .. } =>
+            "leave `each` out of the loop with the most turns and let it `keep` what it needs, or make fewer turns.",
         Case::Turns { .. } =>
             "no larger number is allowed: bound the variable after `by` or the ends of the `for` by `if` or `%`, or write two loops, one in the other.",
         _ => "write at most 65535 after `turns`; for more turns write two loops, one in the other.",

@@ -2,7 +2,7 @@
 
 ghost use Rattle.std.specs.Prelude.{◌≡◌, ◌++◌, ◌↔◌, IfNone, IfOk, IfSome, IsTrue, OnOk, codes};
 ghost use Rattle.camac_explain.specs.Explanation.{line_of};
-ghost use Rattle.camac_explain.specs.Rule.{Grows, IsEarly, IsRuleOf, IsRuleText, Names, any_value, check_fixes, fix_line, fixes_of, minus, moving, needing, of_service, rule_code, turns, why_of};
+ghost use Rattle.camac_explain.specs.Rule.{Grows, IsEarly, IsRuleOf, IsRuleText, Names, any_value, check_fixes, fix_line, fixes_of, judged, minus, moving, needing, of_service, rule_code, turns, why_of};
 ghost use Rattle.camac_lines.specs.Codes.{check_code, link_code, plan_code, text_code};
 
 use crate::advice::{check_advice, link_advice, plan_advice, text_advice};
@@ -346,6 +346,12 @@ fn push_turn_fixes(lines: &mut Vec<u8>) -> Result<(), AllocError>
         rule,
         ", where the number after `turns` is above 65535",
         Case::Malformed,
+    )?;
+    push_fix(
+        lines,
+        rule,
+        ", where all `each` judge more than 65536",
+        judged(),
     )
 }
 
@@ -427,6 +433,16 @@ fn turns(needed: u64) -> Case
     ensures { result ≡ turns needed }
 {
     Case::Turns { needed, allowed: 0 }
+}
+
+fn judged() -> Case
+    ensures { result ≡ judged }
+{
+    Case::Judged {
+        body: Body::Service(0),
+        needed: 65_537,
+        allowed: 0,
+    }
 }
 
 fn of_service(needed: u64) -> Case

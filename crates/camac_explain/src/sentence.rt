@@ -168,6 +168,16 @@ fn check_sentence(
         Case::Annotation { turns, allowed } => format!(in alloc;
             "The number after `turns` is {turns}, and no loop may take more than {allowed} turns."
         ).map(Some),
+        Case::Judged {
+            body,
+            needed,
+            allowed,
+        } => {
+            let (who, needed) = (who(body), Cost(needed));
+            format!(in alloc;
+                "The `each` loops of the {who} judge {needed} statements and turns, and {allowed} are allowed."
+            ).map(Some)
+        }
         Case::Budget {
             body,
             needed,
