@@ -379,6 +379,7 @@ class Install(Case):
         for name in wanted.split():
             self.assertTrue((place / name).is_file(), name)
             self.assertIn(f"{place}/{name}", lines)
+        self.assertTrue([*place.rglob("__pycache__/*.pyc")], "the Python package is compiled")
         path = {"PATH": f"{place}/bin:/usr/bin:/bin"}
         script = COPY / "examples/straight_line.script"
         self.assertEqual(call("camac", "check", "@sample", script, cwd=elsewhere, env=path), (0, VERDICT, ""))
