@@ -1,5 +1,5 @@
 -- What might stand at a place, in words: the noted choices as groups, signs and words.
-use Rattle.std.specs.Prelude.{ℕ, ◌+◌, Bool, ◌&&◌, ◌||◌, not, List, [], ◌∷◌, ◌++◌, codes, filter, length, map}
+use Rattle.std.specs.Prelude.{ℕ, ◌+◌, Bool, ◌&&◌, ◌||◌, not, List, [], ◌∷◌, ◌++◌, codes, filter, length, map, if◌then◌else◌}
 use Rattle.std.specs.List.{concat}
 use Rattle.camac_lines.specs.Words.{before_item}
 use Rattle.camac_tokens.specs.declared.signs.TheConstants.{SIGNS}
@@ -52,11 +52,16 @@ is_word_alone noted w =
     has noted (choice.Word w)
     && not ((begins_declaration w && has noted choice.Declaration) || (begins_statement w || (is_of_condition w && is_condition noted)))
 
+-- the word that is one nowhere else
+abbrev pub each_if : Choices → List Expected
+each_if noted = if has noted choice.Each then expected.Each ∷ [] else []
+
 -- the groups, the signs and the words, each in the order of its list
 unfoldable pub expected_of : Choices → List Expected
 expected_of noted =
-    (map expected.Group (filter (is_group noted) GROUPS) ++ map expected.Sign (filter (is_sign_alone noted) SIGNS))
-    ++ map expected.Word (filter (is_word_alone noted) KEYWORDS)
+    ((map expected.Group (filter (is_group noted) GROUPS) ++ map expected.Sign (filter (is_sign_alone noted) SIGNS))
+    ++ map expected.Word (filter (is_word_alone noted) KEYWORDS))
+    ++ each_if noted
 
 abbrev pub group_text : Group → List ℕ
 group_text group.Declaration = codes "a declaration"
@@ -72,6 +77,7 @@ abbrev pub expected_text : Expected → List ℕ
 expected_text (expected.Group g) = group_text g
 expected_text (expected.Sign s) = concat (codes "`" ∷ sign_text s ∷ codes "`" ∷ [])
 expected_text (expected.Word w) = concat (codes "`" ∷ word_text w ∷ codes "`" ∷ [])
+expected_text expected.Each = codes "`each`"
 
 -- a list, the first of which has this number among so many
 abbrev pub items_from : (number count : ℕ) → List Expected → List ℕ

@@ -11,7 +11,7 @@ use Rattle.camac_tokens.specs.declared.token.Sign.TheVariants as sign
 use Rattle.camac_tokens.specs.declared.token.TokenKind.{TokenKind}
 use Rattle.camac_tokens.specs.declared.token.TokenKind.TheVariants as kind
 use Rattle.camac_tokens.specs.declared.words.TheConstants.{KEYWORDS}
-use Rattle.camac_text_cursor.specs.Readers.{is_name, is_number}
+use Rattle.camac_text_cursor.specs.Readers.{each_word, is_name, is_number}
 use Rattle.camac_text_cursor.specs.declared.choice.Choice.TheVariants as choice
 use Rattle.camac_explain_text_place.specs.Absent.{Told, absent_sign, absent_text}
 use Rattle.camac_explain_text_place.specs.Before.{Standing, called_in, declared, in_body, is_declared_before, is_in_brackets, is_kind, near, open_line, wants_new_name, word_of}
@@ -51,9 +51,12 @@ fits p w = expects p (choice.Word w) || ((begins_statement_at p && not p.before.
 unfoldable pub near_fitting : Place → List Keyword → Option (List ℕ)
 near_fitting p ws = option_map word_text (find (λ w. fits p w && is_near p.bytes (word_text w)) ws)
 
+abbrev pub near_each : Place → Option (List ℕ)
+near_each p = if expects p choice.Each && is_near p.bytes each_word then Some each_word else None
+
 -- a near word of the language in the place of a name
 unfoldable pub near_word : Place → Option (List ℕ)
-near_word p = if is_name p.token then near_fitting p KEYWORDS else None
+near_word p = if is_name p.token then or_else (near_fitting p KEYWORDS) (near_each p) else None
 
 abbrev pub is_spelled_out : Option TokenKind → Bool
 is_spelled_out (Some (kind.Name n)) = true

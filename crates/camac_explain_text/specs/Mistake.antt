@@ -9,7 +9,7 @@ use Rattle.camac_tokens.specs.declared.token.Sign.TheVariants as sign
 use Rattle.camac_tokens.specs.declared.token.TokenKind.{TokenKind}
 use Rattle.camac_tokens.specs.declared.token.TokenKind.TheVariants as kind
 use Rattle.camac_text_cursor.specs.Choice.{is_sign_that}
-use Rattle.camac_text_cursor.specs.Readers.{is_keyword, is_name, is_number, is_sign}
+use Rattle.camac_text_cursor.specs.Readers.{is_each, is_keyword, is_name, is_number, is_sign}
 use Rattle.camac_text_cursor.specs.declared.choice.Choice.TheVariants as choice
 use Rattle.camac_explain_text_place.specs.Before.{first_of, in_body, is_in_brackets, is_kind, word_of}
 use Rattle.camac_explain_text.specs.Expected.{is_name as is_name_wanted}
@@ -75,6 +75,7 @@ unfoldable pub mistaken_condition : Place → (first : Keyword) → TokenKind �
 mistaken_condition p first k =
     first_case (
     case (is_word first word.For && (length p.before.phrase == 2)) (codes "A `for` is written `for i = A to B { .. }`.")
+    ∷ case (is_word first word.For && is_each (Some k)) (codes "Before `each` stand two numbers, and no `keep`: `for i = 0 to 11 each { .. }`.")
     ∷ case (is_either word.If word.While first && is_keyword word.In (Some k)) (codes "A range is tested by two comparisons: `v >= A and v <= B`.")
     ∷ case (is_either word.If word.While first && (is_sign sign.LeftBrace (Some k) && expects p choice.Comparison))
     (codes "A condition compares, as in `v != 0`.")

@@ -1,7 +1,7 @@
 // What might stand at a place, in words.
 
 ghost use Rattle.std.specs.Prelude.{◌≡◌, ◌++◌, IfOk, OnOk, Some, filter, length, map, string_bytes};
-ghost use Rattle.camac_explain_text.specs.Expected.{expected_of, expected_text, group_text, is_condition, is_group, is_name, is_of_condition, is_sign_alone, is_value, is_word_alone, items_from, list_text};
+ghost use Rattle.camac_explain_text.specs.Expected.{each_if, expected_of, expected_text, group_text, is_condition, is_group, is_name, is_of_condition, is_sign_alone, is_value, is_word_alone, items_from, list_text};
 ghost use Rattle.camac_explain_text.specs.declared.expected.Expected.TheVariants as expected;
 
 use camac_explain_text_place::{
@@ -43,6 +43,8 @@ pub enum Expected {
     Group(Group),
     Sign(Sign),
     Word(Keyword),
+    /// `each`, which is a name elsewhere.
+    Each,
 }
 
 impl fmt::Display for Expected {
@@ -53,6 +55,7 @@ impl fmt::Display for Expected {
             Expected::Group(group) => write!(f, "{}", group_text(*group)),
             Expected::Sign(sign) => write!(f, "`{}`", sign_text(*sign)),
             Expected::Word(word) => write!(f, "`{}`", word_text(*word)),
+            Expected::Each => write!(f, "`each`"),
         }
     }
 }
@@ -81,6 +84,7 @@ fn expected_of(alloc: Global, noted: Choices) -> Result<Vec<Expected>, AllocErro
     push_groups(&mut found, &GROUPS, noted)?;
     push_signs(&mut found, &SIGNS, noted)?;
     push_words(&mut found, &KEYWORDS, noted)?;
+    push_each(&mut found, noted)?;
     Ok(found)
 }
 
@@ -121,6 +125,15 @@ fn push_words(
         if is_word_alone(noted, *word) {
             found.push(Expected::Word(*word))?;
         }
+    }
+    Ok(())
+}
+
+fn push_each(found: &mut Vec<Expected>, noted: Choices) -> Result<(), AllocError>
+    ensures { OnOk result (found.new.items ≡ found.old.items ++ each_if noted) }
+{
+    if noted.has(Choice::Each) {
+        found.push(Expected::Each)?;
     }
     Ok(())
 }

@@ -8,7 +8,7 @@ ghost use Rattle.camac_explain_text_place.specs.Place.{last, place_of};
 use crate::expected::is_name;
 use camac_explain_text_place::{Found, begins_statement, is_comparison, is_operator};
 use camac_text::{Choice, NameKind, TokenKind};
-use camac_tokens::{Keyword, Sign};
+use camac_tokens::{Keyword, Sign, are_same};
 
 /// What is to be known of a name of one kind in the place of another.
 pub fn told_of_kind(wanted: NameKind, found: NameKind) -> Option<&'static str>
@@ -128,6 +128,9 @@ fn mistaken_condition(found: &Found<'_>, first: Keyword, kind: &TokenKind) -> Op
     match (first, kind) {
         (Keyword::For, _) if found.before.phrase.len() == 2 => Some(
             "A `for` is written `for i = A to B { .. }`.",
+        ),
+        (Keyword::For, TokenKind::Name(name)) if are_same(name.as_bytes(), b"each") => Some(
+            "Before `each` stand two numbers, and no `keep`: `for i = 0 to 11 each { .. }`.",
         ),
         (Keyword::If | Keyword::While, Word(Keyword::In)) => Some(
             "A range is tested by two comparisons: `v >= A and v <= B`.",

@@ -163,6 +163,7 @@ suits_none choice.Arrow = refl
 suits_none choice.Sum = refl
 suits_none choice.Product = refl
 suits_none choice.Comparison = refl
+suits_none choice.Each = refl
 
 admits_none : (cs : List Choice) → admits cs None ≡ false
 admits_none [] = refl

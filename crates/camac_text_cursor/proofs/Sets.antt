@@ -47,6 +47,7 @@ same_place choice.Arrow choice.Arrow e = refl
 same_place choice.Sum choice.Sum e = refl
 same_place choice.Product choice.Product e = refl
 same_place choice.Comparison choice.Comparison e = refl
+same_place choice.Each choice.Each e = refl
 same_place c d e = absurd (omega (arith, e))
 
 place_below : (c : Choice) → place c < 128

@@ -7,7 +7,7 @@ use Rattle.camac_tokens.specs.declared.token.Sign.{Sign}
 use Rattle.camac_tokens.specs.declared.token.Sign.TheVariants as sign
 use Rattle.camac_tokens.specs.declared.token.TokenKind.{TokenKind}
 use Rattle.camac_tokens.specs.declared.token.TokenKind.TheVariants as kind
-use Rattle.camac_text_cursor.specs.Readers.{is_keyword, is_sign, is_name, is_number}
+use Rattle.camac_text_cursor.specs.Readers.{is_keyword, is_sign, is_name, is_number, is_each}
 use Rattle.camac_text_cursor.specs.declared.choice.Choice.{Choice}
 use Rattle.camac_text_cursor.specs.declared.choice.Choice.TheVariants as choice
 use Rattle.camac_text_cursor.specs.declared.choice.Choices.{Choices}
@@ -102,6 +102,7 @@ takes choice.Arrow at = is_sign_that is_arrow at
 takes choice.Sum at = is_sign_that is_of_sum at
 takes choice.Product at = is_sign_that is_of_product at
 takes choice.Comparison at = is_sign_that compares at
+takes choice.Each at = is_each at
 
 -- ---- sets of choices
 

@@ -1,5 +1,6 @@
 -- What is read of single tokens, of numbers and of names.
-use Rattle.std.specs.Prelude.{ℕ, ◌+◌, suc, Bool, true, false, ◌&&◌, [], ◌∷◌, ◌++◌, length, Option, Some, None, is_some, nat_lt, nat_le, ◌==◌, slice_get, if◌then◌else◌}
+use Rattle.std.specs.Prelude.{ℕ, ◌+◌, suc, Bool, true, false, ◌&&◌, [], ◌∷◌, ◌++◌, length, Option, Some, None, is_some, nat_lt, nat_le, ◌==◌, slice_get, codes, if◌then◌else◌}
+use Rattle.std.specs.Str.{bytes_eq}
 use denote.Enum.Bare.{sameb}
 use Rattle.camac_lang.specs.Expressions.{Callable}
 use Rattle.camac_lang.specs.Tests.{is_new, total, most}
@@ -37,6 +38,14 @@ is_name _ = false
 abbrev pub is_number : Option TokenKind → Bool
 is_number (Some (kind.Number n)) = true
 is_number _ = false
+
+-- the word of a `for` that is judged turn by turn: a name, so that a script may have it as one
+abbrev pub each_word : Text
+each_word = codes "each"
+
+abbrev pub is_each : Option TokenKind → Bool
+is_each (Some (kind.Name v)) = bytes_eq v each_word
+is_each _ = false
 
 unfoldable pub expect : Keyword → Reader (Unit {0})
 expect w = peek >>= λ k. if is_keyword w k then advance else unexpected (choice.Word w)

@@ -20,6 +20,7 @@ place choice.Arrow = 73
 place choice.Sum = 74
 place choice.Product = 75
 place choice.Comparison = 76
+place choice.Each = 77
 
 -- sets of choices
 abbrev pub none : Choice → Bool

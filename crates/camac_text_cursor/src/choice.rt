@@ -30,6 +30,8 @@ pub enum Choice {
     Product,
     /// `<` and the others that compare.
     Comparison,
+    /// `each`, which is a name elsewhere.
+    Each,
 }
 
 impl Choice {
@@ -119,6 +121,7 @@ impl Choice {
             Choice::Sum => 74,
             Choice::Product => 75,
             Choice::Comparison => 76,
+            Choice::Each => 77,
         }
     }
 }

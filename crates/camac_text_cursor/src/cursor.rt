@@ -2,7 +2,7 @@
 
 ghost use Rattle.std.specs.Prelude.{◌≡◌, [], false, not, ◌&&◌, ◌==◌, is_none, option_copied};
 ghost use Rattle.camac_text_cursor.specs.Reading.{line_of, left_of, kind_of, past, missed};
-ghost use Rattle.camac_text_cursor.specs.Readers.{begin, is_keyword, is_sign, is_name, is_number, expect, expect_sign, name_here, number_here, any_number, branch_number, function_number, sub_address_number};
+ghost use Rattle.camac_text_cursor.specs.Readers.{begin, is_keyword, is_sign, is_name, is_number, is_each, expect, expect_sign, name_here, number_here, any_number, branch_number, function_number, sub_address_number};
 ghost use Rattle.camac_text_cursor.specs.Choice.{takes, held};
 ghost use Rattle.camac_text_cursor.specs.Tried.{Told};
 ghost use Rattle.camac_text_cursor.specs.Parser.{state, unread, line_in, Gives};
@@ -10,7 +10,7 @@ ghost use Rattle.camac_tokens.specs.declared.fault.TextCase.TheVariants.{Unexpec
 
 use crate::choice::{Choice, Choices};
 use camac_lang::{Callable, Item, Lam, Name, Node, Procedure, Service, Table, limits};
-use camac_tokens::{Keyword, Limit, Sign, TextCase, TextFault, TokenKind, TokensLeft};
+use camac_tokens::{Keyword, Limit, Sign, TextCase, TextFault, TokenKind, TokensLeft, are_same};
 use camac_word::{Function, SubAddress};
 use std::alloc::Global;
 use std::mem::replace;
@@ -220,6 +220,16 @@ impl Parser<'_> {
         ensures { result ≡ is_number (kind_of (state self.now).rest) }
     {
         matches!(self.peek(), Some(TokenKind::Number(_)))
+    }
+
+    /// Whether the word `each` stands next, which is a name elsewhere.
+    pub fn next_is_each(&self) -> bool
+        ensures { result ≡ is_each (kind_of (state self.now).rest) }
+    {
+        match self.peek() {
+            Some(TokenKind::Name(name)) => are_same(name.as_bytes(), b"each"),
+            _ => false,
+        }
     }
 
     /// Takes this keyword, else answers S2 at what stands there.

@@ -3,7 +3,7 @@ use Rattle.std.proofs.Common.{◌≡◌, ℕ, ◌+◌, ◌≤◌, max, List, [],
 use Rattle.std.proofs.lemmas.List.{append-nil}
 use Rattle.camac_lang.specs.Depth.{statement_depth, inner_depth}
 use Rattle.camac_lang.specs.Statements.{after as reached_by, after_block, statements_in, statements}
-use Rattle.camac_lang.specs.Tree.{Text, Statement, assign, set_register, single, address_scan, q_stop, q_repeat, put, crate_call, lam_call, choose, choose_else, for_, while_, locked, call, Block, done, next}
+use Rattle.camac_lang.specs.Tree.{Text, Statement, assign, set_register, single, address_scan, q_stop, q_repeat, put, crate_call, lam_call, choose, choose_else, for_, for_each, while_, locked, call, Block, done, next}
 use Rattle.camac_lang.proofs.Grows.{block_grows}
 use Rattle.camac_lang.proofs.Options.{then_parts}
 use Rattle.camac_tokens.specs.declared.token.Token.{Token}
@@ -22,7 +22,7 @@ use Rattle.camac_text_spelling.proofs.Opens.{statement_opens, block_ends}
 use Rattle.camac_text_spelling.proofs.GivesActions.{IsGiven, assignment_given, setting_given, single_given, put_given, crate_given, lam_call_given}
 use Rattle.camac_text_spelling.proofs.GivesTransfers.{scan_given, stop_given, q_repeat_given}
 use Rattle.camac_text_spelling.proofs.GivesStatements.{AreGiven, RunsBraced, braced_given, choose_given, choose_else_given, locked_given}
-use Rattle.camac_text_spelling.proofs.GivesLoops.{count_given, while_given}
+use Rattle.camac_text_spelling.proofs.GivesLoops.{count_given, each_given, while_given}
 use Rattle.camac_text_spelling.proofs.GivesCalls.{call_given}
 
 done_given : (n : Names) → AreGiven n done
@@ -73,6 +73,7 @@ mutual
   statement_given n (choose line c a) = choose_given n line c a (block_given n a)
   statement_given n (choose_else line c a b) = choose_else_given n line c a b (block_given n a) (block_given n b)
   statement_given n (for_ line x e1 e2 ks b) = count_given n line x e1 e2 ks b (block_given n b)
+  statement_given n (for_each line x a e b) = each_given n line x a e b (block_given n b)
   statement_given n (while_ line c t x ks b) = while_given n line c t x ks b (block_given n b)
   statement_given n (locked line e b) = locked_given n line e b (block_given n b)
   statement_given n (call line p es) = call_given n line p es

@@ -1,6 +1,6 @@
 -- How statements begin.
 use Rattle.std.proofs.Common.{◌≡◌, ℕ, true, List, ◌∷◌, Some, refl, ap, subst, ◌∙◌}
-use Rattle.camac_lang.specs.Tree.{Statement, assign, set_register, single, address_scan, q_stop, q_repeat, put, crate_call, lam_call, choose, choose_else, for_, while_, locked, call, Block, done, next}
+use Rattle.camac_lang.specs.Tree.{Statement, assign, set_register, single, address_scan, q_stop, q_repeat, put, crate_call, lam_call, choose, choose_else, for_, for_each, while_, locked, call, Block, done, next}
 use Rattle.camac_lang.specs.declared.word.WordSize.{WordSize}
 use Rattle.camac_lang.specs.declared.word.WordSize.TheVariants.{Full, Short}
 use Rattle.camac_lang.specs.declared.word.CrateCall.{CrateCall}
@@ -62,6 +62,7 @@ opens n (lam_call line k l) = record { line = line; first = kind.Keyword (spell.
 opens n (choose line c a) = record { line = line; first = kind.Keyword keyword.If; others = _; same = refl; ends = refl; goes_on = refl }
 opens n (choose_else line c a b) = record { line = line; first = kind.Keyword keyword.If; others = _; same = refl; ends = refl; goes_on = refl }
 opens n (for_ line x e1 e2 ks b) = record { line = line; first = kind.Keyword keyword.For; others = _; same = refl; ends = refl; goes_on = refl }
+opens n (for_each line x a e b) = record { line = line; first = kind.Keyword keyword.For; others = _; same = refl; ends = refl; goes_on = refl }
 opens n (while_ line c t x ks b) = record { line = line; first = kind.Keyword keyword.While; others = _; same = refl; ends = refl; goes_on = refl }
 opens n (locked line e b) = record { line = line; first = kind.Keyword keyword.Lock; others = _; same = refl; ends = refl; goes_on = refl }
 opens n (call line p es) = record { line = line; first = kind.Keyword keyword.Call; others = _; same = refl; ends = refl; goes_on = refl }

@@ -1,7 +1,7 @@
 -- Statements and blocks that are read are spelled so.
 use Rattle.std.proofs.Common.{◌≡◌, ℕ, zero, suc, Bool, true, false, not, cond, List, [], ◌∷◌, ◌++◌, Option, Some, Ok, refl, sym, ap, subst, ◌∙◌, append_assoc}
 use Rattle.std.proofs.lemmas.List.{append-nil}
-use Rattle.camac_lang.specs.Tree.{Statement, choose, choose_else, for_, while_, locked, Condition}
+use Rattle.camac_lang.specs.Tree.{Text, Expression, number, Statement, choose, choose_else, for_, for_each, while_, locked, Condition}
 use Rattle.camac_lang.specs.View.{block_of}
 use Rattle.camac_lang.specs.declared.word.WordSize.TheVariants.{Full, Short}
 use Rattle.camac_tokens.specs.declared.fault.Limit.TheVariants as limit
@@ -11,17 +11,19 @@ use Rattle.camac_tokens.specs.declared.token.Sign.TheVariants as mark
 use Rattle.camac_tokens.specs.declared.token.TokenKind.{TokenKind}
 use Rattle.camac_tokens.specs.declared.token.TokenKind.TheVariants as kind
 use Rattle.camac_text_cursor.specs.declared.choice.Choice.TheVariants as choice
-use Rattle.camac_text_cursor.specs.Reading.{State, Reader, give, fail, kind_of, line_of, one_more, many, missed, past, unexpected}
-use Rattle.camac_text_cursor.specs.Readers.{is_sign, expect, expect_sign, any_number, used_variable}
+use Rattle.camac_text_cursor.specs.Reading.{State, Reader, give, fail, ◌>>◌, kind_of, line_of, miss, one_more, many, missed, past, unexpected}
+use Rattle.camac_text_cursor.specs.Readers.{is_sign, each_word, is_each, expect, expect_sign, any_number, used_variable}
 use Rattle.camac_text_phrases.specs.Expressions.{expression_at}
 use Rattle.camac_text_phrases.specs.Conditions.{condition_at}
 use Rattle.camac_text_phrases.specs.declared.keeping.Own.TheVariants as of_loop
 use Rattle.camac_text_phrases.specs.Keeps.{keeps_at}
 use Rattle.camac_text_cursor.specs.Readers.{begin}
-use Rattle.camac_text_statements.specs.Statements.{else_by, if_statement, for_statement, while_statement, lock_statement, nested_by, statement_by, statement_with, is_no_end, block_at}
-use Rattle.camac_text_cursor.proofs.Steps.{then_ok, err_no_ok, while_keeps}
+use Rattle.camac_text_statements.specs.Statements.{else_by, if_statement, single_number, for_ends, each_ends, ends_by, for_statement, while_statement, lock_statement, nested_by, statement_by, statement_with, is_no_end, block_at}
+use Rattle.std.proofs.lemmas.Slice.Eq.{bytes_eq-Decides}
+use Rattle.camac_text_cursor.proofs.Steps.{then_ok, ok_is, err_no_ok, while_keeps}
 use Rattle.camac_text_cursor.proofs.Moves.{any_number_ok, check_ok}
-use Rattle.camac_text_spelling.specs.Pieces.{Piece, first_word, word, Names}
+use Rattle.camac_text_statements.proofs.LoopsRead.{number_of}
+use Rattle.camac_text_spelling.specs.Pieces.{Piece, first_word, word, sign, name, name_at, Names}
 use Rattle.camac_text_spelling.specs.Phrases as phrase
 use Rattle.camac_text_spelling.specs.Statements as spell
 use Rattle.camac_text_spelling.proofs.Takes.{Took, join, returns, nothing, took_one, took_token, took_word, took_sign, took_variable, then_missed, missed_then}
@@ -56,6 +58,49 @@ module _ (n : Names) (room : ℕ) (block : Reader (List Statement)) (block_took 
       took_else s line c.0.0 b.0.0 b.0.1 (kind_of b.0.1.rest) y
       (join (took_begin s (kind.Keyword keyword.If) a.0 next a.1) (join (took_condition room a.0.1 c.0 c.1) (block_took c.0.1 b.0 b.1))) refl b.2
 
+  -- what is read behind the ends of a `for` is spelled behind them
+  record Ended (line own : ℕ) (first last : Expression) (s : State) (y : Statement × State) : Type 0 where
+    pieces : List Piece
+    took : Took n s pieces y.1
+    same : spell.statement n y.0 ≡ first_word line keyword.For ∷ name_at n.variables own ∷ sign mark.Equals ∷ (phrase.expression n first ++ word keyword.To ∷ (phrase.expression n last ++ pieces))
+
+  for_ended : (line own : ℕ) (first last : Expression) (s : State) (y : Statement × State) → for_ends block line own first last s ≡ Ok y → Ended line own first last s y
+  for_ended line own first last s y e =
+      let k = then_ok (keeps_at (of_loop.Counter own) s) _ y e in
+      let b = then_ok (block k.0.1) (λ xs. give (for_ line own first last k.0.0 (block_of xs))) y k.2 in
+      subst (λ (p : Statement × State). Ended line own first last s p) (ok_is (for_ line own first last k.0.0 (block_of b.0.0), b.0.1) y b.2)
+      (record {
+        pieces = phrase.keeps n k.0.0 ++ in_braces n b.0.0;
+        took = join (took_keeps (of_loop.Counter own) s k.0 k.1) (block_took k.0.1 b.0 b.1);
+        same = refl;
+      })
+
+  each_is : (k : Option TokenKind) → is_each k ≡ true → k ≡ Some (kind.Name each_word)
+  each_is (Some (kind.Name x)) is = ap (λ (w : Text). Some (kind.Name w)) ((bytes_eq-Decides x each_word).0 is)
+  each_is _ is = absurd cc
+
+  each_ended : (line own : ℕ) (first last : Expression) (a b : ℕ) (s : State) (y : Statement × State) → first ≡ number a → last ≡ number b → kind_of s.rest ≡ Some (kind.Name each_word) → each_ends block line own a b s ≡ Ok y → Ended line own first last s y
+  each_ended line own first last a b s y is_first is_last next e =
+      let u : State = past s in
+      let d = then_ok (block u) (λ xs. give (for_each line own a b (block_of xs))) y e in
+      subst (λ (p : Statement × State). Ended line own first last s p) (ok_is (for_each line own a b (block_of d.0.0), d.0.1) y d.2)
+      (record {
+        pieces = name each_word ∷ in_braces n d.0.0;
+        took = join (took_one {s' = u} next refl) (block_took u d.0 d.1);
+        same = rw (is_first, is_last) refl;
+      })
+
+  missed_ended : (line own : ℕ) (first last : Expression) (s : State) (y : Statement × State) → Ended line own first last (missed choice.Each s) y → Ended line own first last s y
+  missed_ended line own first last s y r = record { pieces = r.pieces; took = missed_then choice.Each r.took; same = r.same }
+
+  chosen_ended : (is_next : Bool) (line own : ℕ) (first last : Expression) (a b : ℕ) (s : State) (y : Statement × State) → first ≡ number a → last ≡ number b → is_each (kind_of s.rest) ≡ is_next → cond is_next (each_ends block line own a b) (miss choice.Each >> for_ends block line own first last) s ≡ Ok y → Ended line own first last s y
+  chosen_ended true line own first last a b s y is_first is_last next e = each_ended line own first last a b s y is_first is_last (each_is (kind_of s.rest) next) e
+  chosen_ended false line own first last a b s y is_first is_last next e = missed_ended line own first last s y (for_ended line own first last (missed choice.Each s) y e)
+
+  ended : (line own : ℕ) (first last : Expression) (o p : Option ℕ) (s : State) (y : Statement × State) → single_number first ≡ o → single_number last ≡ p → ends_by block line own first last o p s ≡ Ok y → Ended line own first last s y
+  ended line own first last (Some a) (Some b) s y is_first is_last e = chosen_ended (is_each (kind_of s.rest)) line own first last a b s y (number_of first a is_first) (number_of last b is_last) refl e
+  ended line own first last _ _ s y is_first is_last e = for_ended line own first last s y e
+
   took_for : (s : State) (y : Statement × State) → kind_of s.rest ≡ Some (kind.Keyword keyword.For) → for_statement room block (line_of s.rest s.end_line) s ≡ Ok y → Took n s (spell.statement n y.0) y.1
   unfolding for_statement
   took_for s y next e =
@@ -65,13 +110,11 @@ module _ (n : Names) (room : ℕ) (block : Reader (List Statement)) (block_took 
       let q = then_ok (expect_sign mark.Equals x.0.1) _ y x.2 in
       let f = then_ok (expression_at room q.0.1) _ y q.2 in
       let w = then_ok (expect keyword.To f.0.1) _ y f.2 in
-      let l = then_ok (expression_at room w.0.1) _ y w.2 in
-      let k = then_ok (keeps_at (of_loop.Counter x.0.0) l.0.1) _ y l.2 in
-      let b = then_ok (block k.0.1) (λ xs. give (for_ line x.0.0 f.0.0 l.0.0 k.0.0 (block_of xs))) y k.2 in
-      returns {x = for_ line x.0.0 f.0.0 l.0.0 k.0.0 (block_of b.0.0)} (spell.statement n) b.2
+      let l = then_ok (expression_at room w.0.1) (λ last. ends_by block line x.0.0 f.0.0 last (single_number f.0.0) (single_number last)) y w.2 in
+      let r = ended line x.0.0 f.0.0 l.0.0 (single_number f.0.0) (single_number l.0.0) l.0.1 y refl refl l.2 in
+      subst (λ (ps : List Piece). Took n s ps y.1) (sym r.same)
       (join (took_begin s (kind.Keyword keyword.For) a.0 next a.1) (join (took_variable a.0.1 x.0 x.1) (join (took_sign mark.Equals x.0.1 q.0 q.1)
-      (join (took_expression room q.0.1 f.0 f.1) (join (took_word keyword.To f.0.1 w.0 w.1) (join (took_expression room w.0.1 l.0 l.1)
-      (join (took_keeps (of_loop.Counter x.0.0) l.0.1 k.0 k.1) (block_took k.0.1 b.0 b.1))))))))
+      (join (took_expression room q.0.1 f.0 f.1) (join (took_word keyword.To f.0.1 w.0 w.1) (join (took_expression room w.0.1 l.0 l.1) r.took))))))
 
   took_while : (s : State) (y : Statement × State) → kind_of s.rest ≡ Some (kind.Keyword keyword.While) → while_statement room block (line_of s.rest s.end_line) s ≡ Ok y → Took n s (spell.statement n y.0) y.1
   unfolding while_statement

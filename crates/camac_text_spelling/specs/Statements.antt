@@ -1,6 +1,6 @@
 -- The tokens of statements and blocks.
 use Rattle.std.specs.Prelude.{List, [], ◌∷◌, ◌++◌}
-use Rattle.camac_lang.specs.Tree.{Statement, assign, set_register, single, address_scan, q_stop, q_repeat, put, crate_call, lam_call, choose, choose_else, for_, while_, locked, call, Block, done, next}
+use Rattle.camac_lang.specs.Tree.{Statement, assign, set_register, single, address_scan, q_stop, q_repeat, put, crate_call, lam_call, choose, choose_else, for_, for_each, while_, locked, call, Block, done, next}
 use Rattle.camac_lang.specs.declared.word.WordSize.{WordSize}
 use Rattle.camac_lang.specs.declared.word.WordSize.TheVariants as size
 use Rattle.camac_lang.specs.declared.word.CrateCall.{CrateCall}
@@ -11,7 +11,8 @@ use Rattle.camac_tokens.specs.declared.token.Keyword.{Keyword}
 use Rattle.camac_tokens.specs.declared.token.Keyword.TheVariants as keyword
 use Rattle.camac_tokens.specs.declared.token.Sign.TheVariants as mark
 use Rattle.camac_tokens.specs.declared.token.TokenKind.TheVariants as kind
-use Rattle.camac_text_spelling.specs.Pieces.{Piece, first_piece, first_word, word, sign, numeral, separated, Names, text_at, name_at}
+use Rattle.camac_text_cursor.specs.Readers.{each_word}
+use Rattle.camac_text_spelling.specs.Pieces.{Piece, first_piece, first_word, word, sign, numeral, name, separated, Names, text_at, name_at}
 use Rattle.camac_text_spelling.specs.Phrases.{expression, condition, move, keeps, table, most, tally}
 
 abbrev pub single_word : WordSize → Keyword
@@ -75,6 +76,9 @@ abbrev mutual
   statement n (for_ line x e1 e2 ks body) =
       first_word line keyword.For ∷ name_at n.variables x ∷ sign mark.Equals
       ∷ (expression n e1 ++ word keyword.To ∷ (expression n e2 ++ (keeps n ks ++ braced (block n body))))
+  statement n (for_each line x v last body) =
+      first_word line keyword.For ∷ name_at n.variables x ∷ sign mark.Equals
+      ∷ numeral v ∷ word keyword.To ∷ numeral last ∷ name each_word ∷ braced (block n body)
   statement n (while_ line c turns x ks body) =
       first_word line keyword.While
       ∷ (condition n c ++ word keyword.Turns ∷ numeral turns ∷ word keyword.By ∷ name_at n.variables x ∷ (keeps n ks ++ braced (block n body)))

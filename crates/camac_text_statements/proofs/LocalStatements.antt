@@ -1,6 +1,6 @@
 -- Readers of statements are local.
 use Rattle.std.proofs.Common.{not, ◌≡◌, ℕ, zero, suc, true, false, List, Ok, [], ◌∷◌, Option, Some, None, refl, sym, ◌∙◌}
-use Rattle.camac_lang.specs.Tree.{no_data, into, from, assign, set_register, single, put, choose, choose_else, for_, while_, locked, Statement, Condition}
+use Rattle.camac_lang.specs.Tree.{no_data, into, from, assign, set_register, single, put, choose, choose_else, for_, for_each, while_, locked, Expression, Statement, Condition}
 use Rattle.camac_lang.specs.View.{block_of}
 use Rattle.camac_lang.specs.declared.word.WordSize.{WordSize}
 use Rattle.camac_lang.specs.declared.word.WordSize.TheVariants.{Full, Short}
@@ -12,9 +12,9 @@ use Rattle.camac_tokens.specs.declared.token.TokenKind.{TokenKind}
 use Rattle.camac_tokens.specs.declared.token.TokenKind.TheVariants as kind
 use Rattle.camac_text_cursor.specs.declared.choice.Choice.TheVariants as choice
 use Rattle.camac_text_cursor.specs.Reading.{line_here, State, Reader, fail, ◌>>=◌, ◌>>◌, give, peek, advance, check, kind_of, line_of, many}
-use Rattle.camac_text_cursor.specs.Readers.{begin, is_sign, expect, expect_sign, any_number, branch_number, function_number, set_name, used_register, used_variable}
+use Rattle.camac_text_cursor.specs.Readers.{begin, is_sign, is_each, expect, expect_sign, any_number, branch_number, function_number, set_name, used_register, used_variable}
 use Rattle.camac_text_phrases.specs.Expressions.{expression_at}
-use Rattle.camac_text_statements.specs.Statements.{assignment, register_setting, move_by, move_at, single_action, put_action, else_by, if_statement, for_statement, while_statement, lock_statement, statement_by, statement_with, is_no_end, block_at}
+use Rattle.camac_text_statements.specs.Statements.{assignment, register_setting, move_by, move_at, single_action, put_action, else_by, if_statement, single_number, for_ends, each_ends, ends_by, for_statement, while_statement, lock_statement, statement_by, statement_with, is_no_end, block_at}
 use Rattle.camac_text_phrases.specs.Conditions.{condition_at}
 use Rattle.camac_text_phrases.specs.declared.keeping.Own.TheVariants as of_loop
 use Rattle.camac_text_phrases.specs.Keeps.{keeps_at}
@@ -118,17 +118,32 @@ module _ (room : ℕ) (block : Reader (List Statement)) (block_is : (s : State) 
       local_then block (λ xs. peek >>= λ k. else_by block line c xs k) u (block_local u) (λ xs v.
       local_else line c xs v)))
 
+  local_for_ends : (line v : ℕ) (a b : Expression) (s : State) → IsLocal (for_ends block line v a b) s
+  local_for_ends line v a b s =
+      local_then (keeps_at (of_loop.Counter v)) (λ ks. block >>= λ xs. give (for_ line v a b ks (block_of xs))) s (local_keeps (of_loop.Counter v) s) (λ ks u.
+      local_then block (λ xs. give (for_ line v a b ks (block_of xs))) u (block_local u) (λ xs u. local_give (for_ line v a b ks (block_of xs)) u))
+
+  begins_each : (line v a b : ℕ) (s : State) → IsHere s → Begins (each_ends block line v a b) s
+  begins_each line v a b s here =
+      begins_then advance (λ _. block >>= λ xs. give (for_each line v a b (block_of xs))) s (begins_advance s here) (λ _ u.
+      local_then block (λ xs. give (for_each line v a b (block_of xs))) u (block_local u) (λ xs u. local_give (for_each line v a b (block_of xs)) u))
+
+  local_ends : (line v : ℕ) (a b : Expression) (o p : Option ℕ) (s : State) → IsLocal (ends_by block line v a b o p) s
+  local_ends line v a b (Some n) (Some m) s =
+      local_test choice.Each is_each (λ at. refl) (each_ends block line v n m) (for_ends block line v a b) s
+      (λ u is. begins_each line v n m u (here_admitted (choice.Each ∷ []) u (admits_one choice.Each (kind_of u.rest) ∙ is))) (λ u. local_for_ends line v a b u)
+  local_ends line v a b _ _ s = local_for_ends line v a b s
+
   pub begins_for_statement : (line : ℕ) (s : State) → IsHere s → Begins (for_statement room block line) s
   unfolding for_statement
   begins_for_statement line s here =
-      begins_then begin (λ _. used_variable >>= λ v. expect_sign sign.Equals >> (expression_at room >>= λ a. expect word.To >> (expression_at room >>= λ b. keeps_at (of_loop.Counter v) >>= λ ks. block >>= λ xs. give (for_ line v a b ks (block_of xs))))) s (begins_begin s here) (λ _ u.
-      local_then used_variable (λ v. expect_sign sign.Equals >> (expression_at room >>= λ a. expect word.To >> (expression_at room >>= λ b. keeps_at (of_loop.Counter v) >>= λ ks. block >>= λ xs. give (for_ line v a b ks (block_of xs))))) u (local_used_variable u) (λ v u.
-      local_then (expect_sign sign.Equals) (λ _. expression_at room >>= λ a. expect word.To >> (expression_at room >>= λ b. keeps_at (of_loop.Counter v) >>= λ ks. block >>= λ xs. give (for_ line v a b ks (block_of xs)))) u (local_expect_sign sign.Equals u) (λ _ u.
-      local_then (expression_at room) (λ a. expect word.To >> (expression_at room >>= λ b. keeps_at (of_loop.Counter v) >>= λ ks. block >>= λ xs. give (for_ line v a b ks (block_of xs)))) u (local_expression room u) (λ a u.
-      local_then (expect word.To) (λ _. expression_at room >>= λ b. keeps_at (of_loop.Counter v) >>= λ ks. block >>= λ xs. give (for_ line v a b ks (block_of xs))) u (local_expect word.To u) (λ _ u.
-      local_then (expression_at room) (λ b. keeps_at (of_loop.Counter v) >>= λ ks. block >>= λ xs. give (for_ line v a b ks (block_of xs))) u (local_expression room u) (λ b u.
-      local_then (keeps_at (of_loop.Counter v)) (λ ks. block >>= λ xs. give (for_ line v a b ks (block_of xs))) u (local_keeps (of_loop.Counter v) u) (λ ks u.
-      local_then block (λ xs. give (for_ line v a b ks (block_of xs))) u (block_local u) (λ xs u. local_give (for_ line v a b ks (block_of xs)) u))))))))
+      begins_then begin (λ _. used_variable >>= λ v. expect_sign sign.Equals >> (expression_at room >>= λ a. expect word.To >> (expression_at room >>= λ b. ends_by block line v a b (single_number a) (single_number b)))) s (begins_begin s here) (λ _ u.
+      local_then used_variable (λ v. expect_sign sign.Equals >> (expression_at room >>= λ a. expect word.To >> (expression_at room >>= λ b. ends_by block line v a b (single_number a) (single_number b)))) u (local_used_variable u) (λ v u.
+      local_then (expect_sign sign.Equals) (λ _. expression_at room >>= λ a. expect word.To >> (expression_at room >>= λ b. ends_by block line v a b (single_number a) (single_number b))) u (local_expect_sign sign.Equals u) (λ _ u.
+      local_then (expression_at room) (λ a. expect word.To >> (expression_at room >>= λ b. ends_by block line v a b (single_number a) (single_number b))) u (local_expression room u) (λ a u.
+      local_then (expect word.To) (λ _. expression_at room >>= λ b. ends_by block line v a b (single_number a) (single_number b)) u (local_expect word.To u) (λ _ u.
+      local_then (expression_at room) (λ b. ends_by block line v a b (single_number a) (single_number b)) u (local_expression room u) (λ b u.
+      local_ends line v a b (single_number a) (single_number b) u))))))
 
   pub begins_while_statement : (line : ℕ) (s : State) → IsHere s → Begins (while_statement room block line) s
   unfolding while_statement

@@ -1,32 +1,33 @@
 -- What a `for`, a `while` and a `lock` leave, where this is what a block leaves.
-use Rattle.std.proofs.Common.{not, ◌≡◌, ℕ, ◌≤◌, ◌<◌, Bool, true, nat_lt, List, length, Some, Ok, refl, ap, subst, arith}
+use Rattle.std.proofs.Common.{not, ◌≡◌, ℕ, ◌≤◌, ◌<◌, Bool, true, false, cond, nat_lt, List, length, Option, Some, Ok, refl, sym, ap, subst, ◌∙◌, arith}
 use Rattle.std.specs.Prelude.{option_and_then}
 use Rattle.std.proofs.lemmas.Bool.{lt-ltb}
 use Rattle.camac_lang.specs.Depth.{expression_depth, part_depth, inner_depth}
 use Rattle.camac_lang.specs.Expressions.{Scope, expression_fits}
 use Rattle.camac_lang.specs.Statements.{keeps_fit, after_block}
-use Rattle.camac_lang.specs.Tests.{most, unless_broken}
-use Rattle.camac_lang.specs.Tree.{Expression, Condition, Keep, Statement, for_, while_, locked}
+use Rattle.camac_lang.specs.Tests.{most, unless_broken, is_number}
+use Rattle.camac_lang.specs.Tree.{Expression, Condition, Keep, Statement, number, for_, for_each, while_, locked}
 use Rattle.camac_lang.specs.View.{block_of}
 use Rattle.camac_tokens.specs.declared.fault.TextCase.TheVariants as told
 use Rattle.camac_tokens.specs.declared.token.Keyword.TheVariants as word
 use Rattle.camac_tokens.specs.declared.token.Sign.TheVariants as sign
 use Rattle.camac_tokens.specs.declared.token.TokenKind.{TokenKind}
 use Rattle.camac_tokens.specs.declared.token.TokenKind.TheVariants as kind
-use Rattle.camac_text_cursor.specs.Reading.{State, Reader, ◌>>=◌, ◌>>◌, give, kind_of}
-use Rattle.camac_text_cursor.specs.Readers.{begin, expect, expect_sign, any_number, used_variable}
+use Rattle.camac_text_cursor.specs.declared.choice.Choice.TheVariants as choice
+use Rattle.camac_text_cursor.specs.Reading.{State, Reader, ◌>>=◌, ◌>>◌, give, kind_of, miss, missed, past}
+use Rattle.camac_text_cursor.specs.Readers.{begin, is_each, expect, expect_sign, any_number, used_variable}
 use Rattle.camac_text_phrases.specs.Expressions.{expression_at}
 use Rattle.camac_text_phrases.specs.Conditions.{condition_at}
 use Rattle.camac_text_phrases.specs.declared.keeping.Own.TheVariants as of_loop
 use Rattle.camac_text_phrases.specs.Keeps.{keeps_at}
-use Rattle.camac_text_statements.specs.Statements.{for_statement, while_statement, lock_statement}
+use Rattle.camac_text_statements.specs.Statements.{single_number, for_ends, each_ends, ends_by, for_statement, while_statement, lock_statement}
 use Rattle.camac_text_cursor.proofs.Steps.{then_ok, ok_is}
-use Rattle.camac_text_cursor.proofs.Moves.{check_ok, AllFit, Moves, kind_fit, moved, then_moves, one_moves, any_number_ok, expect_ok, expect_sign_ok}
+use Rattle.camac_text_cursor.proofs.Moves.{check_ok, AllFit, Moves, kind_fit, moved, unmoved, then_moves, one_moves, any_number_ok, expect_ok, expect_sign_ok}
 use Rattle.camac_text_cursor.proofs.Uses.{scope_of, same_scope, used_variable_ok}
 use Rattle.camac_text_phrases.proofs.BracketsRead.{expression_ok}
 use Rattle.camac_text_phrases.proofs.ConditionsRead.{condition_ok}
 use Rattle.camac_text_phrases.proofs.KeepsRead.{keeps_ok, keeps_stand}
-use Rattle.camac_text_cursor.proofs.Registers.{both}
+use Rattle.camac_text_cursor.proofs.Registers.{both, first_of_both}
 use Rattle.camac_text_statements.proofs.Acts.{begun, begin_ok, Acts}
 use Rattle.camac_text_statements.proofs.Blocks.{Body, after_moves, holds_block}
 
@@ -40,77 +41,114 @@ variable_before s t x m below = subst (λ (u : State). nat_lt x (length u.variab
 keeps_before : (s t : State) (own : ℕ) (ks : List Keep) → Moves s t → (AllFit t.rest → keeps_fit (scope_of t) own ks ≡ true) → AllFit s.rest → keeps_fit (scope_of s) own ks ≡ true
 keeps_before s t own ks m fits h = subst (λ (c : Scope). keeps_fit c own ks ≡ true) (same_scope s t m) (fits (m.fit h))
 
+pub number_of : (e : Expression) (n : ℕ) → single_number e ≡ Some n → e ≡ number n
+number_of (number m) n is = ap number (same m n is) where
+  same : (a b : ℕ) → Some a ≡ Some b → a ≡ b
+  same a b h = cc
+number_of _ n is = absurd cc
+
 module _ (room : ℕ) (block : Reader (List Statement)) (block_is : (s : State) (y : List Statement × State) → block s ≡ Ok y → Body room s y.0 y.1) where
-  -- a `for` after its first bound
-  record Bounded (line own : ℕ) (first : Expression) (s : State) (y : Statement × State) : Type 0 where
-    last : Expression
-    keeps : List Keep
-    body : List Statement
-    left : State
+  -- the variable and both ends of a `for` are read
+  record Bounded (s : State) (j : TokenKind) (own : ℕ) (first last : Expression) (u : State) : Type 0 where
+    next : kind_of s.rest ≡ Some j
+    below : s.statements < 4096
+    within : own < length s.variables
+    moves : Moves (begun s) u
+    first_fits : AllFit s.rest → expression_fits (scope_of s) first ≡ true
+    first_deep : expression_depth first ≤ room
     last_fits : AllFit s.rest → expression_fits (scope_of s) last ≡ true
     last_deep : expression_depth last ≤ room
-    keeps_stand : AllFit s.rest → keeps_fit (scope_of s) own keeps ≡ true
-    holds : Body room s body left
-    is : (for_ line own first last keeps (block_of body), left) ≡ y
 
-  abbrev from_to : ℕ → ℕ → Expression → Reader Statement
-  from_to line own first = expect word.To >> (expression_at room >>= λ last. keeps_at (of_loop.Counter own) >>= λ ks. block >>= λ xs. give (for_ line own first last ks (block_of xs)))
-
-  bounded : (line own : ℕ) (first : Expression) (s : State) (y : Statement × State) → from_to line own first s ≡ Ok y → Bounded line own first s y
-  bounded line own first s y e =
-      let a = then_ok (expect word.To s) (λ _. expression_at room >>= λ last. keeps_at (of_loop.Counter own) >>= λ ks. block >>= λ xs. give (for_ line own first last ks (block_of xs))) y e in
-      let to_a : Moves s a.0.1 = expect_ok word.To s a.0 a.1 in
-      let b = then_ok (expression_at room a.0.1) (λ last. keeps_at (of_loop.Counter own) >>= λ ks. block >>= λ xs. give (for_ line own first last ks (block_of xs))) y a.2 in
-      let last = expression_ok room a.0.1 b.0 b.1 in
-      let to_b : Moves s b.0.1 = then_moves s a.0.1 b.0.1 to_a last.moves in
-      let c = then_ok (keeps_at (of_loop.Counter own) b.0.1) (λ ks. block >>= λ xs. give (for_ line own first b.0.0 ks (block_of xs))) y b.2 in
-      let keeps = keeps_ok (of_loop.Counter own) b.0.1 c.0 c.1 in
-      let to_c : Moves s c.0.1 = then_moves s b.0.1 c.0.1 to_b keeps.moves in
-      let d = then_ok (block c.0.1) (λ xs. give (for_ line own first b.0.0 c.0.0 (block_of xs))) y c.2 in
-      record {
-        last = b.0.0;
-        keeps = c.0.0;
-        body = d.0.0;
-        left = d.0.1;
-        last_fits = expression_before s a.0.1 b.0.0 to_a last.fits;
-        last_deep = last.deep;
-        keeps_stand = keeps_before s b.0.1 own c.0.0 to_b (keeps_stand (of_loop.Counter own) b.0.1 c.0.0 c.0.1 keeps);
-        holds = after_moves room s c.0.1 d.0.0 d.0.1 to_c (block_is c.0.1 d.0 d.1);
-        is = ok_is (for_ line own first b.0.0 c.0.0 (block_of d.0.0), d.0.1) y d.2;
-      }
-
-  counts : (s : State) (j : TokenKind) (line own : ℕ) (first : Expression) (u : State) (y : Statement × State) → kind_of s.rest ≡ Some j → s.statements < 4096 → own < length s.variables → Moves (begun s) u → (AllFit s.rest → expression_fits (scope_of s) first ≡ true) → expression_depth first ≤ room → Bounded line own first u y → Acts room s y.0 y.1
-  counts s j line own first u y next below within to_u first_fits deep_first r =
-      let body : Body room (begun s) r.body r.left = after_moves room (begun s) u r.body r.left to_u r.holds in
-      let deep_last : expression_depth r.last ≤ room = r.last_deep in
-      let inner : inner_depth s.callables (block_of r.body) < room = body.deep in
-      subst (λ (p : Statement × State). Acts room s p.0 p.1) r.is
-      (holds_block room s j (for_ line own first r.last r.keeps (block_of r.body)) r.body r.left next below
+  for_ends_is : (s : State) (j : TokenKind) (line own : ℕ) (first last : Expression) (u : State) (y : Statement × State) → Bounded s j own first last u → for_ends block line own first last u ≡ Ok y → Acts room s y.0 y.1
+  for_ends_is s j line own first last u y r e =
+      let c = then_ok (keeps_at (of_loop.Counter own) u) (λ ks. block >>= λ xs. give (for_ line own first last ks (block_of xs))) y e in
+      let keeps = keeps_ok (of_loop.Counter own) u c.0 c.1 in
+      let to_c : Moves (begun s) c.0.1 = then_moves (begun s) u c.0.1 r.moves keeps.moves in
+      let d = then_ok (block c.0.1) (λ xs. give (for_ line own first last c.0.0 (block_of xs))) y c.2 in
+      let body : Body room (begun s) d.0.0 d.0.1 = after_moves room (begun s) c.0.1 d.0.0 d.0.1 to_c (block_is c.0.1 d.0 d.1) in
+      let deep_first : expression_depth first ≤ room = r.first_deep in
+      let deep_last : expression_depth last ≤ room = r.last_deep in
+      let inner : inner_depth s.callables (block_of d.0.0) < room = body.deep in
+      subst (λ (p : Statement × State). Acts room s p.0 p.1) (ok_is (for_ line own first last c.0.0 (block_of d.0.0), d.0.1) y d.2)
+      (holds_block room s j (for_ line own first last c.0.0 (block_of d.0.0)) d.0.0 d.0.1 r.next r.below
       (λ h.
       let h_b : AllFit (begun s).rest = (moved s).fit h in
-      ap (λ (holds : Bool). option_and_then (λ (n : ℕ). after_block (scope_of s) n (block_of r.body)) (unless_broken holds (length s.registers)))
-      (both _ _ (lt-ltb own (length s.variables) within)
-      (both _ _ (first_fits h)
-      (both _ _ (expression_before (begun s) u r.last to_u r.last_fits h_b)
-      (keeps_before (begun s) u own r.keeps to_u r.keeps_stand h_b)))))
+      ap (λ (holds : Bool). option_and_then (λ (n : ℕ). after_block (scope_of s) n (block_of d.0.0)) (unless_broken holds (length s.registers)))
+      (both _ _ (lt-ltb own (length s.variables) r.within)
+      (both _ _ (r.first_fits h)
+      (both _ _ (r.last_fits h)
+      (keeps_before (begun s) u own c.0.0 r.moves (keeps_stand (of_loop.Counter own) u c.0.0 c.0.1 keeps) h_b)))))
       refl (omega arith) body)
+
+  number_fits : (s : State) (e : Expression) (n : ℕ) → e ≡ number n → expression_fits (scope_of s) e ≡ true → is_number n ≡ true
+  number_fits s e n is fits = first_of_both (is_number n) _ (subst (λ (w : Expression). expression_fits (scope_of s) w ≡ true) is fits)
+
+  each_ends_is : (s : State) (j : TokenKind) (line own : ℕ) (first last : Expression) (a b : ℕ) (u : State) (y : Statement × State) → Bounded s j own first last u → first ≡ number a → last ≡ number b → each_ends block line own a b u ≡ Ok y → Acts room s y.0 y.1
+  each_ends_is s j line own first last a b u y r is_first is_last e =
+      let t : State = past u in
+      let d = then_ok (block t) (λ xs. give (for_each line own a b (block_of xs))) y e in
+      let body : Body room (begun s) d.0.0 d.0.1 = after_moves room (begun s) t d.0.0 d.0.1 (then_moves (begun s) u t r.moves (moved u)) (block_is t d.0 d.1) in
+      let inner : inner_depth s.callables (block_of d.0.0) < room = body.deep in
+      subst (λ (p : Statement × State). Acts room s p.0 p.1) (ok_is (for_each line own a b (block_of d.0.0), d.0.1) y d.2)
+      (holds_block room s j (for_each line own a b (block_of d.0.0)) d.0.0 d.0.1 r.next r.below
+      (λ h.
+      ap (λ (holds : Bool). option_and_then (λ (n : ℕ). after_block (scope_of s) n (block_of d.0.0)) (unless_broken holds (length s.registers)))
+      (both _ _ (lt-ltb own (length s.variables) r.within)
+      (both _ _ (number_fits s first a is_first (r.first_fits h)) (number_fits s last b is_last (r.last_fits h)))))
+      refl (omega arith) body)
+
+  missed_bounded : (s : State) (j : TokenKind) (own : ℕ) (first last : Expression) (u : State) → Bounded s j own first last u → Bounded s j own first last (missed choice.Each u)
+  missed_bounded s j own first last u r = record {
+    next = r.next;
+    below = r.below;
+    within = r.within;
+    moves = then_moves (begun s) u (missed choice.Each u) r.moves (unmoved choice.Each u);
+    first_fits = r.first_fits;
+    first_deep = r.first_deep;
+    last_fits = r.last_fits;
+    last_deep = r.last_deep;
+  }
+
+  chosen_is : (is_next : Bool) (s : State) (j : TokenKind) (line own : ℕ) (first last : Expression) (a b : ℕ) (u : State) (y : Statement × State) → Bounded s j own first last u → first ≡ number a → last ≡ number b → cond is_next (each_ends block line own a b) (miss choice.Each >> for_ends block line own first last) u ≡ Ok y → Acts room s y.0 y.1
+  chosen_is true s j line own first last a b u y r is_first is_last e = each_ends_is s j line own first last a b u y r is_first is_last e
+  chosen_is false s j line own first last a b u y r is_first is_last e = for_ends_is s j line own first last (missed choice.Each u) y (missed_bounded s j own first last u r) e
+
+  ends_is : (s : State) (j : TokenKind) (line own : ℕ) (first last : Expression) (o p : Option ℕ) (u : State) (y : Statement × State) → Bounded s j own first last u → single_number first ≡ o → single_number last ≡ p → ends_by block line own first last o p u ≡ Ok y → Acts room s y.0 y.1
+  ends_is s j line own first last (Some a) (Some b) u y r is_first is_last e = chosen_is (is_each (kind_of u.rest)) s j line own first last a b u y r (number_of first a is_first) (number_of last b is_last) e
+  ends_is s j line own first last _ _ u y r is_first is_last e = for_ends_is s j line own first last u y r e
 
   pub for_is : (s : State) (j : TokenKind) (line : ℕ) (y : Statement × State) → kind_of s.rest ≡ Some j → for_statement room block line s ≡ Ok y → Acts room s y.0 y.1
   unfolding for_statement
   for_is s j line y next e =
-      let rest : Reader Statement = used_variable >>= λ own. expect_sign sign.Equals >> (expression_at room >>= λ first. from_to line own first) in
+      let to_last : ℕ → Expression → Reader Statement = λ own first. expect word.To >> (expression_at room >>= λ last. ends_by block line own first last (single_number first) (single_number last)) in
+      let rest : Reader Statement = used_variable >>= λ own. expect_sign sign.Equals >> (expression_at room >>= λ first. to_last own first) in
       let z = then_ok (begin s) (λ _. rest) y e in
       let begins = begin_ok s z.0 z.1 in
       let b : State = begun s in
       let at : rest b ≡ Ok y = subst (λ (u : State). rest u ≡ Ok y) begins.1 z.2 in
-      let v = then_ok (used_variable b) (λ own. expect_sign sign.Equals >> (expression_at room >>= λ first. from_to line own first)) y at in
+      let v = then_ok (used_variable b) (λ own. expect_sign sign.Equals >> (expression_at room >>= λ first. to_last own first)) y at in
       let own = used_variable_ok b v.0 v.1 in
-      let a1 = then_ok (expect_sign sign.Equals v.0.1) (λ _. expression_at room >>= λ first. from_to line v.0.0 first) y v.2 in
+      let a1 = then_ok (expect_sign sign.Equals v.0.1) (λ _. expression_at room >>= λ first. to_last v.0.0 first) y v.2 in
       let to_1 : Moves b a1.0.1 = then_moves b v.0.1 a1.0.1 own.1 (expect_sign_ok sign.Equals v.0.1 a1.0 a1.1) in
-      let a2 = then_ok (expression_at room a1.0.1) (λ first. from_to line v.0.0 first) y a1.2 in
+      let a2 = then_ok (expression_at room a1.0.1) (λ first. to_last v.0.0 first) y a1.2 in
       let first = expression_ok room a1.0.1 a2.0 a2.1 in
       let to_2 : Moves b a2.0.1 = then_moves b a1.0.1 a2.0.1 to_1 first.moves in
-      counts s j line v.0.0 a2.0.0 a2.0.1 y next begins.0 own.0 to_2 (λ h. expression_before b a1.0.1 a2.0.0 to_1 first.fits ((moved s).fit h)) first.deep (bounded line v.0.0 a2.0.0 a2.0.1 y a2.2)
+      let a3 = then_ok (expect word.To a2.0.1) (λ _. expression_at room >>= λ last. ends_by block line v.0.0 a2.0.0 last (single_number a2.0.0) (single_number last)) y a2.2 in
+      let to_3 : Moves b a3.0.1 = then_moves b a2.0.1 a3.0.1 to_2 (expect_ok word.To a2.0.1 a3.0 a3.1) in
+      let a4 = then_ok (expression_at room a3.0.1) (λ last. ends_by block line v.0.0 a2.0.0 last (single_number a2.0.0) (single_number last)) y a3.2 in
+      let last = expression_ok room a3.0.1 a4.0 a4.1 in
+      let to_4 : Moves b a4.0.1 = then_moves b a3.0.1 a4.0.1 to_3 last.moves in
+      let r : Bounded s j v.0.0 a2.0.0 a4.0.0 a4.0.1 = record {
+        next = next;
+        below = begins.0;
+        within = own.0;
+        moves = to_4;
+        first_fits = λ h. expression_before b a1.0.1 a2.0.0 to_1 first.fits ((moved s).fit h);
+        first_deep = first.deep;
+        last_fits = λ h. expression_before b a3.0.1 a4.0.0 to_3 last.fits ((moved s).fit h);
+        last_deep = last.deep;
+      } in
+      ends_is s j line v.0.0 a2.0.0 a4.0.0 (single_number a2.0.0) (single_number a4.0.0) a4.0.1 y r refl refl a4.2
 
   pub while_is : (s : State) (j : TokenKind) (line : ℕ) (y : Statement × State) → kind_of s.rest ≡ Some j → while_statement room block line s ≡ Ok y → Acts room s y.0 y.1
   unfolding while_statement

@@ -1,6 +1,6 @@
 -- What is read at each place of a statement.
-use Rattle.std.specs.Prelude.{ℕ, zero, suc, Bool, true, false, List, Option, Some, not, if◌then◌else◌}
-use Rattle.camac_lang.specs.Tree.{Move, no_data, into, from, Statement, assign, set_register, single, put, crate_call, lam_call, choose, choose_else, for_, while_, locked, Condition}
+use Rattle.std.specs.Prelude.{ℕ, zero, suc, Bool, true, false, List, Option, Some, None, not, if◌then◌else◌}
+use Rattle.camac_lang.specs.Tree.{Expression, number, Move, no_data, into, from, Statement, assign, set_register, single, put, crate_call, lam_call, choose, choose_else, for_, for_each, while_, locked, Condition}
 use Rattle.camac_lang.specs.View.{block_of}
 use Rattle.camac_lang.specs.declared.word.WordSize.{WordSize}
 use Rattle.camac_lang.specs.declared.word.WordSize.TheVariants.{Full, Short}
@@ -17,7 +17,7 @@ use Rattle.camac_tokens.specs.declared.fault.Limit.TheVariants as limit
 use Rattle.camac_tokens.specs.declared.fault.TextCase.TheVariants as told
 use Rattle.camac_text_cursor.specs.declared.choice.Choice.TheVariants as choice
 use Rattle.camac_text_cursor.specs.Reading.{Reader, ◌>>=◌, ◌>>◌, give, peek, advance, line_here, miss, missing, fail, unexpected, many, ask, check}
-use Rattle.camac_text_cursor.specs.Readers.{begin, is_sign, expect, expect_sign, any_number, branch_number, function_number, set_name, used_register, used_variable, variable_here, used_lam}
+use Rattle.camac_text_cursor.specs.Readers.{begin, is_sign, is_each, expect, expect_sign, any_number, branch_number, function_number, set_name, used_register, used_variable, variable_here, used_lam}
 use Rattle.camac_text_phrases.specs.Expressions.{expression_at}
 use Rattle.camac_text_statements.specs.Transfers.{scan_statement, q_stop_statement, q_repeat_statement, call_statement}
 use Rattle.camac_text_phrases.specs.Conditions.{condition_at}
@@ -154,6 +154,31 @@ if_statement room block line = do
   next ← peek
   else_by block line test body next
 
+-- the number that an expression is, if it is no more than that
+abbrev pub single_number : Expression → Option ℕ
+single_number (number n) = Some n
+single_number _ = None
+
+-- a `for` after its ends, where all its turns are judged at once
+abbrev pub for_ends : Reader (List Statement) → ℕ → ℕ → Expression → Expression → Reader Statement
+for_ends block line own first last = do
+  keeps ← keeps_at (of_loop.Counter own)
+  body ← block
+  give (for_ line own first last keeps (block_of body))
+
+-- the same where each turn is judged by itself
+abbrev pub each_ends : Reader (List Statement) → ℕ → ℕ → ℕ → ℕ → Reader Statement
+each_ends block line own first last = do
+  advance
+  body ← block
+  give (for_each line own first last (block_of body))
+
+-- between two numbers `each` may stand
+abbrev pub ends_by : Reader (List Statement) → ℕ → ℕ → Expression → Expression → Option ℕ → Option ℕ → Reader Statement
+ends_by block line own first last (Some a) (Some b) =
+    peek >>= λ k. if is_each k then each_ends block line own a b else (miss choice.Each >> for_ends block line own first last)
+ends_by block line own first last _ _ = for_ends block line own first last
+
 -- `for`
 unfoldable pub for_statement : ℕ → Reader (List Statement) → ℕ → Reader Statement
 for_statement room block line = do
@@ -163,9 +188,7 @@ for_statement room block line = do
   first ← expression_at room
   expect word.To
   last ← expression_at room
-  keeps ← keeps_at (of_loop.Counter own)
-  body ← block
-  give (for_ line own first last keeps (block_of body))
+  ends_by block line own first last (single_number first) (single_number last)
 
 -- `while`
 unfoldable pub while_statement : ℕ → Reader (List Statement) → ℕ → Reader Statement

@@ -1,12 +1,12 @@
 // Statements that hold blocks.
 
 ghost use Rattle.std.specs.Prelude.{◌≡◌};
-ghost use Rattle.camac_lang.specs.View.{statement_of};
-ghost use Rattle.camac_text_statements.specs.Statements.{if_statement, for_statement, while_statement, lock_statement, block_at};
+ghost use Rattle.camac_lang.specs.View.{expression_of, statement_of};
+ghost use Rattle.camac_text_statements.specs.Statements.{if_statement, for_statement, each_ends, for_ends, single_number, while_statement, lock_statement, block_at};
 ghost use Rattle.camac_text_cursor.specs.Parser.{state, Gives};
 
 use crate::statements::block;
-use camac_lang::{ForHead, Stmt, WhileHead};
+use camac_lang::{Expr, ForHead, Form, Stmt, WhileHead};
 use camac_text_cursor::{Choice, Parser};
 use camac_text_phrases::{Own, condition, expression, keeps};
 use camac_tokens::{Keyword, Sign, TextCase, TextFault, TokenKind};
@@ -50,6 +50,20 @@ pub fn for_statement(parser: &mut Parser<'_>, room: u32, line: u32) -> Result<St
     let from = expression(parser, room)?;
     parser.expect(Keyword::To)?;
     let to = expression(parser, room)?;
+    if let (Some(first), Some(last)) = (single_number(&from), single_number(&to)) {
+        if parser.next_is_each() {
+            parser.advance();
+            let body = block(parser, room)?;
+            return Ok(Stmt::ForEach {
+                line,
+                variable,
+                first,
+                last,
+                body,
+            });
+        }
+        parser.miss(Choice::Each);
+    }
     let keeps = keeps(parser, Own::Counter(variable))?;
     let body = block(parser, room)?;
     let head = ForHead {
@@ -60,6 +74,16 @@ pub fn for_statement(parser: &mut Parser<'_>, room: u32, line: u32) -> Result<St
         keeps,
     };
     Ok(Stmt::For { head, body })
+}
+
+/// The number that an expression is, if it is no more than that.
+fn single_number(expression: &Expr) -> Option<u32>
+    ensures { result ≡ single_number (expression_of expression.now) }
+{
+    match expression.term().form() {
+        Form::Number(number) => Some(number),
+        _ => None,
+    }
 }
 
 /// `while`
