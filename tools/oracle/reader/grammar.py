@@ -6,7 +6,8 @@ from typing import Callable, Dict, List, Optional, Tuple, Union
 from oracle.reader.cursor import LIMITS, Cursor
 from oracle.reader.tokens import Token, read_tokens
 from oracle.reader.tree import (
-    Assign, Block, Body, Call, CrateCall, Cycle, Expression, For, ForEach, If, Keep, Lam, LamCall, Lock, Put, Scan, Script, SetRegister, Statement, While,
+    Assign, Block, Body, Call, CrateCall, Cycle, Expression, For, ForEach, If, Keep, Lam, LamCall, Lock, Put, Scan, Script, SetRegister,
+    Statement, While,
 )
 
 FUNCTIONS = 31
