@@ -1,7 +1,7 @@
 """Reads a script that is no refused text into a tree."""
 from typing import Callable, Dict, List, Tuple
 
-from camac.tokens import NAMES, Token, tokens_of
+from camac.tokens import EACH, NAMES, Token, tokens_of
 from camac.tree import (
     Assign, Body, Cycle, Expression, For, If, Keep, Lock, Loop, Name, Number, Operation, Part, Plain, Range, Script, SetRegister, Statement, Transfer, While,
     all_in, written_by,
@@ -193,7 +193,7 @@ class _Reader:
             self.expect("=")
             begin = self.expression()
             self.expect("to")
-            loop = For(first.line, first.start, name, begin, self.expression())
+            loop = For(first.line, first.start, name, begin, self.expression(), self.takes(EACH))
         else:
             parts = self.condition()
             self.expect("turns")

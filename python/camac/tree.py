@@ -128,9 +128,11 @@ class Loop(Statement):
 
 
 class For(Loop):
-    def __init__(self, line: int, start: int, name: str, first: Expression, last: Expression) -> None:
+    """A `for`. With `each` its ends are numbers, and it keeps nothing."""
+
+    def __init__(self, line: int, start: int, name: str, first: Expression, last: Expression, is_each: bool) -> None:
         super().__init__(line, start, name)
-        self.first, self.last = first, last
+        self.first, self.last, self.is_each = first, last, is_each
 
 
 class While(Loop):
