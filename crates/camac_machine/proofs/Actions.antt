@@ -11,7 +11,7 @@ use Rattle.camac_lang.specs.declared.word.WordSize.{WordSize}
 use Rattle.camac_lang.specs.declared.word.WordSize.TheVariants.{Full}
 use Rattle.camac_lang.specs.declared.tree.Stmt.{Stmt}
 use Rattle.camac_lang.specs.View.{statements_of}
-use Rattle.camac_lang.specs.Tree.{Expression, Condition, Block, done, Move, no_data, into, from, Statement, assign, set_register, single, address_scan, q_stop, q_repeat, put, crate_call, lam_call, choose, choose_else, for_, while_, locked, call}
+use Rattle.camac_lang.specs.Tree.{Expression, Condition, Block, done, Move, no_data, into, from, Statement, assign, set_register, single, address_scan, q_stop, q_repeat, put, crate_call, lam_call, choose, choose_else, for_, for_each, while_, locked, call}
 use Rattle.camac_branch.specs.Address.{Address, address}
 use Rattle.camac_branch.specs.Allowed.{width}
 use Rattle.camac_branch.specs.Branch.{Answer, Reply}
@@ -334,6 +334,7 @@ module _ {V D C : ℕ} (h : Machine V D C) where
       let g1 = fine_given plan (bounds_of h) (value e1 (variables_here h)) to s (left_in h) (fine []) in
       let g2 = fine_given plan (bounds_of h) (value e2 (variables_here h)) (λ u. for_from (u + 1 - g1.0) most_turns x g1.0 u b) s (left_in h) g1.2 in
       (count_steps (g2.0 + 1 - g1.0) x g1.0 g2.0 body s g2.2).steps
+  begun (for_each line x v last body) to d fits fine = (count_steps (last + 1 - v) x v last body (stepped (state_of h [])) (fine [])).steps
   begun (while_ line test m k ks body) to d fits fine =
       let s : State = stepped (state_of h []) in
       let b : Action = block_meaning (context_in h.checked.now) most_turns body in

@@ -6,7 +6,7 @@ use Rattle.camac_lang.specs.Depth.{depth_of, statement_depth, inner_depth}
 use Rattle.camac_lang.specs.Expressions.{Scope, refers, expression_fits, test_fits, part_fits, condition_fits}
 use Rattle.camac_lang.specs.Statements.{table_fits, move_fits, keeps_fit, after, after_block}
 use Rattle.camac_lang.specs.Tests.{each, has, is_number, is_function}
-use Rattle.camac_lang.specs.Tree.{Expression, Test, flag_q, flag_x, compare, Part, plain, negated, Condition, Move, no_data, into, from, Statement, assign, set_register, single, address_scan, q_stop, q_repeat, put, crate_call, lam_call, choose, choose_else, for_, while_, locked, call, Block, done, next}
+use Rattle.camac_lang.specs.Tree.{Expression, Test, flag_q, flag_x, compare, Part, plain, negated, Condition, Move, no_data, into, from, Statement, assign, set_register, single, address_scan, q_stop, q_repeat, put, crate_call, lam_call, choose, choose_else, for_, for_each, while_, locked, call, Block, done, next}
 use Rattle.camac_lang.proofs.Wider.{refers_wider}
 use Rattle.camac_lang.proofs.Grows.{block_grows}
 use Rattle.camac_lang.proofs.Places.{has_parts}
@@ -147,6 +147,12 @@ module _ (s : Scope) (to : Reach) (all : Reaches s to) where
           omega (arith, deep),
           block_fits body p.0 m (d - 1) p.2 le (omega (arith, deep)),
         )
+    statement_fits (for_each line x first last body) seen m d b le deep =
+        let p = then_parts (λ k. after_block s k body) _ m b in
+        let h = unless_parts _ seen p.0 p.1 in
+        let lt : x < s.variables = ltb-true x s.variables (and_parts (nat_lt x s.variables) (is_number first && is_number last) h.0).0 in
+        let few = all.variables in
+        (omega (arith, lt, few), omega (arith, deep), block_fits body p.0 m (d - 1) p.2 le (omega (arith, deep)))
     statement_fits (while_ line test most' i keeps body) seen m d b le deep =
         let p = then_parts (λ k. after_block s k body) _ m b in
         let h = unless_parts _ seen p.0 p.1 in

@@ -95,21 +95,26 @@ module _ {V D C : ℕ} (h : Machine V D C) where
       (turned x value last (n - 1) body new lt r same pushed room)
 
   -- what a `for` comes to, by its first and last value
-  module _ (x : ℕ) (e1 e2 : Expression) (b : Block) (v w : ℕ) (is1 : value e1 (variables_here h) ≡ Some v) (is2 : value e2 (variables_here h) ≡ Some w) where
-    from_to : (j : ℕ) → w + 1 - v ≡ j → (answers : List Answer) → effect ctx most_turns (for_ 0 x e1 e2 [] b) (state_of h answers) ≡ for_from j 65535 x v w (does_all b) (state_of h answers)
-    from_to j e answers =
+  pub from_to : (x : ℕ) (e1 e2 : Expression) (b : Block) (v w : ℕ) → value e1 (variables_here h) ≡ Some v → value e2 (variables_here h) ≡ Some w → (answers : List Answer) → effect ctx most_turns (for_ 0 x e1 e2 [] b) (state_of h answers) ≡ for_from (w + 1 - v) most_turns x v w (does_all b) (state_of h answers)
+  from_to x e1 e2 b v w is1 is2 answers =
+      let s : State = state_of h answers in
+      let to : ℕ → Action = λ k. given (value e2 (variables_here h)) (λ u. for_from (u + 1 - k) most_turns x k u (does_all b)) in
+      ap (λ o. given o to s) is1
+      ∙ ap (λ o. given o (λ u. for_from (u + 1 - v) most_turns x v u (does_all b)) s) is2
+
+  -- what it comes to between two numbers
+  module _ (x v w : ℕ) (b : Block) where
+    count_is : (j : ℕ) → w + 1 - v ≡ j → (answers : List Answer) → for_from (w + 1 - v) most_turns x v w (does_all b) (state_of h answers) ≡ for_from j 65535 x v w (does_all b) (state_of h answers)
+    count_is j e answers =
         let s : State = state_of h answers in
-        let to : ℕ → Action = λ k. given (value e2 (variables_here h)) (λ u. for_from (u + 1 - k) most_turns x k u (does_all b)) in
-        ap (λ o. given o to s) is1
-        ∙ ap (λ o. given o (λ u. for_from (u + 1 - v) most_turns x v u (does_all b)) s) is2
-        ∙ ap (λ k. for_from k most_turns x v w (does_all b) s) e
+        ap (λ k. for_from k most_turns x v w (does_all b) s) e
         ∙ ap (λ n. for_from j n x v w (does_all b) s) turns_are
 
-    pub count_goes : v ≤ w → (answers : List Answer) → effect ctx most_turns (for_ 0 x e1 e2 [] b) (state_of h answers) ≡ for_turns (suc (w - v)) 65535 x v w (does_all b) (state_of h answers)
-    count_goes le answers = from_to (suc (w - v)) (omega (arith, le)) answers
+    pub count_goes : v ≤ w → (answers : List Answer) → for_from (w + 1 - v) most_turns x v w (does_all b) (state_of h answers) ≡ for_turns (suc (w - v)) 65535 x v w (does_all b) (state_of h answers)
+    count_goes le answers = count_is (suc (w - v)) (omega (arith, le)) answers
 
-    pub count_none : w < v → (answers : List Answer) → effect ctx most_turns (for_ 0 x e1 e2 [] b) (state_of h answers) ≡ ends (state_of h answers)
-    count_none lt answers = from_to zero (omega (arith, lt)) answers
+    pub count_none : w < v → (answers : List Answer) → for_from (w + 1 - v) most_turns x v w (does_all b) (state_of h answers) ≡ ends (state_of h answers)
+    count_none lt answers = count_is zero (omega (arith, lt)) answers
 
   -- a `while`
   module _ (test : Condition) (b : Block) where

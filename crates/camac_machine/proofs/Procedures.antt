@@ -8,7 +8,7 @@ use Rattle.camac_branch.specs.Plan.{Layout, crate_waits}
 use Rattle.camac_lang.specs.Depth.{callable, callables_after}
 use Rattle.camac_lang.specs.Expressions.{Callable}
 use Rattle.camac_lang.specs.Tests.{total}
-use Rattle.camac_lang.specs.Tree.{Statement, assign, set_register, single, address_scan, q_stop, q_repeat, put, crate_call, lam_call, choose, choose_else, for_, while_, locked, call, Block, done, next, Procedure, Script}
+use Rattle.camac_lang.specs.Tree.{Statement, assign, set_register, single, address_scan, q_stop, q_repeat, put, crate_call, lam_call, choose, choose_else, for_, for_each, while_, locked, call, Block, done, next, Procedure, Script}
 use Rattle.camac_lang.proofs.Places.{number_below}
 use Rattle.camac_model.specs.State.{State, stepped}
 use Rattle.camac_model.specs.Behaviour.{ends, Action, then_do, given, decide}
@@ -153,6 +153,7 @@ module _ (c : Context) (rs : List (ℕ → Action)) (n : ℕ) (to : Reach) (same
         ∙ ap (λ (go : Action). decide (truth test s.variables s.q s.x) (block_meaning wider n a) go s) (block_same b (d - 1) fits.3)
     effect_same (for_ line x e1 e2 keeps body) d fits s =
         ap (λ (go : Action). given (value e1 s.variables) (λ v. given (value e2 s.variables) (λ w. for_from (w + 1 - v) n x v w go)) s) (block_same body (d - 1) fits.4)
+    effect_same (for_each line x v last body) d fits s = ap (λ (go : Action). for_from (last + 1 - v) n x v last go s) (block_same body (d - 1) fits.2)
     effect_same (while_ line test m k keeps body) d fits s = ap (λ (go : Action). turns n test go s) (block_same body (d - 1) fits.2)
     effect_same (locked line e body) d fits s =
         ap (λ (go : Action). given (value e s.variables) (λ k. given (crate_waits c.plan k) (λ waits t. take_lock k waits (t.branch k).locked (λ u. then_do (go u) (release k)) t)) s) (block_same body (d - 1) fits.2)

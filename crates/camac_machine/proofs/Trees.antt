@@ -19,7 +19,7 @@ use Rattle.camac_lang.specs.declared.tree.Stmt.TheFolds.{fold-roll-Stmt}
 use Rattle.camac_lang.specs.declared.tree.Stmt.TheOpen as layer
 use Rattle.camac_lang.specs.declared.tree.Stmt.TheOpen.{Stmt-F}
 use Rattle.camac_lang.specs.declared.tree.WhileHead.{WhileHead}
-use Rattle.camac_lang.specs.Tree.{Statement, choose, choose_else, locked}
+use Rattle.camac_lang.specs.Tree.{Statement, choose, choose_else, for_each, locked}
 use Rattle.camac_lang.specs.View.{assignment_of, call_of, condition_of, crate_action_of, expression_of, for_of, lam_action_of, put_of, q_repeat_of, q_stop_of, scan_of, setting_of, single_of, statement_of, statements_of, statement_step, while_of}
 
 pub assign_is : (s : Assignment) → statement_of (rust.Assign s) ≡ assignment_of s
@@ -60,6 +60,9 @@ lock_is line e a = ap statement_of (sym (rust.rolls-Lock line e a)) ∙ fold-rol
 
 pub for_is : (s : ForHead) (a : Vec Stmt Global) → statement_of (rust.For s a) ≡ for_of s (statements_of a.items)
 for_is s a = ap statement_of (sym (rust.rolls-For s a)) ∙ fold-roll-Stmt Statement statement_step (layer.For s a)
+
+pub each_is : (line x v last : ℕ) (a : Vec Stmt Global) → statement_of (rust.ForEach line x v last a) ≡ for_each line x v last (statements_of a.items)
+each_is line x v last a = ap statement_of (sym (rust.rolls-ForEach line x v last a)) ∙ fold-roll-Stmt Statement statement_step (layer.ForEach line x v last a)
 
 pub while_is : (s : WhileHead) (a : Vec Stmt Global) → statement_of (rust.While s a) ≡ while_of s (statements_of a.items)
 while_is s a = ap statement_of (sym (rust.rolls-While s a)) ∙ fold-roll-Stmt Statement statement_step (layer.While s a)

@@ -3,7 +3,7 @@ use Rattle.std.specs.Prelude.{◌≡◌, ℕ, ◌+◌, ◌-◌, ◌<◌, ◌≤�
 use Rattle.camac_lang.specs.Depth.{callables_after}
 use Rattle.camac_lang.specs.Expressions.{Callable, refers}
 use Rattle.camac_lang.specs.Tests.{total}
-use Rattle.camac_lang.specs.Tree.{Expression, Test, flag_q, flag_x, compare, Part, plain, negated, Condition, Move, no_data, into, from, Script, Statement, assign, set_register, single, address_scan, q_stop, q_repeat, put, crate_call, lam_call, choose, choose_else, for_, while_, locked, call, Block, done, next}
+use Rattle.camac_lang.specs.Tree.{Expression, Test, flag_q, flag_x, compare, Part, plain, negated, Condition, Move, no_data, into, from, Script, Statement, assign, set_register, single, address_scan, q_stop, q_repeat, put, crate_call, lam_call, choose, choose_else, for_, for_each, while_, locked, call, Block, done, next}
 use Rattle.camac_machine.specs.Rest.{Owner, nothing, releases, for_loop, while_loop, returns, Open}
 use Rattle.camac_machine.specs.Store.{size}
 use Rattle.camac_machine.specs.declared.scope.Scope.{Scope}
@@ -82,6 +82,7 @@ abbrev mutual
   StatementFits r d (choose line test a) = PartsRefer r.variables test × (0 < d) × BlockFits r (d - 1) a
   StatementFits r d (choose_else line test a b) = PartsRefer r.variables test × (0 < d) × BlockFits r (d - 1) a × BlockFits r (d - 1) b
   StatementFits r d (for_ line x e1 e2 keeps body) = (x < r.variables) × Refers r.variables e1 × Refers r.variables e2 × (0 < d) × BlockFits r (d - 1) body
+  StatementFits r d (for_each line x v last body) = (x < r.variables) × (0 < d) × BlockFits r (d - 1) body
   StatementFits r d (while_ line test m k keeps body) = PartsRefer r.variables test × (0 < d) × BlockFits r (d - 1) body
   StatementFits r d (locked line e body) = Refers r.variables e × (0 < d) × BlockFits r (d - 1) body
   StatementFits r d (call line p es) = CallFits r d p es

@@ -309,6 +309,16 @@ impl<'a, const V: usize, const DEPTH: usize, const CAP: usize> Machine<'a, V, DE
                 self.begin_for(head, body);
                 false
             }
+            Stmt::ForEach {
+                variable,
+                first,
+                last,
+                body,
+                ..
+            } => {
+                self.begin_from(*variable, *first, *last, body);
+                false
+            }
             Stmt::While { head, body } => {
                 self.test_while(&head.test.parts, limits::TURNS, body);
                 false

@@ -1,11 +1,11 @@
 // Blocks: how one is opened, what goes on after it, and calls of procedures.
 
-ghost use Rattle.std.specs.Prelude.{◌≡◌, ℕ, suc, ◌-◌, ◌<◌, ◌≤◌, length, ◌∷◌, ◌++◌, [], List, map, true, None, IsSome, IfSome, IfNone, IsSomeAnd};
+ghost use Rattle.std.specs.Prelude.{◌≡◌, ℕ, suc, ◌+◌, ◌-◌, ◌<◌, ◌≤◌, length, ◌∷◌, ◌++◌, [], List, map, true, None, IsSome, IfSome, IfNone, IsSomeAnd};
 ghost use Rattle.camac_branch.specs.Branch.{Answer};
 ghost use Rattle.camac_lang.specs.View.{call_of, expression_of, for_of, part_of, statements_of};
 ghost use Rattle.camac_lang.specs.Tree.{done, choose_else, locked};
 ghost use Rattle.camac_model.specs.Fine.{most_turns};
-ghost use Rattle.camac_model.specs.Meaning.{effect, block_meaning, for_turns, turns as while_turns};
+ghost use Rattle.camac_model.specs.Meaning.{effect, block_meaning, for_from, for_turns, turns as while_turns};
 ghost use Rattle.camac_model.specs.Value.{value};
 ghost use Rattle.camac_machine.specs.MachineState.{context_in, reach, state_of, owner_in, opens_in, holds, free, FineThen, HasRoomFor, HasRoom, IsFineHere, stands, TakesFirst, StandsIn, TurnsAgain, ReturnsTo, LastIsOver, wanted_if, GoesOn, Advances, Enters, Awaits};
 ghost use Rattle.camac_machine.specs.Rest.{releases, owed};
@@ -104,8 +104,20 @@ impl<'a, const V: usize, const DEPTH: usize, const CAP: usize> Machine<'a, V, DE
     {
         let first = self.value_of(&head.from);
         let last = self.value_of(&head.to);
+        self.begin_from(head.variable, first, last, body);
+    }
+
+    // A `for` between two numbers.
+    #[inline(never)]
+    pub(crate) fn begin_from(&mut self, variable: usize, first: u32, last: u32, body: &'a [Stmt])
+        requires room { HasRoom self.old }
+        requires variable { variable < (reach self.old).variables }
+        requires body { Opens (reach self.old) (free self.old) (statements_of body.now) }
+        requires fine { FineThen self.old (λ c. for_from (last + 1 - first) most_turns variable first last (block_meaning c most_turns (statements_of body.now))) }
+        ensures { Advances 1 self.old (λ c. for_from (last + 1 - first) most_turns variable first last (block_meaning c most_turns (statements_of body.now))) None self.new }
+    {
         if first <= last {
-            self.turn(head.variable, first, last, limits::TURNS, body);
+            self.turn(variable, first, last, limits::TURNS, body);
         }
     }
 

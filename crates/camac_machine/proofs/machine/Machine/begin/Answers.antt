@@ -1,6 +1,6 @@
 use Rattle.std.proofs.Common.{◌≡◌, ℕ, ◌+◌, Bool, sym, ap, subst, arith, rules}
 use Rattle.std.specs.Prelude.{Option, Some, None, is_some}
-use Rattle.camac_lang.specs.Tree.{choose, choose_else, locked}
+use Rattle.camac_lang.specs.Tree.{choose, choose_else, for_each, locked}
 use Rattle.camac_lang.specs.View.{assignment_of, call_of, condition_of, crate_action_of, expression_of, for_of, lam_action_of, put_of, q_repeat_of, q_stop_of, scan_of, setting_of, single_of, statement_of, statements_of, while_of}
 use Rattle.camac_model.specs.Fine.{most_turns}
 use Rattle.camac_model.specs.Meaning.{turns, block_meaning}
@@ -12,7 +12,7 @@ use Rattle.camac_machine.proofs.Rooms.{room_kept}
 use Rattle.camac_machine.proofs.Frames.{wants_advance, wants_first, enter_advances, step_advances}
 use Rattle.camac_machine.proofs.Loops.{while_begins}
 use Rattle.camac_machine.proofs.Fine.{turns_are}
-use Rattle.camac_machine.proofs.Trees.{assign_is, register_is, put_is, single_is, crate_is, lam_is, scan_is, q_stop_is, q_repeat_is, choose_is, choose_else_is, lock_is, for_is, while_is, call_is}
+use Rattle.camac_machine.proofs.Trees.{assign_is, register_is, put_is, single_is, crate_is, lam_is, scan_is, q_stop_is, q_repeat_is, choose_is, choose_else_is, lock_is, for_is, each_is, while_is, call_is}
 use Rattle.camac_machine.proofs.machine.Machine.begin.Goals as goal
 
 -- what a transfer wants is told by whether it wants something
@@ -252,6 +252,20 @@ returns-in-For-clause-advances g c =
     let w = c.in-For in
     rw (w.is, for_is w.head w.body)
     (step_advances c.args.self.now (for_of w.head (statements_of w.body.items)) None c.begin_for.new.self (rw c.deref-in-For.ensures.value at c.begin_for.ensures))
+
+pub begin_from-requires : goal.begin_from-requires
+begin_from-requires g c =
+    let w = c.in-ForEach in
+    let e = each_is w.line w.variable w.first w.last w.body in
+    let fits = rw (w.is, e) at c.requires.fits in
+    let fine = rw (w.is, e) at c.requires.fine in
+    (search, (room_kept c.requires.room, (fits.0, (rw c.deref-in-ForEach.ensures.value (fits.1, fits.2), rw c.deref-in-ForEach.ensures.value fine))))
+
+pub returns-in-ForEach-clause-advances : goal.returns-in-ForEach-clause-advances
+returns-in-ForEach-clause-advances g c =
+    let w = c.in-ForEach in
+    rw (w.is, each_is w.line w.variable w.first w.last w.body)
+    (step_advances c.args.self.now (for_each w.line w.variable w.first w.last (statements_of w.body.items)) None c.begin_from.new.self (rw c.deref-in-ForEach.ensures.value at c.begin_from.ensures))
 
 pub test_while-requires : goal.test_while-requires
 test_while-requires g c =

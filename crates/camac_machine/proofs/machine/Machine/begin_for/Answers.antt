@@ -1,13 +1,13 @@
-use Rattle.std.proofs.Common.{◌-◌, suc, [], sym}
+use Rattle.std.proofs.Common.{◌+◌, ◌-◌, [], sym}
 use Rattle.std.specs.Prelude.{None}
 use Rattle.camac_lang.specs.Tree.{for_}
 use Rattle.camac_lang.specs.View.{expression_of, statements_of}
 use Rattle.camac_model.specs.Fine.{most_turns}
-use Rattle.camac_model.specs.Meaning.{effect, for_turns, block_meaning}
+use Rattle.camac_model.specs.Meaning.{effect, for_from, block_meaning}
 use Rattle.camac_model.specs.Value.{value}
 use Rattle.camac_machine.specs.MachineState.{variables_here}
 use Rattle.camac_machine.proofs.Actions.{has_value, known}
-use Rattle.camac_machine.proofs.Loops.{fine_as, advances_as, unchanged, count_goes, count_none}
+use Rattle.camac_machine.proofs.Loops.{fine_as, advances_as, from_to}
 use Rattle.camac_machine.proofs.machine.Machine.begin_for.Goals as goal
 
 pub value_of-first-requires : goal.value_of-first-requires
@@ -21,8 +21,8 @@ value_of-last-requires g c =
     (known h (value (expression_of c.args.head.now.from) (variables_here h)) c.value_of-first.result _ [] c.value_of-first.ensures (c.requires.fine [])) in
     (search, (c.requires.room, (c.requires.fits.2, has)))
 
-pub turn-requires : goal.turn-requires
-turn-requires g c =
+pub begin_from-requires : goal.begin_from-requires
+begin_from-requires g c =
     let h = c.args.self.now in
     let x = c.args.head.now.variable in
     let e1 = expression_of c.args.head.now.from in
@@ -37,15 +37,15 @@ turn-requires g c =
           c.requires.fits.0,
           (
             (c.requires.fits.3, c.requires.fits.4),
-            fine_as h (λ k. effect k most_turns (for_ 0 x e1 e2 [] b)) (λ k. for_turns (suc (w - v)) 65535 x v w (block_meaning k most_turns b))
-                (count_goes h x e1 e2 b v w c.value_of-first.ensures c.value_of-last.ensures c.if-first-last.true) c.requires.fine,
+            fine_as h (λ k. effect k most_turns (for_ 0 x e1 e2 [] b)) (λ k. for_from (w + 1 - v) most_turns x v w (block_meaning k most_turns b))
+                (from_to h x e1 e2 b v w c.value_of-first.ensures c.value_of-last.ensures) c.requires.fine,
           ),
         ),
       ),
     )
 
-pub returns-then-first-last : goal.returns-then-first-last
-returns-then-first-last g c =
+pub returns : goal.returns
+returns g c =
     let h = c.args.self.now in
     let x = c.args.head.now.variable in
     let e1 = expression_of c.args.head.now.from in
@@ -53,14 +53,5 @@ returns-then-first-last g c =
     let b = statements_of c.args.body.now in
     let v = c.value_of-first.result in
     let w = c.value_of-last.result in
-    advances_as h (λ k. for_turns (suc (w - v)) 65535 x v w (block_meaning k most_turns b)) (λ k. effect k most_turns (for_ 0 x e1 e2 [] b)) None c.turn.new.self
-    (λ answers. sym (count_goes h x e1 e2 b v w c.value_of-first.ensures c.value_of-last.ensures c.if-first-last.true answers)) c.turn.ensures
-
-pub returns-else-first-last : goal.returns-else-first-last
-returns-else-first-last g c =
-    let h = c.args.self.now in
-    let x = c.args.head.now.variable in
-    let e1 = expression_of c.args.head.now.from in
-    let e2 = expression_of c.args.head.now.to in
-    let b = statements_of c.args.body.now in
-    unchanged h (λ k. effect k most_turns (for_ 0 x e1 e2 [] b)) (count_none h x e1 e2 b c.value_of-first.result c.value_of-last.result c.value_of-first.ensures c.value_of-last.ensures c.if-first-last.false) c.requires.room
+    advances_as h (λ k. for_from (w + 1 - v) most_turns x v w (block_meaning k most_turns b)) (λ k. effect k most_turns (for_ 0 x e1 e2 [] b)) None c.begin_from.new.self
+    (λ answers. sym (from_to h x e1 e2 b v w c.value_of-first.ensures c.value_of-last.ensures answers)) c.begin_from.ensures
