@@ -1,11 +1,13 @@
 -- Each cost grows with its parts.
-use Rattle.std.proofs.Common.{ℕ, ◌+◌, ◌*◌, ◌≤◌, Option, Some, None, Result, Ok, Err, refl, subst, arith}
+use Rattle.std.proofs.Common.{ℕ, zero, suc, ◌+◌, ◌*◌, ◌≤◌, Option, Some, None, Result, Ok, Err, refl, subst, arith}
 use Rattle.std.proofs.Math.Nat.{mul-le-mul_left}
+use Rattle.camac_range.specs.Interval.{only}
 use Rattle.camac_model.specs.Fine.{Bounds}
 use Rattle.camac_rules.specs.Fault.{Fault}
-use Rattle.camac_rules.specs.Known.{Known, Facts}
+use Rattle.camac_rules.specs.Known.{Known, Facts, with_range}
 use Rattle.camac_rules.specs.Refusal.{go_on, if_reached}
-use Rattle.camac_rules.specs.Costs.{plus, choice_costs, lock_costs, loop_costs, call_costs, Verdict, verdict, unreached}
+use Rattle.camac_rules.specs.Costs.{plus, choice_costs, lock_costs, loop_costs, call_costs, Verdict, verdict, no_costs, unreached}
+use Rattle.camac_rules.specs.Each.{turn_costs, each_turns, each_from}
 use Rattle.camac_laws.specs.Lower.{AtMost}
 use Rattle.camac_laws.specs.Grow.{CostsAtMost}
 
@@ -43,6 +45,9 @@ loop_grown turns a b h =
       steps = omega (arith, steps);
     }
 
+pub turn_grown : (a b : Bounds) → AtMost a b → AtMost (turn_costs a) (turn_costs b)
+turn_grown a b h = record { cycles = h.cycles; words = h.words; steps = omega (arith, h.steps) }
+
 pub call_grown : (a b : Bounds) → AtMost a b → AtMost (call_costs a) (call_costs b)
 call_grown a b h = record { cycles = h.cycles; words = h.words; steps = omega (arith, h.steps) }
 
@@ -68,3 +73,18 @@ if_reached_grown (Some q) k l h = h q
 pub same_grown : (r : Result Verdict Fault) → CostsAtMost r r
 same_grown (Ok v) = (refl, itself v.costs)
 same_grown (Err f) = refl
+
+-- the turns of an `each`
+each_turns_grown : (n x v last : ℕ) (check other : Facts → Result Verdict Fault) → ((q : Facts) → CostsAtMost (check q) (other q)) → (k : Facts)
+    → CostsAtMost (each_turns (λ c. c) n x v last check k) (each_turns (λ c. c) n x v last other k)
+each_turns_grown zero x v last check other h k = (refl, itself no_costs)
+each_turns_grown (suc n) x v last check other h k =
+    go_grown (check (with_range x (only v) k)) (other (with_range x (only v) k)) _ _ (h (with_range x (only v) k)) (λ known a b turn.
+    go_grown (if_reached unreached known (each_turns (λ c. c) n x (v + 1) last check)) (if_reached unreached known (each_turns (λ c. c) n x (v + 1) last other)) _ _
+    (if_reached_grown known (each_turns (λ c. c) n x (v + 1) last check) (each_turns (λ c. c) n x (v + 1) last other) (λ q. each_turns_grown n x (v + 1) last check other h q))
+    (λ after c d rest. (refl, plus_grown (turn_costs a) (turn_costs b) c d (turn_grown a b turn) rest)))
+
+pub each_grown : (n x v last : ℕ) (check other : Facts → Result Verdict Fault) → ((q : Facts) → CostsAtMost (check q) (other q)) → (k : Facts)
+    → CostsAtMost (each_from (λ c. c) n x v last check k) (each_from (λ c. c) n x v last other k)
+each_grown zero x v last check other h k = (refl, itself no_costs)
+each_grown (suc n) x v last check other h k = each_turns_grown (suc n) x v last check other h k

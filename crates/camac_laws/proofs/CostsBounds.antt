@@ -18,6 +18,7 @@ use Rattle.camac_rules.specs.Capped.{capped}
 use Rattle.camac_rules.specs.Costs.{costs, Verdict, unreached}
 use Rattle.camac_rules.specs.Cycles.{Context, Around, alone_in}
 use Rattle.camac_rules.specs.Statements.{accept_block}
+use Rattle.camac_rules.specs.EachLimit.{count_block}
 use Rattle.camac_rules.specs.Accept.{Section, sections, at_start, own_body, within, accept_procedure, accept_service, accept_items, with_procedure, bare}
 use Rattle.camac_rules.specs.Procedures.{at_entry}
 use Rattle.camac_check_costs.specs.declared.bodies.Owner.{Owner}
@@ -98,12 +99,16 @@ body_in_code r around b k place m bound line hc hw hs e =
 
 pub procedure_in_code : (r : Context) (p : Procedure) (k : Bounds) → p.cycles < 2 ^ 64 - 1 → p.words < 2 ^ 64 - 1 → p.steps < 2 ^ 64 - 1 → accept_procedure (in_rules r) p ≡ Ok k
     → InCode r (alone_in (own_body r)) p.body (at_entry p.parameters) k
-procedure_in_code r p k hc hw hs e = body_in_code r (alone_in (own_body r)) p.body (at_entry p.parameters) (own_body r) (annotated p) k p.line hc hw hs e
+procedure_in_code r p k hc hw hs e =
+    let counted = go_ok (count_block (own_body r) p.body 0) _ k e in
+    body_in_code r (alone_in (own_body r)) p.body (at_entry p.parameters) (own_body r) (annotated p) k p.line hc hw hs counted.2
 
 pub service_in_code : (r : Context) (v : Service) (k : Bounds) → v.cycles < 2 ^ 64 - 1 → v.words < 2 ^ 64 - 1 → accept_service (in_rules r) v ≡ Ok k
     → InCode r (alone_in (body.Service v.lam)) v.body (Some at_start) k
 unfolding if_reached
-service_in_code r v k hc hw e = body_in_code r (alone_in (body.Service v.lam)) v.body (Some at_start) (body.Service v.lam) (costs v.cycles v.words greatest) k v.line hc hw (lit< tt) e
+service_in_code r v k hc hw e =
+    let counted = go_ok (count_block (body.Service v.lam) v.body 0) _ k e in
+    body_in_code r (alone_in (body.Service v.lam)) v.body (Some at_start) (body.Service v.lam) (costs v.cycles v.words greatest) k v.line hc hw (lit< tt) counted.2
 
 body_bound : (r : Context) (whose : Owner) (around : Around) (b : Block) (k : Known) (bound : Bounds) → InCode r around b k bound → Bound (body_costs (in_code r) whose around b k) bound
 body_bound r whose around b k bound h =

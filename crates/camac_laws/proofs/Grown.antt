@@ -3,7 +3,7 @@ use Rattle.std.proofs.Common.{length, ◌≡◌, ℕ, zero, suc, List, [], ◌�
 use Rattle.std.specs.Prelude.{slice_get, take, unwrap_or}
 use Rattle.camac_lang.specs.declared.word.WordSize.{WordSize}
 use Rattle.camac_lang.specs.Headings.{annotate}
-use Rattle.camac_lang.specs.Tree.{Move, no_data, into, from, Statement, assign, set_register, single, address_scan, q_stop, q_repeat, put, crate_call, lam_call, choose, choose_else, for_, while_, locked, call, Block, done, next, Procedure, Script}
+use Rattle.camac_lang.specs.Tree.{Move, no_data, into, from, Statement, assign, set_register, single, address_scan, q_stop, q_repeat, put, crate_call, lam_call, choose, choose_else, for_, for_each, while_, locked, call, Block, done, next, Procedure, Script}
 use Rattle.camac_range.specs.Interval.{Interval}
 use Rattle.camac_branch.specs.Plan.{crate_waits}
 use Rattle.camac_model.specs.Fine.{annotated}
@@ -13,16 +13,17 @@ use Rattle.camac_rules.specs.declared.case.Case.TheVariants.{Malformed}
 use Rattle.camac_rules.specs.Refusal.{go_on, required, given, if_reached}
 use Rattle.camac_rules.specs.Known.{Facts}
 use Rattle.camac_rules.specs.Conditions.{split}
-use Rattle.camac_rules.specs.Costs.{no_costs, call_costs, Verdict, verdict, unreached}
+use Rattle.camac_rules.specs.Costs.{costs, no_costs, call_costs, Verdict, verdict, unreached}
 use Rattle.camac_rules.specs.Cycles.{Context, Around, with_locked, single_rule}
 use Rattle.camac_rules.specs.Loops.{with_fixed, for_limits, for_head, keeps_hold_after, turns_between, while_head, turn_bound}
+use Rattle.camac_rules.specs.Each.{each_from, each_begins}
 use Rattle.camac_rules.specs.Procedures.{ranges_of, arguments_fit, unfit}
 use Rattle.camac_rules.specs.Calls.{lock_rule}
 use Rattle.camac_rules.specs.Statements.{accept_statement, accept_block}
 use Rattle.camac_rules.specs.Accept.{bare}
 use Rattle.camac_laws.specs.Lower.{AtMost, ProcedureAtMost}
 use Rattle.camac_laws.specs.Grow.{CostsAtMost, CostsGrow}
-use Rattle.camac_laws.proofs.Costs.{itself, plus_grown, choice_grown, lock_grown, loop_grown, call_grown, go_same, go_grown, if_reached_grown, same_grown}
+use Rattle.camac_laws.proofs.Costs.{itself, plus_grown, choice_grown, lock_grown, loop_grown, call_grown, each_grown, go_same, go_grown, if_reached_grown, same_grown}
 
 -- the same procedure but for the numbers of its heading, which are at most those of the second
 pub record IsLower (p q : Procedure) : Type 0 where
@@ -113,6 +114,11 @@ mutual
       go_grown (if_reached unreached (for_head x l keeps body k) (accept_block (calling c ps) (with_fixed x around) body)) (if_reached unreached (for_head x l keeps body k) (accept_block (calling c qs) (with_fixed x around) body)) _ _
       (if_reached_grown (for_head x l keeps body k) (accept_block (calling c ps) (with_fixed x around) body) (accept_block (calling c qs) (with_fixed x around) body) (λ q. block_lower c ps qs h (with_fixed x around) body q))
       (λ after a b turn. go_same (required (keeps_hold_after keeps after) KeepFailsAfterTurn line _) _ _ (λ _. (refl, loop_grown (turns_between l) a b turn))))
+  statement_lower c ps qs h around (for_each line x v last body) k =
+      go_same (each_begins around line x v last) _ _ (λ turns.
+      go_grown (each_from (λ k. k) turns x v last (accept_block (calling c ps) (with_fixed x around) body) k) (each_from (λ k. k) turns x v last (accept_block (calling c qs) (with_fixed x around) body) k) _ _
+      (each_grown turns x v last (accept_block (calling c ps) (with_fixed x around) body) (accept_block (calling c qs) (with_fixed x around) body) (λ q. block_lower c ps qs h (with_fixed x around) body q) k)
+      (λ after a b all. (refl, plus_grown (costs 0 0 1) (costs 0 0 1) a b (itself (costs 0 0 1)) all)))
   statement_lower c ps qs h around (while_ line test most m keeps body) k =
       go_same (while_head around.body line most m keeps body k) _ _ (λ top.
       go_same (split line test top) _ _ (λ arms.

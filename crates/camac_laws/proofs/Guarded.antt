@@ -2,7 +2,7 @@
 use Rattle.std.proofs.Common.{◌≡◌, ◌≢◌, ℕ, zero, suc, ◌+◌, ◌-◌, List, [], ◌∷◌, ◌++◌, Option, Some, None, Bool, true, false, refl, ap, ◌∙◌}
 use Rattle.std.specs.Prelude.{slice_get, if◌then◌else◌}
 use Rattle.camac_crate.specs.Lock.{permitted}
-use Rattle.camac_lang.specs.Tree.{Condition, Parameter, Procedure, Statement, assign, set_register, single, address_scan, q_stop, q_repeat, put, crate_call, lam_call, choose, choose_else, for_, while_, locked, call, Block, done, next, Script}
+use Rattle.camac_lang.specs.Tree.{Condition, Parameter, Procedure, Statement, assign, set_register, single, address_scan, q_stop, q_repeat, put, crate_call, lam_call, choose, choose_else, for_, for_each, while_, locked, call, Block, done, next, Script}
 use Rattle.camac_branch.specs.Branch.{Answer}
 use Rattle.camac_branch.specs.Plan.{Layout, crate_waits}
 use Rattle.camac_model.specs.State.{State, stepped}
@@ -141,6 +141,8 @@ module _ (c : Context) (fs gs : List (ℕ → Action)) (alike : Alike fs gs) (n 
         given_same (value e1 s.variables) (last fs) (last gs) s (λ v.
         given_same (value e2 s.variables) (turn fs v) (turn gs v) s (λ w.
         count_same (w + 1 - v) n x v w (block_meaning (calling c fs) n body) (block_meaning (calling c gs) n body) (λ t. block_same body t) s))
+    statement_same (for_each line x v last body) s =
+        count_same (last + 1 - v) n x v last (block_meaning (calling c fs) n body) (block_meaning (calling c gs) n body) (λ t. block_same body t) s
     statement_same (while_ line test most m keeps body) s =
         turns_same n test (block_meaning (calling c fs) n body) (block_meaning (calling c gs) n body) (λ t. block_same body t) s
     statement_same (locked line e body) s =

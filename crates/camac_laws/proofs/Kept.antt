@@ -17,8 +17,9 @@ use Rattle.camac_rules.specs.declared.case.Body.{Body}
 use Rattle.camac_rules.specs.declared.case.Body.TheVariants as body
 use Rattle.camac_rules.specs.Cycles.{alone_in}
 use Rattle.camac_rules.specs.Statements.{accept_block}
+use Rattle.camac_rules.specs.EachLimit.{count_block}
 use Rattle.camac_rules.specs.Accept.{at_start, own_body, accept_procedure, accept_service, accept_items}
-use Rattle.camac_rules.proofs.Allows.{Allows, allowed, then_allowed, required_allowed, for_each, allowed_more}
+use Rattle.camac_rules.proofs.Allows.{after_any, Allows, allowed, then_allowed, required_allowed, for_each, allowed_more}
 use Rattle.camac_rules.proofs.Stores.{Place, Inside}
 use Rattle.camac_rules.proofs.Sound.{Sound, SoundFor}
 use Rattle.camac_rules.proofs.Actions.{HasWidths, Setting, of, seen, with_test}
@@ -102,22 +103,24 @@ module _ (plan : Layout) (script : Script) (narrow : HasWidths plan) where
 
   service_kept : (done : List Procedure) → Serves (setting plan script all done) → (v : Service) → Allows (accept_service (seen (setting plan script all done)) v) (λ k. IsKept plan script v)
   service_kept done serves v =
+      after_any (count_block (body.Service v.lam) v.body 0) (λ judged.
       then_allowed (block_sound (setting plan script all done) narrow serves (outermost (body.Service v.lam)) v.body (λ e c. refl) at_start) (λ found h.
       required_allowed _ v.line _ (λ words.
       required_allowed _ v.line _ (λ cycles.
       required_allowed _ v.line _ (λ steps.
       allowed (λ n le b answers.
-      sound_right plan (outermost (body.Service v.lam)) found.after found.costs (fresh b answers) (service_meaning (guarded_context plan script) n v b answers) (h.each n le (fresh b answers) (start_inside (body.Service v.lam) b answers)))))))
+      sound_right plan (outermost (body.Service v.lam)) found.after found.costs (fresh b answers) (service_meaning (guarded_context plan script) n v b answers) (h.each n le (fresh b answers) (start_inside (body.Service v.lam) b answers))))))))
 
   procedure_kept : (rs : List (ℕ → Action)) (done : List Procedure) → Matched plan rs done → (p : Procedure) → block_has_lock p.body ≡ false → Allows (accept_procedure (seen (setting plan script rs done)) p) (λ found. RoutineSound plan p (guarded p.parameters (λ n. block_meaning (of (setting plan script rs done)) n p.body)))
   procedure_kept rs done m p free =
       let c : Setting = setting plan script rs done in
       let run : ℕ → Action = λ n. block_meaning (of c) n p.body in
+      after_any (count_block (own_body (seen c)) p.body 0) (λ judged.
       allowed_more
       (routine_sound plan (own_body (seen c)) p run (accept_block (seen c) (alone_in (own_body (seen c))) p.body) (λ k.
       for_each (λ outside. Unit {0}) (λ outside v. SoundFor plan (called (own_body (seen c)) outside) (Some k) run v) (λ outside u.
       block_sound c narrow (serves_own plan script rs done m) (called (own_body (seen c)) outside) p.body (λ e. absurd (false≢true (sym free ∙ e))) k)))
-      (λ found h. guarded_sound plan p run h)
+      (λ found h. guarded_sound plan p run h))
 
   none_left : (rs : List (ℕ → Action)) (done ps : List Procedure) → Matched plan rs done → guarded_routines (bare_with plan script rs) ps ≡ all → 0 ≡ length ps → Matched plan all (done ++ ps)
   none_left rs done [] m e n = subst (λ l. Matched plan all l) (sym (append-nil done)) (subst (λ l. Matched plan l done) e m)

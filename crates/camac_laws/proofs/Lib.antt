@@ -23,6 +23,7 @@ pub mod Windows
 pub mod ScansJudged
 mod AddressRows
 pub mod Sums
+pub mod Turned
 pub mod Shares
 pub mod Times
 pub mod CostsBounds

@@ -4,7 +4,9 @@ use Rattle.std.proofs.Math.Nat.{mul-le-mul_left}
 use Rattle.std.proofs.lemmas.Bool.{ltb-true, ltb-false}
 use Rattle.std.proofs.lemmas.Nat.{mul-le}
 use Rattle.std.specs.Prelude.{IfOk, nat_lt, unwrap_or, if◌then◌else◌}
-use Rattle.camac_lang.specs.Tree.{Expression, Condition, Keep, Statement, assign, set_register, single, address_scan, q_stop, q_repeat, put, crate_call, lam_call, choose, choose_else, for_, while_, locked, call, Block, done, next}
+use Rattle.camac_lang.specs.Tree.{Expression, Condition, Keep, Statement, assign, set_register, single, address_scan, q_stop, q_repeat, put, crate_call, lam_call, choose, choose_else, for_, for_each, while_, locked, call, Block, done, next}
+use Rattle.camac_range.specs.Number.{greatest}
+use Rattle.camac_range.specs.Interval.{only}
 use Rattle.camac_branch.specs.Branch.{Answer}
 use Rattle.camac_branch.specs.Plan.{Layout, crate_waits}
 use Rattle.camac_model.specs.State.{State, stepped}
@@ -20,16 +22,17 @@ use Rattle.camac_rules.specs.Known.{Facts, Known, with_range}
 use Rattle.camac_rules.specs.Conditions.{Branches, branches, split}
 use Rattle.camac_rules.specs.Capped.{capped}
 use Rattle.camac_rules.specs.Costs.{costs, no_costs, plus, choice_costs, lock_costs, loop_costs, Verdict, unreached}
-use Rattle.camac_rules.specs.Cycles.{Context, Around, with_locked}
+use Rattle.camac_rules.specs.Cycles.{Context, Around, with_locked, may_write}
 use Rattle.camac_rules.specs.Calls.{lock_rule}
 use Rattle.camac_rules.specs.Loops.{Limits, with_fixed, for_limits, for_head, head, keeps_hold_after, turns_between, values_between, while_head, turn_bound}
+use Rattle.camac_rules.specs.Each.{turn_costs, each_turns, each_from, each_begins}
 use Rattle.camac_rules.specs.Statements.{accept_statement, accept_block}
 use Rattle.camac_rules.proofs.Allows.{Allows}
 use Rattle.camac_rules.proofs.Stores.{Place, around_of, fixing, holding, Inside, Reaches}
 use Rattle.camac_rules.proofs.Conditions.{Decides, split_each}
-use Rattle.camac_rules.proofs.Values.{Fits}
+use Rattle.camac_rules.proofs.Values.{Fits, only_within}
 use Rattle.camac_rules.proofs.Sound.{Paid, step, SafePiece, StopsWell, EndsWell, Sound, SoundFor}
-use Rattle.camac_rules.proofs.Actions.{Setting, of, HasWidths, seen, value_of}
+use Rattle.camac_rules.proofs.Actions.{Setting, of, HasWidths, seen, value_of, inside_written}
 use Rattle.camac_rules.proofs.Held.{MayLock, lock_allowed, lock_taken}
 use Rattle.camac_rules.proofs.ForLoops as counting
 use Rattle.camac_rules.proofs.ForLoops.{limits_allowed}
@@ -43,15 +46,17 @@ use Rattle.camac_check_rows.specs.declared.row.Detail.{Detail}
 use Rattle.camac_check_rows.specs.declared.row.Row.{Row}
 use Rattle.camac_check_rows.specs.declared.inside.Weight.{Weight}
 use Rattle.camac_check_rows.specs.Weights.{once, turning, first_arm, second_arm, in_64_bits}
+use Rattle.camac_check_rows.specs.Turns.{merge, Turned, turned, turns_over, each_turned}
 use Rattle.camac_check_rows.specs.Rows.{found, block_verdict, Turning, turning_from, ways, for_turning, while_turning, taken, lock_inside, lock_head, own_row, else_row, inside, statement_rows, block_rows}
 use Rattle.camac_laws.specs.Lower.{AtMost}
 use Rattle.camac_laws.specs.Made.{Made, spent, both, from_end, where_some, by_test, for_made, while_made, lock_made, unmade_in, unmade, made_in, made}
 use Rattle.camac_laws.specs.Shares.{IsBelow}
 use Rattle.camac_laws.proofs.CostsBounds.{required_ok}
-use Rattle.camac_laws.proofs.MadeLists.{KeepsIn, AllIn, in_more, in_both, in_append, none_inside, all_inside}
+use Rattle.camac_laws.proofs.MadeLists.{KeepsIn, AllIn, in_more, in_both, in_append, none_inside, all_inside, AllAdd, same_more, none_merged, adds_in, adds_none, adds_turn, turns_none, turns_unmade}
 use Rattle.camac_laws.proofs.Shares.{go_ok, ok_same}
-use Rattle.camac_laws.proofs.Sums.{if_below, choice_below, lock_below, then_below}
-use Rattle.camac_laws.proofs.Times.{block_in_steps}
+use Rattle.camac_laws.proofs.Sums.{if_below, choice_below, lock_below, then_below, turn_then_below}
+use Rattle.camac_laws.proofs.Times.{no_more_up, no_more_merged, block_never, block_in_steps, turns_from_in_steps}
+use Rattle.camac_laws.proofs.Turned.{begun}
 
 -- ---- what is not made
 
@@ -85,6 +90,10 @@ mutual
   unmade_statement r around (for_ line x e1 e2 keeps body) k =
       let turn = for_turning around line x e1 e2 keeps body k in
       (none_row _, none_inside (turning turn.turns) _ (unmade body) (unmade_block r (with_fixed x around) body turn.head))
+  unmade_statement r around (for_each line x v last body) k =
+      let rows = block_rows (in_code r) (with_fixed x around) body in
+      (none_row _, none_inside once _ (unmade body)
+      (turns_none (block_verdict (in_code r) (with_fixed x around) body) rows (unmade body) (λ q. unmade_block r (with_fixed x around) body q) (last + 1 - v) x v k (turned 0 (rows None)) (unmade_block r (with_fixed x around) body None)))
   unmade_statement r around (while_ line test most m keeps body) k =
       let turn = while_turning around line test most m keeps body k in
       (none_row _, none_inside (turning turn.turns) _ (unmade body) (unmade_block r around body turn.head))
@@ -104,11 +113,15 @@ sound_paid plan around after k s (does p b) h = sound_paid plan around after k s
 sound_paid plan around after k s (ends t) h = h.paid
 sound_paid plan around after k s (stops w t) h = h.paid
 
+from_end_holds : (H : Made → Type 0) (plan : Layout) (P : Unit {0} → Stop → State → Type 0) (Q : Unit {0} → State → Type 0) (b : Behaviour State) (go : State → Made) (none : Made)
+    → Meets step (SafePiece plan) P Q tt b → ((t : State) → Q tt t → H (go t)) → H none → H (from_end b go none)
+from_end_holds H plan P Q (does p b) go none h f g = from_end_holds H plan P Q b go none h.1 f g
+from_end_holds H plan P Q (ends t) go none h f g = f t h
+from_end_holds H plan P Q (stops w t) go none h f g = g
+
 from_end_keeps : (m : ℕ) (rows : List Row) (plan : Layout) (P : Unit {0} → Stop → State → Type 0) (Q : Unit {0} → State → Type 0) (b : Behaviour State) (go : State → Made) (none : Made)
     → Meets step (SafePiece plan) P Q tt b → ((t : State) → Q tt t → AllIn m rows (go t)) → AllIn m rows none → AllIn m rows (from_end b go none)
-from_end_keeps m rows plan P Q (does p b) go none h f g = from_end_keeps m rows plan P Q b go none h.1 f g
-from_end_keeps m rows plan P Q (ends t) go none h f g = f t h
-from_end_keeps m rows plan P Q (stops w t) go none h f g = g
+from_end_keeps m rows plan P Q b go none h f g = from_end_holds (AllIn m rows) plan P Q b go none h f g
 
 test_keeps : (m : ℕ) (rows : List Row) (around : Place) (o : Option Bool) (arms : Branches) (t : State) (first second none : Made)
     → Decides around o arms t → (Reaches around arms.holds t → AllIn m rows first) → (Reaches around arms.fails t → AllIn m rows second) → AllIn m rows (by_test o first second none)
@@ -264,6 +277,99 @@ module _ (c : Setting) (narrow : HasWidths c.plan) (serves : Serves c) (n : ℕ)
   abbrev BlockKeeps : Place → Block → Type 0
   BlockKeeps around b = (k : Known) (v : Verdict) → if_reached unreached k (accept_block Code (around_of around) b) ≡ Ok v → IsBelow v.costs → (s : State) → Reaches around k s
       → AllIn 1 (block_rows Code (around_of around) b k) (made (of c) n b s)
+
+  -- outside the loop its variable is fixed no more
+  outside : (around : Place) (x : ℕ) (k : Known) (s : State) → Reaches (fixing x around) k s → Reaches around k s
+  outside around x None s r = r
+  outside around x (Some k) s r = record { variables = r.variables; registers = r.registers; locks = r.locks }
+
+  -- so many further turns of an `each`, after those so far, of whose times so many are counted
+  module _ (around : Place) (x last : ℕ) (small : last ≤ greatest) (body : Block) (may : MayLock around (block_has_lock body)) (keeps : BlockKeeps (fixing x around) body) where
+    abbrev check : Facts → Result Verdict Fault
+    check q = accept_block Code (with_fixed x (around_of around)) body q
+
+    abbrev Rows : Known → List Row
+    Rows k = block_rows Code (with_fixed x (around_of around)) body k
+
+    abbrev over : (left next : ℕ) → Known → Turned → List Row
+    over left v k so_far = (turns_over capped left x v (block_verdict Code (with_fixed x (around_of around)) body) (block_rows Code (with_fixed x (around_of around)) body) k so_far).rows
+
+    abbrev goes : (left allowed next : ℕ) → State → Made
+    goes left allowed v t = for_made left allowed x v (run body) (made (of c) n body) (unmade body) t
+
+    unmade_at : (k : Known) → AllIn 0 (Rows k) (unmade body)
+    unmade_at k = unmade_block (seen c) (with_fixed x (around_of around)) body k
+
+    later_unmade : (left v : ℕ) (k : Known) (so_far : Turned) (m : ℕ) → AllIn 0 so_far.rows (unmade body) → NoMore (in_64_bits m) so_far.rows → AllAdd so_far.rows (over left v k so_far) (unmade body)
+    later_unmade left v k so_far m none le =
+        turns_unmade (block_verdict Code (with_fixed x (around_of around)) body) (block_rows Code (with_fixed x (around_of around)) body) (unmade body) unmade_at left x v k so_far none
+        (no_more_up (in_64_bits m) (2 ^ 64 - 1) so_far.rows (omega arith) le)
+
+    begins_turn : (v : ℕ) → v ≤ last → (q : Facts) (t : State) → Inside around q t → Inside (fixing x around) (with_range x (only v) q) (for_state x v t)
+    begins_turn v below q t i =
+        let j = inside_written around q x v (only v) t i (record { within = only_within v; small = omega (arith, small) }) in
+        record { variables = j.variables; registers = j.registers; locks = j.locks }
+
+    each_turns_keep : (left allowed v : ℕ) → left + v ≡ last + 1 → (k : Known) (so_far : Turned) (m : ℕ) (w : Verdict) → if_reached unreached k (each_turns capped left x v last check) ≡ Ok w
+        → IsBelow w.costs → m + w.costs.steps ≤ 2 ^ 64 - 1 → NoMore (in_64_bits m) so_far.rows → AllIn 0 so_far.rows (unmade body) → (t : State) → Reaches around k t
+        → AllAdd so_far.rows (over left v k so_far) (goes left allowed v t)
+    unfolding go_on if_reached
+    each_turns_keep zero j v is k so_far m w e low room le none t r = adds_none so_far.rows (unmade body) none
+    each_turns_keep (suc left) j v is None so_far m w e low room le none t r = absurd r
+    each_turns_keep (suc left) zero v is (Some q) so_far m w e low room le none t r = later_unmade (suc left) v (Some q) so_far m none le
+    each_turns_keep (suc left) (suc j) v is (Some q) so_far m w e low room few none t r =
+        let head : Facts = with_range x (only v) q in
+        let t' : State = for_state x v t in
+        let turn' = go_ok (check head) _ w e in
+        let turn = turn'.0 in
+        let rest' = go_ok (if_reached unreached turn.after (each_turns capped left x (v + 1) last check)) _ w turn'.2 in
+        let rest = rest'.0 in
+        let same : capped (plus (turn_costs turn.costs) rest.costs) ≡ w.costs = ap (λ u. u.costs) (ok_same _ _ rest'.2) in
+        let parts = turn_then_below turn.costs rest.costs m (subst IsBelow (sym same) low) (subst (λ (b : Bounds). m + b.steps ≤ 2 ^ 64 - 1) (sym same) room) in
+        let after : Turned = turned (1 + so_far.turns) (merge capped so_far.rows (Rows (Some head))) in
+        let steps = block_in_steps (seen c) (with_fixed x (around_of around)) body (Some head) turn turn'.1 in
+        let few' = no_more_merged m turn.costs.steps so_far.rows (Rows (Some head)) few steps in
+        let none' = none_merged so_far.rows (Rows (Some head)) (unmade body) none (unmade_at (Some head)) in
+        let i = begins_turn v (omega (arith, is)) q t r in
+        let b = judged_block (fixing x around) body may (Some head) turn turn'.1 in
+        let after_is : b.whole.after ≡ turn.after = ap (λ u. u.after) b.is in
+        adds_turn (in_64_bits m) (in_64_bits turn.costs.steps) so_far.rows (Rows (Some head)) (over (suc left) v (Some q) so_far) (made (of c) n body t') _
+        (same_more 0 0 so_far.rows (Rows (Some head)) (unmade body) none (unmade_at (Some head))) few steps (omega (arith, parts.2)) (keeps (Some head) turn turn'.1 parts.0 t' i)
+        (subst (λ (u : Verdict). AllAdd after.rows (over left (v + 1) u.after after) (from_end (run body t') (goes left j (v + 1)) (unmade body))) (sym (ap (λ u. found unreached u) turn'.1))
+        (from_end_holds (AllAdd after.rows (over left (v + 1) turn.after after)) c.plan (StopsWell b.whole.costs t') (EndsWell (fixing x around) b.whole.after b.whole.costs t') (run body t') (goes left j (v + 1)) (unmade body)
+        (b.sound.each n le t' i)
+        (λ u ended. each_turns_keep left j (v + 1) (omega (arith, is)) turn.after after (m + turn.costs.steps) rest rest'.1 parts.1 parts.3 few' none' u
+        (outside around x turn.after u (subst (λ o. Reaches (fixing x around) o u) after_is ended.reaches)))
+        (later_unmade left (v + 1) turn.after after (m + turn.costs.steps) none' few')))
+
+    -- with and without a turn
+    each_from_keeps : (count v : ℕ) → count ≡ last + 1 - v → (k : Facts) (w : Verdict) → each_from capped count x v last check k ≡ Ok w → IsBelow w.costs → (t : State) → Inside around k t
+        → AllIn 1 (over count v (Some k) (turned 0 (Rows None))) (goes count n v t)
+    unfolding if_reached
+    each_from_keeps zero v is k w e low t i = in_more 0 1 (Rows None) (unmade body) (omega arith) (unmade_at None)
+    each_from_keeps (suc count) v is k w e low t i =
+        adds_in (Rows None) (over (suc count) v (Some k) (turned 0 (Rows None))) _
+        (each_turns_keep (suc count) n v (omega (arith, is)) (Some k) (turned 0 (Rows None)) 0 w e low (omega (arith, low.2))
+        (no_more_up 0 (in_64_bits 0) (Rows None) (omega arith) (block_never (seen c) (with_fixed x (around_of around)) body)) (unmade_at None) t i)
+
+  each_keeps : (around : Place) (line x v last : ℕ) (body : Block) → MayLock around (block_has_lock body) → (k : Facts) (w : Verdict) → BlockKeeps (fixing x around) body
+      → accept_statement Code (around_of around) (for_each line x v last body) k ≡ Ok w → IsBelow w.costs → (s : State) → Inside around k s
+      → AllIn 1 (inside Code once (each_turned capped x v last (block_verdict Code (with_fixed x (around_of around)) body) (block_rows Code (with_fixed x (around_of around)) body) (Some k)).rows)
+      (made_in (of c) n (for_each line x v last body) (stepped s))
+  unfolding go_on if_reached
+  each_keeps around line x v last body may k w keeps e below s i =
+      let A = with_fixed x (around_of around) in
+      let count' = go_ok (each_begins (around_of around) line x v last) _ w e in
+      let turns' = go_ok (each_from capped count'.0 x v last (accept_block Code A body) k) _ w count'.2 in
+      let turns = turns'.0 in
+      let same : capped (plus (costs 0 0 1) turns.costs) ≡ w.costs = ap (λ u. u.costs) (ok_same _ _ turns'.2) in
+      let low = then_below (costs 0 0 1) turns.costs (subst IsBelow (sym same) below) in
+      let b = begun (around_of around) line x v last count'.0 count'.1 in
+      let rows : ℕ → List Row = λ j. (turns_over capped j x v (block_verdict Code A body) (block_rows Code A body) (Some k) (turned 0 (block_rows Code A body None))).rows in
+      subst (λ j. AllIn 1 (inside Code once (rows j)) (for_made j n x v (run body) (made (of c) n body) (unmade body) (stepped s))) b.is
+      (all_inside once (in_64_bits turns.costs.steps) (rows count'.0) _ (omega arith)
+      (turns_from_in_steps (seen c) A body (λ q u f. block_in_steps (seen c) A body q u f) count'.0 x v last k turns turns'.1)
+      (each_from_keeps around x last b.small body may keeps count'.0 v b.is k turns turns'.1 low.1 (stepped s) (stepped_inside around k s i)))
 
   if_keeps_to : (around : Place) (line : ℕ) (test : Condition) (a : Block) (k : Facts) (v : Verdict) → BlockKeeps around a → accept_statement Code (around_of around) (choose line test a) k ≡ Ok v → IsBelow v.costs
       → (s : State) → Inside around k s → AllIn 1 (inside Code once (block_rows Code (around_of around) a (ways line test (Some k)).holds)) (made_in (of c) n (choose line test a) (stepped s))
@@ -472,6 +578,8 @@ module _ (c : Setting) (narrow : HasWidths c.plan) (serves : Serves c) (n : ℕ)
         (own_keeps around (locked line e1 body) may k v _ _ e low s i, lock_keeps_to around line e1 body k v (λ m. block_keeps (holding m around) body (λ h. may refl)) e low s i)
     statement_keeps around (for_ line x e1 e2 qs body) may k v e low s i =
         (own_keeps around (for_ line x e1 e2 qs body) may k v _ _ e low s i, for_keeps around line x e1 e2 qs body may k v (block_keeps (fixing x around) body may) e low s i)
+    statement_keeps around (for_each line x first last body) may k v e low s i =
+        (own_keeps around (for_each line x first last body) may k v _ _ e low s i, each_keeps around line x first last body may k v (block_keeps (fixing x around) body may) e low s i)
     statement_keeps around (while_ line test most m qs body) may k v e low s i =
         (own_keeps around (while_ line test most m qs body) may k v _ _ e low s i, while_keeps around line test most m qs body may k v (block_keeps around body may) e low s i)
 

@@ -1,14 +1,18 @@
 -- What is made in parts, by the rows of the parts.
-use Rattle.std.proofs.Common.{◌≡◌, refl, ℕ, ◌+◌, ◌-◌, ◌*◌, ◌^◌, ◌≤◌, Bool, true, false, List, [], ◌∷◌, ◌++◌, length, map, subst, length-append, arith}
+use Rattle.std.proofs.Common.{◌≡◌, refl, ℕ, zero, suc, ◌+◌, ◌-◌, ◌*◌, ◌^◌, ◌≤◌, Bool, true, false, List, [], ◌∷◌, ◌++◌, length, map, subst, length-append, arith}
 use Rattle.std.proofs.Math.Nat.{mul-le-mul_left}
 use Rattle.std.proofs.lemmas.Bool.{eqb-true}
-use Rattle.std.specs.Prelude.{nat_eq, if◌then◌else◌}
+use Rattle.std.specs.Prelude.{Some, None, nat_eq, if◌then◌else◌}
+use Rattle.camac_range.specs.Interval.{only}
 use Rattle.camac_model.specs.Fine.{Bounds}
 use Rattle.camac_rules.specs.Capped.{capped}
-use Rattle.camac_rules.specs.Costs.{no_costs}
+use Rattle.camac_rules.specs.Costs.{no_costs, Verdict}
+use Rattle.camac_rules.specs.Known.{Known, with_range}
 use Rattle.camac_check_rows.specs.declared.row.Row.{Row}
 use Rattle.camac_check_rows.specs.declared.inside.Weight.{Weight}
+use Rattle.camac_check_rows.specs.Turns.{merge, most_of, Turned, turned, turns_over}
 use Rattle.camac_check_rows.specs.Weights.{in_64_bits, inside_row}
+use Rattle.camac_laws.specs.Lower.{AtMost}
 use Rattle.camac_laws.specs.Made.{Made, both, NoneAbove, AllKeep}
 use Rattle.camac_laws.specs.Times.{NoMore}
 
@@ -87,3 +91,124 @@ all_inside w n (r ∷ rows) (ks ∷ made) le (fits, most) (first, h) =
         let zero' : length ks ≤ 0 * r.times = subst (λ t. length ks ≤ t * r.times) (none refl) few in
         none_there ks no_costs (omega arith)
     by_weight false none = first.each
+
+-- ---- the turns of an `each`, whose rows become one
+
+pub same_more : (m n : ℕ) (as bs : List Row) (none : Made) → AllIn m as none → AllIn n bs none → length as ≡ length bs
+same_more m n [] [] none h g = refl
+same_more m n [] (b ∷ bs) [] h g = absurd g
+same_more m n [] (b ∷ bs) (ks ∷ none) h g = absurd h
+same_more m n (a ∷ as) bs [] h g = absurd h
+same_more m n (a ∷ as) [] (ks ∷ none) h g = absurd g
+same_more m n (a ∷ as) (b ∷ bs) (ks ∷ none) (first, h) (second, g) = let e = same_more m n as bs none h g in omega (arith, e)
+
+pub none_merged : (as bs : List Row) (none : Made) → AllIn 0 as none → AllIn 0 bs none → AllIn 0 (merge capped as bs) none
+none_merged [] bs none h g = g
+none_merged (a ∷ as) [] none h g = h
+none_merged (a ∷ as) (b ∷ bs) [] h g = absurd h
+none_merged (a ∷ as) (b ∷ bs) (ks ∷ none) (first, h) (second, g) =
+    let few = first.few in (record { few = omega arith; each = none_there ks _ (omega arith) }, none_merged as bs none h g)
+
+above_all : (k l : Bounds) (ks : List Bounds) → AtMost k l → NoneAbove k ks → NoneAbove l ks
+above_all k l [] le h = tt
+above_all k l (x ∷ ks) le (first, h) =
+    (record { cycles = omega (arith, first.cycles, le.cycles); words = omega (arith, first.words, le.words); steps = omega (arith, first.steps, le.steps) }, above_all k l ks le h)
+
+above_both : (k : Bounds) (ks us : List Bounds) → NoneAbove k ks → NoneAbove k us → NoneAbove k (ks ++ us)
+above_both k [] us h g = g
+above_both k (x ∷ ks) us (first, h) g = (first, above_both k ks us h g)
+
+first_most : (a b r : Bounds) → AtMost (most_of a b) r → AtMost a r
+first_most a b r h = record { cycles = omega (arith, h.cycles); words = omega (arith, h.words); steps = omega (arith, h.steps) }
+
+second_most : (a b r : Bounds) → AtMost (most_of a b) r → AtMost b r
+second_most a b r h = record { cycles = omega (arith, h.cycles); words = omega (arith, h.words); steps = omega (arith, h.steps) }
+
+-- with so many times more, and these costs, row a is row r at most
+pub record AddsTo (a r : Row) (ks : List Bounds) : Type 0 where
+  pub times : length ks + a.times ≤ r.times
+  pub most : AtMost a.each r.each
+  pub each : NoneAbove r.each ks
+
+abbrev pub AllAdd : List Row → List Row → Made → Type 0
+AllAdd [] [] [] = Unit {0}
+AllAdd [] [] (ks ∷ made) = ⊥
+AllAdd [] (r ∷ rs) made = ⊥
+AllAdd (a ∷ as) [] made = ⊥
+AllAdd (a ∷ as) (r ∷ rs) [] = ⊥
+AllAdd (a ∷ as) (r ∷ rs) (ks ∷ made) = AddsTo a r ks × AllAdd as rs made
+
+pub adds_in : (as rs : List Row) (made : Made) → AllAdd as rs made → AllIn 1 rs made
+adds_in [] [] [] h = tt
+adds_in [] [] (ks ∷ made) h = absurd h
+adds_in [] (r ∷ rs) made h = absurd h
+adds_in (a ∷ as) [] made h = absurd h
+adds_in (a ∷ as) (r ∷ rs) [] h = absurd h
+adds_in (a ∷ as) (r ∷ rs) (ks ∷ made) (first, h) = let few = first.times in (record { few = omega arith; each = first.each }, adds_in as rs made h)
+
+pub adds_none : (as : List Row) (none : Made) → AllIn 0 as none → AllAdd as as none
+adds_none [] [] h = tt
+adds_none [] (ks ∷ none) h = absurd h
+adds_none (a ∷ as) [] h = absurd h
+adds_none (a ∷ as) (ks ∷ none) (first, h) =
+    let few = first.few in
+    (record { times = omega arith; most = record { cycles = omega arith; words = omega arith; steps = omega arith }; each = none_there ks _ (omega arith) }, adds_none as none h)
+
+-- a turn in which nothing is made
+pub adds_unmade : (as bs rs : List Row) (none : Made) → length as ≡ length bs → NoMore (2 ^ 64 - 1) as → AllAdd (merge capped as bs) rs none → AllAdd as rs none
+adds_unmade [] [] rs none e le h = h
+adds_unmade [] (b ∷ bs) rs none e le h = absurd (omega (arith, e))
+adds_unmade (a ∷ as) [] rs none e le h = h
+adds_unmade (a ∷ as) (b ∷ bs) [] none e le h = absurd h
+adds_unmade (a ∷ as) (b ∷ bs) (r ∷ rs) [] e le h = absurd h
+adds_unmade (a ∷ as) (b ∷ bs) (r ∷ rs) (ks ∷ none) e (fits, le) (first, h) =
+    let few = first.times in
+    (record { times = omega arith; most = first_most a.each b.each r.each first.most; each = first.each }, adds_unmade as bs rs none (omega (arith, e)) le h)
+
+-- a turn, and then the others
+pub adds_turn : (m n : ℕ) (as bs rs : List Row) (made others : Made) → length as ≡ length bs → NoMore m as → NoMore n bs → m + n ≤ 2 ^ 64 - 1
+    → AllIn 1 bs made → AllAdd (merge capped as bs) rs others → AllAdd as rs (both made others)
+adds_turn m n [] [] rs [] others e le less room g h = h
+adds_turn m n [] [] rs (ks ∷ made) others e le less room g h = absurd g
+adds_turn m n [] (b ∷ bs) rs made others e le less room g h = absurd (omega (arith, e))
+adds_turn m n (a ∷ as) [] rs made others e le less room g h = absurd (omega (arith, e))
+adds_turn m n (a ∷ as) (b ∷ bs) rs [] others e le less room g h = absurd g
+adds_turn m n (a ∷ as) (b ∷ bs) [] (ks ∷ made) others e le less room g h = absurd h
+adds_turn m n (a ∷ as) (b ∷ bs) (r ∷ rs) (ks ∷ made) [] e le less room g h = absurd h
+adds_turn m n (a ∷ as) (b ∷ bs) (r ∷ rs) (ks ∷ made) (us ∷ others) e (fits, le) (fit, less) room (one, g) (first, h) = (
+  record {
+    times = sum;
+    most = first_most a.each b.each r.each first.most;
+    each = above_both r.each ks us (above_all b.each r.each ks (second_most a.each b.each r.each first.most) one.each) first.each;
+  },
+  adds_turn m n as bs rs made others (omega (arith, e)) le less room g h,
+)
+  where
+    sum : length (ks ++ us) + a.times ≤ r.times
+    sum = let few = one.few in let more = first.times in let long = length-append ks us in omega arith
+
+fits_merged : (as bs : List Row) → length as ≡ length bs → NoMore (2 ^ 64 - 1) as → NoMore (2 ^ 64 - 1) (merge capped as bs)
+fits_merged [] [] e le = tt
+fits_merged [] (b ∷ bs) e le = absurd (omega (arith, e))
+fits_merged (a ∷ as) [] e le = le
+fits_merged (a ∷ as) (b ∷ bs) e (fits, le) = (omega arith, fits_merged as bs (omega (arith, e)) le)
+
+-- all further turns
+module _ (judge : Known → Verdict) (rows : Known → List Row) (none : Made) (unmade : (k : Known) → AllIn 0 (rows k) none) where
+  pub turns_none : (n x v : ℕ) (k : Known) (so_far : Turned) → AllIn 0 so_far.rows none → AllIn 0 (turns_over capped n x v judge rows k so_far).rows none
+  turns_none zero x v k so_far h = h
+  turns_none (suc n) x v None so_far h = h
+  turns_none (suc n) x v (Some q) so_far h =
+      let now = rows (Some (with_range x (only v) q)) in
+      turns_none n x (v + 1) (judge (Some (with_range x (only v) q))).after (turned (1 + so_far.turns) (merge capped so_far.rows now)) (none_merged so_far.rows now none h (unmade (Some (with_range x (only v) q))))
+
+  pub turns_unmade : (n x v : ℕ) (k : Known) (so_far : Turned) → AllIn 0 so_far.rows none → NoMore (2 ^ 64 - 1) so_far.rows → AllAdd so_far.rows (turns_over capped n x v judge rows k so_far).rows none
+  turns_unmade zero x v k so_far h le = adds_none so_far.rows none h
+  turns_unmade (suc n) x v None so_far h le = adds_none so_far.rows none h
+  turns_unmade (suc n) x v (Some q) so_far h le =
+      let head : Known = Some (with_range x (only v) q) in
+      let now = rows head in
+      let after : Turned = turned (1 + so_far.turns) (merge capped so_far.rows now) in
+      let same = same_more 0 0 so_far.rows now none h (unmade head) in
+      adds_unmade so_far.rows now (turns_over capped n x (v + 1) judge rows (judge head).after after).rows none same le
+      (turns_unmade n x (v + 1) (judge head).after after (none_merged so_far.rows now none h (unmade head)) (fits_merged so_far.rows now same le))

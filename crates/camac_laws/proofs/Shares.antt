@@ -1,18 +1,20 @@
 -- The shares of a statement and of a block add up to what it can cost.
 use Rattle.std.proofs.Common.{◌≡◌, ℕ, ◌+◌, ◌-◌, ◌*◌, ◌^◌, ◌<◌, zero, suc, List, [], ◌∷◌, ◌++◌, map, Option, Some, None, Result, Ok, Err, refl, sym, ap, subst, ◌∙◌, arith}
 use Rattle.std.specs.Prelude.{unwrap_or}
-use Rattle.camac_lang.specs.Tree.{Expression, Condition, Keep, Statement, assign, set_register, single, address_scan, q_stop, q_repeat, put, crate_call, lam_call, choose, choose_else, for_, while_, locked, call, Block, done, next}
+use Rattle.camac_lang.specs.Tree.{Expression, Condition, Keep, Statement, assign, set_register, single, address_scan, q_stop, q_repeat, put, crate_call, lam_call, choose, choose_else, for_, for_each, while_, locked, call, Block, done, next}
+use Rattle.camac_range.specs.Interval.{only}
 use Rattle.camac_branch.specs.Plan.{crate_waits}
 use Rattle.camac_model.specs.Fine.{Bounds}
 use Rattle.camac_rules.specs.Fault.{Fault}
 use Rattle.camac_rules.specs.Refusal.{go_on, required, if_reached}
-use Rattle.camac_rules.specs.Known.{Facts, Known}
+use Rattle.camac_rules.specs.Known.{Facts, Known, with_range}
 use Rattle.camac_rules.specs.Conditions.{Branches, branches, split}
 use Rattle.camac_rules.specs.Capped.{capped}
 use Rattle.camac_rules.specs.Costs.{costs, no_costs, plus, choice_costs, lock_costs, loop_costs, Verdict, unreached}
 use Rattle.camac_rules.specs.Cycles.{Context, Around, alone_in, with_locked}
 use Rattle.camac_rules.specs.Calls.{lock_rule}
 use Rattle.camac_rules.specs.Loops.{with_fixed, for_limits, for_head, keeps_hold_after, turns_between, while_head, turn_bound}
+use Rattle.camac_rules.specs.Each.{turn_costs, each_turns, each_from, each_begins}
 use Rattle.camac_rules.specs.Statements.{accept_statement, accept_block}
 use Rattle.camac_check_costs.specs.declared.bodies.Owner.{Owner}
 use Rattle.camac_check_costs.specs.declared.bodies.Owner.TheVariants as owner
@@ -22,10 +24,12 @@ use Rattle.camac_rules.specs.Procedures.{at_entry}
 use Rattle.camac_check_rows.specs.declared.row.Row.{Row}
 use Rattle.camac_check_rows.specs.declared.inside.Weight.{Weight}
 use Rattle.camac_check_rows.specs.Weights.{once, turning, first_arm, second_arm, weighed, inside_row}
+use Rattle.camac_check_rows.specs.Turns.{merge, Turned, turned, turns_over, each_turned}
 use Rattle.camac_check_rows.specs.Rows.{found, block_verdict, Turning, turning_from, loop_share, lock_share, lock_inside, lock_head, simple_row, else_row, inside, statement_rows, block_rows}
 use Rattle.camac_check_costs.specs.Bodies.{rows_if, body_costs, costs_over, sections_of}
 use Rattle.camac_laws.specs.Shares.{total, IsBelow, AddUp, SharesAddUp}
-use Rattle.camac_laws.proofs.Sums.{same_costs, plus_none, none_plus, total_append, total_arms, total_inside, total_of_none, if_sum, if_below, choice_sum, choice_below, lock_sum, lock_below, loop_sum, no_turns, loop_weighed, turn_below, then_sum, then_below}
+use Rattle.camac_laws.proofs.Sums.{same_costs, plus_none, none_plus, total_append, total_arms, total_inside, total_of_none, if_sum, if_below, choice_sum, choice_below, lock_sum, lock_below, loop_sum, no_turns, loop_weighed, turn_below, then_sum, then_below, total_merged, turn_sum, turns_sum, turns_below, each_sum, each_below}
+use Rattle.camac_laws.proofs.Turned.{begun, no_turn}
 
 -- these costs stay at the greatest number of 64 bits
 abbrev pub in_code : Context → Context
@@ -75,6 +79,12 @@ mutual
       ∙ none_inside (second_arm no_costs no_costs) (block_rows (in_code r) around b None) (block_none r around b)
   statement_none r around (for_ line x e1 e2 keeps body) =
       none_plus _ ∙ none_inside (turning 0) (block_rows (in_code r) (with_fixed x around) body None) (block_none r (with_fixed x around) body)
+  statement_none r around (for_each line x v last body) =
+      let judge = block_verdict (in_code r) (with_fixed x around) body in
+      let rows = block_rows (in_code r) (with_fixed x around) body in
+      none_plus _
+      ∙ none_inside once (each_turned capped x v last judge rows None).rows
+      (ap (λ (t : Turned). total t.rows) (no_turn (last + 1 - v) x v judge rows (turned 0 (rows None))) ∙ block_none r (with_fixed x around) body)
   statement_none r around (while_ line test most m keeps body) =
       none_plus _ ∙ none_inside (turning 0) (block_rows (in_code r) around body None) (block_none r around body)
   statement_none r around (locked line e body) =
@@ -217,6 +227,72 @@ while_adds r around line test most m keeps body k v adds e below =
     ))
     (loop_adds r around body arms.holds (turn_bound arms.holds most) turn adds turn'.1 low ∙ same)
 
+-- so many turns, a step for each, and what the rows of the block add up to
+abbrev turned_total : Turned → Bounds
+turned_total t = plus (costs 0 0 t.turns) (total t.rows)
+
+turns_add : (r : Context) (around : Around) (body : Block) → BlockAdds r around body → (n x v last : ℕ) (k : Known) (so_far : Turned) (w : Verdict)
+    → if_reached unreached k (each_turns capped n x v last (accept_block (in_code r) around body)) ≡ Ok w → IsBelow (plus (turned_total so_far) w.costs)
+    → turned_total (turns_over capped n x v (block_verdict (in_code r) around body) (block_rows (in_code r) around body) k so_far) ≡ plus (turned_total so_far) w.costs
+unfolding go_on if_reached
+turns_add r around body adds zero x v last None so_far w e below = sym (plus_none (turned_total so_far)) ∙ ap (λ (u : Verdict). plus (turned_total so_far) u.costs) (ok_same unreached w e)
+turns_add r around body adds zero x v last (Some q) so_far w e below = sym (plus_none (turned_total so_far)) ∙ ap (λ (u : Verdict). plus (turned_total so_far) u.costs) (ok_same _ w e)
+turns_add r around body adds (suc n) x v last None so_far w e below = sym (plus_none (turned_total so_far)) ∙ ap (λ (u : Verdict). plus (turned_total so_far) u.costs) (ok_same unreached w e)
+turns_add r around body adds (suc n) x v last (Some q) so_far w e below =
+    let c = in_code r in
+    let check = accept_block c around body in
+    let head : Facts = with_range x (only v) q in
+    let turn' = go_ok (check head) _ w e in
+    let turn = turn'.0 in
+    let rest' = go_ok (if_reached unreached turn.after (each_turns capped n x (v + 1) last check)) _ w turn'.2 in
+    let rest = rest'.0 in
+    let same : capped (plus (turn_costs turn.costs) rest.costs) ≡ w.costs = ap (λ u. u.costs) (ok_same _ _ rest'.2) in
+    let low = subst (λ b. IsBelow (plus (turned_total so_far) b)) (sym same) below in
+    let parts = turns_below so_far.turns (total so_far.rows) turn.costs rest.costs low in
+    let rows = block_rows c around body (Some head) in
+    let turn_rows = adds (Some head) turn turn'.1 parts.0 in
+    let sum : total (merge capped so_far.rows rows) ≡ plus (total so_far.rows) turn.costs =
+    total_merged so_far.rows rows (subst (λ b. IsBelow (plus (total so_far.rows) b)) (sym turn_rows) parts.1) ∙ ap (λ b. plus (total so_far.rows) b) turn_rows in
+    let after : Turned = turned (1 + so_far.turns) (merge capped so_far.rows rows) in
+    let here : turned_total after ≡ plus (turned_total so_far) (turn_costs turn.costs) =
+    ap (λ b. plus (costs 0 0 (1 + so_far.turns)) b) sum ∙ turn_sum so_far.turns (total so_far.rows) turn.costs in
+    let all : plus (turned_total after) rest.costs ≡ plus (turned_total so_far) w.costs =
+    ap (λ b. plus b rest.costs) here ∙ turns_sum (turned_total so_far) turn.costs rest.costs low ∙ ap (λ b. plus (turned_total so_far) b) same in
+    subst (λ (u : Verdict). turned_total (turns_over capped n x (v + 1) (block_verdict c around body) (block_rows c around body) u.after after) ≡ plus (turned_total so_far) w.costs)
+    (sym (ap (λ u. found unreached u) turn'.1))
+    (turns_add r around body adds n x (v + 1) last turn.after after rest rest'.1 (subst IsBelow (sym all) below) ∙ all)
+
+-- with and without a turn
+turns_from_add : (r : Context) (around : Around) (body : Block) → BlockAdds r around body → (n x v last : ℕ) (k : Facts) (w : Verdict)
+    → each_from capped n x v last (accept_block (in_code r) around body) k ≡ Ok w → IsBelow w.costs
+    → turned_total (turns_over capped n x v (block_verdict (in_code r) around body) (block_rows (in_code r) around body) (Some k) (turned 0 (block_rows (in_code r) around body None))) ≡ w.costs
+unfolding if_reached
+turns_from_add r around body adds zero x v last k w e below = none_plus _ ∙ block_none r around body ∙ ap (λ (u : Verdict). u.costs) (ok_same _ w e)
+turns_from_add r around body adds (suc n) x v last k w e below =
+    let none : turned_total (turned 0 (block_rows (in_code r) around body None)) ≡ no_costs = none_plus _ ∙ block_none r around body in
+    let all : plus (turned_total (turned 0 (block_rows (in_code r) around body None))) w.costs ≡ w.costs = ap (λ b. plus b w.costs) none ∙ none_plus w.costs in
+    turns_add r around body adds (suc n) x v last (Some k) (turned 0 (block_rows (in_code r) around body None)) w e (subst IsBelow (sym all) below) ∙ all
+
+each_adds : (r : Context) (around : Around) (line x v last : ℕ) (body : Block) (k : Facts) (w : Verdict)
+    → BlockAdds r (with_fixed x around) body → accept_statement (in_code r) around (for_each line x v last body) k ≡ Ok w → IsBelow w.costs
+    → total (statement_rows (in_code r) around (for_each line x v last body) (Some k)) ≡ w.costs
+unfolding go_on if_reached
+each_adds r around line x v last body k w adds e below =
+    let c = in_code r in
+    let count' = go_ok (each_begins around line x v last) _ w e in
+    let turns' = go_ok (each_from capped count'.0 x v last (accept_block c (with_fixed x around) body) k) _ w count'.2 in
+    let turns = turns'.0 in
+    let same : capped (plus (costs 0 0 1) turns.costs) ≡ w.costs = ap (λ u. u.costs) (ok_same _ _ turns'.2) in
+    let low = subst IsBelow (sym same) below in
+    let parts = then_below (costs 0 0 1) turns.costs low in
+    let t : Turned = each_turned capped x v last (block_verdict c (with_fixed x around) body) (block_rows c (with_fixed x around) body) (Some k) in
+    let sum : turned_total t ≡ turns.costs =
+    subst (λ n. turned_total (turns_over capped n x v (block_verdict c (with_fixed x around) body) (block_rows c (with_fixed x around) body) (Some k) (turned 0 (block_rows c (with_fixed x around) body None))) ≡ turns.costs)
+    (begun around line x v last count'.0 count'.1).is
+    (turns_from_add r (with_fixed x around) body adds count'.0 x v last k turns turns'.1 parts.1) in
+    ap (λ b. plus (costs 0 0 (t.turns + 1)) b) (total_inside once t.rows (total t.rows) refl (each_below t.turns (total t.rows) (subst IsBelow (sym sum) parts.1)))
+    ∙ each_sum t.turns (total t.rows) ∙ ap (λ b. plus (costs 0 0 1) b) sum ∙ then_sum (costs 0 0 1) turns.costs low ∙ same
+
 mutual
   unfolding go_on if_reached
 
@@ -235,6 +311,7 @@ mutual
   statement_adds r around (choose line test a) k v e below = if_adds r around line test a k v (block_adds r around a) e below
   statement_adds r around (choose_else line test a b) k v e below = choice_adds r around line test a b k v (block_adds r around a) (block_adds r around b) e below
   statement_adds r around (for_ line x e1 e2 keeps body) k v e below = for_adds r around line x e1 e2 keeps body k v (block_adds r (with_fixed x around) body) e below
+  statement_adds r around (for_each line x first last body) k v e below = each_adds r around line x first last body k v (block_adds r (with_fixed x around) body) e below
   statement_adds r around (while_ line test most m keeps body) k v e below = while_adds r around line test most m keeps body k v (block_adds r around body) e below
   statement_adds r around (locked line e1 body) k v e below = lock_adds r around line e1 body k v (λ around'. block_adds r around' body) e below
 

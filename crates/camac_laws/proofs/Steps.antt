@@ -35,7 +35,7 @@ pub then_is : {A B : Type 0} (r : Result A LeastFault) (x : A) (f : A → Result
 unfolding and_then
 then_is r x f e = ap (λ q. and_then q f) e
 
-required_ok : (b : Bool) (rule : CheckRule) (line : ℕ) (case : Case) (u : Unit {0}) → required b rule line case ≡ Ok u → b ≡ true
+pub required_ok : (b : Bool) (rule : CheckRule) (line : ℕ) (case : Case) (u : Unit {0}) → required b rule line case ≡ Ok u → b ≡ true
 unfolding required
 required_ok true rule line case u e = refl
 required_ok false rule line case u e = absurd (cc)

@@ -5,8 +5,10 @@ use Rattle.std.proofs.lemmas.Bool.{lt-ltb, le-ltb, lt-leb, le-leb, cases_lt}
 use Rattle.camac_model.specs.Fine.{Bounds}
 use Rattle.camac_rules.specs.Capped.{capped}
 use Rattle.camac_rules.specs.Costs.{costs, no_costs, plus, choice_costs, lock_costs, loop_costs}
+use Rattle.camac_rules.specs.Each.{turn_costs}
 use Rattle.camac_check_rows.specs.declared.inside.Weight.{Weight}
 use Rattle.camac_check_rows.specs.declared.row.Row.{Row}
+use Rattle.camac_check_rows.specs.Turns.{merge}
 use Rattle.camac_check_rows.specs.Weights.{once, turning, first_arm, second_arm, weighed, inside_row}
 use Rattle.camac_laws.specs.Shares.{total, IsBelow}
 
@@ -152,3 +154,44 @@ then_sum a b (c, w, s) = same_costs _ _ _ _ _ _ (omega (arith, c)) (omega (arith
 
 pub then_below : (a b : Bounds) → IsBelow (capped (plus a b)) → IsBelow a × IsBelow b
 then_below a b (c, w, s) = ((omega (arith, c), omega (arith, w), omega (arith, s)), (omega (arith, c), omega (arith, w), omega (arith, s)))
+
+-- the rows of two turns as one
+less_rest : (a b s t k : ℕ) → a + s + (b + t) < k → s + t < k
+less_rest a b s t k h = omega (arith, h)
+
+two_more : (a b s t n k : ℕ) → a + s + (b + t) < k → n ≡ s + t → min (a + b) k + n ≡ a + s + (b + t)
+two_more a b s t n k h e = omega (arith, h, e)
+
+pub total_merged : (as bs : List Row) → IsBelow (plus (total as) (total bs)) → total (merge capped as bs) ≡ plus (total as) (total bs)
+total_merged [] bs low = sym (none_plus (total bs))
+total_merged (a ∷ as) [] low = sym (plus_none (total (a ∷ as)))
+total_merged (a ∷ as) (b ∷ bs) (c, w, s) =
+    let k : ℕ = 2 ^ 64 - 1 in
+    let e =
+    total_merged as bs
+    (less_rest a.share.cycles b.share.cycles _ _ k c, less_rest a.share.words b.share.words _ _ k w, less_rest a.share.steps b.share.steps _ _ k s) in
+    same_costs _ _ _ _ _ _
+    (two_more a.share.cycles b.share.cycles _ _ _ k c (ap (λ (t : Bounds). t.cycles) e))
+    (two_more a.share.words b.share.words _ _ _ k w (ap (λ (t : Bounds). t.words) e))
+    (two_more a.share.steps b.share.steps _ _ _ k s (ap (λ (t : Bounds). t.steps) e))
+
+-- a loop that is judged turn by turn: after so many turns, whose rows add up to t, one that costs a and others that cost b
+pub turn_sum : (n : ℕ) (t a : Bounds) → plus (costs 0 0 (1 + n)) (plus t a) ≡ plus (plus (costs 0 0 n) t) (turn_costs a)
+turn_sum n t a = same_costs _ _ _ _ _ _ (omega arith) (omega arith) (omega arith)
+
+pub turns_sum : (t a b : Bounds) → IsBelow (plus t (capped (plus (turn_costs a) b))) → plus (plus t (turn_costs a)) b ≡ plus t (capped (plus (turn_costs a) b))
+turns_sum t a b (c, w, s) = same_costs _ _ _ _ _ _ (omega (arith, c)) (omega (arith, w)) (omega (arith, s))
+
+pub turns_below : (n : ℕ) (t a b : Bounds) → IsBelow (plus (plus (costs 0 0 n) t) (capped (plus (turn_costs a) b))) → IsBelow a × IsBelow (plus t a)
+turns_below n t a b (c, w, s) = ((omega (arith, c), omega (arith, w), omega (arith, s)), (omega (arith, c), omega (arith, w), omega (arith, s)))
+
+pub turn_then_below : (a b : Bounds) (m : ℕ) → IsBelow (capped (plus (turn_costs a) b)) → m + (capped (plus (turn_costs a) b)).steps ≤ 2 ^ 64 - 1
+    → IsBelow a × IsBelow b × (m + a.steps ≤ 2 ^ 64 - 1) × (m + a.steps + b.steps ≤ 2 ^ 64 - 1)
+turn_then_below a b m (c, w, s) room =
+    ((omega (arith, c), omega (arith, w), omega (arith, s)), (omega (arith, c), omega (arith, w), omega (arith, s)), omega (arith, s, room), omega (arith, s, room))
+
+pub each_sum : (n : ℕ) (t : Bounds) → plus (costs 0 0 (n + 1)) (weighed once t) ≡ plus (costs 0 0 1) (plus (costs 0 0 n) t)
+each_sum n t = same_costs _ _ _ _ _ _ (omega arith) (omega arith) (omega arith)
+
+pub each_below : (n : ℕ) (t : Bounds) → IsBelow (plus (costs 0 0 n) t) → IsBelow (weighed once t)
+each_below n t (c, w, s) = (omega (arith, c), omega (arith, w), omega (arith, s))

@@ -1,22 +1,24 @@
 -- A statement is made at most as often as its body has steps: each of its turns and its own step counts there.
-use Rattle.std.proofs.Common.{◌≡◌, ℕ, ◌+◌, ◌-◌, ◌*◌, ◌^◌, ◌≤◌, List, [], ◌∷◌, ◌++◌, map, Option, Some, None, Result, Ok, Err, refl, sym, ap, subst, ◌∙◌, le_trans, arith}
+use Rattle.std.proofs.Common.{◌≡◌, ℕ, zero, suc, ◌+◌, ◌-◌, ◌*◌, ◌^◌, ◌≤◌, List, [], ◌∷◌, ◌++◌, map, Option, Some, None, Result, Ok, Err, refl, sym, ap, subst, ◌∙◌, le_trans, arith}
 use Rattle.std.proofs.Math.Nat.{mul-le-mul_left}
 use Rattle.std.specs.Prelude.{min, unwrap_or}
 use Rattle.camac_lang.specs.declared.word.CrateCall.{CrateCall}
 use Rattle.camac_lang.specs.declared.word.LamCall.{LamCall}
 use Rattle.camac_lang.specs.declared.word.WordSize.{WordSize}
-use Rattle.camac_lang.specs.Tree.{Expression, Condition, Keep, Move, no_data, into, from, Statement, assign, set_register, single, address_scan, q_stop, q_repeat, put, crate_call, lam_call, choose, choose_else, for_, while_, locked, call, Block, done, next}
+use Rattle.camac_lang.specs.Tree.{Expression, Condition, Keep, Move, no_data, into, from, Statement, assign, set_register, single, address_scan, q_stop, q_repeat, put, crate_call, lam_call, choose, choose_else, for_, for_each, while_, locked, call, Block, done, next}
+use Rattle.camac_range.specs.Interval.{only}
 use Rattle.camac_branch.specs.Plan.{crate_waits}
 use Rattle.camac_model.specs.Fine.{Bounds}
 use Rattle.camac_rules.specs.Fault.{Fault}
 use Rattle.camac_rules.specs.Refusal.{go_on, required, if_reached}
-use Rattle.camac_rules.specs.Known.{Facts, Known}
+use Rattle.camac_rules.specs.Known.{Facts, Known, with_range}
 use Rattle.camac_rules.specs.Conditions.{Branches, branches, split}
 use Rattle.camac_rules.specs.Capped.{capped}
-use Rattle.camac_rules.specs.Costs.{no_costs, plus, choice_costs, lock_costs, loop_costs, Verdict, unreached}
+use Rattle.camac_rules.specs.Costs.{costs, no_costs, plus, choice_costs, lock_costs, loop_costs, Verdict, unreached}
 use Rattle.camac_rules.specs.Cycles.{Context, Around, alone_in, with_locked}
 use Rattle.camac_rules.specs.Calls.{lock_rule}
 use Rattle.camac_rules.specs.Loops.{with_fixed, for_limits, for_head, keeps_hold_after, turns_between, while_head, turn_bound}
+use Rattle.camac_rules.specs.Each.{turn_costs, each_turns, each_from, each_begins}
 use Rattle.camac_rules.specs.Statements.{accept_statement, accept_block}
 use Rattle.camac_rules.specs.declared.case.Body.TheVariants as body
 use Rattle.camac_rules.specs.Accept.{Section, of_procedure, of_service, at_start, bare, own_body, with_procedure}
@@ -26,9 +28,11 @@ use Rattle.camac_check_costs.specs.declared.bodies.Owner.TheVariants as owner
 use Rattle.camac_check_rows.specs.declared.row.Row.{Row}
 use Rattle.camac_check_rows.specs.declared.inside.Weight.{Weight}
 use Rattle.camac_check_rows.specs.Weights.{once, turning, first_arm, second_arm, in_64_bits, inside_row}
+use Rattle.camac_check_rows.specs.Turns.{merge, Turned, turned, turns_over, each_turned}
 use Rattle.camac_check_rows.specs.Rows.{found, block_verdict, Turning, turning_from, lock_inside, lock_head, simple_row, else_row, inside, times_at, statement_rows, block_rows}
 use Rattle.camac_check_costs.specs.Bodies.{rows_if, body_costs, costs_over, sections_of}
 use Rattle.camac_laws.specs.Times.{NoMore, InSteps, TimesInSteps}
+use Rattle.camac_laws.proofs.Turned.{begun, no_turn}
 use Rattle.camac_laws.proofs.Shares.{in_code, go_ok, ok_same}
 
 no_more_up : (m n : ℕ) (rs : List Row) → m ≤ n → NoMore m rs → NoMore n rs
@@ -38,6 +42,12 @@ no_more_up m n (r ∷ rs) le (first, h) = (le_trans first le, no_more_up m n rs 
 no_more_both : (n : ℕ) (xs ys : List Row) → NoMore n xs → NoMore n ys → NoMore n (xs ++ ys)
 no_more_both n [] ys h more = more
 no_more_both n (x ∷ xs) ys (first, h) more = (first, no_more_both n xs ys h more)
+
+-- of two turns
+pub no_more_merged : (m n : ℕ) (as bs : List Row) → NoMore (in_64_bits m) as → NoMore (in_64_bits n) bs → NoMore (in_64_bits (m + n)) (merge capped as bs)
+no_more_merged m n [] bs h g = no_more_up (in_64_bits n) (in_64_bits (m + n)) bs (omega arith) g
+no_more_merged m n (a ∷ as) [] h g = no_more_up (in_64_bits m) (in_64_bits (m + n)) (a ∷ as) (omega arith) h
+no_more_merged m n (a ∷ as) (b ∷ bs) (first, h) (second, g) = (omega (arith, first, second), no_more_merged m n as bs h g)
 
 cut_both : (a b k : ℕ) → a ≤ b → min a k ≤ min (min b k) k
 cut_both a b k le = omega (arith, le)
@@ -75,6 +85,13 @@ mutual
         (omega arith, none_inside (second_arm no_costs no_costs) (block_rows (in_code r) around b None) (block_never r around b)),
   )
   statement_never r around (for_ line x e1 e2 keeps body) = (omega arith, none_inside (turning 0) (block_rows (in_code r) (with_fixed x around) body None) (block_never r (with_fixed x around) body))
+  statement_never r around (for_each line x v last body) =
+      let judge = block_verdict (in_code r) (with_fixed x around) body in
+      let rows = block_rows (in_code r) (with_fixed x around) body in (
+        omega arith,
+        none_inside once (each_turned capped x v last judge rows None).rows
+            (subst (λ (t : Turned). NoMore 0 t.rows) (sym (no_turn (last + 1 - v) x v judge rows (turned 0 (rows None)))) (block_never r (with_fixed x around) body)),
+      )
   statement_never r around (while_ line test most m keeps body) = (omega arith, none_inside (turning 0) (block_rows (in_code r) around body None) (block_never r around body))
   statement_never r around (locked line e body) = (omega arith, none_inside once (block_rows (in_code r) around body None) (block_never r around body))
 
@@ -233,6 +250,59 @@ for_in_steps r around line x e1 e2 keeps body k v fits e =
           (fits (for_head x l keeps body k) turn turn'.1)),
     )
 
+-- so many of these, and each further turn's steps more
+turns_over_in_steps : (r : Context) (around : Around) (body : Block) → BlockInSteps r around body → (n x v last : ℕ) (k : Known) (so_far : Turned) (m : ℕ) (w : Verdict)
+    → if_reached unreached k (each_turns capped n x v last (accept_block (in_code r) around body)) ≡ Ok w → NoMore (in_64_bits m) so_far.rows
+    → NoMore (in_64_bits (m + w.costs.steps)) (turns_over capped n x v (block_verdict (in_code r) around body) (block_rows (in_code r) around body) k so_far).rows
+unfolding go_on if_reached
+turns_over_in_steps r around body fits zero x v last k so_far m w e h = no_more_up (in_64_bits m) (in_64_bits (m + w.costs.steps)) so_far.rows (omega arith) h
+turns_over_in_steps r around body fits (suc n) x v last None so_far m w e h = no_more_up (in_64_bits m) (in_64_bits (m + w.costs.steps)) so_far.rows (omega arith) h
+turns_over_in_steps r around body fits (suc n) x v last (Some q) so_far m w e h =
+    let c = in_code r in
+    let check = accept_block c around body in
+    let head : Facts = with_range x (only v) q in
+    let turn' = go_ok (check head) _ w e in
+    let turn = turn'.0 in
+    let rest' = go_ok (if_reached unreached turn.after (each_turns capped n x (v + 1) last check)) _ w turn'.2 in
+    let rest = rest'.0 in
+    let same : capped (plus (turn_costs turn.costs) rest.costs) ≡ w.costs = ap (λ u. u.costs) (ok_same _ _ rest'.2) in
+    let rows = block_rows c around body (Some head) in
+    let after : Turned = turned (1 + so_far.turns) (merge capped so_far.rows rows) in
+    subst (λ (b : Bounds). NoMore (in_64_bits (m + b.steps)) (turns_over capped n x (v + 1) (block_verdict c around body) (block_rows c around body) (found unreached (check head)).after after).rows) same
+    (subst (λ (u : Verdict). NoMore (in_64_bits (m + (capped (plus (turn_costs turn.costs) rest.costs)).steps)) (turns_over capped n x (v + 1) (block_verdict c around body) (block_rows c around body) u.after after).rows)
+    (sym (ap (λ u. found unreached u) turn'.1))
+    (no_more_up (in_64_bits (m + turn.costs.steps + rest.costs.steps)) _ (turns_over capped n x (v + 1) (block_verdict c around body) (block_rows c around body) turn.after after).rows (omega arith)
+    (turns_over_in_steps r around body fits n x (v + 1) last turn.after after (m + turn.costs.steps) rest rest'.1
+    (no_more_merged m turn.costs.steps so_far.rows rows h (fits (Some head) turn turn'.1)))))
+
+-- with and without a turn
+turns_from_in_steps : (r : Context) (around : Around) (body : Block) → BlockInSteps r around body → (n x v last : ℕ) (k : Facts) (w : Verdict)
+    → each_from capped n x v last (accept_block (in_code r) around body) k ≡ Ok w
+    → NoMore (in_64_bits w.costs.steps) (turns_over capped n x v (block_verdict (in_code r) around body) (block_rows (in_code r) around body) (Some k) (turned 0 (block_rows (in_code r) around body None))).rows
+unfolding if_reached
+turns_from_in_steps r around body fits zero x v last k w e = no_more_up 0 (in_64_bits w.costs.steps) (block_rows (in_code r) around body None) (omega arith) (block_never r around body)
+turns_from_in_steps r around body fits (suc n) x v last k w e =
+    turns_over_in_steps r around body fits (suc n) x v last (Some k) (turned 0 (block_rows (in_code r) around body None)) 0 w e
+    (no_more_up 0 (in_64_bits 0) (block_rows (in_code r) around body None) (omega arith) (block_never r around body))
+
+each_in_steps : (r : Context) (around : Around) (line x v last : ℕ) (body : Block) (k : Facts) (w : Verdict)
+    → BlockInSteps r (with_fixed x around) body → accept_statement (in_code r) around (for_each line x v last body) k ≡ Ok w
+    → NoMore (in_64_bits w.costs.steps) (statement_rows (in_code r) around (for_each line x v last body) (Some k))
+unfolding go_on if_reached
+each_in_steps r around line x v last body k w fits e =
+    let c = in_code r in
+    let count' = go_ok (each_begins around line x v last) _ w e in
+    let turns' = go_ok (each_from capped count'.0 x v last (accept_block c (with_fixed x around) body) k) _ w count'.2 in
+    let turns = turns'.0 in
+    let same : capped (plus (costs 0 0 1) turns.costs) ≡ w.costs = ap (λ u. u.costs) (ok_same _ _ turns'.2) in
+    let t : ℕ → Turned = λ n. turns_over capped n x v (block_verdict c (with_fixed x around) body) (block_rows c (with_fixed x around) body) (Some k) (turned 0 (block_rows c (with_fixed x around) body None)) in
+    subst (λ (b : Bounds). NoMore (in_64_bits b.steps) (statement_rows c around (for_each line x v last body) (Some k))) same (
+      omega arith,
+      no_more_inside once (in_64_bits turns.costs.steps) _ (t (last + 1 - v)).rows (omega arith)
+          (subst (λ n. NoMore (in_64_bits turns.costs.steps) (t n).rows) (begun around line x v last count'.0 count'.1).is
+          (turns_from_in_steps r (with_fixed x around) body fits count'.0 x v last k turns turns'.1)),
+    )
+
 while_in_steps : (r : Context) (around : Around) (line : ℕ) (test : Condition) (most m : ℕ) (keeps : List Keep) (body : Block) (k : Facts) (v : Verdict)
     → BlockInSteps r around body → accept_statement (in_code r) around (while_ line test most m keeps body) k ≡ Ok v
     → NoMore (in_64_bits v.costs.steps) (statement_rows (in_code r) around (while_ line test most m keeps body) (Some k))
@@ -276,6 +346,7 @@ mutual
   statement_in_steps r around (choose line test a) k v e = if_in_steps r around line test a k v (block_in_steps r around a) e
   statement_in_steps r around (choose_else line test a b) k v e = choice_in_steps r around line test a b k v (block_in_steps r around a) (block_in_steps r around b) e
   statement_in_steps r around (for_ line x e1 e2 keeps body) k v e = for_in_steps r around line x e1 e2 keeps body k v (block_in_steps r (with_fixed x around) body) e
+  statement_in_steps r around (for_each line x first last body) k v e = each_in_steps r around line x first last body k v (block_in_steps r (with_fixed x around) body) e
   statement_in_steps r around (while_ line test most m keeps body) k v e = while_in_steps r around line test most m keeps body k v (block_in_steps r around body) e
   statement_in_steps r around (locked line e1 body) k v e = lock_in_steps r around line e1 body k v (λ around'. block_in_steps r around' body) e
 

@@ -1,7 +1,7 @@
 -- How often a run makes each statement of a body, and what each time costs.
 use Rattle.std.specs.Prelude.{◌≡◌, ◌≤◌, ℕ, zero, suc, ◌+◌, ◌-◌, List, [], ◌∷◌, ◌++◌, length, Option, Some, None, Bool, true, false, IsTrue, Ok, if◌then◌else◌}
 use Rattle.camac_lang.specs.Scope.{is_well_formed}
-use Rattle.camac_lang.specs.Tree.{Condition, Statement, choose, choose_else, for_, while_, locked, Block, done, next, Script}
+use Rattle.camac_lang.specs.Tree.{Condition, Statement, choose, choose_else, for_, for_each, while_, locked, Block, done, next, Script}
 use Rattle.camac_branch.specs.Branch.{Branch, Answer}
 use Rattle.camac_branch.specs.Plan.{Layout, IsPlan, crate_waits}
 use Rattle.camac_model.specs.State.{State, fresh, stepped}
@@ -71,6 +71,7 @@ abbrev mutual
   unmade_in (choose line test a) = unmade a
   unmade_in (choose_else line test a b) = unmade a ++ [] ∷ unmade b
   unmade_in (for_ line x e1 e2 keeps body) = unmade body
+  unmade_in (for_each line x v last body) = unmade body
   unmade_in (while_ line test m k keeps body) = unmade body
   unmade_in (locked line e body) = unmade body
   unmade_in s = []
@@ -91,6 +92,7 @@ abbrev mutual
   made_in c n (for_ line x e1 e2 keeps body) s =
       where_some (value e1 s.variables) (λ v. where_some (value e2 s.variables)
       (λ w. for_made (w + 1 - v) n x v (block_meaning c n body) (made c n body) (unmade body) s) (unmade body)) (unmade body)
+  made_in c n (for_each line x v last body) s = for_made (last + 1 - v) n x v (block_meaning c n body) (made c n body) (unmade body) s
   made_in c n (while_ line test m k keeps body) s = while_made n test (block_meaning c n body) (made c n body) (unmade body) s
   made_in c n (locked line e body) s =
       where_some (value e s.variables)
