@@ -404,7 +404,7 @@ class Shown(Served):
         self.assertEqual({*self.completed(body.format("", "  cclm adc o|"))}, {"on", "off"})
         self.assertEqual({*self.completed(body.format("", "  if |"))}, {"not", "q", "x", "v", "w"})
         self.assertEqual({*self.completed(body.format("", "  if v |"))}, {*"+-*/%", "<", "<=", ">", ">=", "==", "!="})
-        self.assertEqual({*self.completed(body.format("", "  for v = 1 to 3 |"))}, {*"+-*/%", "{", "keep"})
+        self.assertEqual({*self.completed(body.format("", "  for v = 1 to 3 |"))}, {*"+-*/%", "{", "keep", "each"})
         self.assertEqual(self.completed(body.format("", "  cdreg r |")), {"1": "the branch"})
         self.assertEqual(self.completed(body.format("", "  cdreg r 1 |"))["1"], "crate 1, waits 2")
         self.assertEqual({name: told for name, told in self.completed(body.format("", "  cdreg r 1 1 |")).items() if name.isdigit()}, {"5": "ADC, bit 3", "6": "REG"})

@@ -54,9 +54,12 @@ near_fitting p ws = option_map word_text (find (λ w. fits p w && is_near p.byte
 abbrev pub near_each : Place → Option (List ℕ)
 near_each p = if expects p choice.Each && is_near p.bytes each_word then Some each_word else None
 
+abbrev pub near_named : Place → Option (List ℕ)
+near_named p = or_else (near_fitting p KEYWORDS) (near_each p)
+
 -- a near word of the language in the place of a name
 unfoldable pub near_word : Place → Option (List ℕ)
-near_word p = if is_name p.token then or_else (near_fitting p KEYWORDS) (near_each p) else None
+near_word p = if is_name p.token then near_named p else None
 
 abbrev pub is_spelled_out : Option TokenKind → Bool
 is_spelled_out (Some (kind.Name n)) = true

@@ -2,13 +2,11 @@
 
 ghost use Rattle.std.specs.Prelude.{◌≡◌, Some, None, option_copied, option_map, if◌then◌else◌};
 ghost use Rattle.camac_lines.specs.Words.{is_near, shown_text};
-ghost use Rattle.camac_tokens.specs.Words.{or_else};
 ghost use Rattle.camac_tokens.specs.declared.token.Keyword.TheVariants as keyword;
-ghost use Rattle.camac_tokens.specs.declared.words.TheConstants.{KEYWORDS};
 ghost use Rattle.camac_text_cursor.specs.declared.choice.Choice.TheVariants as choice;
 ghost use Rattle.camac_explain_text_place.specs.Before.{standing_of};
 ghost use Rattle.camac_explain_text.specs.Hint.{arguments_of, before_text, call_text, hint_text};
-ghost use Rattle.camac_explain_text.specs.Meant.{arguments, arguments_of_call, arrow_before_number, arrow_before_value, begins_here, decimal_digits, fits, from_end, if_expected, kind_hint, meant_by_name, meant_by_sign, missing_arrow, name_hint, near_among, near_beginning, near_each, near_fitting, near_word, open_block, taken_for, unexpected_hint, word_before, word_before_beginning};
+ghost use Rattle.camac_explain_text.specs.Meant.{arguments, arguments_of_call, arrow_before_number, arrow_before_value, begins_here, decimal_digits, fits, from_end, if_expected, kind_hint, meant_by_name, meant_by_sign, missing_arrow, name_hint, near_among, near_beginning, near_each, near_fitting, near_named, near_word, open_block, taken_for, unexpected_hint, word_before, word_before_beginning};
 ghost use Rattle.camac_explain_text.specs.Mistake.{is_either};
 ghost use Rattle.camac_explain_text_place.specs.Place.{expects, place_of};
 ghost use Rattle.camac_explain_text_place.specs.Spelled.{word_text};
@@ -280,7 +278,7 @@ fn near_word(found: &Found<'_>) -> Option<&'static str>
 }
 
 fn near_named(found: &Found<'_>) -> Option<&'static str>
-    ensures { option_map (λ s. s.now) result ≡ or_else (near_fitting (place_of found.now) KEYWORDS) (near_each (place_of found.now)) }
+    ensures { option_map (λ s. s.now) result ≡ near_named (place_of found.now) }
 {
     if let Some(word) = near_fitting(found, &KEYWORDS) {
         return Some(word);

@@ -1,5 +1,5 @@
 -- What a `for`, a `while` and a `lock` leave, where this is what a block leaves.
-use Rattle.std.proofs.Common.{not, ◌≡◌, ℕ, ◌≤◌, ◌<◌, Bool, true, false, cond, nat_lt, List, length, Option, Some, Ok, refl, sym, ap, subst, ◌∙◌, arith}
+use Rattle.std.proofs.Common.{not, ◌≡◌, ℕ, ◌≤◌, ◌<◌, Bool, true, false, cond, nat_lt, List, length, Option, Some, Ok, refl, ap, subst, arith}
 use Rattle.std.specs.Prelude.{option_and_then}
 use Rattle.std.proofs.lemmas.Bool.{lt-ltb}
 use Rattle.camac_lang.specs.Depth.{expression_depth, part_depth, inner_depth}
