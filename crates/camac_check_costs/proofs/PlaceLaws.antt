@@ -84,7 +84,7 @@ both_told P (Some p) None h g = h
 both_told P (Some p) (Some q) h g = at_both p q h g
 
 -- a place of one of these turns is told so
-abbrev EachTells : (P : Place → Type 0) (count x v : ℕ) (check : Facts → Result Verdict Fault) (k : Facts) → (Facts → Place → Type 0) → Type 0
+abbrev pub EachTells : (P : Place → Type 0) (count x v : ℕ) (check : Facts → Result Verdict Fault) (k : Facts) → (Facts → Place → Type 0) → Type 0
 EachTells P count x v check k Tells = (turn : ℕ) → turn < count → (t : Facts) → at_turn check x v turn k ≡ Ok (Some t) → (p : Place) → Tells t p
 
 pub next_turn : (check : Facts → Result Verdict Fault) (x v turn : ℕ) (k q : Facts) (left : Verdict) → check (with_range x (only v) k) ≡ Ok left → left.after ≡ Some q
@@ -141,6 +141,11 @@ turns_tell P test count x v check find k (turn ∷ inner) p each e =
     let known : Known = o.0 in
     let t = was_reached known (find inner) p o.2 in
     each inner turn (ltb-true turn count h.0) t.0 (o.1 ∙ ap Ok t.1) p t.2
+
+pub turns_told : (P : Place → Type 0) (count x v : ℕ) (check : Facts → Result Verdict Fault) (find : List ℕ → Facts → Found) (k : Facts) (turns : List ℕ) (p : Place)
+    → ((inner : List ℕ) → EachTells P count x v check k (λ t q. find inner t ≡ Ok (Some q) → IsTold P q)) → in_turns count x v check find k turns ≡ Ok (Some p) → IsTold P p
+turns_told P count x v check find k turns p each e =
+    is_told P (chosen_inside (λ inner. false) turns) p (turns_tell P (λ inner. false) count x v check find k turns p each e)
 
 -- ---- places
 
