@@ -5,7 +5,8 @@ use Rattle.camac_range.specs.Interval.{Interval, interval, only}
 use Rattle.camac_lang.specs.declared.word.WordSize.TheVariants.{Full}
 use Rattle.camac_lang.specs.Tree.{Expression, add, multiply, number, variable, plain, compare, into, Statement, assign, set_register, single, put, choose, for_}
 use Rattle.camac_lang.specs.View.{block_of}
-use Rattle.camac_model.specs.Sample.{sample_plan, r, v, k, i, t}
+use Rattle.camac_model.specs.Sample.{sample_plan}
+use Rattle.camac_model.proofs.SampleScripts.{r, v, k, i, t}
 use Rattle.camac_rules.specs.declared.case.Case.TheVariants.{Counted, NoModule, Turns, Unset, Word}
 use Rattle.camac_rules.specs.declared.case.Case.TheVariants as case
 use Rattle.camac_rules.specs.declared.case.Operator.TheVariants.{Add}
