@@ -1,5 +1,5 @@
 -- What holds of the places that are found.
-use Rattle.std.proofs.Common.{◌≡◌, ◌⊎◌, ℕ, zero, suc, ◌+◌, ◌-◌, ◌<◌, Bool, true, false, List, [], ◌∷◌, Option, Some, None, Result, Ok, Err, refl, sym, ap, ◌∙◌, subst, inl, inr, ⊎_elim, arith}
+use Rattle.std.proofs.Common.{◌≡◌, ◌⊎◌, ℕ, zero, suc, ◌+◌, ◌-◌, ◌<◌, Bool, true, false, List, [], ◌∷◌, Option, Some, None, Result, Ok, Err, refl, ap, ◌∙◌, subst, inl, inr, ⊎_elim, arith}
 use Rattle.std.specs.Prelude.{nat_eq, nat_lt, if◌then◌else◌}
 use Rattle.std.proofs.lemmas.Bool.{ltb-true}
 use Rattle.camac_lang.specs.Tree.{Statement, assign, set_register, single, address_scan, q_stop, q_repeat, put, crate_call, lam_call, choose, choose_else, for_, for_each, while_, locked, call, Block, done, next}
@@ -14,7 +14,7 @@ use Rattle.camac_rules.specs.Known.{Facts, Known, with_range}
 use Rattle.camac_rules.specs.Loops.{Limits, with_fixed, for_limits, for_head, while_head}
 use Rattle.camac_rules.specs.Refusal.{go_on, if_reached}
 use Rattle.camac_rules.specs.Statements.{accept_statement, accept_block}
-use Rattle.camac_check_costs.specs.Places.{Place, place, HasPlace, BlockHasPlace, at_turn, IsTold, at_one, at_both, PlacesAreFound, TurnsAreTold, at_or, first_or, past, past_block, chosen_inside, are_chosen, are_chosen_in, place_of_both, told_of_both, left_by, over_turns, in_turns, place_in, place_in_block}
+use Rattle.camac_check_costs.specs.Places.{Place, place, HasPlace, BlockHasPlace, at_turn, IsTold, at_one, at_both, PlacesAreFound, TurnsAreTold, at_or, first_or, past, past_block, chosen_inside, are_chosen, are_chosen_in, told_of_both, left_by, over_turns, in_turns, place_in, place_in_block}
 
 -- ---- what led to an answer
 

@@ -1,5 +1,5 @@
 -- The places of a number are of one statement, in one body.
-use Rattle.std.proofs.Common.{◌≡◌, ℕ, zero, suc, ◌+◌, ◌-◌, ◌<◌, Bool, true, false, List, [], ◌∷◌, Option, Some, None, Result, Ok, Err, refl, sym, ap, ◌∙◌, subst}
+use Rattle.std.proofs.Common.{◌≡◌, ℕ, zero, suc, ◌-◌, Bool, true, false, List, Option, Some, None, Result, Ok, refl, sym, ap, ◌∙◌}
 use Rattle.std.specs.Prelude.{◌&&◌, nat_eq, if◌then◌else◌}
 use Rattle.camac_lang.specs.Tree.{Statement, assign, set_register, single, address_scan, q_stop, q_repeat, put, crate_call, lam_call, choose, choose_else, for_, for_each, while_, locked, call, Block, done, next}
 use Rattle.camac_rules.specs.declared.case.Body.{Body}
@@ -10,11 +10,11 @@ use Rattle.camac_rules.specs.Costs.{Verdict}
 use Rattle.camac_rules.specs.Cycles.{Context, Around, with_locked}
 use Rattle.camac_rules.specs.Each.{each_begins}
 use Rattle.camac_rules.specs.Fault.{Fault}
-use Rattle.camac_rules.specs.Known.{Facts, Known}
+use Rattle.camac_rules.specs.Known.{Facts}
 use Rattle.camac_rules.specs.Loops.{Limits, with_fixed, for_limits, for_head, while_head}
 use Rattle.camac_rules.specs.Refusal.{go_on, if_reached}
 use Rattle.camac_rules.specs.Statements.{accept_statement, accept_block}
-use Rattle.camac_check_costs.specs.Places.{Place, place, IsTold, at_one, at_both, at_or, first_or, past, past_block, locked_in_both, place_of_both, in_turns, place_in, place_in_block}
+use Rattle.camac_check_costs.specs.Places.{Place, place, IsTold, at_one, at_both, at_or, first_or, past, past_block, locked_in_both, in_turns, place_in, place_in_block}
 use Rattle.camac_check_costs.proofs.PlaceLaws.{Found, went_on, was_reached, turns_told}
 
 -- the statement of this number

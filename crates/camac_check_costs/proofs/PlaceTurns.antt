@@ -1,9 +1,9 @@
 -- What is told over several turns holds in each of them.
 use Rattle.std.proofs.Common.{◌≡◌, ℕ, zero, suc, ◌+◌, ◌-◌, ◌<◌, Bool, true, false, List, [], ◌∷◌, ◌++◌, Option, Some, None, Result, Ok, Err, refl, sym, ap, ◌∙◌, subst, ⊎_elim, arith}
-use Rattle.std.specs.Prelude.{◌&&◌, ◌||◌, nat_eq, nat_lt, if◌then◌else◌}
-use Rattle.std.proofs.lemmas.Bool.{and_parts, eqb-true, or_cases, or_left, or_right, lt-ltb, ltb-true}
+use Rattle.std.specs.Prelude.{◌&&◌, nat_eq, nat_lt, if◌then◌else◌}
+use Rattle.std.proofs.lemmas.Bool.{and_parts, eqb-true, or_cases, ltb-true}
 use Rattle.camac_lang.specs.Tree.{Statement, assign, set_register, single, address_scan, q_stop, q_repeat, put, crate_call, lam_call, choose, choose_else, for_, for_each, while_, locked, call, Block, done, next}
-use Rattle.camac_range.specs.Interval.{only, hull, IsWithin}
+use Rattle.camac_range.specs.Interval.{only, IsWithin}
 use Rattle.camac_range.proofs.Within.{hull_left, hull_right}
 use Rattle.camac_rules.specs.declared.case.Body.{Body}
 use Rattle.camac_rules.specs.Addresses.{crate_end, is_among}
@@ -15,12 +15,12 @@ use Rattle.camac_rules.specs.Each.{each_begins}
 use Rattle.camac_rules.specs.Fault.{Fault}
 use Rattle.camac_rules.specs.Joined.{join_set}
 use Rattle.camac_rules.specs.Known.{Region, Facts, Known, range_at, region_at, with_range}
-use Rattle.camac_rules.specs.Loops.{Limits, with_fixed, for_limits, for_head, while_head}
+use Rattle.camac_rules.specs.Loops.{with_fixed, for_limits, for_head, while_head}
 use Rattle.camac_rules.specs.Refusal.{go_on, if_reached}
 use Rattle.camac_rules.specs.Statements.{accept_statement, accept_block}
 use Rattle.camac_rules.proofs.Joined.{range_at-hulls, region_at-join}
-use Rattle.camac_check_costs.specs.Places.{Place, place, at_turn, at_or, first_or, past, past_block, locked_in_both, place_of_both, told_of_both, left_by, over_turns, in_turns, place_in, place_in_block, IsPart, IsSetSo, HoldsAt, IsCovered, TurnsAreCovered}
-use Rattle.camac_check_costs.proofs.PlaceLaws.{Found, went_on, was_reached, if_so, next_turn}
+use Rattle.camac_check_costs.specs.Places.{Place, place, at_turn, at_or, first_or, past, past_block, locked_in_both, place_of_both, told_of_both, left_by, over_turns, in_turns, place_in, place_in_block, IsSetSo, HoldsAt, IsCovered, TurnsAreCovered}
+use Rattle.camac_check_costs.proofs.PlaceLaws.{Found, went_on, was_reached, if_so}
 use Rattle.camac_check_costs.proofs.PlaceNumbers.{IsNumbered, body_of_both, numbered_in, statement_in}
 
 -- ---- of two places

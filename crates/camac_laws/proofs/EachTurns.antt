@@ -1,5 +1,5 @@
 -- The turns of an `each`, from what is found of the whole.
-use Rattle.std.proofs.Common.{◌≡◌, ℕ, zero, suc, ◌+◌, ◌<◌, Option, Some, None, Result, Ok, Err, refl, sym, ap, ◌∙◌, arith, inl, inr, ⊎_elim}
+use Rattle.std.proofs.Common.{◌≡◌, ℕ, zero, suc, ◌+◌, ◌<◌, Some, None, Result, Ok, Err, refl, sym, ap, ◌∙◌, arith, ⊎_elim}
 use Rattle.camac_model.specs.Fine.{Bounds}
 use Rattle.camac_range.specs.Interval.{only}
 use Rattle.camac_rules.specs.Costs.{Verdict, unreached}

@@ -1,5 +1,5 @@
 -- Where the `each` loops of a body judge too much, one of them is the first that passes the limit.
-use Rattle.std.proofs.Common.{◌≡◌, ℕ, zero, suc, ◌+◌, ◌-◌, ◌*◌, ◌<◌, ◌≤◌, Bool, true, false, List, [], ◌∷◌, ◌++◌, Result, Ok, Err, refl, sym, ap, ◌∙◌, subst, arith, ⊎_elim}
+use Rattle.std.proofs.Common.{◌≡◌, ℕ, ◌+◌, ◌-◌, ◌*◌, ◌<◌, ◌≤◌, List, [], ◌∷◌, ◌++◌, Result, Ok, Err, refl, sym, ap, ◌∙◌, subst, arith, ⊎_elim}
 use Rattle.std.specs.Prelude.{nat_le}
 use Rattle.std.proofs.lemmas.Bool.{leb-true, leb-false}
 use Rattle.camac_lang.specs.Tree.{Statement, assign, set_register, single, address_scan, q_stop, q_repeat, put, crate_call, lam_call, choose, choose_else, for_, for_each, while_, locked, call, Block, done, next, line_of}
@@ -10,9 +10,9 @@ use Rattle.camac_rules.specs.declared.rule.CheckRule.TheVariants.{TooManyTurns}
 use Rattle.camac_rules.specs.Accept.{Section}
 use Rattle.camac_rules.specs.Cases.{judged_case}
 use Rattle.camac_rules.specs.Cycles.{Context}
-use Rattle.camac_rules.specs.EachLimit.{judged_limit, judged, block_judged, count, count_block}
+use Rattle.camac_rules.specs.EachLimit.{judged_limit, block_judged, count, count_block}
 use Rattle.camac_rules.specs.Fault.{Fault, broken}
-use Rattle.camac_rules.specs.Refusal.{go_on, required}
+use Rattle.camac_rules.specs.Refusal.{required}
 use Rattle.camac_laws.specs.Refused.{named, body_of, loops_in, block_loops, judged_in, IsOverLimit}
 use Rattle.camac_laws.proofs.Refused.{go_err, required_err, required_true}
 use Rattle.camac_laws.proofs.Steps.{go_ok}
