@@ -2,3 +2,5 @@ pub mod Whole
 pub mod Left
 pub mod Placed
 pub mod PlaceLaws
+pub mod PlaceNumbers
+pub mod PlaceTurns

@@ -1,5 +1,5 @@
 -- What holds of the places that are found.
-use Rattle.std.proofs.Common.{◌≡◌, ◌⊎◌, ℕ, zero, suc, ◌+◌, ◌-◌, ◌<◌, Bool, true, false, List, [], ◌∷◌, Option, Some, None, Result, Ok, Err, refl, sym, ap, ◌∙◌, subst, inl, inr, ⊎_elim, arith}
+use Rattle.std.proofs.Common.{◌≡◌, ◌⊎◌, ℕ, zero, suc, ◌+◌, ◌-◌, ◌<◌, Bool, true, false, List, [], ◌∷◌, Option, Some, None, Result, Ok, Err, refl, ap, ◌∙◌, subst, inl, inr, ⊎_elim, arith}
 use Rattle.std.specs.Prelude.{nat_eq, nat_lt, if◌then◌else◌}
 use Rattle.std.proofs.lemmas.Bool.{ltb-true}
 use Rattle.camac_lang.specs.Tree.{Statement, assign, set_register, single, address_scan, q_stop, q_repeat, put, crate_call, lam_call, choose, choose_else, for_, for_each, while_, locked, call, Block, done, next}
@@ -14,7 +14,7 @@ use Rattle.camac_rules.specs.Known.{Facts, Known, with_range}
 use Rattle.camac_rules.specs.Loops.{Limits, with_fixed, for_limits, for_head, while_head}
 use Rattle.camac_rules.specs.Refusal.{go_on, if_reached}
 use Rattle.camac_rules.specs.Statements.{accept_statement, accept_block}
-use Rattle.camac_check_costs.specs.Places.{Place, place, HasPlace, BlockHasPlace, at_turn, IsTold, at_one, at_both, PlacesAreFound, TurnsAreTold, at_or, first_or, past, past_block, chosen_inside, are_chosen, are_chosen_in, place_of_both, told_of_both, left_by, over_turns, in_turns, place_in, place_in_block}
+use Rattle.camac_check_costs.specs.Places.{Place, place, HasPlace, BlockHasPlace, at_turn, IsTold, at_one, at_both, PlacesAreFound, TurnsAreTold, at_or, first_or, past, past_block, chosen_inside, are_chosen, are_chosen_in, told_of_both, left_by, over_turns, in_turns, place_in, place_in_block}
 
 -- ---- what led to an answer
 
@@ -84,7 +84,7 @@ both_told P (Some p) None h g = h
 both_told P (Some p) (Some q) h g = at_both p q h g
 
 -- a place of one of these turns is told so
-abbrev EachTells : (P : Place → Type 0) (count x v : ℕ) (check : Facts → Result Verdict Fault) (k : Facts) → (Facts → Place → Type 0) → Type 0
+abbrev pub EachTells : (P : Place → Type 0) (count x v : ℕ) (check : Facts → Result Verdict Fault) (k : Facts) → (Facts → Place → Type 0) → Type 0
 EachTells P count x v check k Tells = (turn : ℕ) → turn < count → (t : Facts) → at_turn check x v turn k ≡ Ok (Some t) → (p : Place) → Tells t p
 
 pub next_turn : (check : Facts → Result Verdict Fault) (x v turn : ℕ) (k q : Facts) (left : Verdict) → check (with_range x (only v) k) ≡ Ok left → left.after ≡ Some q
@@ -141,6 +141,11 @@ turns_tell P test count x v check find k (turn ∷ inner) p each e =
     let known : Known = o.0 in
     let t = was_reached known (find inner) p o.2 in
     each inner turn (ltb-true turn count h.0) t.0 (o.1 ∙ ap Ok t.1) p t.2
+
+pub turns_told : (P : Place → Type 0) (count x v : ℕ) (check : Facts → Result Verdict Fault) (find : List ℕ → Facts → Found) (k : Facts) (turns : List ℕ) (p : Place)
+    → ((inner : List ℕ) → EachTells P count x v check k (λ t q. find inner t ≡ Ok (Some q) → IsTold P q)) → in_turns count x v check find k turns ≡ Ok (Some p) → IsTold P p
+turns_told P count x v check find k turns p each e =
+    is_told P (chosen_inside (λ inner. false) turns) p (turns_tell P (λ inner. false) count x v check find k turns p each e)
 
 -- ---- places
 

@@ -1,8 +1,19 @@
-//! What holds of the places that are found, as the contract of a function that does nothing.
+//! What holds of the places that are found, as contracts of functions that do nothing.
 
-ghost use Rattle.camac_check_costs.specs.Places.{PlacesAreFound};
+ghost use Rattle.camac_check_costs.specs.Places.{PlacesAreFound, TurnsAreCovered, TurnsAreTold};
 
-/// The place that is found by a number is one to which the checker comes while it judges the body, with what it knows there.
+/// The place that is found by a number is one to which the checker comes while it judges the body, with what it knows there. In an `each` it is the
+/// place in one turn.
 pub fn places_are_found()
     ensures { PlacesAreFound }
+{}
+
+/// What is told over several turns of an `each` is put together from places to which the checker comes.
+pub fn turns_are_told()
+    ensures { TurnsAreTold }
+{}
+
+/// What is told over all turns of an `each` holds in each of them.
+pub fn turns_are_covered()
+    ensures { TurnsAreCovered }
 {}

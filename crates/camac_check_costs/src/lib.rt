@@ -7,6 +7,7 @@ mod known;
 pub mod laws;
 mod place;
 mod texts;
+mod told;
 
 pub use bodies::{BodyCosts, Owner, costs_of, procedure_costs, service_costs};
 pub use camac_check_rows::{Detail, Kind, Row};

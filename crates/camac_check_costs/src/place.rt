@@ -1,18 +1,19 @@
 // What is known where a statement begins.
 
-ghost use Rattle.std.specs.Prelude.{◌≡◌, ◌≤◌, None, drop, length, map};
+ghost use Rattle.std.specs.Prelude.{◌≡◌, ◌≤◌, None, [], drop, length, map};
 ghost use Rattle.camac_lang.specs.View.{item_of, procedure_of, service_of, statement_of, statements_of};
 ghost use Rattle.camac_rules.specs.Accept.{of_procedure, of_service, sections};
 ghost use Rattle.camac_rules.specs.Capped.{capped};
 ghost use Rattle.camac_rules.specs.Refusal.{if_reached};
 ghost use Rattle.camac_check_simple.specs.Gives.{Gives, by_code, code_before};
-ghost use Rattle.camac_check_costs.specs.Stands.{place_found};
+ghost use Rattle.camac_check_costs.specs.Stands.{place_found, place_in_each};
 ghost use Rattle.camac_check_costs.specs.Places.{past, past_block, place_in, place_in_block, place_of, place_over, place_with};
 
+use crate::told::{left_by, told_of_both};
 use camac_branch::Plan;
 use camac_check::{CheckFault, Context, accept_next, at_entry};
-use camac_check_known::{Around, Facts, split};
-use camac_check_loops::{for_limits, while_head};
+use camac_check_known::{Around, Facts, between, split};
+use camac_check_loops::{EachHead, count_block, each_begins, for_limits, while_head};
 use camac_check_rows::Rows;
 use camac_check_simple::{Place, lock_crate};
 use camac_lang::{Item, Procedure, Script, Service, Stmt};
@@ -29,7 +30,8 @@ pub struct Standing<'a> {
 
 /// Finds what the checker knows before a statement of a linked script. The statement is given by the number of its body, in the order of the
 /// text, and its own number there. Both count from 0, and statements inside others count too. None if the checker does not come to it, or if it
-/// is not there. If an earlier statement of its body is refused, it gives that refusal.
+/// is not there. If an earlier statement of its body is refused, it gives that refusal. In a `for` with `each` it is what is known in all turns to
+/// which the checker comes.
 pub fn find_place<'a>(
     alloc: Global,
     plan: &'a Plan,
@@ -96,7 +98,9 @@ fn place_in_procedure<'a>(
 ) -> Result<Option<Standing<'a>>, CheckFault>
     ensures { Gives place_found result (place_of (by_code context.now) (of_procedure (procedure_of procedure.now)) number) }
 {
-    let around = Around::alone_in(alloc, Body::Procedure(context.procedures.len()));
+    let body = Body::Procedure(context.procedures.len());
+    count_block(body, &procedure.body, 0)?;
+    let around = Around::alone_in(alloc, body);
     let known = at_entry(alloc, &procedure.parameters)?;
     place_if_reached(alloc, context, around, &procedure.body, known, number)
 }
@@ -109,7 +113,9 @@ fn place_in_service<'a>(
 ) -> Result<Option<Standing<'a>>, CheckFault>
     ensures { Gives place_found result (place_of (by_code context.now) (of_service (service_of service.now)) number) }
 {
-    let around = Around::alone_in(alloc, Body::Service(service.lam));
+    let body = Body::Service(service.lam);
+    count_block(body, &service.body, 0)?;
+    let around = Around::alone_in(alloc, body);
     let known = Facts::at_start(alloc);
     place_in_block(alloc, context, around, &service.body, known, number)
 }
@@ -133,9 +139,10 @@ fn past(statement: &Stmt, number: usize) -> Option<usize>
             None => None,
             Some(number) => past_block(otherwise, number),
         },
-        Stmt::For { body, .. } | Stmt::While { body, .. } | Stmt::Lock { body, .. } => {
-            past_block(body, inside)
-        }
+        Stmt::For { body, .. }
+        | Stmt::ForEach { body, .. }
+        | Stmt::While { body, .. }
+        | Stmt::Lock { body, .. } => past_block(body, inside),
         Stmt::Assign(_)
         | Stmt::SetRegister(_)
         | Stmt::Single(_)
@@ -175,7 +182,7 @@ fn place_in_block<'a>(
     known: Facts,
     number: usize,
 ) -> Result<Option<Standing<'a>>, CheckFault>
-    ensures { Gives place_found result (place_in_block (by_code context.now) around (statements_of block.now) known number) }
+    ensures { Gives place_found result (place_in_block (by_code context.now) around (statements_of block.now) known number []) }
 {
     let mut here = known;
     let mut left = number;
@@ -212,7 +219,7 @@ fn place_if_reached<'a>(
     known: Option<Facts>,
     number: usize,
 ) -> Result<Option<Standing<'a>>, CheckFault>
-    ensures { Gives place_found result (if_reached None known (λ k. place_in_block (by_code context.now) around (statements_of block.now) k number)) }
+    ensures { Gives place_found result (if_reached None known (λ k. place_in_block (by_code context.now) around (statements_of block.now) k number [])) }
 {
     match known {
         Some(known) => place_in_block(alloc, context, around, block, known, number),
@@ -231,7 +238,7 @@ fn place_in<'a>(
     known: Facts,
     number: usize,
 ) -> Result<Option<Standing<'a>>, CheckFault>
-    ensures { Gives place_found result (place_in (by_code context.now) around (statement_of statement.now) known number) }
+    ensures { Gives place_found result (place_in (by_code context.now) around (statement_of statement.now) known number []) }
 {
     if number == 0 {
         return Ok(Some(Standing {
@@ -279,6 +286,21 @@ fn place_in<'a>(
             let facts = limits.facts(alloc, head, body, known)?;
             place_if_reached(alloc, context, fixed, body, facts.head, inside)
         }
+        Stmt::ForEach {
+            line,
+            variable,
+            first,
+            last,
+            body,
+        } => {
+            let head = EachHead {
+                line: *line,
+                variable: *variable,
+                first: *first,
+                last: *last,
+            };
+            place_in_each(alloc, context, &around, head, body, known, inside)
+        }
         Stmt::While { head, body } => {
             let top = while_head(around.body(), head, body, known)?;
             let ways = split(alloc, head.line, &head.test.parts, top)?;
@@ -295,4 +317,37 @@ fn place_in<'a>(
         | Stmt::LamCall(_)
         | Stmt::Call(_) => Ok(None),
     }
+}
+
+// The place of the statement of this number in the block of an `each`, over its turns.
+#[cycle(places)]
+#[tactic(auto, unfolding(camac_rules::specs::Refusal::go_on))]
+fn place_in_each<'a>(
+    alloc: Global,
+    context: &Context,
+    around: &Around,
+    head: EachHead,
+    body: &'a [Stmt],
+    known: Facts,
+    number: usize,
+) -> Result<Option<Standing<'a>>, CheckFault>
+    ensures { Gives place_found result (place_in_each (by_code context.now) around.now head (statements_of body.now) known number) }
+{
+    let turns = each_begins(around, head)?;
+    let mut here = known;
+    let mut told = None;
+    'turns: for turn in 0..turns {
+        let value = head.first + turn;
+        here.put_range(head.variable, between(value, value))?;
+        let fixed = around.with_fixed(alloc, head.variable)?;
+        let begun = here.try_clone(alloc)?;
+        let found = place_in_block(alloc, context, fixed, body, begun, number)?;
+        told = told_of_both(alloc, told, found)?;
+        let inside = around.with_fixed(alloc, head.variable)?;
+        here = match left_by(alloc, context, &inside, body, here)? {
+            None => return Ok(told),
+            Some(known) => known,
+        };
+    }
+    Ok(told)
 }

@@ -9,6 +9,8 @@ pub mod Kept
 pub mod Calls
 mod CallRows
 mod Refused
+mod EachTurns
+mod OverLimit
 pub mod ShownArguments
 pub mod ShownExpressions
 pub mod ShownTurns

@@ -4,7 +4,7 @@ use Rattle.std.specs.Prelude.{◌^◌, nat_eq, nat_lt, nat_le, max, min, slice_g
 use Rattle.std.proofs.Math.Nat.{le-div_iff_mul-le, div-mul-le_self, le_trans}
 use Rattle.std.proofs.lemmas.Bool.{and_parts, cond_both, leb-true, eqb-false, ltb-false, cases_lt}
 use Rattle.std.proofs.lemmas.Nat.{mul-le}
-use Rattle.camac_lang.specs.Tree.{Expression, number, variable, group, add, subtract, multiply, divide, remainder, Test, flag_q, flag_x, compare, Part, plain, negated, Condition, Move, no_data, into, from, Keep, Statement, assign, set_register, single, address_scan, q_stop, q_repeat, put, crate_call, lam_call, choose, choose_else, for_, while_, locked, call, Block, done, next, Parameter}
+use Rattle.camac_lang.specs.Tree.{Expression, number, variable, group, add, subtract, multiply, divide, remainder, Test, flag_q, flag_x, compare, Part, plain, negated, Condition, Move, no_data, into, from, Keep, Statement, assign, set_register, single, address_scan, q_stop, q_repeat, put, crate_call, lam_call, choose, choose_else, for_, for_each, while_, locked, call, Block, done, next, Parameter}
 use Rattle.camac_range.specs.declared.comparison.Cmp.{Cmp}
 use Rattle.camac_range.specs.Compare.{opposite, turned}
 use Rattle.camac_range.specs.Number.{greatest}
@@ -13,11 +13,13 @@ use Rattle.camac_range.specs.Narrow.{narrow}
 use Rattle.camac_range.specs.Operators as range
 use Rattle.camac_lang.specs.declared.word.WordSize.{WordSize}
 use Rattle.camac_model.specs.Cycle.{sized}
+use Rattle.camac_model.specs.Fine.{Bounds}
 use Rattle.camac_rules.specs.Conditions.{Branches, branches, sole_variable, refine, assume, split_test, split_part, split}
 use Rattle.camac_rules.specs.Costs.{Verdict, unreached}
 use Rattle.camac_rules.specs.Addresses.{command_widths}
 use Rattle.camac_rules.specs.Calls.{lam_region, lock_rule}
 use Rattle.camac_rules.specs.Cycles.{Context, Around, with_locked, single_rule}
+use Rattle.camac_rules.specs.Each.{each_turns, each_from, each_begins}
 use Rattle.camac_rules.specs.Expressions.{range_of}
 use Rattle.camac_rules.specs.Fault.{Fault}
 use Rattle.camac_rules.specs.Joined.{join_set, join}
@@ -33,7 +35,7 @@ use Rattle.camac_rules.proofs.Allows.{Allows, allowed, then_allowed, required_al
 use Rattle.camac_rules.proofs.Heads.{write_at}
 use Rattle.camac_rules.proofs.Joined.{range_at-hulls, region_at-join}
 use Rattle.camac_rules.proofs.Values.{some_if}
-use Rattle.camac_laws.specs.Places.{Place, HasPlace, BlockHasPlace, IsStart, RegistersHaveAddresses}
+use Rattle.camac_laws.specs.Places.{Place, at_turn, HasPlace, BlockHasPlace, IsStart, RegistersHaveAddresses}
 use Rattle.camac_laws.specs.ShownAddresses.{HasAddresses}
 
 -- ---- what is ordered
@@ -216,6 +218,7 @@ mutual
   forgotten_by (choose line test a) k h = forgotten a k h
   forgotten_by (choose_else line test a b) k h = forgotten b (forget_block a k) (forgotten a k h)
   forgotten_by (for_ line x e1 e2 keeps body) k h = ordered_with (forget_block body k) x any_range (forgotten body k h) (omega arith)
+  forgotten_by (for_each line x v last body) k h = ordered_with (forget_block body k) x any_range (forgotten body k h) (omega arith)
   forgotten_by (while_ line test most m keeps body) k h = forgotten body k h
   forgotten_by (locked line e body) k h = forgotten body k h
   forgotten_by (call line p es) k h = h
@@ -277,6 +280,30 @@ single_ordered c around line size f r (from e) k h =
     then_allowed (anyway (range_of line e k.ranges)) (λ v q. then_allowed (given_allowed (region_at k.registers r) _ line _) (λ g u. then_allowed (anyway (command_widths c.plan line f g)) (λ w p.
     required_allowed _ line _ (λ t. required_allowed _ line _ (λ b. allowed h)))))
 
+-- one number alone
+alone : (k : Facts) (x n : ℕ) → IsOrdered k → IsOrdered (with_range x (only n) k)
+alone k x n h = ordered_with k x (only n) h (omega arith)
+
+turns_ordered : (limit : Bounds → Bounds) (n x v last : ℕ) (check : Facts → Result Verdict Fault) → ((q : Facts) → IsOrdered q → Allows (check q) LeavesOrdered) → (k : Facts) → IsOrdered k
+    → Allows (each_turns limit n x v last check k) LeavesOrdered
+turns_ordered limit zero x v last check each k h = allowed (alone k x last h)
+turns_ordered limit (suc n) x v last check each k h =
+    then_allowed (each (with_range x (only v) k) (alone k x v h)) (λ turn o.
+    then_allowed (reached_ordered unreached turn.after (each_turns limit n x (v + 1) last check) LeavesOrdered o tt (λ l m. turns_ordered limit n x (v + 1) last check each l m)) (λ rest q.
+    allowed q))
+
+each_ordered : (limit : Bounds → Bounds) (n x v last : ℕ) (check : Facts → Result Verdict Fault) → ((q : Facts) → IsOrdered q → Allows (check q) LeavesOrdered) → (k : Facts) → IsOrdered k
+    → Allows (each_from limit n x v last check k) LeavesOrdered
+each_ordered limit zero x v last check each k h = allowed h
+each_ordered limit (suc n) x v last check each k h = turns_ordered limit (suc n) x v last check each k h
+
+turn_ordered : (turn x v : ℕ) (check : Facts → Result Verdict Fault) → ((q : Facts) → IsOrdered q → Allows (check q) LeavesOrdered) → (k : Facts) → IsOrdered k
+    → Allows (at_turn check x v turn k) IfKnown
+turn_ordered zero x v check each k h = allowed (alone k x v h)
+turn_ordered (suc turn) x v check each k h =
+    then_allowed (each (with_range x (only v) k) (alone k x v h)) (λ left o.
+    reached_ordered None left.after (at_turn check x (v + 1) turn) IfKnown o tt (λ l m. turn_ordered turn x (v + 1) check each l m))
+
 mutual
   statement_ordered : (c : Context) (around : Around) (s : Statement) (k : Facts) → IsOrdered k → Allows (accept_statement c around s k) LeavesOrdered
   statement_ordered c around (assign line x e) k h =
@@ -311,6 +338,9 @@ mutual
   statement_ordered c around (for_ line x e1 e2 keeps body) k h =
       then_allowed (for_may around line x e1 e2 keeps k) (λ l e. then_allowed (anyway (if_reached unreached (for_head x l keeps body k) (accept_block c (with_fixed x around) body))) (λ turn u.
       required_allowed _ line _ (λ t. allowed (for_after_ordered x l keeps body k h e))))
+  statement_ordered c around (for_each line x v last body) k h =
+      then_allowed (anyway (each_begins around line x v last)) (λ n u.
+      then_allowed (each_ordered c.limit n x v last (accept_block c (with_fixed x around) body) (λ q o. block_ordered c (with_fixed x around) body q o) k h) (λ turns o. allowed o))
   statement_ordered c around (while_ line test most m keeps body) k h =
       then_allowed (while_ordered around line most m keeps body k h) (λ top o. then_allowed (split_ordered line test top o) (λ arms q.
       then_allowed (anyway (if_reached unreached arms.holds (accept_block c around body))) (λ turn u. required_allowed _ line _ (λ t. allowed q.fails))))
@@ -351,6 +381,12 @@ mutual
       let e = found_so (for_limits around line x e1 e2 keeps k) l (λ m. keeps_hold keeps k ≡ true) (for_may around line x e1 e2 keeps k) i.1 in
       let t = i.2 in
       block_inside c p (with_fixed x around) body t.0 (known_so (for_head x l keeps body k) t.0 (for_head_ordered x l keeps body k h e) t.1) t.2
+  inside c p around (for_each line x v last body) k h i =
+      let check : Facts → Result Verdict Fault = accept_block c (with_fixed x around) body in
+      let turn = i.2 in
+      let t = turn.2 in
+      let o = found_so (at_turn check x v turn.0 k) (Some t.0) IfKnown (turn_ordered turn.0 x v check (λ q m. block_ordered c (with_fixed x around) body q m) k h) t.1 in
+      block_inside c p (with_fixed x around) body t.0 o t.2
   inside c p around (while_ line test most m keeps body) k h i =
       let top : Facts = i.0 in
       let o = found_so (while_head around.body line most m keeps body k) top IsOrdered (while_ordered around line most m keeps body k h) i.1 in

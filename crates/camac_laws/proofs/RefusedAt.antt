@@ -2,7 +2,7 @@
 use Rattle.std.proofs.Common.{◌≡◌, ℕ, ◌<◌, Bool, true, false, List, [], ◌∷◌, Option, Some, None, Result, Ok, Err, refl, sym, ap, ◌∙◌, subst, arith, ◌⊎◌, inl, inr, ⊎_elim}
 use Rattle.std.specs.Prelude.{nat_le, slice_get}
 use Rattle.std.proofs.lemmas.Bool.{leb-false}
-use Rattle.camac_lang.specs.Tree.{Expression, number, variable, group, add, subtract, multiply, divide, remainder, Test, flag_q, flag_x, compare, Part, plain, negated, Condition, Move, no_data, into, from, Keep, Statement, assign, set_register, single, address_scan, q_stop, q_repeat, put, crate_call, lam_call, choose, choose_else, for_, while_, locked, call, Block, done, next, line_of}
+use Rattle.camac_lang.specs.Tree.{Expression, number, variable, group, add, subtract, multiply, divide, remainder, Test, flag_q, flag_x, compare, Part, plain, negated, Condition, Move, no_data, into, from, Keep, Statement, assign, set_register, single, address_scan, q_stop, q_repeat, put, crate_call, lam_call, choose, choose_else, for_, for_each, while_, locked, call, Block, done, next, line_of}
 use Rattle.camac_lang.specs.declared.word.WordSize.{WordSize}
 use Rattle.camac_branch.specs.Plan.{Layout}
 use Rattle.camac_model.specs.Fine.{Bounds}
@@ -16,6 +16,8 @@ use Rattle.camac_rules.specs.Cases.{budget}
 use Rattle.camac_rules.specs.Conditions.{Branches, branches, split_test, split_part, split}
 use Rattle.camac_rules.specs.Costs.{Verdict, unreached}
 use Rattle.camac_rules.specs.Cycles.{Context, Around, with_locked, alone_in, single_rule}
+use Rattle.camac_rules.specs.Each.{each_begins, each_from}
+use Rattle.camac_rules.specs.EachLimit.{count_block}
 use Rattle.camac_rules.specs.Expressions.{range_of}
 use Rattle.camac_rules.specs.Fault.{Fault, broken}
 use Rattle.camac_rules.specs.Known.{Region, Facts, region_at}
@@ -26,7 +28,9 @@ use Rattle.camac_rules.specs.Statements.{accept_statement, accept_block}
 use Rattle.camac_rules.specs.Transfers.{block_region}
 use Rattle.camac_rules.specs.Writes.{fall_of}
 use Rattle.camac_laws.specs.Places.{Place, place, HasPlace, BlockHasPlace}
-use Rattle.camac_laws.specs.Refused.{named, body_of, start_of, heading_line, heading_of, found_in, accept_section, number_of, HeadingsAreShown, IsAccepted, IsRefusedInside, IsRefusedByHeading, ComesTo, RefusedAtPlaces}
+use Rattle.camac_laws.specs.Refused.{named, body_of, start_of, heading_line, heading_of, found_in, accept_section, number_of, HeadingsAreShown, IsOverLimit, IsAccepted, IsRefusedInside, IsRefusedByHeading, ComesTo, RefusedAtPlaces}
+use Rattle.camac_laws.proofs.EachTurns.{each_refused, each_accepted}
+use Rattle.camac_laws.proofs.OverLimit.{over_limit}
 use Rattle.camac_laws.proofs.Refused.{go_err, required_err, reached_err, reached_is}
 use Rattle.camac_laws.proofs.Steps.{go_ok, go_is}
 
@@ -105,6 +109,9 @@ for_on : (around : Around) (line x : ℕ) (e1 e2 : Expression) (qs : List Keep) 
 for_on around line x e1 e2 qs k =
     then_on (range_on line e1 k) (λ r. then_on (range_on line e2 k) (λ s. required_on _ line _ (λ t. required_on _ line _ (λ t. required_on _ line _ (λ t. fine_on)))))
 
+each_on : (around : Around) (line x v last : ℕ) → OnLine (each_begins around line x v last) line
+each_on around line x v last = required_on _ line _ (λ t. required_on _ line _ (λ t. required_on _ line _ (λ t. fine_on)))
+
 while_on : (around : Around) (line most m : ℕ) (qs : List Keep) (body : Block) (k : Facts) → OnLine (while_head around.body line most m qs body k) line
 while_on around line most m qs body k = then_on (given_on (fall_of m body) _ line _) (λ d. required_on _ line _ (λ t. required_on _ line _ (λ t. fine_on)))
 
@@ -167,6 +174,15 @@ mutual
       let turn = go_ok (if_reached unreached (for_head x r.0 keeps body k) (accept_block c (with_fixed x around) body)) _ v r.2 in
       block_accepted c q (with_fixed x around) body t.0 turn.0
       (turn_ok line x e1 e2 keeps body around k l r.0 (accept_block c (with_fixed x around) body) i.1 r.1 turn.0 turn.1 t.0 t.1) t.2
+  accepted_inside c q around (for_each line x v last body) k w e i =
+      let check : Facts → Result Verdict Fault = accept_block c (with_fixed x around) body in
+      let turn = i.2 in
+      let r = go_ok (each_begins around line x v last) _ w e in
+      let same = one_ok i.0 r.0 (each_begins around line x v last) i.1 r.1 in
+      let all = go_ok (each_from c.limit r.0 x v last check k) _ w r.2 in
+      let t = turn.2 in
+      let found = each_accepted c.limit r.0 x v last check k all.0 all.1 turn.0 (subst (λ n. turn.0 < n) same turn.1) t.0 t.1 in
+      block_accepted c q (with_fixed x around) body t.0 found.0 found.1 t.2
   accepted_inside c q around (while_ line test most m keeps body) k v e i =
       let top : Facts = i.0 in
       let arms : Branches = i.2.0 in
@@ -298,6 +314,19 @@ mutual
       (turn_ok line x e1 e2 keeps body around k i.0 l.0 (accept_block c (with_fixed x around) body) i.1 l.1 turn.0 turn.1 t.0 t.1) t.2))
       (go_err (if_reached unreached (for_head x l.0 keeps body k) (accept_block c (with_fixed x around) body)) _ fault l.2))
       (go_err (for_limits around line x e1 e2 keeps k) _ fault is)
+  statement_refused c around (for_each line x v last body) k fault is =
+      let check : Facts → Result Verdict Fault = accept_block c (with_fixed x around) body in
+      ⊎_elim
+      (λ h. here c around (for_each line x v last body) k fault is ((each_on around line x v last).on fault h)
+      (λ q i. absurd (refused_and_ok (each_begins around line x v last) i.0 fault h i.1)))
+      (λ n. ⊎_elim
+      (λ h. let turn = each_refused c.limit n.0 x v last check k fault h in
+      let t = turn.2 in
+      found_so c fault (λ p. BlockHasPlace c p (with_fixed x around) body t.0) (Here c around (for_each line x v last body) k)
+      (λ p i. inr (n.0, n.1, (turn.0, turn.1, (t.0, t.1, i)))) (block_refused c (with_fixed x around) body t.0 fault t.2))
+      (λ all. absurd (let bad = all.2 in cc))
+      (go_err (each_from c.limit n.0 x v last check k) _ fault n.2))
+      (go_err (each_begins around line x v last) _ fault is)
   statement_refused c around (while_ line test most m keeps body) k fault is =
       ⊎_elim
       (λ h. here c around (while_ line test most m keeps body) k fault is ((while_on around line most m keeps body k).on fault h)
@@ -381,12 +410,19 @@ refused_over c s found rule line case e =
     (go_err (required (nat_le costs.cycles most.cycles) TooManyCycles at _) _ (broken rule line case) w.2))
     (go_err (required (nat_le costs.words most.words) TooManyWords at _) _ (broken rule line case) e)
 
+one_after_the_other : {A B D : Type 0} (r : Result A Fault) (f : A → Result B Fault) (g : B → Result D Fault) → go_on r (λ x. go_on (f x) g) ≡ go_on (go_on r f) g
+unfolding go_on
+one_after_the_other (Ok x) f g = refl
+one_after_the_other (Err e) f g = refl
+
 -- a body, and then its heading
 section_is : (c : Context) (s : Section) → accept_section c s ≡ go_on (found_in c s) (λ v. within (named c s) (heading_of s) v.costs (heading_line s))
-section_is c (of_procedure p) = refl
+section_is c (of_procedure p) =
+    one_after_the_other (count_block (named c (of_procedure p)) p.body 0) (λ counted. if_reached unreached (start_of (of_procedure p)) (accept_block c (alone_in (named c (of_procedure p))) p.body)) _
 section_is c (of_service v) =
-    ap (λ r. go_on r (λ (o : Verdict). within (named c (of_service v)) (heading_of (of_service v)) o.costs v.line))
+    ap (λ r. go_on (count_block (named c (of_service v)) v.body 0) (λ counted. go_on r (λ (o : Verdict). within (named c (of_service v)) (heading_of (of_service v)) o.costs v.line)))
     (sym (reached_is unreached at_start (accept_block c (alone_in (named c (of_service v))) v.body)))
+    ∙ one_after_the_other (count_block (named c (of_service v)) v.body 0) (λ counted. if_reached unreached (start_of (of_service v)) (accept_block c (alone_in (named c (of_service v))) v.body)) _
 
 heading_refused : (c : Context) (s : Section) (found : Verdict) (rule : CheckRule) (line : ℕ) (case : Case) → found_in c s ≡ Ok found
     → accept_section c s ≡ Err (broken rule line case) → IsOver c s found rule line case
@@ -418,21 +454,23 @@ headings_are_shown c s found rule line case is e =
 -- ---- procedures and services
 
 abbrev IsRefused : Context → Section → CheckRule → ℕ → Case → Type 0
-IsRefused c s rule line case = IsRefusedInside c s rule line case ⊎ IsRefusedByHeading c s rule line case
+IsRefused c s rule line case = IsOverLimit c s rule line case ⊎ (IsRefusedInside c s rule line case ⊎ IsRefusedByHeading c s rule line case)
 
 section_refused : (c : Context) (s : Section) (rule : CheckRule) (line : ℕ) (case : Case) → accept_section c s ≡ Err (broken rule line case) → IsRefused c s rule line case
 section_refused c s rule line case e =
     ⊎_elim
-    (λ h. let t = reached_err unreached (start_of s) (accept_block c (alone_in (named c s)) (body_of s)) (broken rule line case) h in
+    (λ r. ⊎_elim (λ h. inl (over_limit c s rule line case h))
+    (λ counted. let t = reached_err unreached (start_of s) (accept_block c (alone_in (named c s)) (body_of s)) (broken rule line case) counted.2 in
     let f = block_refused c (alone_in (named c s)) (body_of s) t.0 (broken rule line case) t.2 in
-    inl (record {
+    inr (inl (record {
       start = t.0;
       is_start = t.1;
       place = f.at;
       inside = f.has;
       refused = record { refused = f.refused; line_is = f.line_is; own = f.own };
-    }))
-    (λ v. inr (v.0, v.1, headings_are_shown c s v.0 rule line case v.1 e))
+    })))
+    (go_err (count_block (named c s) (body_of s) 0) _ (broken rule line case) r))
+    (λ v. inr (inr (v.0, v.1, headings_are_shown c s v.0 rule line case v.1 e)))
     (go_err (found_in c s) (λ v. within (named c s) (heading_of s) v.costs (heading_line s)) (broken rule line case) (sym (section_is c s) ∙ e))
 
 sections_refused : (first : Context) (ss : List Section) (rule : CheckRule) (line : ℕ) (case : Case) → accept_sections first ss ≡ Err (broken rule line case)

@@ -5,7 +5,7 @@ use Rattle.camac_rules.specs.Accept.{at_start}
 use Rattle.camac_rules.specs.Cycles.{Context, Around}
 use Rattle.camac_rules.specs.Known.{Region, Facts, region_at}
 use Rattle.camac_rules.specs.Procedures.{at_entry}
-pub use Rattle.camac_check_costs.specs.Places.{Place, place, IfReached, HasPlace, BlockHasPlace}
+pub use Rattle.camac_check_costs.specs.Places.{Place, place, IfReached, at_turn, HasPlace, BlockHasPlace}
 use Rattle.camac_laws.specs.ShownAddresses.{HasAddresses}
 
 -- what is known where the body of a service begins, or that of a procedure with these parameters

@@ -1,22 +1,23 @@
--- Where a script is refused: at a statement of the body of a procedure or service, or by the numbers of its heading.
-use Rattle.std.specs.Prelude.{◌≡◌, ◌⊎◌, ℕ, ◌<◌, ◌≤◌, List, [], ◌∷◌, Option, Some, None, Result, Ok, Err}
+-- Where a script is refused: at a statement of the body of a procedure or service, by the limit of its `each` loops, or by the numbers of its heading.
+use Rattle.std.specs.Prelude.{◌≡◌, ◌⊎◌, ℕ, ◌+◌, ◌-◌, ◌<◌, ◌≤◌, List, [], ◌∷◌, ◌++◌, Option, Some, None, Result, Ok, Err}
 use Rattle.camac_range.specs.Number.{greatest}
-use Rattle.camac_lang.specs.Tree.{Block, Script, line_of}
+use Rattle.camac_lang.specs.Tree.{Statement, choose, choose_else, for_, for_each, while_, locked, Block, done, next, Script, line_of}
 use Rattle.camac_branch.specs.Plan.{Layout}
 use Rattle.camac_model.specs.Fine.{Bounds, annotated}
 use Rattle.camac_rules.specs.declared.case.Body.{Body}
 use Rattle.camac_rules.specs.declared.case.Body.TheVariants as body
 use Rattle.camac_rules.specs.declared.case.Case.{Case}
 use Rattle.camac_rules.specs.declared.rule.CheckRule.{CheckRule}
-use Rattle.camac_rules.specs.declared.rule.CheckRule.TheVariants.{TooManyWords, TooManyCycles, TooManySteps}
+use Rattle.camac_rules.specs.declared.rule.CheckRule.TheVariants.{TooManyWords, TooManyCycles, TooManySteps, TooManyTurns}
 use Rattle.camac_rules.specs.Accept.{Section, of_procedure, of_service, at_start, own_body, accept_procedure, accept_service, with_procedure, bare, accept}
-use Rattle.camac_rules.specs.Cases.{budget}
+use Rattle.camac_rules.specs.Cases.{budget, judged_case}
 use Rattle.camac_rules.specs.Costs.{costs, Verdict, unreached}
 use Rattle.camac_rules.specs.Cycles.{Context, alone_in}
+use Rattle.camac_rules.specs.EachLimit.{judged_limit, judged, count_block}
 use Rattle.camac_rules.specs.Fault.{Fault, broken}
 use Rattle.camac_rules.specs.Known.{Facts, Known}
 use Rattle.camac_rules.specs.Procedures.{at_entry}
-use Rattle.camac_rules.specs.Refusal.{if_reached}
+use Rattle.camac_rules.specs.Refusal.{◌>>=◌, if_reached}
 use Rattle.camac_rules.specs.Statements.{accept_statement, accept_block}
 use Rattle.camac_check_costs.specs.Bodies.{sections_of}
 use Rattle.camac_laws.specs.Places.{Place, HasPlace, BlockHasPlace}
@@ -46,7 +47,9 @@ heading_of (of_service v) = costs v.cycles v.words greatest
 
 -- what the rules find of its body, and of the whole
 abbrev pub found_in : Context → Section → Result Verdict Fault
-found_in c s = if_reached unreached (start_of s) (accept_block c (alone_in (named c s)) (body_of s))
+found_in c s = do
+  counted ← count_block (named c s) (body_of s) 0
+  if_reached unreached (start_of s) (accept_block c (alone_in (named c s)) (body_of s))
 
 abbrev pub accept_section : Context → Section → Result Bounds Fault
 accept_section c (of_procedure p) = accept_procedure c p
@@ -80,6 +83,40 @@ HeadingsAreShown =
     (c : Context) (s : Section) (found : Verdict) (rule : CheckRule) (line : ℕ) (case : Case) → found_in c s ≡ Ok found
     → accept_section c s ≡ Err (broken rule line case) → IsAboveHeading c s found rule line case
 
+-- ---- the limit of `each` loops
+
+-- those of a block in the order of the text, without those in them
+abbrev mutual
+  pub loops_in : Statement → List Statement
+  loops_in (choose line test a) = block_loops a
+  loops_in (choose_else line test a b) = block_loops a ++ block_loops b
+  loops_in (for_ line x e1 e2 keeps body) = block_loops body
+  loops_in (for_each line x v last body) = for_each line x v last body ∷ []
+  loops_in (while_ line test most m keeps body) = block_loops body
+  loops_in (locked line e body) = block_loops body
+  loops_in s = []
+
+  pub block_loops : Block → List Statement
+  block_loops done = []
+  block_loops (next s rest) = loops_in s ++ block_loops rest
+
+-- what is judged in all these
+abbrev pub judged_in : List Statement → ℕ
+judged_in [] = 0
+judged_in (s ∷ rest) = judged s - 1 + judged_in rest
+
+-- With this loop more is judged than the body may, and less without it. Nothing of the body is judged then.
+pub record IsOverLimit (c : Context) (s : Section) (rule : CheckRule) (line : ℕ) (case : Case) : Type 0 where
+  pub before : List Statement
+  pub loop : Statement
+  pub behind : List Statement
+  pub all : block_loops (body_of s) ≡ before ++ loop ∷ behind
+  pub fits : judged_in before ≤ judged_limit
+  pub above : judged_limit < judged_in (before ++ loop ∷ [])
+  pub rule_is : rule ≡ TooManyTurns
+  pub shown : case ≡ judged_case (named c s) (judged_in (before ++ loop ∷ [])) judged_limit
+  pub line_is : line ≡ line_of loop
+
 -- ---- places
 
 abbrev pub IsAccepted : Context → Place → Type 0
@@ -111,9 +148,9 @@ ComesTo c s from (of_procedure p ∷ rest) =
 ComesTo c s from (of_service v ∷ rest) =
     ((c ≡ from) × (s ≡ of_service v)) ⊎ ((k : Bounds) × (accept_service from v ≡ Ok k) × ComesTo c s from rest)
 
--- Where a script is refused, a statement of the first procedure or service that is refused has this fault, or the heading has.
+-- Where a script is refused, a statement of the first procedure or service that is refused has this fault, the loop that passes its limit, or the heading.
 abbrev pub RefusedAtPlaces : Type 0
 RefusedAtPlaces =
     (plan : Layout) (script : Script) (rule : CheckRule) (line : ℕ) (case : Case) → accept plan script ≡ Err (broken rule line case)
     → (c : Context) × (s : Section) × ComesTo c s (bare (λ k. k) plan script) (sections_of script)
-    × (IsRefusedInside c s rule line case ⊎ IsRefusedByHeading c s rule line case)
+    × (IsOverLimit c s rule line case ⊎ (IsRefusedInside c s rule line case ⊎ IsRefusedByHeading c s rule line case))

@@ -1,0 +1,318 @@
+-- What is told over several turns holds in each of them.
+use Rattle.std.proofs.Common.{◌≡◌, ℕ, zero, suc, ◌+◌, ◌-◌, ◌<◌, Bool, true, false, List, [], ◌∷◌, ◌++◌, Option, Some, None, Result, Ok, Err, refl, sym, ap, ◌∙◌, subst, ⊎_elim, arith}
+use Rattle.std.specs.Prelude.{◌&&◌, nat_eq, nat_lt, if◌then◌else◌}
+use Rattle.std.proofs.lemmas.Bool.{and_parts, eqb-true, or_cases, ltb-true}
+use Rattle.camac_lang.specs.Tree.{Statement, assign, set_register, single, address_scan, q_stop, q_repeat, put, crate_call, lam_call, choose, choose_else, for_, for_each, while_, locked, call, Block, done, next}
+use Rattle.camac_range.specs.Interval.{only, IsWithin}
+use Rattle.camac_range.proofs.Within.{hull_left, hull_right}
+use Rattle.camac_rules.specs.declared.case.Body.{Body}
+use Rattle.camac_rules.specs.Addresses.{crate_end, is_among}
+use Rattle.camac_rules.specs.Calls.{lock_rule}
+use Rattle.camac_rules.specs.Conditions.{Branches, split}
+use Rattle.camac_rules.specs.Costs.{Verdict}
+use Rattle.camac_rules.specs.Cycles.{Context, Around, with_locked}
+use Rattle.camac_rules.specs.Each.{each_begins}
+use Rattle.camac_rules.specs.Fault.{Fault}
+use Rattle.camac_rules.specs.Joined.{join_set}
+use Rattle.camac_rules.specs.Known.{Region, Facts, Known, range_at, region_at, with_range}
+use Rattle.camac_rules.specs.Loops.{with_fixed, for_limits, for_head, while_head}
+use Rattle.camac_rules.specs.Refusal.{go_on, if_reached}
+use Rattle.camac_rules.specs.Statements.{accept_statement, accept_block}
+use Rattle.camac_rules.proofs.Joined.{range_at-hulls, region_at-join}
+use Rattle.camac_check_costs.specs.Places.{Place, place, at_turn, at_or, first_or, past, past_block, locked_in_both, place_of_both, told_of_both, left_by, over_turns, in_turns, place_in, place_in_block, IsSetSo, HoldsAt, IsCovered, TurnsAreCovered}
+use Rattle.camac_check_costs.proofs.PlaceLaws.{Found, went_on, was_reached, if_so}
+use Rattle.camac_check_costs.proofs.PlaceNumbers.{IsNumbered, body_of_both, numbered_in, statement_in}
+
+-- ---- of two places
+
+set_left : (g h o : Option Region) → IsSetSo g o → IsSetSo (join_set g h) o
+set_left None h o i = tt
+set_left (Some g) None o i = tt
+set_left (Some g) (Some h) None i = i
+set_left (Some g) (Some h) (Some o) i = record {
+  crates = λ v w. hull_left g.crates h.crates v (i.crates v w);
+  stations = λ v w. hull_left g.stations h.stations v (i.stations v w);
+  sub_addresses = λ v w. hull_left g.sub_addresses h.sub_addresses v (i.sub_addresses v w);
+}
+
+set_right : (g h o : Option Region) → IsSetSo h o → IsSetSo (join_set g h) o
+set_right None h o i = tt
+set_right (Some g) None o i = tt
+set_right (Some g) (Some h) None i = i
+set_right (Some g) (Some h) (Some o) i = record {
+  crates = λ v w. hull_right g.crates h.crates v (i.crates v w);
+  stations = λ v w. hull_right g.stations h.stations v (i.stations v w);
+  sub_addresses = λ v w. hull_right g.sub_addresses h.sub_addresses v (i.sub_addresses v w);
+}
+
+-- a crate that is added is one of these
+added : (P : ℕ → Type 0) (t : Bool) (c d : ℕ) (a : Around) → (t ≡ true → P c) → (is_among d a.locked ≡ true → P d) → is_among d (if t then with_locked c a else a).locked ≡ true → P d
+added P true c d a new old e = ⊎_elim (λ h. subst P (sym (eqb-true d c h)) (new refl)) old (or_cases (nat_eq d c) (is_among d a.locked) e)
+added P false c d a new old e = old e
+
+in_first : (n : ℕ) (a b : Around) (d : ℕ) → is_among d (locked_in_both n a b).locked ≡ true → is_among d a.locked ≡ true
+in_first zero a b d e = absurd (cc)
+in_first (suc c) a b d e =
+    added (λ m. is_among m a.locked ≡ true) (is_among c a.locked && is_among c b.locked) c d (locked_in_both c a b)
+    (λ t. (and_parts (is_among c a.locked) (is_among c b.locked) t).0) (in_first c a b d) e
+
+in_second : (n : ℕ) (a b : Around) (d : ℕ) → is_among d (locked_in_both n a b).locked ≡ true → is_among d b.locked ≡ true
+in_second zero a b d e = absurd (cc)
+in_second (suc c) a b d e =
+    added (λ m. is_among m b.locked ≡ true) (is_among c a.locked && is_among c b.locked) c d (locked_in_both c a b)
+    (λ t. (and_parts (is_among c a.locked) (is_among c b.locked) t).1) (in_second c a b d) e
+
+holds_left : (p a b : Place) → HoldsAt p a → HoldsAt p (place_of_both a b)
+holds_left p a b h = record {
+  statement = h.statement;
+  body = h.body ∙ sym (body_of_both crate_end a.around b.around);
+  ranges = λ x v w. subst (λ r. IsWithin r v) (sym (range_at-hulls a.known.ranges b.known.ranges x)) (hull_left (range_at a.known.ranges x) (range_at b.known.ranges x) v (h.ranges x v w));
+  registers = λ r. subst (λ g. IsSetSo g (region_at p.known.registers r)) (sym (region_at-join a.known.registers b.known.registers r))
+      (set_left (region_at a.known.registers r) (region_at b.known.registers r) (region_at p.known.registers r) (h.registers r));
+  locked = λ d e. h.locked d (in_first crate_end a.around b.around d e);
+}
+
+-- of one statement in one body
+record IsSame (a b : Place) : Type 0 where
+  statement : b.statement ≡ a.statement
+  body : b.around.body ≡ a.around.body
+
+holds_right : (p a b : Place) → IsSame a b → HoldsAt p b → HoldsAt p (place_of_both a b)
+holds_right p a b s h = record {
+  statement = h.statement ∙ s.statement;
+  body = h.body ∙ s.body ∙ sym (body_of_both crate_end a.around b.around);
+  ranges = λ x v w. subst (λ r. IsWithin r v) (sym (range_at-hulls a.known.ranges b.known.ranges x)) (hull_right (range_at a.known.ranges x) (range_at b.known.ranges x) v (h.ranges x v w));
+  registers = λ r. subst (λ g. IsSetSo g (region_at p.known.registers r)) (sym (region_at-join a.known.registers b.known.registers r))
+      (set_right (region_at a.known.registers r) (region_at b.known.registers r) (region_at p.known.registers r) (h.registers r));
+  locked = λ d e. h.locked d (in_second crate_end a.around b.around d e);
+}
+
+set_itself : (o : Option Region) → IsSetSo o o
+set_itself None = tt
+set_itself (Some g) = record { crates = λ v w. w; stations = λ v w. w; sub_addresses = λ v w. w }
+
+itself : (p : Place) → HoldsAt p p
+itself p = record { statement = refl; body = refl; ranges = λ x v w. w; registers = λ r. set_itself (region_at p.known.registers r); locked = λ d e. e }
+
+-- ---- over turns
+
+covers_itself : (f : Found) (p : Place) → f ≡ Ok (Some p) → IsCovered p f
+covers_itself f p e = subst (IsCovered p) (sym e) (itself p)
+
+abbrev IfNumbered : Option Statement → Body → Option Place → Type 0
+IfNumbered s b None = Unit {0}
+IfNumbered s b (Some p) = IsNumbered s b p
+
+abbrev IfHeld : Place → Option Place → Type 0
+IfHeld p None = ⊥
+IfHeld p (Some told) = HoldsAt p told
+
+same_of : (s : Option Statement) (b : Body) (p q : Place) → IsNumbered s b p → IsNumbered s b q → IsSame p q
+same_of s b p q i j = record {
+  statement = let both : ◌≡◌ {A = Option Statement} (Some q.statement) (Some p.statement) = sym j.statement ∙ i.statement in cc;
+  body = sym j.body ∙ i.body;
+}
+
+both_numbered : (s : Option Statement) (b : Body) (p q : Option Place) → IfNumbered s b p → IfNumbered s b q → IfNumbered s b (told_of_both p q)
+both_numbered s b None q i j = j
+both_numbered s b (Some p) None i j = i
+both_numbered s b (Some p) (Some q) i j = record { statement = i.statement; body = i.body ∙ sym (body_of_both crate_end p.around q.around) }
+
+held_before : (p : Place) (a b : Option Place) → IfHeld p a → IfHeld p (told_of_both a b)
+held_before p None b h = absurd h
+held_before p (Some a) None h = h
+held_before p (Some a) (Some b) h = holds_left p a b h
+
+held_now : (s : Option Statement) (w : Body) (p : Place) (a b : Option Place) → IfNumbered s w a → IfNumbered s w b → IfHeld p b → IfHeld p (told_of_both a b)
+held_now s w p None b i j h = h
+held_now s w p (Some a) None i j h = absurd h
+held_now s w p (Some a) (Some b) i j h = holds_right p a b (same_of s w a b i j) h
+
+covered_by : (p : Place) (o : Option Place) → IfHeld p o → IsCovered p (Ok o)
+covered_by p None h = h
+covered_by p (Some told) h = h
+
+-- a turn that is judged, and those behind it
+goes_on : (p : Place) (f : Found) (g : Option Place → Found) → ((o : Option Place) → f ≡ Ok o → IsCovered p (g o)) → IsCovered p (go_on f g)
+unfolding go_on
+goes_on p (Ok o) g h = h o refl
+goes_on p (Err e) g h = tt
+
+goes_behind : (p : Place) (w : Option Place) (o : Known) (g : Facts → Found) → IfHeld p w → ((q : Facts) → IsCovered p (g q)) → IsCovered p (if_reached w o g)
+unfolding if_reached
+goes_behind p w None g h more = covered_by p w h
+goes_behind p w (Some q) g h more = more q
+
+numbered_by : (s : Option Statement) (b : Body) (f : Found) → ((q : Place) → f ≡ Ok (Some q) → IsNumbered s b q) → (o : Option Place) → f ≡ Ok o → IfNumbered s b o
+numbered_by s b f each None e = tt
+numbered_by s b f each (Some q) e = each q e
+
+-- what holds of what is told so far holds to the end
+stays : (p : Place) (count x v : ℕ) (check : Facts → Result Verdict Fault) (find : Facts → Found) (k : Facts) (so_far : Option Place) → IfHeld p so_far → IsCovered p (over_turns count x v check find k so_far)
+stays p zero x v check find k so_far h = covered_by p so_far h
+stays p (suc n) x v check find k so_far h =
+    goes_on p (find (with_range x (only v) k)) _ (λ here e.
+    goes_behind p (told_of_both so_far here) (left_by (check (with_range x (only v) k))) _ (held_before p so_far here h)
+    (λ q. stays p n x (v + 1) check find q (told_of_both so_far here) (held_before p so_far here h)))
+
+held_of : (p : Place) (f : Found) (o : Option Place) → f ≡ Ok o → IsCovered p f → IfHeld p o
+held_of p f None e h = subst (IsCovered p) e h
+held_of p f (Some told) e h = subst (IsCovered p) e h
+
+-- the turn before comes to this one
+came : (check : Facts → Result Verdict Fault) (x v turn : ℕ) (k t : Facts) → at_turn check x v (suc turn) k ≡ Ok (Some t)
+    → (q : Facts) × (left_by (check (with_range x (only v) k)) ≡ Some q) × (at_turn check x (v + 1) turn q ≡ Ok (Some t))
+unfolding go_on if_reached
+came check x v turn k t e = go (check (with_range x (only v) k)) e
+  where
+    reached : (o : Known) → if_reached None o (at_turn check x (v + 1) turn) ≡ Ok (Some t) → (q : Facts) × (o ≡ Some q) × (at_turn check x (v + 1) turn q ≡ Ok (Some t))
+    reached None h = absurd (let bad : ◌≡◌ {A = Result Known Fault} (Ok None) (Ok (Some t)) = h in cc)
+    reached (Some q) h = (q, refl, h)
+
+    go : (r : Result Verdict Fault) → go_on r (λ w. if_reached None w.after (at_turn check x (v + 1) turn)) ≡ Ok (Some t)
+        → (q : Facts) × (left_by r ≡ Some q) × (at_turn check x (v + 1) turn q ≡ Ok (Some t))
+    go (Ok w) h = reached w.after h
+    go (Err f) h = absurd (let bad : ◌≡◌ {A = Result Known Fault} (Err f) (Ok (Some t)) = h in cc)
+
+-- what is told over all turns holds in this one
+turn_covered : (s : Option Statement) (b : Body) (p : Place) (count x v : ℕ) (check : Facts → Result Verdict Fault) (find : Facts → Found) (k : Facts) (so_far : Option Place)
+    → ((t : Facts) (q : Place) → find t ≡ Ok (Some q) → IsNumbered s b q) → IfNumbered s b so_far
+    → (turn : ℕ) → turn < count → (t : Facts) → at_turn check x v turn k ≡ Ok (Some t) → IsCovered p (find t) → IsCovered p (over_turns count x v check find k so_far)
+unfolding if_reached
+turn_covered s b p zero x v check find k so_far each i turn lt t at h = absurd (omega arith)
+turn_covered s b p (suc n) x v check find k so_far each i zero lt t at h =
+    let now : Facts = with_range x (only v) k in
+    let same : t ≡ now = cc in
+    goes_on p (find now) _ (λ here e.
+    let held = held_now s b p so_far here i (numbered_by s b (find now) (each now) here e) (held_of p (find now) here e (subst (λ u. IsCovered p (find u)) same h)) in
+    goes_behind p (told_of_both so_far here) (left_by (check now)) _ held
+    (λ q. stays p n x (v + 1) check find q (told_of_both so_far here) held))
+turn_covered s b p (suc n) x v check find k so_far each i (suc turn) lt t at h =
+    let now : Facts = with_range x (only v) k in
+    let q = came check x v turn k t at in
+    goes_on p (find now) _ (λ here e.
+    subst (λ o. IsCovered p (if_reached (told_of_both so_far here) o (λ r. over_turns n x (v + 1) check find r (told_of_both so_far here)))) (sym q.1)
+    (turn_covered s b p n x (v + 1) check find q.0 (told_of_both so_far here) each
+    (both_numbered s b so_far here i (numbered_by s b (find now) (each now) here e)) turn (omega arith) t q.2 h))
+
+-- ---- places
+
+covers_here : (b : Bool) (here p : Place) (f g : Found) → (g ≡ Ok (Some p) → IsCovered p f) → (if b then Ok (Some here) else g) ≡ Ok (Some p) → IsCovered p (if b then Ok (Some here) else f)
+covers_here true here p f g h e = covers_itself (Ok (Some here)) p e
+covers_here false here p f g h e = h e
+
+at_this : (n : ℕ) (here p : Place) (f g : ℕ → Found) → (g (n - 1) ≡ Ok (Some p) → IsCovered p (f (n - 1))) → at_or (Ok (Some here)) n g ≡ Ok (Some p) → IsCovered p (at_or (Ok (Some here)) n f)
+at_this n here p f g h e = covers_here (nat_eq n 0) here p (f (n - 1)) (g (n - 1)) h e
+
+in_either : (o : Option ℕ) (p : Place) (first first' : Found) (others others' : ℕ → Found) → (first' ≡ Ok (Some p) → IsCovered p first) → ((r : ℕ) → others' r ≡ Ok (Some p) → IsCovered p (others r))
+    → first_or o first' others' ≡ Ok (Some p) → IsCovered p (first_or o first others)
+in_either None p first first' others others' h g e = h e
+in_either (Some r) p first first' others others' h g e = g r e
+
+covers_step : {A : Type 0} (r : Result A Fault) (p : Place) (f g : A → Found) → ((y : A) → g y ≡ Ok (Some p) → IsCovered p (f y)) → go_on r g ≡ Ok (Some p) → IsCovered p (go_on r f)
+unfolding go_on
+covers_step (Ok y) p f g h e = h y e
+covers_step (Err fault) p f g h e = tt
+
+covers_reached : (o : Known) (p : Place) (f g : Facts → Found) → ((t : Facts) → g t ≡ Ok (Some p) → IsCovered p (f t)) → if_reached None o g ≡ Ok (Some p) → IsCovered p (if_reached None o f)
+unfolding if_reached
+covers_reached None p f g h e = absurd (cc)
+covers_reached (Some t) p f g h e = h t e
+
+if_same : (b : Bool) (p : Place) (f g : Found) → (g ≡ Ok (Some p) → IsCovered p f) → (if b then g else Ok None) ≡ Ok (Some p) → IsCovered p (if b then f else Ok None)
+if_same true p f g h e = h e
+if_same false p f g h e = absurd (cc)
+
+turns_covered : (s : Option Statement) (b : Body) (p : Place) (count x v : ℕ) (check : Facts → Result Verdict Fault) (find : List ℕ → Facts → Found) (k : Facts) (turns inner : List ℕ)
+    → ((t : Facts) (q : Place) → find [] t ≡ Ok (Some q) → IsNumbered s b q) → ((us vs : List ℕ) (t : Facts) → find (us ++ vs) t ≡ Ok (Some p) → IsCovered p (find us t))
+    → in_turns count x v check find k (turns ++ inner) ≡ Ok (Some p) → IsCovered p (in_turns count x v check find k turns)
+turns_covered s b p count x v check find k (turn ∷ us) inner each covers e =
+    if_same (nat_lt turn count) p (go_on (at_turn check x v turn k) (λ o. if_reached None o (find us))) (go_on (at_turn check x v turn k) (λ o. if_reached None o (find (us ++ inner))))
+    (covers_step (at_turn check x v turn k) p (λ o. if_reached None o (find us)) (λ o. if_reached None o (find (us ++ inner)))
+    (λ o. covers_reached o p (find us) (find (us ++ inner)) (covers us inner))) e
+turns_covered s b p count x v check find k [] [] each covers e = covers_itself (over_turns count x v check (find []) k None) p e
+turns_covered s b p count x v check find k [] (turn ∷ inner) each covers e =
+    let h = if_so (nat_lt turn count) (go_on (at_turn check x v turn k) (λ o. if_reached None o (find inner))) p e in
+    let o = went_on (at_turn check x v turn k) (λ o. if_reached None o (find inner)) p h.1 in
+    let known : Known = o.0 in
+    let t = was_reached known (find inner) p o.2 in
+    turn_covered s b p count x v check (find []) k None each tt turn (ltb-true turn count h.0) t.0 (o.1 ∙ ap Ok t.1) (covers [] inner t.0 t.2)
+
+mutual
+  covered : (c : Context) (around : Around) (s : Statement) (k : Facts) (n : ℕ) (turns inner : List ℕ) (p : Place) → place_in c around s k n (turns ++ inner) ≡ Ok (Some p)
+      → IsCovered p (place_in c around s k n turns)
+  covered c around (choose line test a) k n turns inner p e =
+      let find : List ℕ → ℕ → Facts → Found = λ ts m t. place_in_block c around a t m ts in
+      let inside : List ℕ → ℕ → Found = λ ts m. go_on (split line test k) (λ arms. if_reached None arms.holds (find ts m)) in
+      at_this n (place around (choose line test a) k) p (inside turns) (inside (turns ++ inner))
+      (covers_step (split line test k) p (λ arms. if_reached None arms.holds (find turns (n - 1))) (λ arms. if_reached None arms.holds (find (turns ++ inner) (n - 1))) (λ arms.
+      covers_reached arms.holds p (find turns (n - 1)) (find (turns ++ inner) (n - 1)) (λ t. block_covered c around a t (n - 1) turns inner p)))
+      e
+  covered c around (choose_else line test a b) k n turns inner p e =
+      let find : List ℕ → ℕ → Facts → Found = λ ts m t. place_in_block c around a t m ts in
+      let other : List ℕ → ℕ → Facts → Found = λ ts r t. place_in_block c around b t r ts in
+      let of_arms : List ℕ → ℕ → Branches → Found = λ ts m arms. first_or (past_block a m) (if_reached None arms.holds (find ts m)) (λ r. if_reached None arms.fails (other ts r)) in
+      let inside : List ℕ → ℕ → Found = λ ts m. go_on (split line test k) (of_arms ts m) in
+      at_this n (place around (choose_else line test a b) k) p (inside turns) (inside (turns ++ inner))
+      (covers_step (split line test k) p (of_arms turns (n - 1)) (of_arms (turns ++ inner) (n - 1)) (λ arms.
+      in_either (past_block a (n - 1)) p (if_reached None arms.holds (find turns (n - 1))) (if_reached None arms.holds (find (turns ++ inner) (n - 1)))
+      (λ r. if_reached None arms.fails (other turns r)) (λ r. if_reached None arms.fails (other (turns ++ inner) r))
+      (covers_reached arms.holds p (find turns (n - 1)) (find (turns ++ inner) (n - 1)) (λ t. block_covered c around a t (n - 1) turns inner p))
+      (λ r. covers_reached arms.fails p (other turns r) (other (turns ++ inner) r) (λ t. block_covered c around b t r turns inner p))))
+      e
+  covered c around (locked line x body) k n turns inner p e =
+      let find : List ℕ → ℕ → ℕ → Found = λ ts m i. place_in_block c (with_locked i around) body k m ts in
+      at_this n (place around (locked line x body) k) p (λ m. go_on (lock_rule c around line x k) (find turns m)) (λ m. go_on (lock_rule c around line x k) (find (turns ++ inner) m))
+      (covers_step (lock_rule c around line x k) p (find turns (n - 1)) (find (turns ++ inner) (n - 1)) (λ i. block_covered c (with_locked i around) body k (n - 1) turns inner p))
+      e
+  covered c around (for_ line x e1 e2 keeps body) k n turns inner p e =
+      let find : List ℕ → ℕ → Facts → Found = λ ts m t. place_in_block c (with_fixed x around) body t m ts in
+      let inside : List ℕ → ℕ → Found = λ ts m. go_on (for_limits around line x e1 e2 keeps k) (λ l. if_reached None (for_head x l keeps body k) (find ts m)) in
+      at_this n (place around (for_ line x e1 e2 keeps body) k) p (inside turns) (inside (turns ++ inner))
+      (covers_step (for_limits around line x e1 e2 keeps k) p (λ l. if_reached None (for_head x l keeps body k) (find turns (n - 1)))
+      (λ l. if_reached None (for_head x l keeps body k) (find (turns ++ inner) (n - 1))) (λ l.
+      covers_reached (for_head x l keeps body k) p (find turns (n - 1)) (find (turns ++ inner) (n - 1)) (λ t. block_covered c (with_fixed x around) body t (n - 1) turns inner p)))
+      e
+  covered c around (for_each line x v last body) k n turns inner p e =
+      let check : Facts → Result Verdict Fault = accept_block c (with_fixed x around) body in
+      let find : ℕ → List ℕ → Facts → Found = λ m ts t. place_in_block c (with_fixed x around) body t m ts in
+      let inside : List ℕ → ℕ → Found = λ ts m. go_on (each_begins around line x v last) (λ count. in_turns count x v check (find m) k ts) in
+      at_this n (place around (for_each line x v last body) k) p (inside turns) (inside (turns ++ inner))
+      (covers_step (each_begins around line x v last) p (λ count. in_turns count x v check (find (n - 1)) k turns) (λ count. in_turns count x v check (find (n - 1)) k (turns ++ inner)) (λ count.
+      turns_covered (statement_in body (n - 1)) around.body p count x v check (find (n - 1)) k turns inner (λ t q. numbered_in c (with_fixed x around) body t (n - 1) [] q)
+      (λ us vs t. block_covered c (with_fixed x around) body t (n - 1) us vs p)))
+      e
+  covered c around (while_ line test most x keeps body) k n turns inner p e =
+      let find : List ℕ → ℕ → Facts → Found = λ ts m t. place_in_block c around body t m ts in
+      let of_top : List ℕ → ℕ → Facts → Found = λ ts m top. go_on (split line test top) (λ arms. if_reached None arms.holds (find ts m)) in
+      let inside : List ℕ → ℕ → Found = λ ts m. go_on (while_head around.body line most x keeps body k) (of_top ts m) in
+      at_this n (place around (while_ line test most x keeps body) k) p (inside turns) (inside (turns ++ inner))
+      (covers_step (while_head around.body line most x keeps body k) p (of_top turns (n - 1)) (of_top (turns ++ inner) (n - 1)) (λ top.
+      covers_step (split line test top) p (λ arms. if_reached None arms.holds (find turns (n - 1))) (λ arms. if_reached None arms.holds (find (turns ++ inner) (n - 1))) (λ arms.
+      covers_reached arms.holds p (find turns (n - 1)) (find (turns ++ inner) (n - 1)) (λ t. block_covered c around body t (n - 1) turns inner p))))
+      e
+  covered c around (assign line x v) k n turns inner p e = covers_itself (place_in c around (assign line x v) k n turns) p e
+  covered c around (set_register line r e1 e2 e3) k n turns inner p e = covers_itself (place_in c around (set_register line r e1 e2 e3) k n turns) p e
+  covered c around (single line size f r move) k n turns inner p e = covers_itself (place_in c around (single line size f r move) k n turns) p e
+  covered c around (address_scan line f r1 r2 max x) k n turns inner p e = covers_itself (place_in c around (address_scan line f r1 r2 max x) k n turns) p e
+  covered c around (q_stop line f r t max x) k n turns inner p e = covers_itself (place_in c around (q_stop line f r t max x) k n turns) p e
+  covered c around (q_repeat line f r t max limit x) k n turns inner p e = covers_itself (place_in c around (q_repeat line f r t max limit x) k n turns) p e
+  covered c around (put line v) k n turns inner p e = covers_itself (place_in c around (put line v) k n turns) p e
+  covered c around (crate_call line which v) k n turns inner p e = covers_itself (place_in c around (crate_call line which v) k n turns) p e
+  covered c around (lam_call line which l) k n turns inner p e = covers_itself (place_in c around (lam_call line which l) k n turns) p e
+  covered c around (call line q es) k n turns inner p e = covers_itself (place_in c around (call line q es) k n turns) p e
+
+  block_covered : (c : Context) (around : Around) (b : Block) (k : Facts) (n : ℕ) (turns inner : List ℕ) (p : Place) → place_in_block c around b k n (turns ++ inner) ≡ Ok (Some p)
+      → IsCovered p (place_in_block c around b k n turns)
+  block_covered c around done k n turns inner p e = absurd (cc)
+  block_covered c around (next s rest) k n turns inner p e =
+      let find : List ℕ → ℕ → Facts → Found = λ ts r t. place_in_block c around rest t r ts in
+      let behind : List ℕ → ℕ → Found = λ ts r. go_on (accept_statement c around s k) (λ v. if_reached None v.after (find ts r)) in
+      in_either (past s n) p (place_in c around s k n turns) (place_in c around s k n (turns ++ inner)) (behind turns) (behind (turns ++ inner))
+      (covered c around s k n turns inner p)
+      (λ r. covers_step (accept_statement c around s k) p (λ v. if_reached None v.after (find turns r)) (λ v. if_reached None v.after (find (turns ++ inner) r)) (λ v.
+      covers_reached v.after p (find turns r) (find (turns ++ inner) r) (λ t. block_covered c around rest t r turns inner p)))
+      e
+
+pub turns_are_covered : TurnsAreCovered
+turns_are_covered c around block start n turns inner p e = block_covered c around block start n turns inner p e
