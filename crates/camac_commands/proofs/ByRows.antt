@@ -1,19 +1,17 @@
 -- Rows that tell at least what those of a block do: such are the rows of an `each`, of those of each turn.
-use Rattle.std.proofs.Common.{◌≡◌, ℕ, ◌+◌, zero, suc, List, [], ◌∷◌, ◌++◌, map, Some, None, Result, Ok, Err, refl, sym, ap, subst, ◌∙◌}
+use Rattle.std.proofs.Common.{◌≡◌, ℕ, ◌+◌, zero, suc, List, [], ◌∷◌, ◌++◌, map, Some, None, Ok, refl, sym, ap, subst, ◌∙◌}
 use Rattle.std.specs.Prelude.{drop}
 use Rattle.camac_range.specs.Interval.{only}
 use Rattle.camac_lang.specs.Tree.{Condition, Statement, assign, set_register, single, address_scan, q_stop, q_repeat, put, crate_call, lam_call, choose, choose_else, for_, for_each, while_, locked, call, Block, done, next}
 use Rattle.camac_model.specs.State.{State}
 use Rattle.camac_model.specs.Behaviour.{Behaviour}
 use Rattle.camac_model.specs.Fine.{Bounds}
-use Rattle.camac_rules.specs.Fault.{Fault}
 use Rattle.camac_rules.specs.Refusal.{if_reached}
 use Rattle.camac_rules.specs.Known.{Facts, Known, with_range}
 use Rattle.camac_rules.specs.Costs.{Verdict, unreached}
 use Rattle.camac_rules.specs.Cycles.{Context, Around}
 use Rattle.camac_rules.specs.Loops.{with_fixed}
 use Rattle.camac_rules.specs.Statements.{accept_statement, accept_block}
-use Rattle.camac_check_rows.specs.declared.row.Detail.{Detail}
 use Rattle.camac_check_rows.specs.declared.row.Row.{Row}
 use Rattle.camac_check_rows.specs.Rows.{found, ways, for_turning, while_turning, taken, lock_inside, lock_head, statement_verdict, block_verdict, inside, statement_rows, block_rows}
 use Rattle.camac_check_rows.specs.Turns.{merge, Turned, turned, turns_over}

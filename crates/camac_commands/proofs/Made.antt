@@ -1,6 +1,6 @@
 -- What is accepted and surely makes a command of some kind has made one where it ends: one induction over statements.
-use Rattle.std.proofs.Common.{◌≡◌, ℕ, ◌+◌, ◌-◌, ◌<◌, ◌≤◌, zero, suc, List, [], Option, Some, None, Ok, Bool, true, false, refl, sym, ap, ap₂, subst, ◌∙◌, arith}
-use Rattle.std.specs.Prelude.{◌||◌, ◌&&◌, drop, nat_le, nat_lt, slice_get, unwrap_or, if◌then◌else◌}
+use Rattle.std.proofs.Common.{◌≡◌, ℕ, ◌+◌, ◌-◌, ◌<◌, ◌≤◌, zero, suc, List, [], Option, Some, None, Ok, Bool, true, false, refl, sym, ap, subst, arith}
+use Rattle.std.specs.Prelude.{◌||◌, ◌&&◌, drop, nat_le, nat_lt, slice_get, if◌then◌else◌}
 use Rattle.std.specs.List.{list_any}
 use Rattle.std.proofs.lemmas.Bool.{and_parts, and_from, or_right, false≢true, ltb-true, leb-true, lt-ltb}
 use Rattle.std.proofs.lemmas.Option.{same_Some}
@@ -35,7 +35,7 @@ use Rattle.camac_rules.specs.Calls.{lock_rule}
 use Rattle.camac_rules.specs.Capped.{capped}
 use Rattle.camac_rules.specs.Each.{each_from, each_rule}
 use Rattle.camac_rules.specs.Procedures.{call_rule}
-use Rattle.camac_rules.specs.Loops.{Limits, with_fixed, for_limits, for_head, head, keeps_hold_after, turns_between, values_between}
+use Rattle.camac_rules.specs.Loops.{Limits, for_limits, for_head, head, keeps_hold_after, turns_between, values_between}
 use Rattle.camac_rules.specs.Statements.{accept_statement, accept_block}
 use Rattle.camac_rules.proofs.Allows.{Allows, allowed as allows, then_allowed, required_allowed, given_allowed, if_reached_allowed, allowed_more}
 use Rattle.camac_rules.proofs.Stores.{Place, around_of, fixing, holding, Inside, Reaches}
@@ -54,7 +54,7 @@ use Rattle.camac_check_rows.specs.declared.row.Row.{Row}
 use Rattle.camac_check_rows.specs.Rows.{found, Turning, turning_from, lock_inside, lock_head, block_verdict, statement_rows, block_rows}
 use Rattle.camac_check_rows.specs.Turns.{turned, turns_over}
 use Rattle.camac_commands.specs.Commands.{Command, is_told, behind, behind_block, made_at}
-use Rattle.camac_commands.specs.Surely.{has_turn, is_some_number, surely_alone, surely, surely_block, made_one, AnyPiece, IsMade, TellsOf}
+use Rattle.camac_commands.specs.Surely.{has_turn, is_some_number, surely, surely_block, made_one, AnyPiece, IsMade, TellsOf}
 use Rattle.camac_commands.proofs.ByRows.{Over, over_block, listed_over, over_turn, over_next, over_arms}
 use Rattle.camac_commands.proofs.Sorts.{block_sorted}
 use Rattle.camac_commands.proofs.Listed.{Listed}

@@ -9,14 +9,13 @@ use Rattle.camac_branch.proofs.Allowed.{allowed-in_range}
 use Rattle.camac_model.specs.State.{State, fresh}
 use Rattle.camac_model.specs.Behaviour.{Action}
 use Rattle.camac_model.specs.Fine.{most_turns}
-use Rattle.camac_model.specs.Run.{service_meaning}
 use Rattle.camac_model.specs.Meaning.{context, routines_with, entered, block_meaning}
 use Rattle.camac_rules.specs.declared.case.Body.{Body}
 use Rattle.camac_rules.specs.declared.case.Body.TheVariants as body
 use Rattle.camac_rules.specs.Known.{Known}
 use Rattle.camac_rules.specs.Refusal.{if_reached}
 use Rattle.camac_rules.specs.Procedures.{at_entry}
-use Rattle.camac_rules.specs.Costs.{Verdict, unreached}
+use Rattle.camac_rules.specs.Costs.{unreached}
 use Rattle.camac_rules.specs.Cycles.{alone_in}
 use Rattle.camac_rules.specs.Statements.{accept_block}
 use Rattle.camac_rules.specs.EachLimit.{count_block}

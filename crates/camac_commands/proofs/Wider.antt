@@ -1,5 +1,5 @@
 -- Details that tell at least what others tell: what two turns tell together is such a one of each.
-use Rattle.std.proofs.Common.{◌≡◌, ℕ, ◌≤◌, List, [], Option, Some, None, Bool, true, false, refl, sym, subst, ◌∙◌, arith}
+use Rattle.std.proofs.Common.{◌≡◌, ℕ, ◌≤◌, Option, Some, None, Bool, true, false, refl, sym, subst, ◌∙◌, arith}
 use Rattle.std.specs.List.{list_any}
 use Rattle.std.specs.Prelude.{◌&&◌, ◌||◌, max, min, nat_eq, nat_le, option_map, if◌then◌else◌}
 use Rattle.std.proofs.lemmas.Bool.{and_parts, and_from, leb-true, le-leb, or_left, false≢true}
@@ -15,7 +15,7 @@ use Rattle.camac_rules.proofs.Stores.{InRegion}
 use Rattle.camac_check_rows.specs.declared.row.Detail.{Detail}
 use Rattle.camac_check_rows.specs.declared.row.Detail.TheVariants as detail
 use Rattle.camac_check_rows.specs.Turns.{wider}
-use Rattle.camac_commands.specs.Commands.{Command, is_told, lies_in, made_at, span, told_region, called_at, made_alone}
+use Rattle.camac_commands.specs.Commands.{is_told, lies_in, made_at, span, told_region, called_at, made_alone}
 use Rattle.camac_commands.proofs.Listed.{inside_lies}
 
 -- ---- regions
