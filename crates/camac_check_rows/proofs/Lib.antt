@@ -1,3 +1,4 @@
 pub mod Trees
 pub mod Kept
 pub mod Passed
+pub mod Merged
