@@ -4,6 +4,7 @@ use Rattle.std.specs.List.{list_any}
 use Rattle.std.specs.Prelude.{nat_eq, nat_lt, option_map, slice_get, if◌then◌else◌}
 use Rattle.std.proofs.lemmas.Bool.{and_parts, cond_both, eqb-true, le-leb, ltb-true}
 use Rattle.camac_lang.specs.declared.word.CrateCall.{CrateCall}
+use Rattle.camac_lang.specs.declared.word.CrateCall.TheVariants.{Initialise, Clear, InhibitOn, InhibitOff, TestInhibit, DemandOn, DemandOff, TestDemandOutput, TestDemand}
 use Rattle.camac_lang.specs.declared.word.LamCall.{LamCall}
 use Rattle.camac_lang.specs.declared.word.WordSize.{WordSize}
 use Rattle.camac_lang.specs.declared.word.WordSize.TheVariants.{Full}
@@ -250,6 +251,17 @@ scan_listed c around n line f r1 r2 e x k =
 
 -- ---- a crate call, whose crate is one number
 
+call_crate : (which : CrateCall) (c : ℕ) → (crate_address which c).crate_no ≡ c
+call_crate Initialise c = refl
+call_crate Clear c = refl
+call_crate InhibitOn c = refl
+call_crate InhibitOff c = refl
+call_crate TestInhibit c = refl
+call_crate DemandOn c = refl
+call_crate DemandOff c = refl
+call_crate TestDemandOutput c = refl
+call_crate TestDemand c = refl
+
 pub crate_listed : (c : Setting) (around : Place) (n line : ℕ) (which : CrateCall) (e : Expression) (k : Facts)
     → Allows (crate_rule (seen c) (around_of around) line e k)
     (λ v. (s : State) → Inside around k s → Listed (made_at line (crate_function which) (called_at which (in_crates (range_of line e k.ranges)))) (effect (of c) n (crate_call line which e) (stepped s)))
@@ -264,7 +276,10 @@ crate_listed c around n line which e k =
     let low = v.fits.within.low in
     let high = v.fits.within.high in
     let same : v.number ≡ r.lo = omega arith in
-    let cs : List Command = made_at line f (Some (single_region at)) in
+    let place : Region = record (single_region at) { crates = r } in
+    let there : at.crate_no ≡ r.lo = call_crate which r.lo in
+    let inside : InRegion place at = record { crate_no = record { low = omega (arith, there); high = omega (arith, there, one) }; station = only_within at.station; sub_address = only_within at.sub_address } in
+    let cs : List Command = made_at line f (Some place) in
     subst (λ q. Listed (made_at line f (called_at which (in_crates q))) (given (value e s.variables) call (stepped s))) (sym known.0)
     (listed_given cs (value e s.variables) call r.lo (stepped s) (v.is ∙ ap (λ m. Some m) same)
-    (act_listed cs c.plan at f Full no_data (stepped s) (told_at line f (single_region at) at (alone at)))))))
+    (act_listed cs c.plan at f Full no_data (stepped s) (told_at line f place at inside))))))

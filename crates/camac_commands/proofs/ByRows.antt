@@ -1,148 +1,195 @@
--- The commands of a block by what is known where each statement begins. They are those that its rows tell.
-use Rattle.std.proofs.Common.{◌≡◌, List, [], ◌∷◌, ◌++◌, map, Result, Ok, Err, refl, ap, ap₂, ◌∙◌}
-use Rattle.std.specs.Prelude.{drop, slice_get, unwrap_or}
-use Rattle.camac_lang.specs.Tree.{Statement, assign, set_register, single, address_scan, q_stop, q_repeat, put, crate_call, lam_call, choose, choose_else, for_, while_, locked, call, Block, done, next}
-use Rattle.camac_rules.specs.Fault.{Fault}
+-- Rows that tell at least what those of a block do: such are the rows of an `each`, of those of each turn.
+use Rattle.std.proofs.Common.{◌≡◌, ℕ, ◌+◌, zero, suc, List, [], ◌∷◌, ◌++◌, map, Some, None, Ok, refl, sym, ap, subst, ◌∙◌}
+use Rattle.std.specs.Prelude.{drop}
+use Rattle.camac_range.specs.Interval.{only}
+use Rattle.camac_lang.specs.Tree.{Condition, Statement, assign, set_register, single, address_scan, q_stop, q_repeat, put, crate_call, lam_call, choose, choose_else, for_, for_each, while_, locked, call, Block, done, next}
+use Rattle.camac_model.specs.State.{State}
+use Rattle.camac_model.specs.Behaviour.{Behaviour}
+use Rattle.camac_model.specs.Fine.{Bounds}
 use Rattle.camac_rules.specs.Refusal.{if_reached}
-use Rattle.camac_rules.specs.Known.{Known}
+use Rattle.camac_rules.specs.Known.{Facts, Known, with_range}
 use Rattle.camac_rules.specs.Costs.{Verdict, unreached}
 use Rattle.camac_rules.specs.Cycles.{Context, Around}
 use Rattle.camac_rules.specs.Loops.{with_fixed}
 use Rattle.camac_rules.specs.Statements.{accept_statement, accept_block}
-use Rattle.camac_check_rows.specs.declared.row.Detail.{Detail}
 use Rattle.camac_check_rows.specs.declared.row.Row.{Row}
-use Rattle.camac_check_rows.specs.Rows.{found, ways, for_turning, while_turning, taken, lock_inside, lock_head, statement_verdict, inside, statement_rows, block_rows}
-use Rattle.camac_check_rows.specs.Statements.{detail_of}
+use Rattle.camac_check_rows.specs.Rows.{found, ways, for_turning, while_turning, taken, lock_inside, lock_head, statement_verdict, block_verdict, inside, statement_rows, block_rows}
+use Rattle.camac_check_rows.specs.Turns.{merge, Turned, turned, turns_over}
 use Rattle.camac_check.proofs.Capped.{in_code, in_rules, cut_all, if_reached_cut, statement_cut, block_cut}
 use Rattle.camac_check_costs.specs.Bodies.{rows_if}
-use Rattle.camac_commands.specs.Commands.{Command, made_alone, detail_told, behind, behind_block, made, made_block}
+use Rattle.camac_commands.specs.Commands.{made_alone, detail_told, behind, behind_block}
+use Rattle.camac_commands.proofs.Listed.{Listed, listed_more}
+use Rattle.camac_commands.proofs.Wider.{Below, below_same, below_then, alone_more, Sort, both_below}
+use Rattle.camac_commands.proofs.Sorts.{block_sorts, AreOf, merge_of, block_sorted}
 
-abbrev mutual
-  pub statement_commands : Context → List (List Command) → Around → Statement → Known → List Command
-  statement_commands c ps around (choose line test a) k = block_commands c ps around a (ways line test k).holds
-  statement_commands c ps around (choose_else line test a b) k =
-      block_commands c ps around a (ways line test k).holds ++ block_commands c ps around b (ways line test k).fails
-  statement_commands c ps around (for_ line x e1 e2 keeps body) k = block_commands c ps (with_fixed x around) body (for_turning around line x e1 e2 keeps body k).head
-  statement_commands c ps around (while_ line test most m keeps body) k = block_commands c ps around body (while_turning around line test most m keeps body k).head
-  statement_commands c ps around (locked line e body) k =
-      block_commands c ps (lock_inside (taken c around line e k) around) body (lock_head (taken c around line e k) k)
-  statement_commands c ps around (call line p es) k = unwrap_or (slice_get ps p) []
-  statement_commands c ps around s k = made_alone s (detail_of c s k)
+-- ---- rows that begin with such as tell what others do, and those behind them
 
-  -- in the order of the text, each at what the one before leaves
-  pub block_commands : Context → List (List Command) → Around → Block → Known → List Command
-  block_commands c ps around done k = []
-  block_commands c ps around (next s rest) k = statement_commands c ps around s k ++ block_commands c ps around rest (statement_verdict c around s k).after
+unfoldable pub Over : (rows others behind : List Row) → Type 0
+Over rows [] rest = rows ≡ rest
+Over [] (x ∷ xs) rest = ⊥
+Over (r ∷ rows) (x ∷ xs) rest = Below x.detail r.detail × Over rows xs rest
 
--- ---- rows that begin with the details of others, and those behind them
-
-unfoldable pub Begins : (rows others behind : List Row) → Type 0
-Begins rows [] rest = rows ≡ rest
-Begins [] (x ∷ xs) rest = ⊥
-Begins (r ∷ rows) (x ∷ xs) rest = (r.detail ≡ x.detail) × Begins rows xs rest
-
-pub begins_all : (rows : List Row) → Begins rows rows []
-unfolding Begins
-begins_all [] = refl
-begins_all (r ∷ rows) = (refl, begins_all rows)
+over_all : (rows : List Row) → Over rows rows []
+unfolding Over
+over_all [] = refl
+over_all (r ∷ rows) = (below_same r.detail, over_all rows)
 
 -- also where each of these others is changed, but not its detail
-pub begins_inside : (change : Row → Row) (rows xs rest : List Row) → Begins rows (map change xs) rest → ((r : Row) → (change r).detail ≡ r.detail) → Begins rows xs rest
-unfolding Begins
-begins_inside change rows [] rest h same = h
-begins_inside change [] (x ∷ xs) rest h same = absurd h
-begins_inside change (r ∷ rows) (x ∷ xs) rest h same = (h.0 ∙ same x, begins_inside change rows xs rest h.1 same)
+pub over_inside : (change : Row → Row) (rows xs rest : List Row) → Over rows (map change xs) rest → ((r : Row) → (change r).detail ≡ r.detail) → Over rows xs rest
+unfolding Over
+over_inside change rows [] rest h same = h
+over_inside change [] (x ∷ xs) rest h same = absurd h
+over_inside change (r ∷ rows) (x ∷ xs) rest h same = (subst (λ d. Below d r.detail) (same x) h.0, over_inside change rows xs rest h.1 same)
 
-pub begins_both : (rows xs ys rest : List Row) → Begins rows (xs ++ ys) rest → (middle : List Row) × Begins rows xs middle × Begins middle ys rest
-unfolding Begins
-begins_both rows [] ys rest h = (rows, refl, h)
-begins_both [] (x ∷ xs) ys rest h = absurd h
-begins_both (r ∷ rows) (x ∷ xs) ys rest h =
-    let (middle, first, second) = begins_both rows xs ys rest h.1 in
+pub over_both : (rows xs ys rest : List Row) → Over rows (xs ++ ys) rest → (middle : List Row) × Over rows xs middle × Over middle ys rest
+unfolding Over
+over_both rows [] ys rest h = (rows, refl, h)
+over_both [] (x ∷ xs) ys rest h = absurd h
+over_both (r ∷ rows) (x ∷ xs) ys rest h =
+    let (middle, first, second) = over_both rows xs ys rest h.1 in
     (middle, (h.0, first), second)
 
-begins_none : (rows rest : List Row) → Begins rows [] rest → rows ≡ rest
-unfolding Begins
-begins_none rows rest h = h
+over_none : (rows rest : List Row) → Over rows [] rest → rows ≡ rest
+unfolding Over
+over_none rows rest h = h
 
 -- the first row alone, and those behind it
-pub first_alone : {A : Type 0} (f : Detail → A) (own : Row) (rows rest : List Row) → Begins rows (own ∷ []) rest → (f (detail_told rows) ≡ f own.detail) × (drop 1 rows ≡ rest)
-unfolding Begins
-first_alone f own [] rest h = absurd h
-first_alone f own (r ∷ rows) rest h = (ap f h.0, h.1)
+pub first_below : (own : Row) (rows xs rest : List Row) → Over rows (own ∷ xs) rest → Below own.detail (detail_told rows)
+unfolding Over
+first_below own [] xs rest h = absurd h
+first_below own (r ∷ rows) xs rest h = h.0
 
-pub behind_first : (own : Row) (rows xs rest : List Row) → Begins rows (own ∷ xs) rest → Begins (drop 1 rows) xs rest
-unfolding Begins
+pub behind_first : (own : Row) (rows xs rest : List Row) → Over rows (own ∷ xs) rest → Over (drop 1 rows) xs rest
+unfolding Over
 behind_first own [] xs rest h = absurd h
 behind_first own (r ∷ rows) xs rest h = h.1
 
 -- those of a block behind the row of its statement
-pub begins_block : (change : Row → Row) (own : Row) (rows xs rest : List Row) → Begins rows (own ∷ map change xs) rest → ((r : Row) → (change r).detail ≡ r.detail) → Begins (drop 1 rows) xs rest
-begins_block change own rows xs rest h same = begins_inside change (drop 1 rows) xs rest (behind_first own rows (map change xs) rest h) same
+pub over_block : (change : Row → Row) (own : Row) (rows xs rest : List Row) → Over rows (own ∷ map change xs) rest → ((r : Row) → (change r).detail ≡ r.detail) → Over (drop 1 rows) xs rest
+over_block change own rows xs rest h same = over_inside change (drop 1 rows) xs rest (behind_first own rows (map change xs) rest h) same
 
--- ---- the rows of the checker's code tell them
+-- what makes only what its own row tells
+pub listed_over : (s : Statement) (own : Row) (rows rest : List Row) → Over rows (own ∷ []) rest → (b : Behaviour State) → Listed (made_alone s own.detail) b → Listed (made_alone s (detail_told rows)) b
+listed_over s own rows rest h b l = listed_more _ _ (λ at f e. alone_more s own.detail (detail_told rows) (first_below own rows [] rest h) at f e) b l
 
-found_after : (q : Result Verdict Fault) → (found unreached (cut_all q)).after ≡ (found unreached q).after
-found_after (Ok v) = refl
-found_after (Err f) = refl
+-- ---- the rows of several turns, over those of each of them
 
-pub same_after : (c : Context) (around : Around) (s : Statement) (k : Known) → (statement_verdict (in_code c) around s k).after ≡ (statement_verdict (in_rules c) around s k).after
-same_after c around s k =
-    let judged : Result Verdict Fault = if_reached unreached k (accept_statement (in_rules c) around s) in
-    ap (λ q. (found unreached q).after) (if_reached_cut k (accept_statement (in_code c) around s) (accept_statement (in_rules c) around s) (λ q. statement_cut c around s q)) ∙ found_after judged
+over_merged : (ts : List Sort) (limit : Bounds → Bounds) (rows xs ys rest : List Row) → AreOf ts xs → AreOf ts ys → Over rows (merge limit xs ys) rest → Over rows xs rest × Over rows ys rest
+unfolding Over
+over_merged [] limit rows [] [] rest i j h = (h, h)
+over_merged [] limit rows [] (y ∷ ys) rest i j h = absurd j
+over_merged [] limit rows (x ∷ xs) ys rest i j h = absurd i
+over_merged (t ∷ ts) limit rows [] ys rest i j h = absurd i
+over_merged (t ∷ ts) limit rows (x ∷ xs) [] rest i j h = absurd j
+over_merged (t ∷ ts) limit [] (x ∷ xs) (y ∷ ys) rest i j h = absurd h
+over_merged (t ∷ ts) limit (r ∷ rows) (x ∷ xs) (y ∷ ys) rest i j h =
+    let both = both_below t x.detail y.detail i.0 j.0 in
+    let others = over_merged ts limit rows xs ys rest i.1 j.1 h.1 in (
+      (below_then _ _ r.detail both.first h.0, others.0),
+      (below_then _ _ r.detail both.second h.0, others.1),
+    )
 
-module _ (c : Context) (ps : List (List Command)) where
-  abbrev rows_of : Around → Block → Known → List Row
-  rows_of around b k = block_rows (in_code c) around b k
+module _ (c : Context) (around : Around) (b : Block) (limit : Bounds → Bounds) where
+  abbrev rows_at : Known → List Row
+  rows_at k = block_rows c around b k
 
-  abbrev Told : Around → Statement → Known → (rows rest : List Row) → Type 0
-  Told around s k rows rest = (made ps s rows ≡ statement_commands (in_rules c) ps around s k) × (behind s rows ≡ rest)
+  -- those so far
+  pub over_so_far : (n x v : ℕ) (judge : Known → Verdict) (k : Known) (so_far : Turned) (rows rest : List Row) → AreOf (block_sorts b) so_far.rows
+      → Over rows (turns_over limit n x v judge rows_at k so_far).rows rest → Over rows so_far.rows rest
+  over_so_far zero x v judge k so_far rows rest i h = h
+  over_so_far (suc n) x v judge None so_far rows rest i h = h
+  over_so_far (suc n) x v judge (Some q) so_far rows rest i h =
+      let k : Known = Some (with_range x (only v) q) in
+      let here : List Row = rows_at k in
+      let is : AreOf (block_sorts b) here = block_sorted c around b k in
+      (over_merged (block_sorts b) limit rows so_far.rows here rest i is
+      (over_so_far n x (v + 1) judge (judge k).after (turned (1 + so_far.turns) (merge limit so_far.rows here)) rows rest (merge_of (block_sorts b) limit so_far.rows here i is) h)).0
 
-  abbrev BlockTold : Around → Block → Known → (rows rest : List Row) → Type 0
-  BlockTold around b k rows rest = (made_block ps b rows ≡ block_commands (in_rules c) ps around b k) × (behind_block b rows ≡ rest)
+  -- those of the next turn
+  pub over_turn : (n x v : ℕ) (judge : Known → Verdict) (q : Facts) (so_far : Turned) (rows rest : List Row) → AreOf (block_sorts b) so_far.rows
+      → Over rows (turns_over limit (suc n) x v judge rows_at (Some q) so_far).rows rest → Over rows (rows_at (Some (with_range x (only v) q))) rest
+  over_turn n x v judge q so_far rows rest i h =
+      let k : Known = Some (with_range x (only v) q) in
+      let here : List Row = rows_at k in
+      let is : AreOf (block_sorts b) here = block_sorted c around b k in
+      (over_merged (block_sorts b) limit rows so_far.rows here rest i is
+      (over_so_far n x (v + 1) judge (judge k).after (turned (1 + so_far.turns) (merge limit so_far.rows here)) rows rest (merge_of (block_sorts b) limit so_far.rows here i is) h)).1
 
+-- ---- the rows behind a statement or block
+
+module _ (c : Context) where
   mutual
-    pub statement_told : (around : Around) (s : Statement) (k : Known) (rows rest : List Row) → Begins rows (statement_rows (in_code c) around s k) rest → Told around s k rows rest
-    statement_told around (choose line test a) k rows rest h = block_told around a (ways line test k).holds (drop 1 rows) rest (begins_block _ _ rows _ rest h (λ _. refl))
-    statement_told around (choose_else line test a b) k rows rest h =
+    pub statement_behind : (around : Around) (s : Statement) (k : Known) (rows rest : List Row) → Over rows (statement_rows c around s k) rest → behind s rows ≡ rest
+    statement_behind around (choose line test a) k rows rest h = block_behind around a (ways line test k).holds (drop 1 rows) rest (over_block _ _ rows _ rest h (λ _. refl))
+    statement_behind around (choose_else line test a b) k rows rest h =
         let arms = ways line test k in
-        let (middle, first, second) = begins_both (drop 1 rows) (inside (in_code c) _ (rows_of around a arms.holds)) _ rest (behind_first _ rows _ rest h) in
-        let one = block_told around a arms.holds (drop 1 rows) middle (begins_inside _ (drop 1 rows) _ middle first (λ _. refl)) in
-        let two = block_told around b arms.fails (drop 1 middle) rest (begins_block _ _ middle _ rest second (λ _. refl)) in (
-          ap₂ (λ xs ys. xs ++ ys) one.0 (ap (λ m. made_block ps b (drop 1 m)) one.1 ∙ two.0),
-          ap (λ m. behind_block b (drop 1 m)) one.1 ∙ two.1,
-        )
-    statement_told around (for_ line x e1 e2 keeps body) k rows rest h = block_told (with_fixed x around) body (for_turning around line x e1 e2 keeps body k).head (drop 1 rows) rest (begins_block _ _ rows _ rest h (λ _. refl))
-    statement_told around (while_ line test most m keeps body) k rows rest h = block_told around body (while_turning around line test most m keeps body k).head (drop 1 rows) rest (begins_block _ _ rows _ rest h (λ _. refl))
-    statement_told around (locked line e body) k rows rest h =
+        let (middle, first, second) = over_both (drop 1 rows) (inside c _ (block_rows c around a arms.holds)) _ rest (behind_first _ rows _ rest h) in
+        let one = block_behind around a arms.holds (drop 1 rows) middle (over_inside _ (drop 1 rows) _ middle first (λ _. refl)) in
+        ap (λ m. behind_block b (drop 1 m)) one ∙ block_behind around b arms.fails (drop 1 middle) rest (over_block _ _ middle _ rest second (λ _. refl))
+    statement_behind around (for_ line x e1 e2 keeps body) k rows rest h =
+        block_behind (with_fixed x around) body (for_turning around line x e1 e2 keeps body k).head (drop 1 rows) rest (over_block _ _ rows _ rest h (λ _. refl))
+    statement_behind around (for_each line x v last body) k rows rest h =
+        let within : Around = with_fixed x around in
+        block_behind within body None (drop 1 rows) rest
+        (over_so_far c within body c.limit _ x v (block_verdict c within body) k (turned 0 (block_rows c within body None)) (drop 1 rows) rest (block_sorted c within body None) (over_block _ _ rows _ rest h (λ _. refl)))
+    statement_behind around (while_ line test most m keeps body) k rows rest h =
+        block_behind around body (while_turning around line test most m keeps body k).head (drop 1 rows) rest (over_block _ _ rows _ rest h (λ _. refl))
+    statement_behind around (locked line e body) k rows rest h =
         let o = taken c around line e k in
-        block_told (lock_inside o around) body (lock_head o k) (drop 1 rows) rest (begins_block _ _ rows _ rest h (λ _. refl))
-    statement_told around (assign line x e) k rows rest h = first_alone (made_alone (assign line x e)) _ rows rest h
-    statement_told around (set_register line r e1 e2 e3) k rows rest h = first_alone (made_alone (set_register line r e1 e2 e3)) _ rows rest h
-    statement_told around (single line size f r move) k rows rest h = first_alone (made_alone (single line size f r move)) _ rows rest h
-    statement_told around (address_scan line f r1 r2 max x) k rows rest h = first_alone (made_alone (address_scan line f r1 r2 max x)) _ rows rest h
-    statement_told around (q_stop line f r t max x) k rows rest h = first_alone (made_alone (q_stop line f r t max x)) _ rows rest h
-    statement_told around (q_repeat line f r t max limit x) k rows rest h = first_alone (made_alone (q_repeat line f r t max limit x)) _ rows rest h
-    statement_told around (put line e) k rows rest h = first_alone (made_alone (put line e)) _ rows rest h
-    statement_told around (crate_call line which e) k rows rest h = first_alone (made_alone (crate_call line which e)) _ rows rest h
-    statement_told around (lam_call line which l) k rows rest h = first_alone (made_alone (lam_call line which l)) _ rows rest h
-    statement_told around (call line p es) k rows rest h = first_alone (λ _. unwrap_or (slice_get ps p) []) _ rows rest h
+        block_behind (lock_inside o around) body (lock_head o k) (drop 1 rows) rest (over_block _ _ rows _ rest h (λ _. refl))
+    statement_behind around (assign line x e) k rows rest h = over_none _ rest (behind_first _ rows [] rest h)
+    statement_behind around (set_register line r e1 e2 e3) k rows rest h = over_none _ rest (behind_first _ rows [] rest h)
+    statement_behind around (single line size f r move) k rows rest h = over_none _ rest (behind_first _ rows [] rest h)
+    statement_behind around (address_scan line f r1 r2 max x) k rows rest h = over_none _ rest (behind_first _ rows [] rest h)
+    statement_behind around (q_stop line f r t max x) k rows rest h = over_none _ rest (behind_first _ rows [] rest h)
+    statement_behind around (q_repeat line f r t max limit x) k rows rest h = over_none _ rest (behind_first _ rows [] rest h)
+    statement_behind around (put line e) k rows rest h = over_none _ rest (behind_first _ rows [] rest h)
+    statement_behind around (crate_call line which e) k rows rest h = over_none _ rest (behind_first _ rows [] rest h)
+    statement_behind around (lam_call line which l) k rows rest h = over_none _ rest (behind_first _ rows [] rest h)
+    statement_behind around (call line p es) k rows rest h = over_none _ rest (behind_first _ rows [] rest h)
 
-    pub block_told : (around : Around) (b : Block) (k : Known) (rows rest : List Row) → Begins rows (rows_of around b k) rest → BlockTold around b k rows rest
-    block_told around done k rows rest h = (refl, begins_none rows rest h)
-    block_told around (next s others) k rows rest h =
-        let after : Known = (statement_verdict (in_code c) around s k).after in
-        let (middle, first, second) = begins_both rows (statement_rows (in_code c) around s k) (rows_of around others after) rest h in
-        let one = statement_told around s k rows middle first in
-        let two = block_told around others after middle rest second in (
-          ap₂ (λ xs ys. xs ++ ys) one.0 (ap (made_block ps others) one.1 ∙ two.0 ∙ ap (block_commands (in_rules c) ps around others) (same_after c around s k)),
-          ap (behind_block others) one.1 ∙ two.1,
-        )
+    block_behind : (around : Around) (b : Block) (k : Known) (rows rest : List Row) → Over rows (block_rows c around b k) rest → behind_block b rows ≡ rest
+    block_behind around done k rows rest h = over_none rows rest h
+    block_behind around (next s others) k rows rest h =
+        let after : Known = (statement_verdict c around s k).after in
+        let (middle, first, second) = over_both rows (statement_rows c around s k) (block_rows c around others after) rest h in
+        ap (behind_block others) (statement_behind around s k rows middle first) ∙ block_behind around others after middle rest second
 
-  -- so with a body that is accepted
-  pub body_told : (around : Around) (b : Block) (k : Known) (v : Verdict) → if_reached unreached k (accept_block (in_rules c) around b) ≡ Ok v
-      → made_block ps b (rows_if (if_reached unreached k (accept_block (in_code c) around b)) (rows_of around b k)) ≡ block_commands (in_rules c) ps around b k
-  body_told around b k v is =
-      let rows : List Row = rows_of around b k in
-      ap (λ q. made_block ps b (rows_if q rows)) (if_reached_cut k (accept_block (in_code c) around b) (accept_block (in_rules c) around b) (λ q. block_cut c around b q) ∙ ap cut_all is)
-      ∙ (block_told around b k rows [] (begins_all rows)).0
+-- ---- the rows of the checker's code, where the rules accept
+
+pub after_statement : (c : Context) (around : Around) (s : Statement) (k : Facts) (v : Verdict) → accept_statement (in_rules c) around s k ≡ Ok v → (statement_verdict (in_code c) around s (Some k)).after ≡ v.after
+unfolding if_reached
+after_statement c around s k v is = ap (λ q. (found unreached q).after) (statement_cut c around s k ∙ ap cut_all is)
+
+pub after_block : (c : Context) (around : Around) (b : Block) (k : Facts) (v : Verdict) → accept_block (in_rules c) around b k ≡ Ok v → (block_verdict (in_code c) around b (Some k)).after ≡ v.after
+unfolding if_reached
+after_block c around b k v is = ap (λ q. (found unreached q).after) (block_cut c around b k ∙ ap cut_all is)
+
+-- one statement and then the others, at what it leaves
+pub over_next : (c : Context) (around : Around) (s : Statement) (others : Block) (k : Facts) (v : Verdict) → accept_statement (in_rules c) around s k ≡ Ok v
+    → (rows rest : List Row) → Over rows (block_rows (in_code c) around (next s others) (Some k)) rest → Over rows (statement_rows (in_code c) around s (Some k)) (behind s rows) × Over (behind s rows) (block_rows (in_code c) around others v.after) rest
+over_next c around s others k v is rows rest h =
+    let code : Context = in_code c in
+    let own : List Row = statement_rows code around s (Some k) in
+    let after : Known = (statement_verdict code around s (Some k)).after in
+    let (middle, first, second) = over_both rows own (block_rows code around others after) rest h in
+    subst (λ m. Over rows own m × Over m (block_rows code around others v.after) rest) (sym (statement_behind code around s (Some k) rows middle first))
+    (first, subst (λ w. Over middle (block_rows code around others w) rest) (after_statement c around s k v is) second)
+
+-- the two arms of a choice
+pub over_arms : (c : Context) (around : Around) (line : ℕ) (test : Condition) (a b : Block) (k : Known) (rows rest : List Row) → Over rows (statement_rows c around (choose_else line test a b) k) rest
+    → Over (drop 1 rows) (block_rows c around a (ways line test k).holds) (behind_block a (drop 1 rows)) × Over (drop 1 (behind_block a (drop 1 rows))) (block_rows c around b (ways line test k).fails) rest
+over_arms c around line test a b k rows rest h =
+    let arms = ways line test k in
+    let (middle, first, second) = over_both (drop 1 rows) (inside c _ (block_rows c around a arms.holds)) _ rest (behind_first _ rows _ rest h) in
+    let one = over_inside _ (drop 1 rows) _ middle first (λ _. refl) in
+    subst (λ m. Over (drop 1 rows) (block_rows c around a arms.holds) m × Over (drop 1 m) (block_rows c around b arms.fails) rest) (sym (block_behind c around a arms.holds (drop 1 rows) middle one))
+    (one, over_block _ _ middle _ rest second (λ _. refl))
+
+-- those of a body that is accepted
+pub over_body : (c : Context) (around : Around) (b : Block) (k : Known) (v : Verdict) → if_reached unreached k (accept_block (in_rules c) around b) ≡ Ok v
+    → Over (rows_if (if_reached unreached k (accept_block (in_code c) around b)) (block_rows (in_code c) around b k)) (block_rows (in_code c) around b k) []
+over_body c around b k v is =
+    let rows : List Row = block_rows (in_code c) around b k in
+    let accepted = if_reached_cut k (accept_block (in_code c) around b) (accept_block (in_rules c) around b) (λ q. block_cut c around b q) ∙ ap cut_all is in
+    subst (λ r. Over (rows_if r rows) rows []) (sym accepted) (over_all rows)

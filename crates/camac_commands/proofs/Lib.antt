@@ -1,4 +1,6 @@
 pub mod Listed
+pub mod Wider
+pub mod Sorts
 pub mod ByRows
 pub mod Actions
 pub mod Arguments

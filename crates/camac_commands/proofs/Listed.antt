@@ -18,7 +18,7 @@ use Rattle.camac_commands.specs.Commands.{Command, is_told, lies_in, IsListed, m
 abbrev pub Listed : List Command → Behaviour State → Type 0
 Listed cs b = Meets no_count (IsListed cs) AnyStop Any nothing b
 
-inside_lies : (g : Region) (at : Address) → InRegion g at → lies_in g at ≡ true
+pub inside_lies : (g : Region) (at : Address) → InRegion g at → lies_in g at ≡ true
 inside_lies g at h =
     let both : (i : Interval) (n : ℕ) → IsWithin i n → (nat_le i.lo n && nat_le n i.hi) ≡ true =
     λ i n w. and_from (nat_le i.lo n) (nat_le n i.hi) (le-leb i.lo n w.low) (le-leb n i.hi w.high) in
@@ -37,7 +37,7 @@ listed_piece cs ds more (lock_taken c w) h = tt
 listed_piece cs ds more (lock_released c) h = tt
 listed_piece cs ds more (event_left e) h = tt
 
-listed_more : (cs ds : List Command) → ((at : Address) (f : ℕ) → list_any (is_told at f) cs ≡ true → list_any (is_told at f) ds ≡ true) → (b : Behaviour State) → Listed cs b → Listed ds b
+pub listed_more : (cs ds : List Command) → ((at : Address) (f : ℕ) → list_any (is_told at f) cs ≡ true → list_any (is_told at f) ds ≡ true) → (b : Behaviour State) → Listed cs b → Listed ds b
 listed_more cs ds more (does p b) h = (listed_piece cs ds more p h.0, listed_more cs ds more b h.1)
 listed_more cs ds more (ends s) h = tt
 listed_more cs ds more (stops w s) h = tt

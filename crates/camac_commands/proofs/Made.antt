@@ -1,13 +1,15 @@
 -- What is accepted and surely makes a command of some kind has made one where it ends: one induction over statements.
-use Rattle.std.proofs.Common.{◌≡◌, ℕ, ◌+◌, ◌-◌, ◌<◌, ◌≤◌, zero, suc, List, [], Option, Some, None, Ok, Bool, true, false, refl, sym, ap, ap₂, subst, ◌∙◌, arith}
-use Rattle.std.specs.Prelude.{◌||◌, ◌&&◌, drop, nat_le, nat_lt, slice_get, unwrap_or, if◌then◌else◌}
+use Rattle.std.proofs.Common.{◌≡◌, ℕ, ◌+◌, ◌-◌, ◌<◌, ◌≤◌, zero, suc, List, [], Option, Some, None, Ok, Bool, true, false, refl, sym, ap, subst, arith}
+use Rattle.std.specs.Prelude.{◌||◌, ◌&&◌, drop, nat_le, nat_lt, slice_get, if◌then◌else◌}
 use Rattle.std.specs.List.{list_any}
 use Rattle.std.proofs.lemmas.Bool.{and_parts, and_from, or_right, false≢true, ltb-true, leb-true, lt-ltb}
 use Rattle.std.proofs.lemmas.Option.{same_Some}
 use Rattle.camac_lang.specs.declared.word.LamCall.{LamCall}
 use Rattle.camac_lang.specs.declared.word.WordSize.{WordSize}
 use Rattle.camac_lang.specs.declared.word.WordSize.TheVariants.{Full}
-use Rattle.camac_lang.specs.Tree.{Expression, number, Condition, Keep, Move, no_data, into, from, Statement, assign, set_register, single, address_scan, q_stop, q_repeat, put, crate_call, lam_call, choose, choose_else, for_, while_, locked, call, Block, done, next, Procedure}
+use Rattle.camac_lang.specs.Tree.{Expression, number, Condition, Keep, Move, no_data, into, from, Statement, assign, set_register, single, address_scan, q_stop, q_repeat, put, crate_call, lam_call, choose, choose_else, for_, for_each, while_, locked, call, Block, done, next, Procedure}
+use Rattle.camac_range.specs.Number.{greatest}
+use Rattle.camac_range.specs.Interval.{only}
 use Rattle.camac_func.specs.declared.data.DataMove.{DataMove}
 use Rattle.camac_func.specs.declared.data.DataMove.TheVariants as moved
 use Rattle.camac_branch.specs.Address.{Address}
@@ -30,8 +32,10 @@ use Rattle.camac_rules.specs.Conditions.{Branches, branches, split}
 use Rattle.camac_rules.specs.Costs.{Verdict, unreached}
 use Rattle.camac_rules.specs.Cycles.{Context, Around}
 use Rattle.camac_rules.specs.Calls.{lock_rule}
+use Rattle.camac_rules.specs.Capped.{capped}
+use Rattle.camac_rules.specs.Each.{each_from, each_rule}
 use Rattle.camac_rules.specs.Procedures.{call_rule}
-use Rattle.camac_rules.specs.Loops.{Limits, with_fixed, for_limits, for_head, head, keeps_hold_after, turns_between, values_between}
+use Rattle.camac_rules.specs.Loops.{Limits, for_limits, for_head, head, keeps_hold_after, turns_between, values_between}
 use Rattle.camac_rules.specs.Statements.{accept_statement, accept_block}
 use Rattle.camac_rules.proofs.Allows.{Allows, allowed as allows, then_allowed, required_allowed, given_allowed, if_reached_allowed, allowed_more}
 use Rattle.camac_rules.proofs.Stores.{Place, around_of, fixing, holding, Inside, Reaches}
@@ -45,82 +49,19 @@ use Rattle.camac_rules.proofs.ForLoops.{MayCount, limits_allowed}
 use Rattle.camac_rules.proofs.Lockless.{has_lock, block_has_lock}
 use Rattle.camac_rules.proofs.Routines.{AreSmall, Serves}
 use Rattle.camac_rules.proofs.Statements.{may_first, may_second, reached_sound, statement_sound, block_sound}
-use Rattle.camac_check.proofs.Capped.{in_code, in_rules, cut_all, if_reached_cut, block_cut}
-use Rattle.camac_check_costs.specs.Bodies.{rows_if}
+use Rattle.camac_check.proofs.Capped.{in_code}
 use Rattle.camac_check_rows.specs.declared.row.Row.{Row}
-use Rattle.camac_check_rows.specs.Rows.{found, ways, Turning, turning_from, for_turning, taken, lock_inside, lock_head, statement_verdict, inside, statement_rows, block_rows}
-use Rattle.camac_check_rows.specs.Statements.{detail_of}
-use Rattle.camac_commands.specs.Commands.{Command, is_told, made_at}
-use Rattle.camac_commands.specs.Surely.{has_turn, is_some_number, surely_alone, surely, surely_block, made_one, AnyPiece, IsMade, TellsOf}
-use Rattle.camac_commands.proofs.ByRows.{Begins, begins_all, begins_inside, begins_both, begins_block, behind_first, first_alone, statement_told, block_told, same_after}
+use Rattle.camac_check_rows.specs.Rows.{found, Turning, turning_from, lock_inside, lock_head, block_verdict, statement_rows, block_rows}
+use Rattle.camac_check_rows.specs.Turns.{turned, turns_over}
+use Rattle.camac_commands.specs.Commands.{Command, is_told, behind, behind_block, made_at}
+use Rattle.camac_commands.specs.Surely.{has_turn, is_some_number, surely, surely_block, made_one, AnyPiece, IsMade, TellsOf}
+use Rattle.camac_commands.proofs.ByRows.{Over, over_block, listed_over, over_turn, over_next, over_arms}
+use Rattle.camac_commands.proofs.Sorts.{block_sorted}
 use Rattle.camac_commands.proofs.Listed.{Listed}
 use Rattle.camac_commands.proofs.Actions.{always, with_result, single_listed, q_stop_listed, q_repeat_listed, lam_listed}
 use Rattle.camac_commands.proofs.Arguments.{GiveAll, AllFit, ranges_each, in_ranges, are_small}
 use Rattle.camac_commands.proofs.Matches.{Matches, matches_at}
-use Rattle.camac_commands.proofs.Statements.{both_allowed}
-
--- ---- by what is known where each statement begins
-
-abbrev mutual
-  pub statement_surely : Context → (Command → Bool) → List Bool → Around → Statement → Known → Bool
-  statement_surely c test ps around (choose_else line t a b) k = block_surely c test ps around a (ways line t k).holds && block_surely c test ps around b (ways line t k).fails
-  statement_surely c test ps around (for_ line x e1 e2 keeps body) k = has_turn e1 e2 && block_surely c test ps (with_fixed x around) body (for_turning around line x e1 e2 keeps body k).head
-  statement_surely c test ps around (locked line e body) k = block_surely c test ps (lock_inside (taken c around line e k) around) body (lock_head (taken c around line e k) k)
-  statement_surely c test ps around (call line p es) k = unwrap_or (slice_get ps p) false
-  statement_surely c test ps around s k = surely_alone test s (detail_of c s k)
-
-  pub block_surely : Context → (Command → Bool) → List Bool → Around → Block → Known → Bool
-  block_surely c test ps around done k = false
-  block_surely c test ps around (next s rest) k = statement_surely c test ps around s k || block_surely c test ps around rest (statement_verdict c around s k).after
-
--- the rows tell the same
-module _ (c : Context) (test : Command → Bool) (ps : List Bool) where
-  abbrev rows_of : Around → Block → Known → List Row
-  rows_of around b k = block_rows (in_code c) around b k
-
-  mutual
-    statement_sure : (around : Around) (s : Statement) (k : Known) (rows rest : List Row) → Begins rows (statement_rows (in_code c) around s k) rest → surely test ps s rows ≡ statement_surely (in_rules c) test ps around s k
-    statement_sure around (choose line t a) k rows rest h = refl
-    statement_sure around (choose_else line t a b) k rows rest h =
-        let arms = ways line t k in
-        let (middle, first, second) = begins_both (drop 1 rows) (inside (in_code c) _ (rows_of around a arms.holds)) _ rest (behind_first _ rows _ rest h) in
-        let first_rows = begins_inside _ (drop 1 rows) _ middle first (λ _. refl) in
-        let one = block_sure around a arms.holds (drop 1 rows) middle first_rows in
-        let two = block_sure around b arms.fails (drop 1 middle) rest (begins_block _ _ middle _ rest second (λ _. refl)) in
-        ap₂ (λ x y. x && y) one (ap (λ m. surely_block test ps b (drop 1 m)) (block_told c [] around a arms.holds (drop 1 rows) middle first_rows).1 ∙ two)
-    statement_sure around (for_ line x e1 e2 keeps body) k rows rest h =
-        ap (λ y. has_turn e1 e2 && y) (block_sure (with_fixed x around) body (for_turning around line x e1 e2 keeps body k).head (drop 1 rows) rest (begins_block _ _ rows _ rest h (λ _. refl)))
-    statement_sure around (while_ line t most m keeps body) k rows rest h = refl
-    statement_sure around (locked line e body) k rows rest h =
-        let o = taken (in_code c) around line e k in
-        block_sure (lock_inside o around) body (lock_head o k) (drop 1 rows) rest (begins_block _ _ rows _ rest h (λ _. refl))
-    statement_sure around (assign line x e) k rows rest h = (first_alone (surely_alone test (assign line x e)) _ rows rest h).0
-    statement_sure around (set_register line r e1 e2 e3) k rows rest h = (first_alone (surely_alone test (set_register line r e1 e2 e3)) _ rows rest h).0
-    statement_sure around (single line size f r move) k rows rest h = (first_alone (surely_alone test (single line size f r move)) _ rows rest h).0
-    statement_sure around (address_scan line f r1 r2 max x) k rows rest h = (first_alone (surely_alone test (address_scan line f r1 r2 max x)) _ rows rest h).0
-    statement_sure around (q_stop line f r t max x) k rows rest h = (first_alone (surely_alone test (q_stop line f r t max x)) _ rows rest h).0
-    statement_sure around (q_repeat line f r t max limit x) k rows rest h = (first_alone (surely_alone test (q_repeat line f r t max limit x)) _ rows rest h).0
-    statement_sure around (put line e) k rows rest h = (first_alone (surely_alone test (put line e)) _ rows rest h).0
-    statement_sure around (crate_call line which e) k rows rest h = (first_alone (surely_alone test (crate_call line which e)) _ rows rest h).0
-    statement_sure around (lam_call line which l) k rows rest h = (first_alone (surely_alone test (lam_call line which l)) _ rows rest h).0
-    statement_sure around (call line p es) k rows rest h = refl
-
-    block_sure : (around : Around) (b : Block) (k : Known) (rows rest : List Row) → Begins rows (rows_of around b k) rest → surely_block test ps b rows ≡ block_surely (in_rules c) test ps around b k
-    block_sure around done k rows rest h = refl
-    block_sure around (next s others) k rows rest h =
-        let after : Known = (statement_verdict (in_code c) around s k).after in
-        let (middle, first, second) = begins_both rows (statement_rows (in_code c) around s k) (rows_of around others after) rest h in
-        let two = block_sure around others after middle rest second in
-        ap₂ (λ x y. x || y) (statement_sure around s k rows middle first)
-        (ap (surely_block test ps others) (statement_told c [] around s k rows middle first).1 ∙ two ∙ ap (block_surely (in_rules c) test ps around others) (same_after c around s k))
-
-  -- so with a body that is accepted
-  pub body_sure : (around : Around) (b : Block) (k : Known) (v : Verdict) → if_reached unreached k (accept_block (in_rules c) around b) ≡ Ok v
-      → surely_block test ps b (rows_if (if_reached unreached k (accept_block (in_code c) around b)) (rows_of around b k)) ≡ block_surely (in_rules c) test ps around b k
-  body_sure around b k v is =
-      let rows : List Row = rows_of around b k in
-      ap (λ q. surely_block test ps b (rows_if q rows)) (if_reached_cut k (accept_block (in_code c) around b) (accept_block (in_rules c) around b) (λ q. block_cut c around b q) ∙ ap cut_all is)
-      ∙ block_sure around b k rows [] (begins_all rows)
+use Rattle.camac_commands.proofs.Statements.{both_allowed, each_begun, turn_begins}
 
 -- ---- behaviours that make a cycle that is meant
 
@@ -233,37 +174,36 @@ module _ (c : Setting) (narrow : HasWidths c.plan) (serves : Serves c) (n : ℕ)
   abbrev run : Block → Action
   run b = block_meaning (of c) n b
 
-  abbrev sure : Place → Block → Known → Bool
-  sure around b k = block_surely (seen c) test bs (around_of around) b k
+  abbrev rows_of : Place → Block → Known → List Row
+  rows_of around b k = block_rows (in_code (seen c)) (around_of around) b k
 
+  -- where it is sure by any rows that tell what these do
   abbrev MakesIt : Place → Statement → Facts → Type 0
-  MakesIt around st k = statement_surely (seen c) test bs (around_of around) st (Some k) ≡ true → (s : State) → Inside around k s → Makes meant (effect (of c) n st (stepped s))
+  MakesIt around st k = (rows rest : List Row) → Over rows (statement_rows (in_code (seen c)) (around_of around) st (Some k)) rest → surely test bs st rows ≡ true
+      → (s : State) → Inside around k s → Makes meant (effect (of c) n st (stepped s))
 
   abbrev BlockMakes : Place → Block → Known → Type 0
-  BlockMakes around b k = sure around b k ≡ true → (s : State) → Reaches around k s → Makes meant (run b s)
+  BlockMakes around b k = (rows rest : List Row) → Over rows (rows_of around b k) rest → surely_block test bs b rows ≡ true → (s : State) → Reaches around k s → Makes meant (run b s)
 
   abbrev Accepted : Place → Block → Known → (Verdict → Type 0) → Type 0
   Accepted around b k P = Allows (if_reached unreached k (accept_block (seen c) (around_of around) b)) P
 
   reached_makes : (around : Place) (b : Block) (k : Known) → ((q : Facts) → Allows (accept_block (seen c) (around_of around) b q) (λ v. BlockMakes around b (Some q))) → Accepted around b k (λ v. BlockMakes around b k)
-  reached_makes around b k h = if_reached_allowed unreached k (accept_block (seen c) (around_of around) b) (λ q v. BlockMakes around b q) (λ e s r. absurd r) h
-
-  nothing_makes : (P : Type 0) → false ≡ true → P
-  nothing_makes P e = absurd (false≢true e)
+  reached_makes around b k h = if_reached_allowed unreached k (accept_block (seen c) (around_of around) b) (λ q v. BlockMakes around b q) (λ rows rest o e s r. absurd r) h
 
   single_makes : (around : Place) (line : ℕ) (size : WordSize) (f r : ℕ) (m : Move) (k : Facts) → Allows (accept_statement (seen c) (around_of around) (single line size f r m) k) (λ v. MakesIt around (single line size f r m) k)
   single_makes around line size f r m k =
-      allowed_more (single_listed c around n line size f r m k) (λ v lists e s i.
-      listed_makes meant _ (one_meant meant test tells line f _ e) (effect (of c) n (single line size f r m) (stepped s)) (lists s i)
+      allowed_more (single_listed c around n line size f r m k) (λ v lists rows rest o e s i.
+      listed_makes meant _ (one_meant meant test tells line f _ e) (effect (of c) n (single line size f r m) (stepped s)) (listed_over (single line size f r m) _ rows rest o _ (lists s i))
       (cycles_given (s.registers r) (λ at. act c.plan at f size m) (stepped s) (λ at _. act_cycles c.plan at f size m (stepped s))))
 
   q_stop_makes : (around : Place) (line f r : ℕ) (g : Option ℕ) (e : Expression) (x : ℕ) (k : Facts) → Allows (accept_statement (seen c) (around_of around) (q_stop line f r g e x) k) (λ v. MakesIt around (q_stop line f r g e x) k)
   q_stop_makes around line f r g e x k =
-      allowed_more (q_stop_listed c around n line f r g e x k) (λ v lists so s i.
+      allowed_more (q_stop_listed c around n line f r g e x k) (λ v lists rows rest own so s i.
       let both = and_parts (is_some_number e) _ so in
       let last : Option (List ℕ) → Address → ℕ → Action = λ o at m. transfer_to c.plan f o (q_stop_next at m) x in
       let go : Option (List ℕ) → Address → Action = λ o at. given (value e s.variables) (last o at) in
-      listed_makes meant _ (one_meant meant test tells line f _ both.1) (effect (of c) n (q_stop line f r g e x) (stepped s)) (lists s i)
+      listed_makes meant _ (one_meant meant test tells line f _ both.1) (effect (of c) n (q_stop line f r g e x) (stepped s)) (listed_over (q_stop line f r g e x) _ rows rest own _ (lists s i))
       (cycles_given (sent (of c) g) (λ o. given (s.registers r) (go o)) (stepped s) (λ o _.
       cycles_given (s.registers r) (go o) (stepped s) (λ at _.
       cycles_given (value e s.variables) (last o at) (stepped s) (λ m is.
@@ -271,13 +211,13 @@ module _ (c : Setting) (narrow : HasWidths c.plan) (serves : Serves c) (n : ℕ)
 
   q_repeat_makes : (around : Place) (line f r : ℕ) (g : Option ℕ) (e1 e2 : Expression) (x : ℕ) (k : Facts) → Allows (accept_statement (seen c) (around_of around) (q_repeat line f r g e1 e2 x) k) (λ v. MakesIt around (q_repeat line f r g e1 e2 x) k)
   q_repeat_makes around line f r g e1 e2 x k =
-      allowed_more (q_repeat_listed c around n line f r g e1 e2 x k) (λ v lists so s i.
+      allowed_more (q_repeat_listed c around n line f r g e1 e2 x k) (λ v lists rows rest own so s i.
       let both = and_parts (is_some_number e1 && is_some_number e2) _ so in
       let limits = and_parts (is_some_number e1) (is_some_number e2) both.0 in
       let last : Option (List ℕ) → Address → ℕ → ℕ → Action = λ o at m l. transfer_to c.plan f o (q_repeat_next at m l) x in
       let next_one : Option (List ℕ) → Address → ℕ → Action = λ o at m. given (value e2 s.variables) (last o at m) in
       let go : Option (List ℕ) → Address → Action = λ o at. given (value e1 s.variables) (next_one o at) in
-      listed_makes meant _ (one_meant meant test tells line f _ both.1) (effect (of c) n (q_repeat line f r g e1 e2 x) (stepped s)) (lists s i)
+      listed_makes meant _ (one_meant meant test tells line f _ both.1) (effect (of c) n (q_repeat line f r g e1 e2 x) (stepped s)) (listed_over (q_repeat line f r g e1 e2 x) _ rows rest own _ (lists s i))
       (cycles_given (sent (of c) g) (λ o. given (s.registers r) (go o)) (stepped s) (λ o _.
       cycles_given (s.registers r) (go o) (stepped s) (λ at _.
       cycles_given (value e1 s.variables) (next_one o at) (stepped s) (λ m is.
@@ -287,15 +227,15 @@ module _ (c : Setting) (narrow : HasWidths c.plan) (serves : Serves c) (n : ℕ)
 
   lam_makes : (around : Place) (line : ℕ) (which : LamCall) (l : ℕ) (k : Facts) → Allows (accept_statement (seen c) (around_of around) (lam_call line which l) k) (λ v. MakesIt around (lam_call line which l) k)
   lam_makes around line which l k =
-      allowed_more (lam_listed c around n line which l k) (λ v lists e s i.
-      listed_makes meant _ (one_meant meant test tells line _ _ e) (effect (of c) n (lam_call line which l) (stepped s)) (lists s i)
+      allowed_more (lam_listed c around n line which l k) (λ v lists rows rest o e s i.
+      listed_makes meant _ (one_meant meant test tells line _ _ e) (effect (of c) n (lam_call line which l) (stepped s)) (listed_over (lam_call line which l) _ rows rest o _ (lists s i))
       (cycles_given (slice_get c.lams l) (λ at. act c.plan at (lam_function which) Full no_data) (stepped s) (λ at _. act_cycles c.plan at (lam_function which) Full no_data (stepped s))))
 
   call_makes : (around : Place) (line p : ℕ) (es : List Expression) (k : Facts) → Allows (call_rule (seen c) line p es k) (λ v. MakesIt around (call line p es) k)
   call_makes around line p es k =
       then_allowed (ranges_each line es k.ranges) (λ rs gives.
       then_allowed (given_allowed (slice_get c.procedures p) _ line _) (λ q is.
-      required_allowed _ line _ (λ fit. allows (λ sure_so s i.
+      required_allowed _ line _ (λ fit. allows (λ rows rest o sure_so s i.
       let r = serves.each p q is in
       let makes = matches_at (RoutineMakes meant n) false c.routines c.procedures bs matches p q r.routine is r.is sure_so in
       makes_given meant (slice_get c.routines p) (λ routine. given (values es s.variables) (λ us. enter (routine n) us)) r.routine (stepped s) r.is
@@ -312,26 +252,30 @@ module _ (c : Setting) (narrow : HasWidths c.plan) (serves : Serves c) (n : ℕ)
   choice_makes : (around : Place) (line : ℕ) (test' : Condition) (a b : Block) (k : Facts) (arms : Branches) → split line test' k ≡ Ok arms
       → ((s : State) → Inside around k s → Decides around (truth test' s.variables s.q s.x) arms s) → BlockMakes around a arms.holds → BlockMakes around b arms.fails → MakesIt around (choose_else line test' a b) k
   unfolding if_reached
-  choice_makes around line test' a b k arms is d first second e s i =
+  choice_makes around line test' a b k arms is d first second rows rest o e s i =
       let t : State = stepped s in
-      let both = and_parts (sure around a arms.holds) (sure around b arms.fails) (subst (λ (w : Branches). (sure around a w.holds && sure around b w.fails) ≡ true) (ap (λ q. found (branches None None) q) is) e) in
-      by_test around (truth test' s.variables s.q s.x) arms (run a) (run b) t (d t (stepped_reaches around (Some k) s i)) (λ r. first both.0 t r) (λ r. second both.1 t r)
+      let middle : List Row = behind_block a (drop 1 rows) in
+      let parts = subst (λ (w : Branches). Over (drop 1 rows) (rows_of around a w.holds) middle × Over (drop 1 middle) (rows_of around b w.fails) rest)
+      (ap (λ q. found (branches None None) q) is) (over_arms (in_code (seen c)) (around_of around) line test' a b (Some k) rows rest o) in
+      let both = and_parts (surely_block test bs a (drop 1 rows)) (surely_block test bs b (drop 1 middle)) e in
+      by_test around (truth test' s.variables s.q s.x) arms (run a) (run b) t (d t (stepped_reaches around (Some k) s i))
+      (λ r. first (drop 1 rows) middle parts.0 both.0 t r) (λ r. second (drop 1 middle) rest parts.1 both.1 t r)
 
   lock_makes : (around : Place) (line : ℕ) (e : Expression) (body : Block) (k : Facts) (m : ℕ) → lock_rule (seen c) (around_of around) line e k ≡ Ok m
       → CanLock c.plan around e k m → BlockMakes (holding m around) body (Some k) → MakesIt around (locked line e body) k
   unfolding go_on if_reached
-  lock_makes around line e body k m is can inner sure_so s i =
+  lock_makes around line e body k m is can makes rows rest o sure_so s i =
       let t : State = stepped s in
       let held : ℕ → Action = λ d u. then_do (run body u) (release d) in
       let take : ℕ → ℕ → Action = λ d waits u. take_lock d waits (u.branch d).locked (held d) u in
-      let so : sure (holding m around) body (Some k) ≡ true =
-      subst (λ (o : Option ℕ). block_surely (seen c) test bs (lock_inside o (around_of around)) body (lock_head o (Some k)) ≡ true) (ap (λ q. found None (go_on q (λ j. Ok (Some j)))) is) sure_so in
+      let inner = subst (λ (j : Option ℕ). Over (drop 1 rows) (block_rows (in_code (seen c)) (lock_inside j (around_of around)) body (lock_head j (Some k))) rest)
+      (ap (λ q. found None (go_on q (λ j. Ok (Some j)))) is) (over_block _ _ rows _ rest o (λ _. refl)) in
       makes_given meant (value e s.variables) (λ d. given (crate_waits c.plan d) (take d)) m t (can.is s i)
       (makes_any meant (crate_waits c.plan m) (take m) t (λ waits _ x.
-      lock_meets (made_one meant) AnyPiece AnyStop IsMade x m waits (s.branch m).locked (held m) t (λ _. tt) (λ _. tt) (λ a rest _ _. tt) (λ a rest free g p. (
+      lock_meets (made_one meant) AnyPiece AnyStop IsMade x m waits (s.branch m).locked (held m) t (λ _. tt) (λ _. tt) (λ a left _ _. tt) (λ a left free g p. (
         tt,
-        makes_first meant (run body (after_lock m a.wait rest t)) (release m)
-            (inner so (after_lock m a.wait rest t) (record { variables = i.variables; registers = i.registers; locks = still_held around s.branch m i.locks })) x,
+        makes_first meant (run body (after_lock m a.wait left t)) (release m)
+            (makes (drop 1 rows) rest inner sure_so (after_lock m a.wait left t) (record { variables = i.variables; registers = i.registers; locks = still_held around s.branch m i.locks })) x,
       ))))
 
   -- ---- a `for` that has a turn
@@ -343,13 +287,12 @@ module _ (c : Setting) (narrow : HasWidths c.plan) (serves : Serves c) (n : ℕ)
   turns_make : (around : Place) (line x : ℕ) (e1 e2 : Expression) (qs : List Keep) (body : Block) (k : Facts) (l : Limits) (turn : Verdict) → MayCount around x e1 e2 qs k l → keeps_hold_after qs turn.after ≡ true
       → (s : State) → Inside around k s → (v w : ℕ) → Fits l.first v → Fits l.last w → v ≤ w
       → (b : Bool) → nat_lt l.last.hi l.first.lo ≡ b → SoundFor c.plan (fixing x around) (if b then None else Some (with_range x (values_between l) (head body qs k))) (λ m. block_meaning (of c) m body) turn
-      → BlockMakes (fixing x around) body (if b then None else Some (with_range x (values_between l) (head body qs k)))
-      → sure (fixing x around) body (if b then None else Some (with_range x (values_between l) (head body qs k))) ≡ true
+      → ((t : State) → Reaches (fixing x around) (if b then None else Some (with_range x (values_between l) (head body qs k))) t → Makes meant (run body t))
       → Makes meant (for_from (w + 1 - v) n x v w (run body) (stepped s))
-  turns_make around line x e1 e2 qs body k l turn may keep s i v w f g has true e h makes so =
+  turns_make around line x e1 e2 qs body k l turn may keep s i v w f g has true e h makes =
       let less : l.last.hi < l.first.lo = ltb-true l.last.hi l.first.lo e in
       absurd (omega (arith, f.within.low, g.within.high))
-  turns_make around line x e1 e2 qs body k l turn may keep s i v w f g has false e h makes so = go (w + 1 - v) refl
+  turns_make around line x e1 e2 qs body k l turn may keep s i v w f g has false e h makes = go (w + 1 - v) refl
     where
       go : (j : ℕ) → j ≡ w + 1 - v → Makes meant (for_from j n x v w (run body) (stepped s))
       go zero is = absurd (omega arith)
@@ -357,7 +300,7 @@ module _ (c : Setting) (narrow : HasWidths c.plan) (serves : Serves c) (n : ℕ)
           let checked = counting.checked c around line x e1 e2 qs body k l turn may keep n le h in
           let before = counting.before_turns c.plan around x body qs k l turn (run body) checked s i v w f g (suc j) is (counting.entered c around line x e1 e2 qs body k l turn may keep s i) in
           first_turn n j x v w (run body) (stepped s)
-          (makes so (for_state x v (stepped s)) (counting.turn_begins c.plan around x body qs k l turn (run body) checked s i v w f g j v (stepped s) before))
+          (makes (for_state x v (stepped s)) (counting.turn_begins c.plan around x body qs k l turn (run body) checked s i v w f g j v (stepped s) before))
 
   in_order : (e1 e2 : Expression) (env : Variables) (v w : ℕ) → has_turn e1 e2 ≡ true → value e1 env ≡ Some v → value e2 env ≡ Some w → v ≤ w
   in_order (number a) (number b) env v w e p q =
@@ -371,46 +314,71 @@ module _ (c : Setting) (narrow : HasWidths c.plan) (serves : Serves c) (n : ℕ)
       → MayCount around x e1 e2 qs k l → keeps_hold_after qs turn.after ≡ true → SoundFor c.plan (fixing x around) (for_head x l qs body k) (λ m. block_meaning (of c) m body) turn
       → BlockMakes (fixing x around) body (for_head x l qs body k) → MakesIt around (for_ line x e1 e2 qs body) k
   unfolding go_on if_reached
-  for_makes around line x e1 e2 qs body k l turn is may keep sound makes sure_so s i =
+  for_makes around line x e1 e2 qs body k l turn is may keep sound makes rows rest o sure_so s i =
       let t : State = stepped s in
       let first = value_of (value e1 s.variables) l.first (may.first s i) in
       let last = value_of (value e2 s.variables) l.last (may.last s i) in
       let second : ℕ → ℕ → Action = λ v w. for_from (w + 1 - v) n x v w (run body) in
-      let both = and_parts (has_turn e1 e2) (sure (fixing x around) body (for_head x l qs body k))
-      (subst (λ (w : Turning). (has_turn e1 e2 && block_surely (seen c) test bs (with_fixed x (around_of around)) body w.head) ≡ true)
-      (ap (λ q. found (turning_from 0 None) (go_on q (λ j. Ok (turning_from (turns_between j) (for_head x j qs body k))))) is) sure_so) in
+      let both = and_parts (has_turn e1 e2) (surely_block test bs body (drop 1 rows)) sure_so in
+      let inner = subst (λ (w : Turning). Over (drop 1 rows) (rows_of (fixing x around) body w.head) rest)
+      (ap (λ q. found (turning_from 0 None) (go_on q (λ j. Ok (turning_from (turns_between j) (for_head x j qs body k))))) is) (over_block _ _ rows _ rest o (λ _. refl)) in
       makes_given meant (value e1 s.variables) (λ v. given (value e2 s.variables) (second v)) first.number t first.is
       (makes_given meant (value e2 s.variables) (second first.number) last.number t last.is
       (turns_make around line x e1 e2 qs body k l turn may keep s i first.number last.number first.fits last.fits (in_order e1 e2 s.variables first.number last.number both.0 first.is last.is)
-      (nat_lt l.last.hi l.first.lo) refl sound makes both.1))
+      (nat_lt l.last.hi l.first.lo) refl sound (λ u r. makes (drop 1 rows) rest inner both.1 u r)))
+
+  -- an `each` that has a turn: the first is one
+  each_makes : (around : Place) (line x v last : ℕ) (body : Block) → ((q : Facts) → Allows (accept_block (seen c) (around_of (fixing x around)) body q) (λ w. BlockMakes (fixing x around) body (Some q)))
+      → (k : Facts) → Allows (each_rule (seen c) (around_of around) line x v last (accept_block (seen c) (around_of (fixing x around)) body) k) (λ w. MakesIt around (for_each line x v last body) k)
+  each_makes around line x v last body each k =
+      then_allowed (each_begun (around_of around) line x v last) (λ count may.
+      then_allowed (first_makes may.0 count may.1) (λ turns makes. allows (λ rows rest o e s i.
+      let both = and_parts (nat_le v last) (surely_block test bs body (drop 1 rows)) e in
+      makes (leb-true v last both.0) (drop 1 rows) rest (over_block _ _ rows _ rest o (λ _. refl)) both.1 (stepped s) (stepped_reaches around (Some k) s i))))
+    where
+      code : Context
+      code = in_code (seen c)
+
+      within : Around
+      within = around_of (fixing x around)
+
+      first_makes : last ≤ greatest → (j : ℕ) → j ≡ last + 1 - v → Allows (each_from (λ w. w) j x v last (accept_block (seen c) within body) k)
+          (λ w. v ≤ last → (rows rest : List Row) → Over rows (turns_over capped (last + 1 - v) x v (block_verdict code within body) (block_rows code within body) (Some k) (turned 0 (block_rows code within body None))).rows rest
+          → surely_block test bs body rows ≡ true → (s : State) → Inside around k s → Makes meant (for_from (last + 1 - v) n x v last (run body) s))
+      first_makes small zero is = allows (λ some. absurd (omega (arith, is, some)))
+      first_makes small (suc j) is =
+          then_allowed (each (with_range x (only v) k)) (λ turn makes. always _ (λ some rows rest o e s i.
+          let none = turned 0 (block_rows code within body None) in
+          let here = over_turn code within body capped j x v (block_verdict code within body) k none rows rest (block_sorted code within body None)
+          (subst (λ m. Over rows (turns_over capped m x v (block_verdict code within body) (block_rows code within body) (Some k) none).rows rest) (sym is) o) in
+          subst (λ m. Makes meant (for_from m n x v last (run body) s)) is
+          (first_turn n j x v last (run body) s (makes rows rest here e (for_state x v s) (turn_begins around x last v small some k s i)))))
 
   -- ---- all statements, and blocks
 
-  next_makes : (around : Place) (st : Statement) (rest : Block) (k : Facts) (first : Verdict) → accept_statement (seen c) (around_of around) st k ≡ Ok first
-      → SoundFor c.plan around (Some k) (λ m s. effect (of c) m st (stepped s)) first → MakesIt around st k → BlockMakes around rest first.after → BlockMakes around (next st rest) (Some k)
-  unfolding if_reached
-  next_makes around st rest k first is sound one others e s i =
-      let own : Bool = statement_surely (seen c) test bs (around_of around) st (Some k) in
-      by_or meant own (sure around rest first.after) (Makes meant (then_do (effect (of c) n st (stepped s)) (run rest)))
-      (subst (λ (w : Known). (own || sure around rest w) ≡ true) (ap (λ q. (found unreached q).after) is) e)
-      (λ here. makes_first meant (effect (of c) n st (stepped s)) (run rest) (one here s i))
-      (λ there. makes_second meant (SafePiece c.plan) (StopsWell first.costs s) (EndsWell around first.after first.costs s) (effect (of c) n st (stepped s)) (run rest)
-      (sound.each n le s i) (λ t q. others there t q.reaches))
+  next_makes : (around : Place) (st : Statement) (others : Block) (k : Facts) (first : Verdict) → accept_statement (seen c) (around_of around) st k ≡ Ok first
+      → SoundFor c.plan around (Some k) (λ m s. effect (of c) m st (stepped s)) first → MakesIt around st k → BlockMakes around others first.after → BlockMakes around (next st others) (Some k)
+  next_makes around st others k first is sound one makes rows rest o e s i =
+      let parts = over_next (seen c) (around_of around) st others k first is rows rest o in
+      by_or meant (surely test bs st rows) (surely_block test bs others (behind st rows)) (Makes meant (then_do (effect (of c) n st (stepped s)) (run others))) e
+      (λ here. makes_first meant (effect (of c) n st (stepped s)) (run others) (one rows (behind st rows) parts.0 here s i))
+      (λ there. makes_second meant (SafePiece c.plan) (StopsWell first.costs s) (EndsWell around first.after first.costs s) (effect (of c) n st (stepped s)) (run others)
+      (sound.each n le s i) (λ t q. makes (behind st rows) rest parts.1 there t q.reaches))
 
   mutual
     statement_makes : (around : Place) (st : Statement) → MayLock around (has_lock st) → (k : Facts) → Allows (accept_statement (seen c) (around_of around) st k) (λ v. MakesIt around st k)
-    statement_makes around (assign line x e) may k = always _ (λ no. absurd (false≢true no))
-    statement_makes around (set_register line r e1 e2 e3) may k = always _ (λ no. absurd (false≢true no))
+    statement_makes around (assign line x e) may k = always _ (λ rows rest o no. absurd (false≢true no))
+    statement_makes around (set_register line r e1 e2 e3) may k = always _ (λ rows rest o no. absurd (false≢true no))
     statement_makes around (single line size f r m) may k = single_makes around line size f r m k
-    statement_makes around (address_scan line f r1 r2 max x) may k = always _ (λ no. absurd (false≢true no))
+    statement_makes around (address_scan line f r1 r2 max x) may k = always _ (λ rows rest o no. absurd (false≢true no))
     statement_makes around (q_stop line f r t max x) may k = q_stop_makes around line f r t max x k
     statement_makes around (q_repeat line f r t max limit x) may k = q_repeat_makes around line f r t max limit x k
-    statement_makes around (put line e) may k = always _ (λ no. absurd (false≢true no))
-    statement_makes around (crate_call line which e) may k = always _ (λ no. absurd (false≢true no))
+    statement_makes around (put line e) may k = always _ (λ rows rest o no. absurd (false≢true no))
+    statement_makes around (crate_call line which e) may k = always _ (λ rows rest o no. absurd (false≢true no))
     statement_makes around (lam_call line which l) may k = lam_makes around line which l k
     statement_makes around (call line p es) may k = call_makes around line p es k
-    statement_makes around (choose line t a) may k = always _ (λ no. absurd (false≢true no))
-    statement_makes around (while_ line t most m qs body) may k = always _ (λ no. absurd (false≢true no))
+    statement_makes around (choose line t a) may k = always _ (λ rows rest o no. absurd (false≢true no))
+    statement_makes around (while_ line t most m qs body) may k = always _ (λ rows rest o no. absurd (false≢true no))
     statement_makes around (choose_else line t a b) may k =
         then_allowed (with_result (split_each around line t k)) (λ arms d.
         then_allowed (reached_makes around a arms.holds (λ q. block_makes around a (may_first (block_has_lock a) (block_has_lock b) around may) q)) (λ first h.
@@ -425,9 +393,10 @@ module _ (c : Setting) (narrow : HasWidths c.plan) (serves : Serves c) (n : ℕ)
         then_allowed (both_allowed (reached_sound c (fixing x around) body (for_head x l qs body k) (λ q. block_sound c narrow serves (fixing x around) body may q))
         (reached_makes (fixing x around) body (for_head x l qs body k) (λ q. block_makes (fixing x around) body may q))) (λ turn h.
         required_allowed _ line _ (λ keep. allows (for_makes around line x e1 e2 qs body k l turn m.0 m.1 keep h.1 h.2))))
+    statement_makes around (for_each line x v last body) may k = each_makes around line x v last body (λ q. block_makes (fixing x around) body may q) k
 
     pub block_makes : (around : Place) (b : Block) → MayLock around (block_has_lock b) → (k : Facts) → Allows (accept_block (seen c) (around_of around) b k) (λ v. BlockMakes around b (Some k))
-    block_makes around done may k = allows (λ no. absurd (false≢true no))
+    block_makes around done may k = allows (λ rows rest o no. absurd (false≢true no))
     block_makes around (next st rest) may k =
         let one = may_first (has_lock st) (block_has_lock rest) around may in
         let others = may_second (has_lock st) (block_has_lock rest) around may in

@@ -9,18 +9,18 @@ use Rattle.camac_branch.proofs.Allowed.{allowed-in_range}
 use Rattle.camac_model.specs.State.{State, fresh}
 use Rattle.camac_model.specs.Behaviour.{Action}
 use Rattle.camac_model.specs.Fine.{most_turns}
-use Rattle.camac_model.specs.Run.{service_meaning}
 use Rattle.camac_model.specs.Meaning.{context, routines_with, entered, block_meaning}
 use Rattle.camac_rules.specs.declared.case.Body.{Body}
 use Rattle.camac_rules.specs.declared.case.Body.TheVariants as body
 use Rattle.camac_rules.specs.Known.{Known}
 use Rattle.camac_rules.specs.Refusal.{if_reached}
 use Rattle.camac_rules.specs.Procedures.{at_entry}
-use Rattle.camac_rules.specs.Costs.{Verdict, unreached}
+use Rattle.camac_rules.specs.Costs.{unreached}
 use Rattle.camac_rules.specs.Cycles.{alone_in}
 use Rattle.camac_rules.specs.Statements.{accept_block}
+use Rattle.camac_rules.specs.EachLimit.{count_block}
 use Rattle.camac_rules.specs.Accept.{sections, at_start, own_body, accept_procedure, accept_service, accept_items}
-use Rattle.camac_rules.proofs.Allows.{Allows, allowed, then_allowed, for_each, if_reached_allowed}
+use Rattle.camac_rules.proofs.Allows.{Allows, after_any, allowed, then_allowed, for_each, if_reached_allowed}
 use Rattle.camac_rules.proofs.Stores.{Reaches}
 use Rattle.camac_rules.proofs.Sound.{SoundFor}
 use Rattle.camac_rules.proofs.Actions.{Setting, of, HasWidths, seen}
@@ -33,14 +33,15 @@ use Rattle.camac_rules.proofs.Statements.{block_sound}
 use Rattle.camac_check.proofs.Capped.{in_code}
 use Rattle.camac_check_costs.specs.Bodies.{procedure_costs, service_costs, costs_over}
 use Rattle.camac_check_rows.specs.declared.row.Row.{Row}
+use Rattle.camac_check_rows.specs.Rows.{block_rows}
 use Rattle.camac_commands.specs.Commands.{Command, MakesOnly, made_block, told_over, commands_of, CyclesAreListed}
 use Rattle.camac_commands.specs.Surely.{surely_block, surely_of, MakesOne, TellsOf, SureOnesAreMade}
-use Rattle.camac_commands.proofs.ByRows.{block_commands, body_told}
+use Rattle.camac_commands.proofs.ByRows.{Over, over_body}
 use Rattle.camac_commands.proofs.Listed.{Listed}
 use Rattle.camac_commands.proofs.Actions.{always, with_result}
 use Rattle.camac_commands.proofs.Matches.{Matches, matches_all, matches_push}
 use Rattle.camac_commands.proofs.Statements.{RoutineLists, both_allowed, block_lists}
-use Rattle.camac_commands.proofs.Made.{Makes, RoutineMakes, block_surely, body_sure, block_makes}
+use Rattle.camac_commands.proofs.Made.{Makes, RoutineMakes, block_makes}
 
 module _ (plan : Layout) (script : Script) (narrow : HasWidths plan) where
   abbrev turns : ℕ
@@ -60,37 +61,38 @@ module _ (plan : Layout) (script : Script) (narrow : HasWidths plan) where
     procedure_accepted : (p : Procedure) → block_has_lock p.body ≡ false → Allows (accept_procedure (seen Here) p) (λ found. RoutineSound plan p (λ n. block_meaning (of Here) n p.body))
     procedure_accepted p free =
         let run : ℕ → Action = λ n. block_meaning (of Here) n p.body in
+        after_any (count_block (own_body (seen Here)) p.body 0) (λ judged.
         routine_sound plan (own_body (seen Here)) p run (accept_block (seen Here) (alone_in (own_body (seen Here))) p.body) (λ q.
         for_each (λ outside. Unit {0}) (λ outside v. SoundFor plan (called (own_body (seen Here)) outside) (Some q) run v) (λ outside u.
-        block_sound Here narrow (serves_own plan script rs done m) (called (own_body (seen Here)) outside) p.body (λ e. absurd (false≢true (sym free ∙ e))) q))
+        block_sound Here narrow (serves_own plan script rs done m) (called (own_body (seen Here)) outside) p.body (λ e. absurd (false≢true (sym free ∙ e))) q)))
 
     procedure_lists : (ls : List (List Command)) → Matches (RoutineLists turns) rs done ls → (i : ℕ) (p : Procedure) → block_has_lock p.body ≡ false
         → Allows (accept_procedure (seen Here) p) (λ found. RoutineLists turns p (made_block ls p.body (procedure_costs (in_code (seen Here)) i p).rows) (λ n. block_meaning (of Here) n p.body))
     procedure_lists ls k i p free =
         let own : Body = own_body (seen Here) in
-        let P : Known → Verdict → Type 0 = λ q v.
-        (outside : ℕ → Bool) → Unit {0} → (s : State) → Reaches (called own outside) q s → Listed (block_commands (seen Here) ls (alone_in own) p.body q) (block_meaning (of Here) turns p.body s) in
-        then_allowed
-        (with_result (if_reached_allowed unreached (at_entry p.parameters) (accept_block (seen Here) (alone_in own) p.body) P (λ outside u s r. absurd r) (λ q.
-        for_each (λ outside. Unit {0}) (λ outside v. (s : State) → Reaches (called own outside) (Some q) s → Listed (block_commands (seen Here) ls (alone_in own) p.body (Some q)) (block_meaning (of Here) turns p.body s)) (λ outside u.
+        let Q : (ℕ → Bool) → Known → Type 0 = λ outside q.
+        (rows rest : List Row) → Over rows (block_rows (in_code (seen Here)) (alone_in own) p.body q) rest → (s : State) → Reaches (called own outside) q s → Listed (made_block ls p.body rows) (block_meaning (of Here) turns p.body s) in
+        after_any (count_block own p.body 0) (λ judged. then_allowed
+        (with_result (if_reached_allowed unreached (at_entry p.parameters) (accept_block (seen Here) (alone_in own) p.body) (λ q v. (outside : ℕ → Bool) → Unit {0} → Q outside q) (λ outside u rows rest o s r. absurd r) (λ q.
+        for_each (λ outside. Unit {0}) (λ outside v. Q outside (Some q)) (λ outside u.
         block_lists Here narrow (serves_own plan script rs done m) turns enough ls k (called own outside) p.body (λ e. absurd (false≢true (sym free ∙ e))) q))))
-        (λ v h. always _ (subst (λ cs. RoutineLists turns p cs (λ n. block_meaning (of Here) n p.body)) (sym (body_told (seen Here) ls (alone_in own) p.body (at_entry p.parameters) v h.0))
-        (λ vs inside small s. (
+        (λ v h. always _ (λ vs inside small s. (
         let outside : ℕ → Bool = λ j. (s.branch j).locked in
-        h.1 outside tt (entered vs s) (entry_reached own outside p.parameters vs s inside small (λ j. refl))))))
+        h.1 outside tt _ [] (over_body (seen Here) (alone_in own) p.body (at_entry p.parameters) v h.0) (entered vs s) (entry_reached own outside p.parameters vs s inside small (λ j. refl))))))
 
     procedure_makes : (test : Command → Bool) (meant : Address → ℕ → Bool) → TellsOf test meant → (bs : List Bool) → Matches (RoutineMakes meant turns) rs done bs → (i : ℕ) (p : Procedure) → block_has_lock p.body ≡ false
         → Allows (accept_procedure (seen Here) p) (λ found. RoutineMakes meant turns p (surely_block test bs p.body (procedure_costs (in_code (seen Here)) i p).rows) (λ n. block_meaning (of Here) n p.body))
     procedure_makes test meant tells bs k i p free =
         let own : Body = own_body (seen Here) in
-        let Q : Known → Type 0 = λ q. (outside : ℕ → Bool) → Unit {0} → block_surely (seen Here) test bs (alone_in own) p.body q ≡ true → (s : State) → Reaches (called own outside) q s → Makes meant (block_meaning (of Here) turns p.body s) in
-        then_allowed
-        (with_result (if_reached_allowed unreached (at_entry p.parameters) (accept_block (seen Here) (alone_in own) p.body) (λ q v. Q q) (λ outside u e s r. absurd r) (λ q.
-        for_each (λ outside. Unit {0}) (λ outside v. block_surely (seen Here) test bs (alone_in own) p.body (Some q) ≡ true → (s : State) → Reaches (called own outside) (Some q) s → Makes meant (block_meaning (of Here) turns p.body s)) (λ outside u.
+        let Q : (ℕ → Bool) → Known → Type 0 = λ outside q.
+        (rows rest : List Row) → Over rows (block_rows (in_code (seen Here)) (alone_in own) p.body q) rest → surely_block test bs p.body rows ≡ true → (s : State) → Reaches (called own outside) q s → Makes meant (block_meaning (of Here) turns p.body s) in
+        after_any (count_block own p.body 0) (λ judged. then_allowed
+        (with_result (if_reached_allowed unreached (at_entry p.parameters) (accept_block (seen Here) (alone_in own) p.body) (λ q v. (outside : ℕ → Bool) → Unit {0} → Q outside q) (λ outside u rows rest o e s r. absurd r) (λ q.
+        for_each (λ outside. Unit {0}) (λ outside v. Q outside (Some q)) (λ outside u.
         block_makes Here narrow (serves_own plan script rs done m) turns enough test meant tells bs k (called own outside) p.body (λ e. absurd (false≢true (sym free ∙ e))) q))))
         (λ v h. always _ (λ e vs inside small s. (
         let outside : ℕ → Bool = λ j. (s.branch j).locked in
-        h.1 outside tt (sym (body_sure (seen Here) test bs (alone_in own) p.body (at_entry p.parameters) v h.0) ∙ e) (entered vs s) (entry_reached own outside p.parameters vs s inside small (λ j. refl)))))
+        h.1 outside tt _ [] (over_body (seen Here) (alone_in own) p.body (at_entry p.parameters) v h.0) e (entered vs s) (entry_reached own outside p.parameters vs s inside small (λ j. refl))))))
 
   abbrev Whole : List Procedure → Setting
   Whole done = With (context plan script).routines done
@@ -99,9 +101,10 @@ module _ (plan : Layout) (script : Script) (narrow : HasWidths plan) where
       → Allows (accept_service (seen (Whole done)) v) (λ found. MakesOnly plan script v (made_block ls v.body (service_costs (in_code (seen (Whole done))) j v).rows))
   unfolding if_reached
   service_lists done serves ls k j v =
-      then_allowed (with_result (block_lists (Whole done) narrow serves turns enough ls k (outermost (body.Service v.lam)) v.body (λ e j. refl) at_start)) (λ found h.
-      always _ (λ b answers. subst (λ cs. Listed cs (service_meaning (context plan script) 65535 v b answers)) (sym (body_told (seen (Whole done)) ls (alone_in (body.Service v.lam)) v.body (Some at_start) found h.0))
-      (h.1 (fresh b answers) (start_inside (body.Service v.lam) b answers))))
+      let own : Body = body.Service v.lam in
+      after_any (count_block own v.body 0) (λ judged.
+      then_allowed (with_result (block_lists (Whole done) narrow serves turns enough ls k (outermost own) v.body (λ e j. refl) at_start)) (λ found h.
+      always _ (λ b answers. h.1 _ [] (over_body (seen (Whole done)) (alone_in own) v.body (Some at_start) found h.0) (fresh b answers) (start_inside own b answers))))
 
   -- where it is told of a service that it makes one
   abbrev MakesIf : (Address → ℕ → Bool) → Service → Bool → Type 0
@@ -111,8 +114,10 @@ module _ (plan : Layout) (script : Script) (narrow : HasWidths plan) where
       → (j : ℕ) (v : Service) → Allows (accept_service (seen (Whole done)) v) (λ found. MakesIf meant v (surely_block test bs v.body (service_costs (in_code (seen (Whole done))) j v).rows))
   unfolding if_reached
   service_makes test meant tells done serves bs k j v =
-      then_allowed (with_result (block_makes (Whole done) narrow serves turns enough test meant tells bs k (outermost (body.Service v.lam)) v.body (λ e j. refl) at_start)) (λ found h.
-      always _ (λ e b answers. h.1 (sym (body_sure (seen (Whole done)) test bs (alone_in (body.Service v.lam)) v.body (Some at_start) found h.0) ∙ e) (fresh b answers) (start_inside (body.Service v.lam) b answers) false))
+      let own : Body = body.Service v.lam in
+      after_any (count_block own v.body 0) (λ judged.
+      then_allowed (with_result (block_makes (Whole done) narrow serves turns enough test meant tells bs k (outermost own) v.body (λ e j. refl) at_start)) (λ found h.
+      always _ (λ e b answers. h.1 _ [] (over_body (seen (Whole done)) (alone_in own) v.body (Some at_start) found h.0) e (fresh b answers) (start_inside own b answers) false)))
 
   module _ {A : Type 0} (told : List A → Block → List Row → A) (Tells : Procedure → A → (ℕ → Action) → Type 0) (Says : Service → A → Type 0) where
     -- each of these services by what is told in its place

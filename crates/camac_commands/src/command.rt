@@ -90,14 +90,14 @@ fn called(call: CrateCall) -> BranchCommand
     }
 }
 
-// Where it goes, at the crate that its row tells.
+// Where it goes, at the crates that its row tells.
 fn called_at(call: CrateCall, detail: Detail) -> Option<Region>
     ensures { result ≡ called_at call detail }
 {
     let at_one = called(call);
     match detail {
         Detail::Crates(crates) => Some(Region::new(
-            Range::only(crates.lo()),
+            crates,
             Range::only(at_one.n.get()),
             Range::only(at_one.a.get()),
         )),

@@ -4,7 +4,7 @@ use Rattle.std.specs.Prelude.{◌||◌, drop, slice_get, unwrap_or}
 use Rattle.std.specs.List.{list_any}
 use Rattle.std.proofs.lemmas.List.Folds.{list_any-append}
 use Rattle.std.proofs.lemmas.Option.{same_Some}
-use Rattle.camac_lang.specs.Tree.{Statement, assign, set_register, single, address_scan, q_stop, q_repeat, put, crate_call, lam_call, choose, choose_else, for_, while_, locked, call, Block, done, next}
+use Rattle.camac_lang.specs.Tree.{Statement, assign, set_register, single, address_scan, q_stop, q_repeat, put, crate_call, lam_call, choose, choose_else, for_, for_each, while_, locked, call, Block, done, next}
 use Rattle.camac_rules.specs.Accept.{Section, of_procedure, of_service}
 use Rattle.camac_check_costs.specs.Body.{BodyRows}
 use Rattle.camac_check_rows.specs.declared.row.Row.{Row}
@@ -78,6 +78,7 @@ module _ (test : Command → Bool) where
           let second = none_block (first_block test ps so_far a (drop 1 rows)) b others e in
           none_both so_far (made_block qs a (drop 1 rows)) (made_block qs b others) (none_block so_far a (drop 1 rows) second.0) second.1
       none_made so_far (for_ line x e1 e2 keeps body) rows e = none_block so_far body (drop 1 rows) e
+      none_made so_far (for_each line x v last body) rows e = none_block so_far body (drop 1 rows) e
       none_made so_far (while_ line t most m keeps body) rows e = none_block so_far body (drop 1 rows) e
       none_made so_far (locked line c body) rows e = none_block so_far body (drop 1 rows) e
       none_made so_far (call line p es) rows e = none_called so_far (unwrap_or (slice_get ps p) None) p refl e

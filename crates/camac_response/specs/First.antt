@@ -1,6 +1,6 @@
 -- The least line of the commands of a body that pass a test, by its rows.
 use Rattle.std.specs.Prelude.{ℕ, Bool, List, [], ◌∷◌, Option, Some, None, drop, min, slice_get, unwrap_or, if◌then◌else◌}
-use Rattle.camac_lang.specs.Tree.{Statement, choose, choose_else, for_, while_, locked, call, Block, done, next, Script}
+use Rattle.camac_lang.specs.Tree.{Statement, choose, choose_else, for_, for_each, while_, locked, call, Block, done, next, Script}
 use Rattle.camac_branch.specs.Address.{Address}
 use Rattle.camac_branch.specs.Plan.{Layout}
 use Rattle.camac_check_costs.specs.Body.{BodyRows}
@@ -35,6 +35,7 @@ abbrev mutual
   first_made test ps so_far (choose line e a) rows = first_block test ps so_far a (drop 1 rows)
   first_made test ps so_far (choose_else line e a b) rows = first_block test ps (first_block test ps so_far a (drop 1 rows)) b (drop 1 (behind_block a (drop 1 rows)))
   first_made test ps so_far (for_ line x e1 e2 keeps body) rows = first_block test ps so_far body (drop 1 rows)
+  first_made test ps so_far (for_each line x v last body) rows = first_block test ps so_far body (drop 1 rows)
   first_made test ps so_far (while_ line e most m keeps body) rows = first_block test ps so_far body (drop 1 rows)
   first_made test ps so_far (locked line e body) rows = first_block test ps so_far body (drop 1 rows)
   first_made test ps so_far (call line p es) rows = lesser so_far (unwrap_or (slice_get ps p) None)

@@ -140,6 +140,15 @@ fn statement_clears<'r>(
             let (clears, left) = block_clears(plan, lam, called, body, inside);
             (has_turn(head.from.term(), head.to.term()) && clears, left)
         }
+        Stmt::ForEach {
+            first,
+            last,
+            body,
+            ..
+        } => {
+            let (clears, left) = block_clears(plan, lam, called, body, inside);
+            (first <= last && clears, left)
+        }
         Stmt::Lock { body, .. } => block_clears(plan, lam, called, body, inside),
         Stmt::Call(call) => (clears_at(called, call.procedure), inside),
         Stmt::Assign(_)

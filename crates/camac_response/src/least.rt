@@ -168,9 +168,10 @@ fn statement_line<'r>(
             let behind = behind_first(other);
             block_line(plan, asked, lam, called, first, otherwise, behind)
         }
-        Stmt::For { body, .. } | Stmt::While { body, .. } | Stmt::Lock { body, .. } => {
-            block_line(plan, asked, lam, called, so_far, body, inside)
-        }
+        Stmt::For { body, .. }
+        | Stmt::ForEach { body, .. }
+        | Stmt::While { body, .. }
+        | Stmt::Lock { body, .. } => { block_line(plan, asked, lam, called, so_far, body, inside) }
         Stmt::Call(call) => (lesser(so_far, line_at(called, call.procedure)), inside),
         Stmt::Assign(_)
         | Stmt::SetRegister(_)
