@@ -1,20 +1,20 @@
 """What is known before the statement at a place: `explain --at`."""
 from __future__ import annotations
 
-import functools
 from random import Random
 from typing import Dict, Iterable, List, NamedTuple, Optional
 
 from oracle.cases import make_edge_inputs, make_inputs
 from oracle.comparing import Comparison
-from oracle.reader.checker import Checker
+from oracle.reader.checker import Checker, Judged
 from oracle.reader.engines import GOOD, REFUSED, Inputs, Told, plan_of, told
 from oracle.reader.grammar import read_script
+from oracle.reader.loops import everything, test_judged
 from oracle.reader.ranges import Known, State, join
 from oracle.reader.refusals import Refused
 from oracle.reader.shares import range_text
 from oracle.reader.tokens import Token, read_tokens
-from oracle.reader.tree import Body, SetRegister, Statement
+from oracle.reader.tree import Body, ForEach, If, SetRegister, Statement
 
 PLACES = 8
 # The tokens of a body that are in no statement.
@@ -34,6 +34,10 @@ def make_place(random: Random, text: bytes, starts: Iterable[int]) -> Place:
     if random.random() < 0.1:
         return Place(line + random.choice((0, 1, 2, 4_000_000_000)), random.choice((1, 2, 9, 4_294_967_295)))
     return Place(line, max(1, column + random.choice((0, 0, 0, -1, 1))))
+
+
+def is_in(statement: Statement, block: List[Statement]) -> bool:
+    return any(it is statement for it in everything(block))
 
 
 class Script:
@@ -65,16 +69,38 @@ class Script:
         if not isinstance(statement, Statement):
             return told([f"no statement at {place.line}:{place.column}"], REFUSED, "no statement")
         body = self.begun(start, Body)
-        none: State = None
-        # In an `each` what holds in all turns that are judged.
-        known = functools.reduce(join, self.checker.judged.known(statement), none)
-        if known is not None:
-            return told(["reached", *self.lines(known, body)], GOOD, "locked" if known.locked else "reached")
-        for refused in self.refusals:
-            first = next(it for it, what in self.starts.items() if what is refused.what)
-            if body < first < start and body == self.begun(first, Body):
-                return told([refused.line()], REFUSED, "refused")
-        return told(["not reached"], GOOD, "not reached")
+        try:
+            test_judged(self.starts[body])
+            known = self.known(self.checker.judged, self.starts[body].block, statement)
+        except Refused as refused:
+            return told([refused.line()], REFUSED, "refused")
+        if known is None:
+            return told(["not reached"], GOOD, "not reached")
+        return told(["reached", *self.lines(known, body)], GOOD, "locked" if known.locked else "reached")
+
+    def known(self, judged: Judged, block: List[Statement], statement: Statement) -> State:
+        """What is known before a statement in a block that was judged. Raises the refusal of one before it."""
+        for it in block:
+            if is_in(statement, [it]):
+                return self.inside(judged, it, statement)
+            if id(it) in judged.stopped:
+                raise judged.stopped[id(it)]
+        return None
+
+    def inside(self, judged: Judged, it: Statement, statement: Statement) -> State:
+        refused = judged.stopped.get(id(it))
+        if it is statement or id(it) not in judged.found:
+            return judged.found.get(id(it), (None,))[0]
+        if refused and refused.what is it and refused.code != "E9":
+            raise refused
+        if isinstance(it, If):
+            return self.known(judged, it.body if is_in(statement, it.body) else it.otherwise or [], statement)
+        if not isinstance(it, ForEach):
+            return self.known(judged, it.body, statement)
+        known: State = None
+        for turn in judged.turns.get(id(it), []):
+            known = join(known, self.known(turn, it.body, statement))
+        return known
 
     def lines(self, known: Known, body: int) -> List[str]:
         """The ranges of the variables, the registers in the order of their first `cdreg`, and the crates that are locked."""

@@ -27,6 +27,8 @@ class Judged:
     def __init__(self) -> None:
         # Of each statement that can be reached, by its identity: what was known before it, and what one time of it costs (nothing if it is refused).
         self.found: Dict[int, Tuple[Known, Cost]] = {}
+        # Of each of these that is refused, or has a statement in it that is, the refusal.
+        self.stopped: Dict[int, Refused] = {}
         # The choices whose `else` cannot be reached.
         self.never_else: Set[int] = set()
         # Of each `each` its turns.
@@ -106,6 +108,7 @@ class Checker:
                 state, one = RULES[type(statement)](self, known, statement)
             except Refused as refused:
                 refused.what = refused.what or statement
+                self.judged.stopped[id(statement)] = refused
                 raise
             self.judged.found[id(statement)] = known, one
             cost = cost.plus(one)

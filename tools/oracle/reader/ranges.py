@@ -49,7 +49,7 @@ def is_inside(inner: Range, outer: Range) -> bool:
 
 
 def join(a: State, b: State) -> State:
-    """What is known where two ways come together."""
+    """What is known where two ways come together, or at one place in two turns."""
     if a is None or b is None:
         return b if a is None else a
     variables = {name: hull(range_, b.variables[name]) for name, range_ in a.variables.items()}
@@ -58,7 +58,7 @@ def join(a: State, b: State) -> State:
         for name, address in a.registers.items()
         if name in b.registers
     }
-    return Known(variables, registers, a.locked)
+    return Known(variables, registers, a.locked & b.locked)
 
 
 def value_of(known: Known, expression: Expression, line: int) -> Range:
