@@ -128,9 +128,13 @@ class Loop(Statement):
 
 
 class For(Loop):
+    """`turns` is how many there are, where the ends are two single numbers. `is_each` says whether it is judged turn by turn."""
+
     def __init__(self, line: int, start: int, name: str, first: Expression, last: Expression) -> None:
         super().__init__(line, start, name)
         self.first, self.last = first, last
+        self.turns: Optional[int] = None
+        self.is_each = False
 
 
 class While(Loop):
