@@ -52,6 +52,7 @@ BODIES = [
     ("put 1 + # a\n 2 # b\n # c\n", "  put 1 +  # a\n      2    # b\n  # c\n"),
     ("put 1 +\n# a\n 2", "  put 1 +\n      # a\n      2\n"),
     ("for i=1 to 3 keep v in 0 .. 4,w in 1..2{v=1}", "  for i = 1 to 3 keep v in 0..4, w in 1..2 { v = 1 }\n"),
+    ("for i=1 to 3 each{each=each+i}", "  for i = 1 to 3 each { each = each + i }\n"),
     ("while k>0 turns 3 by k{k=k-1}", "  while k > 0 turns 3 by k { k = k - 1 }\n"),
     ("call p ( 1,2 )", "  call p(1, 2)\n"),
     ("cfsa 0 r->v cfsa 16 r<-v v=v-1", "  cfsa 0 r -> v\n  cfsa 16 r <- v\n  v = v - 1\n"),

@@ -22,7 +22,7 @@ from support.lsp import SCRIPT, Client, applied, span
 from camac.layout import begins
 from camac.lsp.documents import Text
 from camac.lsp.workspace import choose, is_plan_text
-from camac.names import WORDS
+from camac.names import WORDS, Names
 from camac.printed import read_plan
 from camac.program import lines_of, output_of
 from camac.toml_places import declarations, place_of
@@ -187,6 +187,13 @@ class Documents(unittest.TestCase):
         page = (TOP / "docs/LANGUAGE.md").read_text().partition("These are the words of the language.")[2]
         self.assertEqual({*WORDS}, set(re.search(r"\n\n((?:    .*\n)+)", page)[1].split()))
         self.assertEqual([*begins("table g = 1 var v table".split())], [True, False, False, False, True, False, False])
+
+    def test_each(self):
+        """`each` is a word behind the last number of a `for`, and elsewhere a name."""
+        text = b"var each i service adc within 0 cycles event 0 words { for i = 0 to # to 4\n 3 each { put each } for each = 0 to 3 { } for i = 0 to each { } # to 5\n each = i }"
+        places = [it.start for it in re.finditer(b"each", text)]
+        names = [it.start for it in Names(text).mentions if it.symbol.name == "each"]
+        self.assertEqual(places, sorted([*names, places[1]]))
 
     def test_commands_of_plans(self):
         """They are those that `camac plan --commands` lists."""

@@ -38,6 +38,7 @@
     (,(regexp-opt camac-calls 'symbols) . font-lock-function-name-face)
     (,(regexp-opt camac-controls 'symbols) . font-lock-keyword-face)
     (,(regexp-opt camac-constants 'symbols) . font-lock-constant-face)
+    ("\\_<to[ \t\n]+[0-9]+[ \t\n]+\\(each\\)\\_>" 1 font-lock-keyword-face)
     ("\\_<[0-9]+\\_>" . font-lock-constant-face))
   "What `camac-mode' colours.")
 

@@ -59,9 +59,10 @@ def _open(rows: Sequence[Row], at: Tuple[int, int], procedures: Mapping[str, Bod
         if not body or not row.share.cycles or len(found) + len(body.rows) > most or row.depth >= deepest:
             found.append(row)
             continue
-        slack = row.times * (row.each.cycles - body.most.cycles)
+        counted = row.counted()
+        slack = counted * (row.each.cycles - body.most.cycles)
         found.append(row._replace(share=Cost(slack, 0, 0), waits=0, slack=slack))
-        _open(body.rows, (row.times, row.depth), procedures, into)
+        _open(body.rows, (counted, row.depth), procedures, into)
 
 
 def called(row: Row, procedures: Mapping[str, Body]) -> Optional[Body]:
@@ -94,7 +95,8 @@ def calls_of(body: Body, procedures: Mapping[str, Body], most: int = 40) -> List
     for row in body.rows:
         its = called(row, procedures)
         if its and row.share.cycles and len(found) < most:
-            rows = tuple(_times(it, row.times) for it in its.rows)
-            scaled = its._replace(rows=rows, most=Cost(*(row.times * it for it in its.most)))
-            found += [Call(row.line, scaled, row.times, row.each.cycles), *calls_of(scaled, procedures, most - len(found) - 1)]
+            counted = row.counted()
+            rows = tuple(_times(it, counted) for it in its.rows)
+            scaled = its._replace(rows=rows, most=Cost(*(counted * it for it in its.most)))
+            found += [Call(row.line, scaled, counted, row.each.cycles), *calls_of(scaled, procedures, most - len(found) - 1)]
     return found

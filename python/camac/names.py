@@ -7,7 +7,7 @@ from typing import Dict, Iterator, List, NamedTuple, Optional, Set, Tuple
 
 from camac.layout import DECLARATIONS, STATEMENTS
 from camac.reader import LAM_CALLS
-from camac.tokens import NAME, NAMES
+from camac.tokens import EACH, NAME, NAMES, TOKEN
 
 # The words of the language besides those that begin a declaration or a statement.
 OTHERS = "table within cycles event words steps max limit tally on off else to turns by keep in and not q x"
@@ -86,10 +86,14 @@ class Names:
         self.blocks: List[Block] = []
         self.symbols: Dict[Tuple[str, str, int], Symbol] = {}
         self.depth, self.is_inside, self.is_declaration, self.expected = 0, False, False, NO_NAMES
-        for it in NAMES.finditer(text.decode("latin-1")):
+        letters, behind_to = text.decode("latin-1"), 0
+        for it in NAMES.finditer(letters):
             word = it[1]
             if word in WORDS:
                 self.word(word, it.start())
+                behind_to = it.end() if word == "to" else 0
+            elif word == EACH and behind_to and _is_number(letters, behind_to, it.start()):
+                behind_to = 0
             elif word == "{":
                 self.open(it.start())
             elif word == "}":
@@ -177,6 +181,12 @@ class Names:
                 continue
             found[its.name] = its.kind
         return found
+
+
+def _is_number(text: str, start: int, end: int) -> bool:
+    """Whether a part of a text, comments aside, is a number."""
+    tokens = [it[1] for it in TOKEN.finditer(text, start, end) if it[1]]
+    return len(tokens) == 1 and tokens[0].isdigit()
 
 
 def fault_of_new_name(names: Names, symbol: Symbol, new: str) -> Optional[str]:

@@ -1,7 +1,7 @@
 """Reads a script that is no refused text into a tree."""
 from typing import Callable, Dict, List, Tuple
 
-from camac.tokens import NAMES, Token, tokens_of
+from camac.tokens import EACH, NAMES, Token, tokens_of
 from camac.tree import (
     Assign, Body, Cycle, Expression, For, If, Keep, Lock, Loop, Name, Number, Operation, Part, Plain, Range, Script, SetRegister, Statement, Transfer, While,
     all_in, written_by,
@@ -215,11 +215,8 @@ class _Reader:
         self.expect("to")
         is_plain = is_plain and self.word().isdigit()
         end = self.expression()
-        made = For(first.line, first.start, name, begin, end)
-        if is_plain and isinstance(begin, Number) and isinstance(end, Number):
-            made.turns = max(0, end.value + 1 - begin.value)
-        made.is_each = self.takes("each")
-        return made
+        turns = max(0, end.value + 1 - begin.value) if is_plain and isinstance(begin, Number) and isinstance(end, Number) else None
+        return For(first.line, first.start, name, begin, end, turns, self.takes(EACH))
 
     def keep(self) -> Keep:
         name = self.next()

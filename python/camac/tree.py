@@ -128,13 +128,11 @@ class Loop(Statement):
 
 
 class For(Loop):
-    """`turns` is how many there are, where the ends are two single numbers. `is_each` says whether it is judged turn by turn."""
+    """A `for`, and its turns if both ends are single numbers. With `each` they are, and it keeps nothing."""
 
-    def __init__(self, line: int, start: int, name: str, first: Expression, last: Expression) -> None:
+    def __init__(self, line: int, start: int, name: str, first: Expression, last: Expression, turns: Optional[int], is_each: bool) -> None:
         super().__init__(line, start, name)
-        self.first, self.last = first, last
-        self.turns: Optional[int] = None
-        self.is_each = False
+        self.first, self.last, self.turns, self.is_each = first, last, turns, is_each
 
 
 class While(Loop):

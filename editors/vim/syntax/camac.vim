@@ -16,6 +16,8 @@ syntax keyword camacControl if else for to while turns by keep in lock call
 syntax keyword camacOperator and not
 syntax keyword camacFlag q x
 
+" `each` is a word behind the last number of a `for` alone.
+syntax match camacControl '\%(\<to\s\+\d\+\s\+\)\@<=each\>'
 syntax match camacNumber '\<\d\+\>'
 syntax match camacSign '->\|<-\|\.\.\|==\|!=\|<=\|>=\|[-+*/%=<>,]'
 syntax match camacComment '#.*$' contains=camacTodo,@Spell

@@ -10,7 +10,7 @@ from camac.lsp.known import addresses
 from camac.lsp.workspace import Judged
 from camac.names import WORDS, Kind
 from camac.printed import NOT_DECLARED, is_refused, read_expected
-from camac.tokens import tokens_of
+from camac.tokens import EACH, tokens_of
 from camac.values import Address, Declaration
 
 # Kinds of items, as the protocol numbers them.
@@ -77,7 +77,7 @@ def complete(judged: Judged, place: int) -> List[Item]:
 def _words(its: Expected) -> Iterator[Item]:
     words = set(its.words).union(*(GROUPS.get(it, frozenset()) for it in its.groups))
     for it in sorted(words):
-        yield {"label": it, "kind": KEYWORD if it in WORDS else OPERATOR, "sortText": f"2{it}"}
+        yield {"label": it, "kind": KEYWORD if it in WORDS or it == EACH else OPERATOR, "sortText": f"2{it}"}
 
 
 def _names(judged: Judged, ask: Callable[[bytes], str], its: Expected, before: bytes, start: int) -> Iterator[Item]:

@@ -17,7 +17,7 @@ OF_LOCK = "waits of the lock"
 
 class Part:
     """Statements that begin on a line and are counted equally often: what one time of all of them costs, how often it is counted, and their
-    cycles: the product. Of these some are waits, or are not needed. The waits of a lock are a part of their own."""
+    cycles: the product, or less if turns of an `each` differ. Of these some are waits, or are not needed. The waits of a lock are a part of their own."""
 
     __slots__ = ("times", "is_lock", "each", "cycles", "waits", "slack", "words", "kinds")
 
@@ -145,7 +145,8 @@ class _Table:
             if text and (word == "times" or text != "0" or (word == "cycles" and it.each)):
                 self.canvas.text(x, self.y + 13, text, "s11 r")
         begin, wide = BAR_AT, BAR * it.cycles / self.widest
-        tip = f"line {number}: {it.times:,} × {it.each:,} = {it.cycles:,} of {count(self.most, 'cycle')}; of them {count(it.waits, 'wait')}"
+        sign = "=" if it.times * it.each == it.cycles else "≥"
+        tip = f"line {number}: {it.times:,} × {it.each:,} {sign} {it.cycles:,} of {count(self.most, 'cycle')}; of them {count(it.waits, 'wait')}"
         tip += " of the lock" if it.is_lock else f", {it.slack:,} not needed" if it.slack else ""
         for kind, cycles in parts_of(it.cycles, it.waits, it.slack):
             part = wide * cycles / it.cycles

@@ -1,6 +1,7 @@
 """What is known before the statement at a place: `explain --at`."""
 from __future__ import annotations
 
+import functools
 from random import Random
 from typing import Dict, Iterable, List, NamedTuple, Optional
 
@@ -9,7 +10,7 @@ from oracle.comparing import Comparison
 from oracle.reader.checker import Checker
 from oracle.reader.engines import GOOD, REFUSED, Inputs, Told, plan_of, told
 from oracle.reader.grammar import read_script
-from oracle.reader.ranges import Known
+from oracle.reader.ranges import Known, State, join
 from oracle.reader.refusals import Refused
 from oracle.reader.shares import range_text
 from oracle.reader.tokens import Token, read_tokens
@@ -64,8 +65,10 @@ class Script:
         if not isinstance(statement, Statement):
             return told([f"no statement at {place.line}:{place.column}"], REFUSED, "no statement")
         body = self.begun(start, Body)
-        if id(statement) in self.checker.judged:
-            known, _ = self.checker.judged[id(statement)]
+        none: State = None
+        # In an `each` what holds in all turns that are judged.
+        known = functools.reduce(join, self.checker.judged.known(statement), none)
+        if known is not None:
             return told(["reached", *self.lines(known, body)], GOOD, "locked" if known.locked else "reached")
         for refused in self.refusals:
             first = next(it for it, what in self.starts.items() if what is refused.what)

@@ -9,7 +9,7 @@ from oracle.comparing import Comparison
 from oracle.maker.scripts import KEYWORDS_TEXT, SIGNS, make_misspelt
 from oracle.reader.cursor import COMPARISONS
 from oracle.reader.engines import REFUSED, told
-from oracle.reader.grammar import READERS, Grammar
+from oracle.reader.grammar import EACH, READERS, Grammar
 from oracle.reader.refusals import Refused
 from oracle.reader.tokens import Token, read_tokens
 
@@ -27,7 +27,8 @@ MOST_TOKENS = 400
 
 def fits(before: List[Token], kind: str, fault: Token) -> bool:
     """Whether S2 does not refuse a token of this kind behind these. Which name or number is right, other rules say."""
-    token = Token(kind, "name_of_none", 1, fault.line, fault.start)
+    its = ("name", EACH) if kind == EACH else (kind, "name_of_none")
+    token = Token(*its, 1, fault.line, fault.start)
     grammar = Grammar([*before, token, token._replace(kind="end")])
     try:
         grammar.whole()
@@ -62,6 +63,8 @@ def judge(it: Comparison) -> None:
     found = SET.search(text)
     it.seen["set" if found else "sentence of its own"] += 1
     it.judged += bool(found)
-    wanted = {kind for kind in (*KEYWORDS_TEXT, *SIGNS, "name", "number") if fits(tokens[: grammar.at], kind, grammar.token)}
+    wanted = {kind for kind in (*KEYWORDS_TEXT, *SIGNS, EACH, "name", "number") if fits(tokens[: grammar.at], kind, grammar.token)}
+    # Where any name fits, that is one.
+    wanted -= {EACH} if "name" in wanted else set()
     if not text.startswith(line) or found and set_of(found[1], grammar.is_procedure) != wanted:
         it.differs("explain", inputs, told([line, f"expected {sorted(wanted)}"], REFUSED, "S2"), answered)

@@ -9,16 +9,16 @@ from oracle.reader.checker import Checker
 from oracle.reader.engines import REFUSED, plan_of, told
 from oracle.reader.grammar import read_script
 from oracle.reader.refusals import Refused
-from oracle.reader.tree import Assign, Block, Body, Call, CrateCall, Cycle, For, If, Lam, LamCall, Lock, Put, Scan, Script, SetRegister, While
+from oracle.reader.tree import Assign, Block, Body, Call, CrateCall, Cycle, For, ForEach, If, Lam, LamCall, Lock, Put, Scan, Script, SetRegister, While
 
 TRANSFERS = Scan, Block
-LOOPS = For, While
+LOOPS = For, ForEach, While
 # What a rule of linking or of the checker can refuse.
 REFUSES: List[Tuple[str, Tuple[type, ...]]] = [
     ("L1", (Lam,)), ("L2 L3 L4 E11 E12 E18", (Body,)), ("E1 E2", (Cycle, LamCall, *TRANSFERS)), ("E3 E6", (Cycle, *TRANSFERS)),
     ("E4", (Assign, SetRegister, Cycle, CrateCall, Put, If, Lock, Call, *TRANSFERS, *LOOPS)), ("E5", (Cycle, Block)), ("E7", (While,)),
     ("E8 E9 E10", LOOPS), ("E13", (Scan,)), ("E14", (Block,)), ("E15", (CrateCall, Lock)), ("E16", (Put,)),
-    ("E17", (Assign, Cycle, For, *TRANSFERS)), ("E21", (Call,)),
+    ("E17", (Assign, Cycle, For, ForEach, *TRANSFERS)), ("E21", (Call,)),
 ]
 KINDS = {code: kinds for codes, kinds in REFUSES for code in codes.split()}
 # What stands before the line of the source, and before the mark below it; and what stands for a part that is cut off.

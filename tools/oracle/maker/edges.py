@@ -58,7 +58,8 @@ def unset(random: Random) -> str:
     one = "cdreg r 1 2 1 0"
     in_arms = f"if q {{ {one} }}", f"if q {{ {one} }} else {{ {one} }}"
     in_loops = f"for i = 1 to 2 {{ {one} }}", f"{one} for i = 1 to 2 {{ cfsa 0 r -> v {one} }}"
-    return f"{random.choice((one, *in_arms, *in_loops))} cfsa 0 r -> v"
+    in_turns = f"for i = {some(random, 1, 3)} to 2 each {{ if i > {some(random, 0, 1)} {{ cfsa 0 r -> v }} {one} }}"
+    return f"{random.choice((one, *in_arms, *in_loops, in_turns))} cfsa 0 r -> v"
 
 
 def direction(random: Random) -> str:
@@ -83,7 +84,7 @@ def several(random: Random) -> str:
 def loop_variable(random: Random) -> str:
     """E17, and what is known of the variable after its loop."""
     inner = some(random, "i = 1", "for i = 1 to 2 {}", "cdreg r 1 2 1 0 cfsa 0 r -> i", "k = i", "cdreg r 1 2 1 0 cfubc 0 r max 1 tally i")
-    loop = f"i = {some(random, 0, 9)} for i = {some(random, 3, 4)} to {some(random, 4, 6)} {{ {inner} }}"
+    loop = f"i = {some(random, 0, 9)} for i = {some(random, 3, 4)} to {some(random, 4, 6)} {some(random, '', 'each')} {{ {inner} }}"
     return f"{loop} k = i for t = i to 60000 {{}} for t = 1 to k {{}}"
 
 
@@ -94,6 +95,26 @@ def kept(random: Random) -> str:
     loop = some(random, "for i = 1 to 3", "k = 3 while k > 0 turns 3 by k")
     fall = "k = k - 1" if "while" in loop else ""
     return f"v = {start} {loop} keep v in {some(random, 0, start, start + 1)}..{last} {{ {step} {fall} }} {watch(random, 'v')}"
+
+
+def turn_by_turn(random: Random) -> str:
+    """E5 and E4: a sum of exactly so many turns, of the loop's own numbers, of readings, or of an inner loop."""
+    first, last = random.choice(((1, 5), (0, 4), (5, 9)))
+    read = "cdreg r 1 2 1 i - i cfsa 0 r -> t"
+    step = some(random, "51", "52", "i", "i * i", "t % 52", "t % 53", "(t - t % 17)", f"{first + 255} - i * 51")
+    inner = f"for t = {some(random, 1, 1, 2)} to {some(random, 1, 3)} each {{ v = v + {some(random, 17, 18, 'i')} }}"
+    body = some(random, f"{read} v = v + {step}", f"{read} v = v + {step}", inner)
+    return f"for i = {first} to {last} each {{ {body} }} cdreg r 1 2 1 {some(random, 0, 4)} cfsa 16 r <- v {watch(random, 'v')}"
+
+
+def judged(random: Random) -> str:
+    """E10: what `each` loops judge, where most of them cannot be reached."""
+    turns, one = random.choice(((65_535, ""), (65_536, ""), (32_768, "v = 1"), (21_845, "v = 1 put 1"), (21_845, "if q { v = 1 }")))
+    inner = f"for t = 1 to {turns} each {{ {one} }}"
+    double = f"for k = 1 to 4 each {{ for t = 1 to {some(random, 8191, 8190)} each {{ {some(random, 'v = 1', '', 'ctci 3')} }} }}"
+    more = f"for i = 1 to {turns + random.choice((0, 1))} each {{ {one} }}"
+    loops = some(random, more, double, f"{inner} for k = 1 to {some(random, 0, 1)} each {{ }}", f"if q {{ {inner} }} else {{ {inner} }}")
+    return loops if random.random() < 0.05 else f"if v > {some(random, 0, 1)} {{ {loops} }}"
 
 
 def measure(random: Random) -> str:
@@ -152,7 +173,7 @@ def scanned(random: Random) -> str:
 
 
 EDGES: List[Callable[[Random], str]] = [
-    wide, word, count, unset, direction, crates, several, loop_variable, kept, measure, argument, locks, comparison, arithmetic, repeated,
+    wide, word, count, unset, direction, crates, several, loop_variable, kept, turn_by_turn, turn_by_turn, judged, measure, argument, locks, comparison, arithmetic, repeated,
     scanned, scanned, scanned,
 ]
 

@@ -103,7 +103,8 @@ def name(_random: Random, past: int) -> str:
 def fifteen_loops(random: Random, _past: int) -> str:
     """Costs that pass every width of a machine."""
     inner = random.choice(("", "ctci 1", "put 1", "cctci 1"))
-    loops = "".join(f"for n{it} = 1 to {random.choice((65_535, 65_535, 65_536, 2))} {{ " for it in range(15))
+    word = random.choice(("", "", " each"))
+    loops = "".join(f"for n{it} = 1 to {random.choice((65_535, 65_535, 65_536, 2))}{word} {{ " for it in range(15))
     return service(loops + inner + "}" * 15, " ".join(names(15)))
 
 

@@ -19,16 +19,21 @@ commands = [ { f = 0, a = 0, to = 1 }, { f = 2, a = 0 }, { f = 2, a = 1, clears 
 # What clears the look-at-me {0} of crate {1} on every way, and what need not.
 CLEARS = (
     "cclc {0} ", "cclc {0} ", "if q {{ cclc {0} }} else {{ cclc {0} }} ", "lock {1} {{ cclc {0} }} ", "for i = 1 to 2 {{ cclc {0} }} ",
+    "for i = 1 to 2 each {{ cclc {0} }} ",
     "if q {{ lock {1} {{ cclc {0} }} }} else {{ for k = 0 to 0 {{ cclc {0} }} }} ",
 )
-LEAVES = ("", "if q {{ cclc {0} }} ", "for i = 2 to 1 {{ cclc {0} }} ", "if q {{ cclc {0} }} else {{ }} ", "ctlm {0} ", "for i = 1 to v % 2 {{ cclc {0} }} ")
+LEAVES = (
+    "", "if q {{ cclc {0} }} ", "for i = 2 to 1 {{ cclc {0} }} ", "for i = 2 to 1 each {{ cclc {0} }} ", "if q {{ cclc {0} }} else {{ }} ", "ctlm {0} ",
+    "for i = 1 to v % 2 {{ cclc {0} }} ",
+)
 # What may clear or hide it, maybe in another service, and what does not; {2} is its station.
 TOUCHES = (
     "cclc {0} ", "cclm {0} off ", "cclm {0} on ", "cccz {1} ", "cccc {1} ", "cccd {1} off ", "cccd {1} on ", "ccci {1} on ", "ctlm {0} ",
     "cdreg s 1 {1} {2} 0 cfsa 9 s ", "cdreg s 1 {1} {2} 0 cfsa 2 s -> v ", "cdreg s 1 {1} {2} 1 cfsa 0 s -> v ", "cdreg s 1 {1} {2} (v % 2) cfsa 2 s -> v ",
     "cdreg s 1 {1} {2} 0 cfsa 10 s ", "cdreg s 1 {1} {2} 0 cfsa 24 s ", "cdreg s 1 {1} 28 8 cfsa 26 s ", "cdreg s 1 {1} 30 10 cfsa 24 s ",
     "cdreg s 1 {1} {2} 0 cfmad 2 s s max 1 tally k ", "cdreg s 1 {1} {2} 0 cfubc 2 s max 1 tally k ", "cdreg s 1 {1} {2} 1 cfubr 2 s max 1 limit 2 tally k ",
-    "for i = 2 to 1 {{ cclc {0} }} ", "if q {{ cclc {0} }} ", "call p() ",
+    "for i = 2 to 1 {{ cclc {0} }} ", "for i = 0 to 1 each {{ cdreg s 1 {1} {2} i cfsa 2 s -> v }} ", "for i = 1 to 2 each {{ cccd i off }} ",
+    "for i = 2 to 1 each {{ cccz i }} ", "if q {{ cclc {0} }} ", "call p() ",
 )
 
 

@@ -15,7 +15,7 @@ from oracle.reader.refusals import Refused
 from oracle.reader.tokens import KEYWORDS
 
 KEYWORDS_TEXT = frozenset(it.decode() for it in KEYWORDS)
-VARIABLES = ("v", "k", "i", "t", "sum", "N1", "v_2", "Z" * 32)
+VARIABLES = ("v", "k", "i", "t", "sum", "N1", "v_2", "each", "Z" * 32)
 SIGNS = ("{", "}", "(", ")", "+", "-", "*", "/", "%", "=", ",", "<", "<=", ">", ">=", "==", "!=", "->", "<-", "..")
 WORD = re.compile(r"[A-Za-z]\w*|\d+|->|<-|[<>=!]=|\.\.|[^\s\w]", re.ASCII)
 AFTER_BRANCH = re.compile(r"(cdreg|cdlam)\s+\w+\s+$")
@@ -168,7 +168,7 @@ def change_words(random: Random, text: str) -> str:
     if not places:
         return text
     it = random.choice(places)
-    other = random.choice((random.choice(places).group(), random.choice((*SIGNS, *sorted(KEYWORDS_TEXT), "0", "z", "Z" * 33))))
+    other = random.choice((random.choice(places).group(), random.choice((*SIGNS, *sorted(KEYWORDS_TEXT), "each", "0", "z", "Z" * 33))))
     new = random.choice(("", f"{it.group()} {it.group()}", f"{other} {it.group()}", other, other))
     return text[: it.start()] + new + text[it.end() :]
 
@@ -204,7 +204,7 @@ def make_misspelt(random: Random, plan: Plan) -> bytes:
     for it in WORD.finditer(text):
         ends.setdefault(it.group() if it.group() in KEYWORDS_TEXT else re.sub(r"\w+", "w", it.group()), []).append(it.end())
     at = random.choice(random.choice([*ends.values()]))
-    more = random.choice((*SIGNS, *sorted(KEYWORDS_TEXT), "0", "name"))
+    more = random.choice((*SIGNS, *sorted(KEYWORDS_TEXT), "each", "0", "name"))
     text = text[:at] if random.random() < 0.2 else f"{text[:at]} {more} {text[at:]}"
     return (spread(random, text) if random.random() < 0.2 else text).encode("latin-1")
 

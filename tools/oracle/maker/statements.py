@@ -142,7 +142,7 @@ class Maker:
             (14, self.cycle), (8, self.assign), (7, self.put), (5, self.transfer), (5, self.scan), (5, self.crate_call), (3, self.lam_call),
         ]
         if self.depth < 4 and self.left > 0:
-            ways += [(6, self.choice), (5, self.for_), (5, self.while_), (3, self.kept), (2, self.watch), (0 if self.is_procedure else 4, self.lock)]
+            ways += [(6, self.choice), (5, self.for_), (5, self.while_), (3, self.kept), (3, self.summed), (2, self.watch), (0 if self.is_procedure else 4, self.lock)]
         if self.procedures:
             ways.append((6, self.call))
         return self.random.choices([it for _, it in ways], [weight for weight, _ in ways])[0]()
@@ -253,6 +253,8 @@ class Maker:
             turns = self.random.choice((1, 2, 2, 3, 4, 0, 12))
             first, last = str(start), self.random.choice((str(start + turns - 1 if start + turns else 0), self.at_most(start + turns)))
         head = f"for {name} = {first} to {last}{self.keeps(name)}"
+        if last.isdigit() and self.odds(0.5) and (int(last) - int(first) < 100 or self.odds(0.05)):
+            head = f"for {name} = {first} to {last} each"
         self.busy.append(name)
         registers = dict(self.registers) if self.odds(0.9) else {}
         node = Node(head, self.block())
@@ -286,6 +288,15 @@ class Maker:
         counting = Node(f"if {count} {self.random.choice(('<=', '<='))} {limit}", [Node(f"{count} = {count} + {step}")])
         start = Node(f"{count} = {self.random.choice((0, most, most + 1 if most < 9999 else 0))}")
         return [start, Node(f"for {turn} = 0 to {self.random.randrange(4)} keep {count} in 0..{most}", [counting, *self.block()])]
+
+    def summed(self) -> List[Node]:
+        """A loop that is judged turn by turn, and adds to a variable what it read in each turn, or its own number."""
+        total, turn = self.free_variable(), self.free_variable()
+        if total == turn:
+            return self.assign()
+        step = self.random.choice((turn, self.variable(), f"{self.variable()} % {self.random.choice((2, 12, 4096))}"))
+        adding = Node(f"{total} = {total} {self.random.choice('++++-')} {step}")
+        return [Node(f"for {turn} = {self.random.randrange(3)} to {self.random.choice((0, 1, 2, 3, 11))} each", [*self.block(), adding])]
 
     def watch(self) -> List[Node]:
         """A loop whose cost shows the least or the greatest number of a variable."""

@@ -1,7 +1,7 @@
 """The checker's rules: what is known after each statement, what it costs, and the first rule that is broken."""
 from __future__ import annotations
 
-from contextlib import suppress
+from contextlib import contextmanager, suppress
 from typing import Dict, FrozenSet, Iterator, List, Set, Tuple
 
 from oracle.reader import loops, transfers
@@ -12,13 +12,33 @@ from oracle.reader.plan import Plan, kind_of
 from oracle.reader.ranges import Address, Known, Range, State, is_inside, join, test_values, value_of, where
 from oracle.reader.refusals import MOST, Refused
 from oracle.reader.tree import (
-    Assign, Body, Call, CrateCall, Cycle, Expression, For, If, LamCall, Lock, Put, Scan, Script, SetRegister, Statement, While,
+    Assign, Body, Call, CrateCall, Cycle, Expression, For, ForEach, If, LamCall, Lock, Put, Scan, Script, SetRegister, Statement, While,
 )
 from oracle.reader.tree import Block as Transfer
 
 GREATEST_WORD = 16_777_215
 SHORT_WORD = 65_535
 LAM_FUNCTIONS = {"cclm on": 26, "cclm off": 24, "cclc": 10, "ctlm": 8}
+
+
+class Judged:
+    """What was found while a block was judged once."""
+
+    def __init__(self) -> None:
+        # Of each statement that can be reached, by its identity: what was known before it, and what one time of it costs (nothing if it is refused).
+        self.found: Dict[int, Tuple[Known, Cost]] = {}
+        # The choices whose `else` cannot be reached.
+        self.never_else: Set[int] = set()
+        # Of each `each` its turns.
+        self.turns: Dict[int, List[Judged]] = {}
+
+    def known(self, it: Statement) -> Iterator[Known]:
+        """What is known before a statement wherever it is judged: in an `each` once for each turn."""
+        if id(it) in self.found:
+            yield self.found[id(it)][0]
+        for turns in self.turns.values():
+            for one in turns:
+                yield from one.known(it)
 
 
 class Checker:
@@ -31,10 +51,7 @@ class Checker:
         self.script, self.plan, self.is_least = script, plan, is_least
         self.costs: List[Cost] = []
         self.headings: Dict[str, Cost] = {}
-        # Of each statement that can be reached, by its identity: what was known before it, and what one time of it costs (nothing if it is refused).
-        self.judged: Dict[int, Tuple[Known, Cost]] = {}
-        # The choices whose `else` cannot be reached.
-        self.never_else: Set[int] = set()
+        self.judged = Judged()
         # The variables of the `for` loops around.
         self.loop_variables: Tuple[str, ...] = ()
 
@@ -59,6 +76,7 @@ class Checker:
 
     def body(self, body: Body) -> Cost:
         self.loop_variables = ()
+        loops.test_judged(body)
         variables: Dict[str, Range] = {it.name: (it.first, it.last) for it in body.parameters}
         if body.is_service:
             variables = {name: (0, 0) for name in self.script.variables}
@@ -83,15 +101,25 @@ class Checker:
             if state is None:
                 break
             known = state
-            self.judged[id(statement)] = known, Cost()
+            self.judged.found[id(statement)] = known, Cost()
             try:
                 state, one = RULES[type(statement)](self, known, statement)
             except Refused as refused:
                 refused.what = refused.what or statement
                 raise
-            self.judged[id(statement)] = known, one
+            self.judged.found[id(statement)] = known, one
             cost = cost.plus(one)
         return state, cost
+
+    @contextmanager
+    def turn_of(self, it: ForEach) -> Iterator[None]:
+        """A turn, of which what is found is kept apart."""
+        around, self.judged = self.judged, Judged()
+        around.turns.setdefault(id(it), []).append(self.judged)
+        try:
+            yield
+        finally:
+            self.judged = around
 
     def writes(self, name: str, line: int) -> None:
         """E17 if the variable of an enclosing `for` is written."""
@@ -155,7 +183,7 @@ class Checker:
         test_values(known, it.condition, it.line)
         fails = where(known, it.condition, False, it.line)
         if fails is None:
-            self.never_else.add(id(it))
+            self.judged.never_else.add(id(it))
         try:
             after, cost = self.block(where(known, it.condition, True, it.line), it.body)
         except Refused:
@@ -200,5 +228,5 @@ class Checker:
 RULES = {
     Assign: Checker.assign, SetRegister: Checker.set_register, Cycle: Checker.cycle, LamCall: Checker.lam_call, Put: Checker.put,
     CrateCall: Checker.crate_call, If: Checker.choice, Lock: Checker.lock, Call: Checker.call,
-    Scan: transfers.scan, Transfer: transfers.block, For: loops.for_, While: loops.while_,
+    Scan: transfers.scan, Transfer: transfers.block, For: loops.for_, ForEach: loops.each, While: loops.while_,
 }

@@ -6,7 +6,8 @@ from typing import Callable, Dict, List, Optional, Tuple, Union
 from oracle.reader.cursor import LIMITS, Cursor
 from oracle.reader.tokens import Token, read_tokens
 from oracle.reader.tree import (
-    Assign, Block, Body, Call, CrateCall, Cycle, Expression, For, If, Keep, Lam, LamCall, Lock, Put, Scan, Script, SetRegister, Statement, While,
+    Assign, Block, Body, Call, CrateCall, Cycle, Expression, For, ForEach, If, Keep, Lam, LamCall, Lock, Put, Scan, Script, SetRegister,
+    Statement, While,
 )
 
 FUNCTIONS = 31
@@ -15,6 +16,8 @@ WORD = 16_777_215
 PLAIN_CRATE_CALLS = ("cccz", "cccc", "ctci", "ctcd", "ctgl")
 SWITCHED_CRATE_CALLS = ("ccci", "cccd")
 LAM_CALLS = ("cclm", "cclc", "ctlm")
+# A word only between the last number and the block of a `for`, and else a name.
+EACH = "each"
 
 
 def read_script(text: bytes) -> Script:
@@ -237,6 +240,10 @@ class Grammar(Cursor):
     def read_for(self, line: int, _kind: str) -> Statement:
         name = self.known(self.seen)
         self.take("=")
+        its = self.tokens[self.at : self.at + 4]
+        if [it.kind for it in its] == ["number", "to", "number", "name"] and its[3].text == EACH:
+            self.at += 4
+            return ForEach(line, name, its[0].value, its[2].value, self.block())
         first = self.expression()
         last = self.most("to")
         return For(line, name, first, last, self.keeps(name), self.block())

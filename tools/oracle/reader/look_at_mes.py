@@ -1,7 +1,8 @@
 """What the services of a script do to look-at-mes: which ones do not clear their own, and which ones may clear or hide another's."""
 from __future__ import annotations
 
-from typing import Callable, Dict, Iterator, List, NamedTuple, Optional, Set, Tuple
+import functools
+from typing import Callable, Dict, Iterator, List, NamedTuple, Set, Tuple
 
 from oracle.reader.addresses import numbers
 from oracle.reader.checker import LAM_FUNCTIONS, Checker
@@ -9,8 +10,8 @@ from oracle.reader.linking import gl_of
 from oracle.reader.loops import everything
 from oracle.reader.meaning import CRATE_COMMANDS
 from oracle.reader.plan import CONTROLLER, Plan
-from oracle.reader.ranges import Known, value_of
-from oracle.reader.tree import Block, Body, Call, CrateCall, Cycle, For, If, Lam, LamCall, Lock, Scan, Statement
+from oracle.reader.ranges import Address, hull, value_of
+from oracle.reader.tree import Block, Body, Call, CrateCall, Cycle, For, ForEach, If, Lam, LamCall, Lock, Scan, Statement
 
 CLEAR, DISABLE = LAM_FUNCTIONS["cclc"], LAM_FUNCTIONS["cclm off"]
 # Crate, station, sub-address, function.
@@ -90,7 +91,7 @@ class Looks:
             return bool(its) and all(must_clear(self.plan, lam, command) for command in its)
         if isinstance(it, If):
             return self.clears(it.body, lam) and self.clears(it.otherwise or [], lam)
-        if isinstance(it, For):
+        if isinstance(it, (For, ForEach)):
             return isinstance(it.first, int) and isinstance(it.last, int) and it.first <= it.last and self.clears(it.body, lam)
         if isinstance(it, Call):
             return self.clears(self.script.procedures[it.procedure].block, lam)
@@ -105,20 +106,28 @@ class Looks:
         return found
 
     def of_statement(self, it: Statement) -> Set[Command]:
-        """The commands of a statement, by what is known before it. A scan counts for all of its stations, a LAM call also where it is not reached."""
-        known: Optional[Known] = self.checker.judged.get(id(it), (None,))[0]
+        """The commands of a statement, by what is known before it. A scan counts for all of its stations, a LAM call also where it is not reached.
+        In an `each` the addresses of all turns count together."""
         if isinstance(it, LamCall):
             lam = self.script.lams[it.lam]
             return {(lam.crate, lam.station, lam.sub, LAM_FUNCTIONS[it.call])}
-        if known is None:
+        its = self.addresses(it)
+        if not its:
             return set()
+        crates, stations, subs = (functools.reduce(hull, ranges) for ranges in zip(*its))
         if isinstance(it, CrateCall):
-            return {(value_of(known, it.crate, it.line)[0], *CRATE_COMMANDS[it.call])}
-        if isinstance(it, (Cycle, Block)):
-            crates, stations, subs = known.registers[it.register]
-        elif isinstance(it, Scan):
-            first, last = known.registers[it.first], known.registers[it.last]
-            crates, stations, subs = first.crate, (first.station[0], last.station[1]), (0, 15)
-        else:
-            return set()
+            return {(c, *CRATE_COMMANDS[it.call]) for c in numbers(crates)}
         return {(c, n, a, it.function) for c in numbers(crates) for n in numbers(stations) for a in numbers(subs)}
+
+    def addresses(self, it: Statement) -> List[Address]:
+        """Where a statement goes each time that it is judged. That of a call of a controller has only a crate."""
+        its = []
+        for known in self.checker.judged.known(it):
+            if isinstance(it, CrateCall):
+                its.append(Address(value_of(known, it.crate, it.line), (0, 0), (0, 0)))
+            elif isinstance(it, (Cycle, Block)):
+                its.append(known.registers[it.register])
+            elif isinstance(it, Scan):
+                first, last = known.registers[it.first], known.registers[it.last]
+                its.append(Address(first.crate, (first.station[0], last.station[1]), (0, 15)))
+        return its

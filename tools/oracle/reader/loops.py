@@ -6,12 +6,14 @@ from typing import TYPE_CHECKING, Iterator, List, Optional, Set, Tuple
 from oracle.reader.costs import STEP, Cost
 from oracle.reader.ranges import Known, Range, State, hull, is_inside, test_values, value_of, where
 from oracle.reader.refusals import MOST, Refused
-from oracle.reader.tree import Assign, Block, Cycle, For, If, Keep, Lock, Operation, Scan, SetRegister, Statement, While
+from oracle.reader.tree import Assign, Block, Body, Cycle, For, ForEach, If, Keep, Lock, Operation, Scan, SetRegister, Statement, While
 
 if TYPE_CHECKING:
     from oracle.reader.checker import Checker
 
 TURNS = 65_535
+# What all `each` loops of a body judge at most.
+JUDGED = 65_536
 
 
 def everything(statements: List[Statement]) -> Iterator[Statement]:
@@ -20,13 +22,13 @@ def everything(statements: List[Statement]) -> Iterator[Statement]:
         yield it
         if isinstance(it, If):
             yield from everything(it.body + (it.otherwise or []))
-        elif isinstance(it, (For, While, Lock)):
+        elif isinstance(it, (For, ForEach, While, Lock)):
             yield from everything(it.body)
 
 
 def written_by(it: Statement) -> Optional[str]:
     """The variable that a statement itself writes."""
-    if isinstance(it, (Assign, For)):
+    if isinstance(it, (Assign, For, ForEach)):
         return it.name
     if isinstance(it, (Scan, Block)):
         return it.tally
@@ -70,6 +72,62 @@ def for_(checker: Checker, known: Known, it: For) -> Tuple[State, Cost]:
     checker.loop_variables = around
     test_keeps(after, it.keeps, "E9", it.line)
     return head.with_variable(it.name, hull(entry, own)), cost_of(turns, cost)
+
+
+def turns_of(it: ForEach) -> int:
+    return max(0, it.last - it.first + 1)
+
+
+def judged_in(it: ForEach) -> int:
+    """What is judged in an `each`: its turns, and in each of them the statements of its block."""
+    return turns_of(it) * (1 + judged_by(it.body))
+
+
+def judged_by(block: List[Statement]) -> int:
+    """What is judged where a block is judged once."""
+    count = 0
+    for it in block:
+        blocks = [it.body, it.otherwise or []] if isinstance(it, If) else [it.body] if isinstance(it, (For, While, Lock)) else []
+        count += 1 + (judged_in(it) if isinstance(it, ForEach) else sum(judged_by(one) for one in blocks))
+    return count
+
+
+def outermost(block: List[Statement]) -> Iterator[ForEach]:
+    """The `each` loops of a block that are in no other one, in text order."""
+    for it in block:
+        if isinstance(it, ForEach):
+            yield it
+        elif isinstance(it, If):
+            yield from outermost(it.body + (it.otherwise or []))
+        elif isinstance(it, (For, While, Lock)):
+            yield from outermost(it.body)
+
+
+def test_judged(body: Body) -> None:
+    """E10 at the `each` with which those of a body judge too much, before anything of it is judged."""
+    count = 0
+    for it in outermost(body.block):
+        count += judged_in(it)
+        if count > JUDGED:
+            raise Refused("E10", it.line, it)
+
+
+def each(checker: Checker, known: Known, it: ForEach) -> Tuple[State, Cost]:
+    """Judges the block for each turn, from what the one before has left."""
+    checker.writes(it.name, it.line)
+    if turns_of(it) > TURNS:
+        raise Refused("E10", it.line)
+    state: State = known
+    cost = STEP
+    around, checker.loop_variables = checker.loop_variables, (*checker.loop_variables, it.name)
+    for number in range(it.first, it.last + 1):
+        if state is None:
+            break
+        with checker.turn_of(it):
+            state, one = checker.block(state.with_variable(it.name, (number, number)), it.body)
+        cost = cost.plus(STEP).plus(one)
+    checker.loop_variables = around
+    return state, cost
 
 
 def falls_by(it: While) -> Optional[int]:

@@ -10,7 +10,7 @@ from oracle.reader.linking import gl_of
 from oracle.reader.plan import Plan, kind_of
 from oracle.reader.refusals import Refused
 from oracle.reader.tree import (
-    Assign, Block, Body, Call, Condition, CrateCall, Cycle, Expression, For, If, Lam, LamCall, Lock, Put, Scan, Script, SetRegister,
+    Assign, Block, Body, Call, Condition, CrateCall, Cycle, Expression, For, ForEach, If, Lam, LamCall, Lock, Put, Scan, Script, SetRegister,
     Statement, While,
 )
 
@@ -198,6 +198,9 @@ class Run:
             self.variables[it.name] = number
             self.block(it.body)
 
+    def each(self, it: ForEach) -> None:
+        self.for_(For(it.line, it.name, it.first, it.last, [], it.body))
+
     def while_(self, it: While) -> None:
         while self.holds(it.condition):
             self.block(it.body)
@@ -226,5 +229,5 @@ class Run:
 
 DOES: Dict[type, Callable[..., None]] = {
     Assign: Run.assign, SetRegister: Run.set_register, Cycle: Run.single, Scan: Run.scan, Block: Run.transfer, Put: Run.put,
-    CrateCall: Run.crate_call, LamCall: Run.lam_call, If: Run.choice, For: Run.for_, While: Run.while_, Lock: Run.lock, Call: Run.call,
+    CrateCall: Run.crate_call, LamCall: Run.lam_call, If: Run.choice, For: Run.for_, ForEach: Run.each, While: Run.while_, Lock: Run.lock, Call: Run.call,
 }

@@ -3,16 +3,18 @@ from __future__ import annotations
 
 from typing import Iterator, List, NamedTuple, Tuple
 
-from oracle.reader.checker import Checker
+from oracle.reader.checker import Checker, Judged
 from oracle.reader.costs import STEP, Cost
 from oracle.reader.linking import gl_of
-from oracle.reader.ranges import Range, State, value_of
+from oracle.reader.ranges import Range, State, hull, value_of
 from oracle.reader.tree import (
-    Assign, Block, Body, Call, CrateCall, Cycle, For, If, LamCall, Lock, Put, Scan, SetRegister, Statement, While,
+    Assign, Block, Body, Call, CrateCall, Cycle, For, ForEach, If, LamCall, Lock, Put, Scan, SetRegister, Statement, While,
 )
 
 NOTHING = Cost()
-WORDS = {Assign: "=", SetRegister: "cdreg", Put: "put", Scan: "cfmad", If: "if", For: "for", While: "while", Lock: "lock", Call: "call"}
+WORDS = {
+    Assign: "=", SetRegister: "cdreg", Put: "put", Scan: "cfmad", If: "if", For: "for", ForEach: "for", While: "while", Lock: "lock", Call: "call",
+}
 
 
 class Counted(NamedTuple):
@@ -22,6 +24,28 @@ class Counted(NamedTuple):
     weight: Cost
 
 
+class Tail(NamedTuple):
+    """Where the cycles of a statement go: a word, and ranges. Of a scan they are those of its first and of its last address, of turns up to their
+    number."""
+
+    word: str = ""
+    ranges: Tuple[Range, ...] = ()
+
+    def text(self) -> str:
+        if len(self.ranges) == 6:
+            (crate, _), (station, _), (sub, _), _, (_, last_station), (_, last_sub) = self.ranges
+            return f" at {crate} {station} {sub} to {crate} {last_station} {min(last_sub, 15)}"
+        if self.word == "turns":
+            return f" turns {self.ranges[0][1]}"
+        return "".join(f" {it}" for it in (self.word, *map(range_text, self.ranges)) if it)
+
+    def wider(self, other: "Tail") -> "Tail":
+        """What two turns tell. One that is not reached tells less."""
+        if not self.ranges or not other.ranges:
+            return self if self.ranges else other
+        return Tail(self.word, tuple(hull(a, b) for a, b in zip(self.ranges, other.ranges)))
+
+
 class Row(NamedTuple):
     line: int
     depth: int
@@ -29,11 +53,16 @@ class Row(NamedTuple):
     times: int
     each: Cost
     share: Cost
-    tail: str = ""
+    tail: Tail = Tail()
+
+    def merged(self, other: "Row") -> "Row":
+        """The row of one statement in two turns."""
+        each, share = self.each.greater(other.each), self.share.plus(other.share)
+        return self._replace(times=self.times + other.times, each=each, share=share, tail=self.tail.wider(other.tail))
 
     def text(self) -> str:
         each = "cycles {} words {} steps {}".format(*self.each)
-        return f"line {self.line} depth {self.depth} {self.word} times {self.times} {each} share {'{} {} {}'.format(*self.share)}{self.tail}"
+        return f"line {self.line} depth {self.depth} {self.word} times {self.times} {each} share {'{} {} {}'.format(*self.share)}{self.tail.text()}"
 
 
 def word_of(it: Statement) -> str:
@@ -58,11 +87,11 @@ class Shares:
     """The rows of the bodies that a checker has judged."""
 
     def __init__(self, checker: Checker) -> None:
-        self.checker = checker
+        self.checker, self.judged = checker, checker.judged
 
     def found(self, it: Statement) -> Tuple[State, Cost]:
         """What was known before a statement (None if it cannot be reached), and what one time of it costs."""
-        return self.checker.judged.get(id(it), (None, NOTHING))
+        return self.judged.found.get(id(it), (None, NOTHING))
 
     def block_cost(self, block: List[Statement]) -> Cost:
         cost = NOTHING
@@ -70,8 +99,10 @@ class Shares:
             cost = cost.plus(self.found(it)[1])
         return cost
 
-    def turns(self, it: For | While) -> int:
-        """A loop of T turns has 1 step and T times (1 + the steps of its block)."""
+    def turns(self, it: For | ForEach | While) -> int:
+        """A loop of T turns has 1 step and T times (1 + the steps of its block). Those of an `each` are known."""
+        if isinstance(it, ForEach):
+            return len(self.judged.turns.get(id(it), []))
         return (self.found(it)[1].steps - 1) // (1 + self.block_cost(it.body).steps)
 
     def rows(self, block: List[Statement], depth: int, counted: Counted) -> Iterator[Row]:
@@ -88,7 +119,7 @@ class Shares:
             return NOTHING
         if isinstance(it, If):
             return STEP
-        if isinstance(it, (For, While)):
+        if isinstance(it, (For, ForEach, While)):
             return Cost(steps=1 + self.turns(it))
         if isinstance(it, Lock):
             return Cost(self.checker.plan.waits(value_of(known, it.crate, it.line)[0]), 0, 2)
@@ -100,8 +131,20 @@ class Shares:
         elif isinstance(it, (For, While)):
             turns = self.turns(it) if here.times else 0
             yield from self.rows(it.body, depth + 1, Counted(here.times * turns, here.weight.times(turns)))
+        elif isinstance(it, ForEach):
+            yield from self.each(it, depth + 1, here)
         elif isinstance(it, Lock):
             yield from self.rows(it.body, depth + 1, here)
+
+    def each(self, it: ForEach, depth: int, here: Counted) -> List[Row]:
+        """The rows of all turns as one; without a turn those of what cannot be reached."""
+        around = self.judged
+        self.judged = Judged()
+        rows = list(self.rows(it.body, depth, Counted(0, NOTHING)))
+        for self.judged in around.turns.get(id(it), []):
+            rows = [one.merged(other) for one, other in zip(rows, self.rows(it.body, depth, here))]
+        self.judged = around
+        return rows
 
     def arms(self, it: If, depth: int, here: Counted) -> Iterator[Row]:
         """For each number the greater arm counts, the first if both are alike."""
@@ -109,30 +152,27 @@ class Shares:
         of_first = Cost(*(int(a >= b) for a, b in zip(first, second)))
         yield from self.rows(it.body, depth + 1, here._replace(weight=multiplied(here.weight, of_first)))
         if it.otherwise is not None:
-            is_reached = here.times and id(it) not in self.checker.never_else
+            is_reached = here.times and id(it) not in self.judged.never_else
             yield Row(it.line, depth, "else", here.times if is_reached else 0, second, NOTHING)
             of_second = Cost(*(1 - one for one in of_first))
             yield from self.rows(it.otherwise, depth + 1, here._replace(weight=multiplied(here.weight, of_second)))
 
-    def tail(self, it: Statement, known: State) -> str:
+    def tail(self, it: Statement, known: State) -> Tail:
         """The tail of a row. The address of a LAM and the name of a procedure are known in any case."""
         if isinstance(it, LamCall):
             lam = self.checker.script.lams[it.lam]
-            return f" at {lam.crate} {lam.station} {lam.sub}"
+            return Tail(f"at {lam.crate} {lam.station} {lam.sub}")
         if isinstance(it, Call):
-            return f" proc {it.procedure}"
+            return Tail(f"proc {it.procedure}")
         if known is None:
-            return ""
-        if isinstance(it, (For, While)):
-            return f" turns {self.turns(it)}"
+            return Tail()
+        if isinstance(it, (For, ForEach, While)):
+            return Tail("turns", ((0, self.turns(it)),))
         if isinstance(it, (Lock, CrateCall)):
-            return f" crate {range_text(value_of(known, it.crate, it.line))}"
+            return Tail("crate", (value_of(known, it.crate, it.line),))
         if isinstance(it, Scan):
-            first, last = (known.registers[one] for one in (it.first, it.last))
-            crate = first.crate[0]
-            return f" at {crate} {first.station[0]} {first.sub[0]} to {crate} {last.station[1]} {min(last.sub[1], 15)}"
-        register = it.register if isinstance(it, (Cycle, Block)) else None
-        return "" if register is None else " at " + " ".join(range_text(one) for one in known.registers[register])
+            return Tail("at", (*known.registers[it.first], *known.registers[it.last]))
+        return Tail("at", known.registers[it.register]) if isinstance(it, (Cycle, Block)) else Tail()
 
     def head(self, it: Body, cost: Cost) -> str:
         cycles, words, steps = cost

@@ -127,6 +127,16 @@ class For(Statement):
 
 
 @dataclass
+class ForEach(Statement):
+    """A `for` with the word `each`."""
+
+    name: str
+    first: int
+    last: int
+    body: List[Statement]
+
+
+@dataclass
 class While(Statement):
     condition: Condition
     turns: int
