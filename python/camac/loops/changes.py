@@ -1,8 +1,8 @@
 """Changes of single statements, for when no loop helps: a comparison in the place of a difference, a difference that falls no lower than 0, a value as two
-words, and a condition around what grows in a loop whose turns are not counted one by one. What camac says of the case has the numbers."""
+words, and a condition around what grows in a loop that is not judged turn by turn. What camac says of the case has the numbers."""
 import enum
 import re
-from typing import Callable, NamedTuple, Optional
+from typing import NamedTuple, Optional
 
 from camac.edits import Edit
 from camac.loops.trials import Stopped
@@ -11,7 +11,9 @@ from camac.tree import Assign, Expression, If, Name, Number, Operation, Part, Pl
 MOST, WORD = 4_294_967_295, 16_777_216
 NOT_BELOW, FALLS = "0 if it would be below 0", "true unless it would fall below 0"
 OFFSET, TWO_WORDS = "{} more than the difference", "two words, the high one first"
-LEAVES_OUT = f"leaves out what would bring it above {WORD - 1}"
+LEAVES_OUT = "leaves out what would bring it above {}"
+# What adds more at once may grow to more than one word.
+MOST_STEP = WORD // 16
 NO_TEXT = re.compile(r"(#[^\n]*|\s)+")
 SIDES = re.compile(r"The left of `(.)` may be (?:\d+ to )?(\d+), the right (?:\d+ to )?(\d+)\.")
 PUT = re.compile(r"The word may be (\d+),")
@@ -31,13 +33,14 @@ class Kind(enum.Enum):
 
 
 class Change(NamedTuple):
-    """A part of the text from `start` to `end`, in bytes, what takes its place, and a remark on it."""
+    """A part of the text from `start` to `end`, in bytes, what takes its place, a remark on it, and for how much at once a condition leaves room."""
 
     kind: Kind
     start: int
     end: int
     text: str
     remark: str = ""
+    step: int = 0
 
     def edit(self) -> Edit:
         return Edit(self.start, self.end, self.text)
@@ -48,11 +51,16 @@ def one_line(text: bytes, start: int, end: int) -> str:
     return NO_TEXT.sub(" ", text[start:end].decode("utf-8", "replace")).strip()
 
 
-class Changes:
-    """What may be in the place of statements of a script. `stopped` tries edits and says what refuses the script then."""
+def grows(it: Assign) -> bool:
+    """Whether an assignment adds something to its own variable."""
+    return it.name in names_in(it.value) and any(isinstance(one, Operation) and one.sign == "+" for one in parts_of(it.value))
 
-    def __init__(self, text: bytes, stopped: Callable[[Edit], Optional[Stopped]]) -> None:
-        self.text, self.stopped = text, stopped
+
+class Changes:
+    """What may be in the place of statements of a script."""
+
+    def __init__(self, text: bytes) -> None:
+        self.text = text
 
     def source(self, it: Expression) -> str:
         return one_line(self.text, it.start, it.end)
@@ -60,13 +68,13 @@ class Changes:
     def at(self, it: Statement, stopped: Stopped) -> Optional[Change]:
         """What may help in the statement that is refused."""
         put, sides = PUT.match(stopped.sentence), SIDES.match(stopped.sentence)
-        if put and isinstance(it, Plain) and int(put[1]) < MOST and not isinstance(it.values[0], Number):
+        if put and isinstance(it, Plain) and not isinstance(it.values[0], Number):
             return self.words(it, it.values[0])
         if sides and sides[1] == "-":
             its = [one for value in expressions_of(it) for one in parts_of(value) if isinstance(one, Operation) and one.sign == "-"]
             left, right = int(sides[2]), int(sides[3])
             return self.fall(it, its[0], right if left + right <= MOST else 0) if its else None
-        return self.guard(it) if sides and isinstance(it, Assign) and it.name in names_in(it.value) else None
+        return self.guard(it, min(int(sides[2]), int(sides[3]))) if sides and sides[1] == "+" and isinstance(it, Assign) and grows(it) else None
 
     def words(self, it: Plain, value: Expression) -> Change:
         source = self.source(value)
@@ -98,11 +106,9 @@ class Changes:
         sides = [left, f"{right} + {self.source(part.sides[1 - side])}"]
         return Change(Kind.COMPARISON, one.start, two.end, f" {one_line(self.text, one.end, two.start)} ".join(sides if side == 0 else sides[::-1]))
 
-    def guard(self, it: Assign) -> Optional[Change]:
-        """A condition around what grows. How much it grows by is what it becomes from 0."""
-        name, source = it.name, one_line(self.text, it.start, it.end)
-        stopped = self.stopped(Edit(it.start, it.end, f"{name} = 0 {source} {name} = {name} - {MOST}"))
-        found = SIDES.match(stopped.sentence) if stopped and stopped.about is it else None
-        step = int(found[2]) if found and found[1] == "-" else 0
-        condition = f"{name} < {WORD - 1}" if step == 1 else f"{name} <= {WORD - 1} - {step}"
-        return Change(Kind.GUARD, it.start, it.end, f"if {condition} {{ {source} }}", LEAVES_OUT) if 0 < step < WORD else None
+    def guard(self, it: Assign, step: int) -> Change:
+        """A condition around what adds so much to its variable: it leaves room for many more, in one word of an event if it can."""
+        limit = WORD - 1 if step <= MOST_STEP else MOST
+        source = one_line(self.text, it.start, it.end)
+        condition = f"< {limit}" if step == 1 else f"<= {limit} - {step}"
+        return Change(Kind.GUARD, it.start, it.end, f"if {it.name} {condition} {{ {source} }}", LEAVES_OUT.format(limit), step)

@@ -3,12 +3,12 @@ be: the checker judges what it finds."""
 import bisect
 import re
 from collections import Counter
-from typing import AbstractSet, Dict, List, Optional, Set
+from typing import AbstractSet, Dict, List, Optional, Set, Union
 
 from camac.drive import File, Refused
 from camac.edits import edited
 from camac.headings import least_headings
-from camac.loops.changes import MOST, WORD, Changes, Kind
+from camac.loops.changes import MOST, MOST_STEP, WORD, Changes, Kind, grows
 from camac.loops.proposals import Cause, Found, Proposal, Proposals, Remaining
 from camac.loops.trials import BOUNDS, CHECK, Stopped, Trials
 from camac.loops.turns import is_each, turn_by_turn
@@ -82,13 +82,13 @@ class _Search:
         self.text, self.keeps_only = text, keeps_only
         self.bodies = read_script(text).bodies
         self.trials = Trials(plan, text, self.bodies, program)
-        self.changes = Changes(text, lambda edit: self.trials.stopped(BOUNDS, [*self.found.edits(), edit]))
+        self.changes = Changes(text)
         loops = [it for body in self.bodies for it in all_in(body.statements) if isinstance(it, Loop)]
         self.given: Dict[Cause, Range] = {(loop, it.name): it.range for loop in loops for it in loop.keeps}
-        # What no range can keep, how often ranges grew, and the variables that have a condition where they grow.
+        # What no range can keep, how often ranges grew, and what is added at once to the variables that have a condition where they grow.
         self.lost: Set[Cause] = set()
         self.grown: "Counter[Cause]" = Counter()
-        self.guarded: Set[str] = set()
+        self.guarded: "Counter[str]" = Counter()
         self.found = Found(text)
         self.headings: List[Proposal] = []
 
@@ -112,12 +112,12 @@ class _Search:
         found.each.update((it, None) for body in self.bodies for it in turn_by_turn(body))
         self.found = found
         stopped = self.stopped(command)
-        while command == BOUNDS and stopped and self.may_ask() and (self.widen(stopped) or self.keep(stopped) or self.change(stopped)):
+        while stopped and self.may_ask() and (self.widen(stopped) or self.keep(stopped) or command == BOUNDS and self.change(stopped)):
             stopped = self.stopped(command)
-        if stopped and self.is_as_good(command, stopped, before):
+        if stopped and (not self.may_ask() or self.is_as_good(command, stopped, before)):
             self.found = before
-        else:
-            found.leave_out(lambda: self.is_as_good(command, stopped, found))
+            return self.stopped(command)
+        found.leave_out(lambda: self.is_as_good(command, stopped, found))
         return stopped
 
     def is_as_good(self, command: str, best: Optional[Stopped], found: Found) -> bool:
@@ -127,16 +127,18 @@ class _Search:
         stopped = self.trials.stopped(command, found.edits())
         return (stopped and stopped.place()) == (best and best.place())
 
-    def body_of(self, stopped: Stopped) -> Optional[Body]:
-        about = stopped.about
-        return next((it for it in self.bodies if about is not None and it.start <= about.start < it.end), None)
+    def body_of(self, about: Union[Statement, Body]) -> Body:
+        return next(it for it in self.bodies if it.start <= about.start < it.end)
 
     def widen(self, stopped: Stopped) -> bool:
         """Makes a range wider that is kept and does not hold, or gives it up."""
         out, loop = OUT.match(stopped.sentence), stopped.about
         if not out or not isinstance(loop, Loop):
             return False
-        cause, told = (loop, out[1]), (int(out[2]), int(out[3] or out[2]))
+        name, cause, told = out[1], (loop, out[1]), (int(out[2]), int(out[3] or out[2]))
+        if told[1] >= WORD and 0 < self.guarded[name] <= MOST_STEP:
+            self.guard(self.body_of(loop), name, self.guarded[name] + told[1] + 1 - WORD)
+            return True
         old = self.found.kept.get(cause, self.given.get(cause, NOTHING))
         if stopped.code == "E8" and old is NOTHING:
             self.found.kept[cause] = told
@@ -154,10 +156,9 @@ class _Search:
     def stepped(self, cause: Cause, old: Range, new: Range) -> Range:
         """The next range whose ends are numbers of the body, or beside one, where it grows."""
         loop, name = cause
-        body = next(it for it in self.bodies if it.start <= loop.start < it.end)
         steps = {0, WORD - 1, MOST}
-        if name not in self.guarded:
-            its = [one.value for it in all_in(body.statements) for value in expressions_of(it) for one in parts_of(value) if isinstance(one, Number)]
+        if not self.guarded[name]:
+            its = [one.value for it in all_in(self.body_of(loop).statements) for value in expressions_of(it) for one in parts_of(value) if isinstance(one, Number)]
             steps.update(USUAL, (near for it in its for near in (it - 1, it, it + 1) if 0 <= near <= MOST))
         ends = sorted(steps)
         low = new[0] if new[0] == old[0] else ends[bisect.bisect_right(ends, new[0]) - 1]
@@ -165,9 +166,11 @@ class _Search:
 
     def keep(self, stopped: Stopped) -> bool:
         """Begins to keep what loops forget before what is refused."""
-        body, about = self.body_of(stopped), stopped.about
-        place = body.end if about is body else about.start if about else 0
-        loops = [it for it in all_in(body.statements if body else ()) if isinstance(it, Loop) and it.start <= place]
+        about = stopped.about
+        if about is None:
+            return False
+        place = about.end if isinstance(about, Body) else about.start
+        loops = [it for it in all_in(self.body_of(about).statements) if isinstance(it, Loop) and it.start <= place]
         causes = {(it, name) for it in loops if not is_each(it) and it not in self.found.each for name in sorted(it.written)}
         new = causes - self.given.keys() - self.found.kept.keys() - self.lost
         self.found.kept.update((it, NOTHING) for it in sorted(new, key=lambda it: (it[0].start, it[1])))
@@ -175,19 +178,26 @@ class _Search:
 
     def change(self, stopped: Stopped) -> bool:
         """Changes the statement that is refused."""
-        it, body = stopped.about, self.body_of(stopped)
-        if self.keeps_only or not isinstance(it, Statement) or it in self.found.changed or body is None:
+        it = stopped.about
+        if self.keeps_only or not isinstance(it, Statement) or it in self.found.changed:
             return False
+        body = self.body_of(it)
         around = [one for one in all_in(body.statements) if isinstance(one, Loop) and one.start <= it.start < one.end]
         # A measure falls as it is written.
         change = None if isinstance(it, Assign) and any(it.name == one.name for one in around) else self.changes.at(it, stopped)
         if change is None:
             return False
         self.found.changed[it] = change
-        if change.kind is Kind.GUARD and isinstance(it, Assign):
-            self.guarded.add(it.name)
-            self.lost = {one for one in self.lost if one[1] != it.name}
+        if isinstance(it, Assign) and change.step:
+            self.guard(body, it.name, max(change.step, self.guarded[it.name]))
         return True
+
+    def guard(self, body: Body, name: str, step: int) -> None:
+        """Makes room for so much at once wherever a variable grows, and keeps it anew."""
+        self.guarded[name] = step
+        self.lost = {one for one in self.lost if one[1] != name}
+        its = [it for it in all_in(body.statements) if isinstance(it, Assign) and it.name == name and grows(it)]
+        self.found.changed.update((it, self.changes.guard(it, step)) for it in its)
 
     def fit_headings(self) -> None:
         """Where the headings of a script refuse it, finds what lowers its costs, or proposes the least headings."""
