@@ -113,19 +113,20 @@ def version(program: Optional[File] = None) -> str:
 
 
 def verdict(command: str, plan: File, script: bytes, program: Optional[File] = None, at: Optional[Tuple[int, int]] = None) -> library.Verdict:
-    """The program's answer on a script that is given as its text. `command` judges: "check", "bounds", "costs", "response" or "explain", which says
-    with line and column what is known there.
+    """The program's answer on a script that is given as its text. `command` judges: "check", "bounds", "costs", "response", "explain --bounds" or
+    "explain", which says with line and column what is known there.
 
     Raises ProgramFault and OSError as `output_of`."""
-    if find(command, program) == IN_PROCESS:
-        return library.explain_at(plan_text(plan), script, *at) if at else library.judged(command, plan_text(plan), script)
+    words = command.split()
+    if find(words[0], program) == IN_PROCESS:
+        return library.explain_at(plan_text(plan), script, *at) if at else library.judged(command.replace(" --", "_"), plan_text(plan), script)
     import tempfile
 
     with tempfile.TemporaryDirectory(prefix="camac-") as room:
         file = os.path.join(room, "script")
         with open(file, "wb") as out:
             out.write(script)
-        text = "".join(f"{it}\n" for it in lines_of(command, *(["--at", "{}:{}".format(*at)] if at else []), "--", plan, file, program=program))
+        text = "".join(f"{it}\n" for it in lines_of(*words, *(["--at", "{}:{}".format(*at)] if at else []), "--", plan, file, program=program))
     return library.Verdict(is_known(text) if at else not is_refused(text), text)
 
 

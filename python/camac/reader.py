@@ -191,9 +191,7 @@ class _Reader:
         if first.text == "for":
             name = self.next().text
             self.expect("=")
-            begin = self.expression()
-            self.expect("to")
-            loop = For(first.line, first.start, name, begin, self.expression(), self.takes(EACH))
+            loop = self.for_(first, name)
         else:
             parts = self.condition()
             self.expect("turns")
@@ -210,6 +208,15 @@ class _Reader:
         loop.written = frozenset(name for it in all_in(loop.body) for name in [written_by(it)] if name is not None and name != loop.name)
         loop.registers = frozenset(it.register for it in all_in(loop.body) if isinstance(it, SetRegister))
         return loop
+
+    def for_(self, first: Token, name: str) -> For:
+        is_plain = self.word().isdigit()
+        begin = self.expression()
+        self.expect("to")
+        is_plain = is_plain and self.word().isdigit()
+        end = self.expression()
+        turns = max(0, end.value + 1 - begin.value) if is_plain and isinstance(begin, Number) and isinstance(end, Number) else None
+        return For(first.line, first.start, name, begin, end, turns, self.takes(EACH))
 
     def keep(self) -> Keep:
         name = self.next()

@@ -128,11 +128,11 @@ class Loop(Statement):
 
 
 class For(Loop):
-    """A `for`. With `each` its ends are numbers, and it keeps nothing."""
+    """A `for`, and its turns if both ends are single numbers. With `each` they are, and it keeps nothing."""
 
-    def __init__(self, line: int, start: int, name: str, first: Expression, last: Expression, is_each: bool) -> None:
+    def __init__(self, line: int, start: int, name: str, first: Expression, last: Expression, turns: Optional[int], is_each: bool) -> None:
         super().__init__(line, start, name)
-        self.first, self.last, self.is_each = first, last, is_each
+        self.first, self.last, self.turns, self.is_each = first, last, turns, is_each
 
 
 class While(Loop):

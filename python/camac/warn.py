@@ -5,7 +5,7 @@ from typing import Iterator, List, NamedTuple, Optional, Sequence, Set, Tuple
 from camac.bodies import services_of
 from camac.drive import File
 from camac.edits import Edit
-from camac.loops.loose import Split, splits, wide_keeps
+from camac.loops.loose import Dear, dear_loops, wide_keeps
 from camac.program import knows_command
 from camac.reader import read_script
 from camac.subcommands import check, costs, response
@@ -23,7 +23,7 @@ class Code(enum.Enum):
     UNUSED_KEEP = "W4"
     NO_SERVICE = "W5"
     HELD_UP = "W6"
-    SPLIT = "W7"
+    EACH = "W7"
     WIDE_KEEP = "W8"
 
 
@@ -123,7 +123,7 @@ def _held_up(script: Script, services: List[Service]) -> Iterator[Warned]:
 
 
 def _loose(plan: File, text: bytes, script: Script, program: Optional[File]) -> Iterator[Warned]:
-    """Loops that keep more than they need, and loops that would cost less as several ones."""
+    """Loops that keep more than they need, and loops that would cost less turn by turn."""
     for wide in wide_keeps(plan, text, script.bodies, program):
         if wide.least is None:
             yield Warned(wide.line, Code.UNUSED_KEEP, f"this kept bound of `{wide.name}` is not needed: the script is accepted without it", wide.edits)
@@ -131,13 +131,12 @@ def _loose(plan: File, text: bytes, script: Script, program: Optional[File]) -> 
             its = "{}..{}".format(*wide.least)
             said = f"this kept bound of `{wide.name}` is wider than it has to be: `{wide.name} in {its}` is accepted, too"
             yield Warned(wide.line, Code.WIDE_KEEP, said, wide.edits)
-    for split in splits(plan, text, script.bodies, program):
-        starts = " and ".join(map(str, split.starts))
-        said = f"split at {starts}, this loop has a lower bound: `{split.name}` then takes {_less(split)}"
-        yield Warned(split.line, Code.SPLIT, said, (split.edit,))
+    for dear in dear_loops(plan, text, script.bodies, program):
+        said = f"judged turn by turn (`each`), this loop has a lower bound: `{dear.name}` then takes {_less(dear)}"
+        yield Warned(dear.line, Code.EACH, said, (dear.edit,))
 
 
-def _less(split: Split) -> str:
-    """The cycles or words of a split loop that are fewer, and those as it is."""
-    pairs = [(after, before, word) for after, before, word in zip(split.after, split.before, ("cycles", "words")) if after != before]
+def _less(dear: Dear) -> str:
+    """The cycles or words that are fewer turn by turn, and those as it is."""
+    pairs = [(after, before, word) for after, before, word in zip(dear.after, dear.before, ("cycles", "words")) if after != before]
     return " and ".join(f"{after} {word} in place of {before}" for after, before, word in pairs)

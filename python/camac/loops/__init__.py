@@ -1,1 +1,1 @@
-"""What the loops of a script have to keep, found by ranges outside of the checker, which judges what is found."""
+"""What the loops of a script need so that the checker accepts it. Each idea is tried on the checker, which alone judges."""

@@ -1,131 +1,104 @@
-"""Finds what the loops of a script have to keep, so that the checker accepts it. The search is not proved, and need not be: the checker judges what
-it finds."""
-from typing import AbstractSet, Dict, List, Optional, Sequence, Set, Tuple
+"""Finds what the loops of a script need, so that the checker accepts it: `each`, then ranges, then other statements. The search is not proved, and need not
+be: the checker judges what it finds."""
+import bisect
+import re
+from collections import Counter
+from typing import AbstractSet, Dict, List, Optional, Set, Union
 
 from camac.drive import File, Refused
 from camac.edits import edited
 from camac.headings import least_headings
-from camac.loops.causes import causes_before, causes_of, foreseen
-from camac.loops.changes import FALLS, Change, Changes, Kind
-from camac.loops.guards import ALWAYS, BUT_THE_LAST, GuardFinder, loops_around
-from camac.loops.heads import FULL, Kept, Known, Least
-from camac.loops.lessen import leave_out, narrow
-from camac.loops.proposals import Found, Proposal, Proposals, Remaining
-from camac.loops.ranges import MOST, Cause, State
-from camac.loops.trials import Stopped, Trials
-from camac.loops.widths import Widths
+from camac.loops.changes import MOST, MOST_STEP, WORD, Changes, Kind, grows
+from camac.loops.proposals import Cause, Found, Proposal, Proposals, Remaining
+from camac.loops.trials import BOUNDS, CHECK, Stopped, Trials
+from camac.loops.turns import is_each, turn_by_turn
 from camac.output import read_original
 from camac.printed import read_headings
 from camac.program import verdict
 from camac.reader import read_script
 from camac.texts import GREATEST_TEXT
-from camac.tree import Assign, Body, Loop, Range, Statement, all_in
+from camac.tree import Assign, Body, Loop, Number, Range, Statement, all_in, expressions_of, parts_of
 
 # The most calls of the checker; the last ones are for headings.
 MOST_CALLS, LAST_CALLS = 200, 8
-# The statements that are gone through at most, and those turn by turn. A second is enough for both.
-MOST_WORK, TURN_WORK = 75_000, 40_000
 # A longer script is left as it is: with what is tried it might be too long.
 MOST_BYTES = GREATEST_TEXT - 100_000
-# By "bounds" headings are not looked at.
-CHECK, BOUNDS = "check", "bounds"
+NOTHING, ANY = (0, 0), (0, MOST)
+# How often a range grows as it is told; then it goes on to the next step, and is told once more.
+FEW = 3
+# Numbers that many a range ends with, besides those of the script.
+USUAL = (0, 255, 4095, 65_535, WORD - 1, MOST)
+OUT = re.compile(r"(?:Before the loop|After a turn) `(\w+)` may be (\d+)(?: to (\d+))?,")
 
 
 def propose(plan: File, script: bytes, program: Optional[File] = None, keeps_only: bool = False) -> Proposals:
-    """Returns what the loops of a script have to keep, so that the checker accepts it, or that its first refusal comes later: the fewest ranges,
-    and the least. If no range can be kept, statements get another form, but for `keeps_only`. Nothing is proposed for a script that is accepted,
-    or is refused for what no range fixes. If its headings are too small, and else it would be accepted, the least ones are proposed, too.
+    """Returns what the loops of a script need, so that the checker accepts it, or that its first refusal comes later: the fewest that are judged turn by
+    turn, and the fewest ranges. If that does not help, statements get another form, but for `keeps_only`. Nothing is proposed for a script that is
+    accepted, or is refused for what no loop forgets. If its headings are too small, and else it would be accepted, the least ones are proposed, too.
 
     Raises ProgramFault and OSError as `camac.check`, and Refused if the plan is refused."""
     is_long = len(script) > MOST_BYTES
-    answer = verdict(CHECK if is_long else BOUNDS, plan, script, program)
+    answer = verdict("check" if is_long else BOUNDS, plan, script, program)
     refusal = None if answer.accepted else Refused(answer.text)
     if refusal and refusal.line is None:
         raise refusal
-    if is_long or refusal and refusal.code[0] == "S":
-        return Proposals((), _remaining(refusal, refusal.line) if refusal else None, 1)
+    if is_long or refusal and refusal.code[0] != "E":
+        return Proposals((), Remaining(refusal.code, refusal.line, refusal.rule) if refusal else None, 1)
     search = _Search(plan, script, program, keeps_only)
-    search.run()
+    remaining = search.run(refusal is not None)
     proposals = sorted([*search.found.proposals(), *search.headings], key=lambda it: (it.line, it.edits))
-    return Proposals(tuple(proposals), search.remaining, search.trials.calls + 1)
-
-
-def _place(cause: Cause) -> Tuple[int, str]:
-    """By which causes are in one order, whatever the order of a set."""
-    return cause[0].start, cause[1]
-
-
-def _remaining(refusal: Refused, line: Optional[int]) -> Remaining:
-    return Remaining(refusal.code, line, refusal.rule)
+    return Proposals(tuple(proposals), remaining, search.trials.calls + 1)
 
 
 def write_keeps(plan: File, script: str, program: Optional[File] = None) -> List[Proposal]:
-    """Puts what the loops of a script have to keep into it, as `propose` finds it, and returns that. Nothing else of the text changes, and nothing
-    that it does at run time. If there is nothing to keep, the file is not touched.
+    """Puts what the loops of a script need into it, as `propose` finds it, and returns that. Nothing else of the text changes, and nothing that it does
+    at run time. If there is nothing to put, the file is not touched.
 
     Raises as `propose`, with nothing written, and OSError if the file cannot be read or written, or changed meanwhile."""
     original = read_original(script)
-    found = [it for it in propose(plan, original.data, program, keeps_only=True).proposals if it.kind is Kind.KEEP]
+    found = [it for it in propose(plan, original.data, program, keeps_only=True).proposals if it.kind in (Kind.EACH, Kind.KEEP)]
     if found:
         original.replace(edited(original.data, [edit for it in found for edit in it.edits]))
     return found
 
 
-class _Search:
-    """A search for what one script has to keep."""
+def least_ranges(plan: File, script: bytes, kept: AbstractSet[int], program: Optional[File] = None) -> Dict[int, Range]:
+    """The ranges of an accepted script, of those that begin at these places, that are accepted in all, too, and are less; nothing if there is none."""
+    search = _Search(plan, script, program, keeps_only=True)
+    its = {(loop, it.name): it for loop, _ in search.given for it in loop.keeps if it.start in kept}
+    search.found.kept = dict.fromkeys(its, NOTHING)
+    stopped = search.stopped(BOUNDS) if its else None
+    while stopped and search.may_ask() and search.widen(stopped):
+        stopped = search.stopped(BOUNDS)
+    less = {cause: found for cause, found in search.found.kept.items() if found != search.given[cause]}
+    is_good = not stopped and less and search.stopped(CHECK) is None
+    return {its[cause].start: found for cause, found in less.items()} if is_good else {}
 
-    def __init__(self, plan: File, text: bytes, program: Optional[File], keeps_only: bool) -> None:
+
+class _Search:
+    """A search for what the loops of one script need."""
+
+    def __init__(self, plan: File, text: bytes, program: Optional[File], keeps_only: bool = False) -> None:
         self.text, self.keeps_only = text, keeps_only
         self.bodies = read_script(text).bodies
         self.trials = Trials(plan, text, self.bodies, program)
-        self.widths = Widths(plan, program)
+        self.changes = Changes(text)
         loops = [it for body in self.bodies for it in all_in(body.statements) if isinstance(it, Loop)]
         self.given: Dict[Cause, Range] = {(loop, it.name): it.range for loop in loops for it in loop.keeps}
-        # What is given and is not kept, as it is refused; and ranges that were the only ones to help.
-        self.broken: Set[Cause] = set()
-        self.sure: Set[Cause] = set()
+        # What no range can keep, how often ranges grew, and what is added at once to the variables that have a condition where they grow.
+        self.lost: Set[Cause] = set()
+        self.grown: "Counter[Cause]" = Counter()
+        self.guarded: "Counter[str]" = Counter()
         self.found = Found(text)
-        # Guards that leave out a last step; and the least ranges of bodies, as long as no statement changes.
-        self.tight: Dict[Statement, Change] = {}
-        self.least: Dict[int, Least] = {}
-        self.work, self.turn_work = 0, TURN_WORK
         self.headings: List[Proposal] = []
-        self.remaining: Optional[Remaining] = None
 
-    def run(self) -> None:
-        stopped = self.go_on(BOUNDS)
-        self.lessen(BOUNDS, stopped)
-        # A refusal may come later with less.
-        stopped = stopped and self.stopped(BOUNDS)
+    def run(self, is_refused: bool) -> Optional[Remaining]:
+        """Returns what still refuses the script."""
+        stopped = self.help(BOUNDS) if is_refused else None
         if stopped is None:
             self.fit_headings()
-        else:
-            self.remaining = _remaining(stopped.refusal, stopped.about.line if stopped.about else None)
-
-    def go_on(self, command: str) -> Optional[Stopped]:
-        """Helps as long as something helps. Leaves what brings the first refusal latest, and returns that."""
-        stopped = best = self.stopped(command)
-        found = self.found.copy()
-        while stopped is not None and self.may_ask() and self.work < MOST_WORK and self.help(stopped):
-            stopped = self.stopped(command)
-            if stopped is None or best is None or stopped.when > best.when:
-                best, found = stopped, self.found.copy()
-        self.found = found
-        return best
-
-    def lessen(self, command: str, best: Optional[Stopped]) -> None:
-        """Leaves out and makes less what may be, so that the first refusal does not come earlier than `best`."""
-
-        def is_good() -> bool:
-            if not self.may_ask():
-                return False
-            stopped = self.stopped(command)
-            return stopped is None or best is not None and stopped.when >= best.when
-
-        if best is not None:
-            self.found.cut(best.when[0])
-        leave_out(self.found, self.sure, is_good)
-        narrow(self.found, sorted((cause for it in self.least.values() for cause in it.widened), key=_place), is_good)
+            return None
+        return Remaining(stopped.code, stopped.about.line if stopped.about else None, f"{stopped.rule}. {stopped.sentence}".rstrip(". "))
 
     def stopped(self, command: str) -> Optional[Stopped]:
         return self.trials.stopped(command, self.found.edits())
@@ -133,138 +106,106 @@ class _Search:
     def may_ask(self) -> bool:
         return self.trials.calls < MOST_CALLS - LAST_CALLS
 
-    def known(self, body: Body, kept: Kept, part: Optional[Tuple[Statement, State]] = None) -> Known:
-        known = Known(body, self.widths, self.found.statements(), kept, part)
-        self.work += known.work
-        return known
+    def help(self, command: str) -> Optional[Stopped]:
+        """Finds what helps, and the least of it. Returns what refuses the script then."""
+        before, found = self.found, self.found.copy()
+        found.each.update((it, None) for body in self.bodies for it in turn_by_turn(body))
+        self.found = found
+        stopped = self.stopped(command)
+        while stopped and self.may_ask() and (self.widen(stopped) or self.keep(stopped) or command == BOUNDS and self.change(stopped)):
+            stopped = self.stopped(command)
+        if stopped and (not self.may_ask() or self.is_as_good(command, stopped, before)):
+            self.found = before
+            return self.stopped(command)
+        found.leave_out(lambda: self.is_as_good(command, stopped, found))
+        return stopped
 
-    def help(self, stopped: Stopped) -> bool:
-        """Keeps or changes something more because of a refusal, and returns whether there was something."""
-        about = stopped.about
-        body = next((it for it in self.bodies if about is not None and it.start <= about.start < it.end), None)
-        if body is None:
+    def is_as_good(self, command: str, best: Optional[Stopped], found: Found) -> bool:
+        """Whether the script gets as far with this."""
+        if not self.may_ask():
             return False
-        known = self.known(body, {**self.given, **self.found.kept})
-        if self.keep(body, [causes_of(stopped, known) | self.break_given(stopped, known), *foreseen(known)]):
+        stopped = self.trials.stopped(command, found.edits())
+        return (stopped and stopped.place()) == (best and best.place())
+
+    def body_of(self, about: Union[Statement, Body]) -> Body:
+        return next(it for it in self.bodies if it.start <= about.start < it.end)
+
+    def widen(self, stopped: Stopped) -> bool:
+        """Makes a range wider that is kept and does not hold, or gives it up."""
+        out, loop = OUT.match(stopped.sentence), stopped.about
+        if not out or not isinstance(loop, Loop):
+            return False
+        name, cause, told = out[1], (loop, out[1]), (int(out[2]), int(out[3] or out[2]))
+        if told[1] >= WORD and 0 < self.guarded[name] <= MOST_STEP:
+            self.guard(self.body_of(loop), name, self.guarded[name] + told[1] + 1 - WORD)
             return True
-        if isinstance(about, Statement) and not self.keeps_only and self.change(body, about, stopped, known):
+        old = self.found.kept.get(cause, self.given.get(cause, NOTHING))
+        if stopped.code == "E8" and old is NOTHING:
+            self.found.kept[cause] = told
             return True
-        return self.keep(body, [causes_before(stopped, known)])
+        new = min(old[0], told[0]), max(old[1], told[1])
+        self.grown[cause] += 1
+        if self.grown[cause] > FEW and (self.grown[cause] - FEW) % 2:
+            new = self.stepped(cause, old, new)
+        self.found.kept[cause] = new
+        if new == ANY:
+            del self.found.kept[cause]
+            self.lost.add(cause)
+        return new != ANY or cause not in self.given
 
-    def break_given(self, stopped: Stopped, known: Known) -> Set[Cause]:
-        """The given ranges of a loop that are refused. They count no more."""
-        loop = stopped.about
-        if stopped.code not in ("E8", "E9") or not isinstance(loop, Loop):
-            return set()
-        state = known.before.get(loop) if stopped.code == "E8" else known.ends.get(loop)
-        values = {(loop, it.name): state.variables[it.name] for it in loop.keeps} if state else {}
-        new = {it for it, (low, high, _) in values.items() if low < self.given[it][0] or high > self.given[it][1]} - self.broken
-        if new:
-            self.broken |= new
-            self.least.clear()
-        return new
+    def stepped(self, cause: Cause, old: Range, new: Range) -> Range:
+        """The next range whose ends are numbers of the body, or beside one, where it grows."""
+        loop, name = cause
+        steps = {0, WORD - 1, MOST}
+        if not self.guarded[name]:
+            its = [one.value for it in all_in(self.body_of(loop).statements) for value in expressions_of(it) for one in parts_of(value) if isinstance(one, Number)]
+            steps.update(USUAL, (near for it in its for near in (it - 1, it, it + 1) if 0 <= near <= MOST))
+        ends = sorted(steps)
+        low = new[0] if new[0] == old[0] else ends[bisect.bisect_right(ends, new[0]) - 1]
+        return low, new[1] if new[1] == old[1] else ends[bisect.bisect_left(ends, new[1])]
 
-    def keep(self, body: Body, groups: Sequence[AbstractSet[Cause]]) -> bool:
-        """Keeps the least ranges of what loops forget. One that is a group by itself is sure to be needed, as a rule."""
-        causes: Set[Cause] = set().union(*groups)
-        is_new = not self.keeps_only and any(self.range(body, *it)[1] == MOST for it in causes) and self.guard(body)
-        ranges = {it: self.range(body, *it) for it in sorted(causes, key=_place)}
-        new = {it: its for it, its in ranges.items() if its != FULL and self.found.kept.get(it) != its}
-        self.found.kept.update(new)
-        self.sure.update(it for group in groups if len(group) == 1 for it in group)
-        return is_new or bool(new)
+    def keep(self, stopped: Stopped) -> bool:
+        """Begins to keep what loops forget before what is refused."""
+        about = stopped.about
+        if about is None:
+            return False
+        place = about.end if isinstance(about, Body) else about.start
+        loops = [it for it in all_in(self.body_of(about).statements) if isinstance(it, Loop) and it.start <= place]
+        causes = {(it, name) for it in loops if not is_each(it) and it not in self.found.each for name in sorted(it.written)}
+        new = causes - self.given.keys() - self.found.kept.keys() - self.lost
+        self.found.kept.update((it, NOTHING) for it in sorted(new, key=lambda it: (it[0].start, it[1])))
+        return bool(new)
 
-    def range(self, body: Body, loop: Loop, name: str) -> Range:
-        return self.least_of(body).found.get(loop, {}).get(name, FULL)
-
-    def least_of(self, body: Body) -> Least:
-        if body.start not in self.least:
-            floors = {cause: its for cause, its in self.given.items() if cause not in self.broken}
-            self.least[body.start] = Least(body, self.widths, self.found.statements(), floors)
-        return self.least[body.start]
-
-    def guard(self, body: Body) -> bool:
-        """Puts guards around the statements by which variables grow without end, one statement of the body after another: behind the guards of one
-        loop others may have limits, too."""
-        least = self.least_of(body)
-        is_new = False
-        for at in range(len(body.statements)):
-            if at + 1 == len(least.known):
-                least.go_on()
-            while self.work < MOST_WORK and (new := self.guards(body, at, least)):
-                self.found.changed.update(new)
-                self.go_back(least, at)
-                least.go_on()
-                is_new = True
-        self.renew(body)
-        return is_new
-
-    def go_back(self, least: Least, at: int) -> None:
-        self.work += least.work
-        least.again(at, self.found.statements())
-
-    def guards(self, body: Body, at: int, least: Least) -> Dict[Statement, Change]:
-        """New guards in one statement of a body."""
-        it, state = body.statements[at], least.known[at]
-        ranges = {(loop, name): its for loop in all_in([it]) if isinstance(loop, Loop) for name, its in least.found.get(loop, {}).items()}
-        endless = sorted((cause for cause, its in ranges.items() if its[1] == MOST), key=_place)
-        new: Dict[Statement, Change] = {}
-        if state and endless:
-            finder = GuardFinder(self.text, body, self.known(body, ranges, (it, state)), self.turn_work)
-            for loop, name in endless:
-                wide, tight = finder.find(loop, name)
-                new.update((it, change) for it, change in wide if it not in self.found.changed)
-                self.tight.update((it, change) for it, change in tight if it not in self.found.changed)
-            self.turn_work = finder.left
-        return new
-
-    def replace(self, body: Body, new: Dict[Statement, Change]) -> None:
-        """Changes statements, and so the least ranges behind them in their body. What may no longer fall lets others grow further: they get their
-        guards anew."""
-        first = min(it.start for it in new)
-        at = next(at for at, it in enumerate(body.statements) if it.end > first)
-        stale = []
-        if any(it.remark == FALLS for it in new.values()):
-            behind = [it for it in self.found.changed if body.statements[at].start <= it.start < body.end]
-            stale = [it for it in behind if self.found.changed[it].remark in (ALWAYS, BUT_THE_LAST)]
-        for it in stale:
-            del self.found.changed[it]
-        self.found.changed.update(new)
-        if body.start in self.least:
-            self.go_back(self.least[body.start], at)
-            self.least[body.start].finish()
-        if stale:
-            self.tight.clear()
-            self.guard(body)
-        self.renew(body)
-
-    def renew(self, body: Body) -> None:
-        """Keeps the least ranges as they are since statements of a body were changed."""
-        for loop, name in self.found.kept:
-            if body.start <= loop.start < body.end:
-                self.found.kept[loop, name] = self.range(body, loop, name)
-
-    def change(self, body: Body, about: Statement, stopped: Stopped, known: Known) -> bool:
-        """Changes the statement that is refused, or leaves out the last step of what it may look at."""
+    def change(self, stopped: Stopped) -> bool:
+        """Changes the statement that is refused."""
+        it = stopped.about
+        if self.keeps_only or not isinstance(it, Statement) or it in self.found.changed:
+            return False
+        body = self.body_of(it)
+        around = [one for one in all_in(body.statements) if isinstance(one, Loop) and one.start <= it.start < one.end]
         # A measure falls as it is written.
-        is_measure = isinstance(about, Assign) and any(about.name == loop.name for loop in loops_around(body.statements, about))
-        change = None if is_measure or about in self.found.changed else Changes(self.text).at(stopped, known)
-        tight = next((it for it in self.tight if body.start <= it.start < body.end), None)
-        if change:
-            self.replace(body, {about: change})
-        elif tight:
-            self.replace(body, {tight: self.tight.pop(tight)})
-        return bool(change or tight)
+        change = None if isinstance(it, Assign) and any(it.name == one.name for one in around) else self.changes.at(it, stopped)
+        if change is None:
+            return False
+        self.found.changed[it] = change
+        if isinstance(it, Assign) and change.step:
+            self.guard(body, it.name, max(change.step, self.guarded[it.name]))
+        return True
+
+    def guard(self, body: Body, name: str, step: int) -> None:
+        """Makes room for so much at once wherever a variable grows, and keeps it anew."""
+        self.guarded[name] = step
+        self.lost = {one for one in self.lost if one[1] != name}
+        its = [it for it in all_in(body.statements) if isinstance(it, Assign) and it.name == name and grows(it)]
+        self.found.changed.update((it, self.changes.guard(it, step)) for it in its)
 
     def fit_headings(self) -> None:
-        """Where the headings of a script refuse it, keeps what lowers its costs, or proposes the least headings."""
+        """Where the headings of a script refuse it, finds what lowers its costs, or proposes the least headings."""
         if self.stopped(CHECK) is None:
             return
-        found = self.found.copy()
-        if self.go_on(CHECK) is None:
-            self.lessen(CHECK, None)
-            return
-        self.found = found
-        answer = self.trials.judged(BOUNDS, self.found.edits())
-        for it in least_headings(self.text, read_headings(answer.text)):
-            self.headings.append(Proposal(Kind.HEADING, it.line, it.heading, it.edits))
+        found = self.found
+        if self.help(CHECK) is not None:
+            self.found = found
+            answer = self.trials.judged(BOUNDS, found.edits())
+            its = least_headings(self.text, read_headings(answer.text))
+            self.headings += [Proposal(Kind.HEADING, it.line, it.heading, it.edits) for it in its]

@@ -1,31 +1,27 @@
-"""Tries changes of a script on the checker, and counts how often it was asked."""
+"""Tries changes of a script on the checker, each by one call."""
 from typing import Dict, List, NamedTuple, Optional, Sequence, Tuple, Union
 
-from camac.drive import File, Refused
+from camac.drive import File
 from camac.edits import Edit, edited
 from camac.library import Verdict
+from camac.printed import read_explanation
 from camac.program import verdict
 from camac.tree import Body, Statement, all_in
 
-# The rules that are tested within a statement, in their order, and those of a body's heading, after all its statements.
-ORDER = ("E4", "E17", "E6", "E13", "E1", "E2", "E3", "E14", "E5", "E16", "E15", "E7", "E10", "E8", "E9", "E21")
-OF_HEADINGS = ("E11", "L4", "E12", "E18")
-AFTER_TURN = "E9"
-# A place in the text, and how late a rule is tested there.
-When = Tuple[int, int]
+# With BOUNDS headings are not looked at. Both say more of a refusal than its rule.
+CHECK, BOUNDS = "explain", "explain --bounds"
 
 
 class Stopped(NamedTuple):
-    """What stops the checker: the refusal, whose line is not that of the script, the statement or body that it is about, and when its rule is
-    tested."""
+    """What refuses a script: the rule, the statement or body that it is about, if one is known, the rule in words, and the case in a sentence."""
 
-    refusal: Refused
+    code: str
     about: Union[Statement, Body, None]
-    when: When
+    rule: str
+    sentence: str
 
-    @property
-    def code(self) -> str:
-        return self.refusal.code
+    def place(self) -> object:
+        return self.code, self.about
 
 
 class Trials:
@@ -33,7 +29,7 @@ class Trials:
 
     def __init__(self, plan: File, text: bytes, bodies: Sequence[Body], program: Optional[File]) -> None:
         self.plan, self.text, self.program = plan, text, program
-        self.calls = 0
+        self.told: Dict[Tuple[str, Tuple[Edit, ...]], Verdict] = {}
         self.breaks: List[Edit] = []
         self.at: Dict[int, Union[Statement, Body]] = {}
         for body in bodies:
@@ -42,24 +38,20 @@ class Trials:
                 self.breaks.append(Edit(it.start, it.start, "\n"))
                 self.at[it.line + len(self.breaks)] = it
 
+    @property
+    def calls(self) -> int:
+        return len(self.told)
+
     def judged(self, command: str, edits: Sequence[Edit]) -> Verdict:
-        """What `camac check`, or `camac bounds`, which does not look at headings, says of the script with these changes."""
-        self.calls += 1
-        # What is replaced keeps its lines.
-        kept = [it._replace(text=it.text + "\n" * self.text.count(b"\n", it.start, it.end)) for it in edits]
-        return verdict(command, self.plan, edited(self.text, [*self.breaks, *kept]), self.program)
+        """What camac says of the script with these changes. It is asked once."""
+        key = command, tuple(edits)
+        if key not in self.told:
+            # What is replaced keeps its lines.
+            kept = [it._replace(text=it.text + "\n" * self.text.count(b"\n", it.start, it.end)) for it in edits]
+            self.told[key] = verdict(command, self.plan, edited(self.text, [*self.breaks, *kept]), self.program)
+        return self.told[key]
 
     def stopped(self, command: str, edits: Sequence[Edit]) -> Optional[Stopped]:
         """What refuses the script with these changes; None if it is accepted."""
-        answer = self.judged(command, edits)
-        return None if answer.accepted else self.read(Refused(answer.text))
-
-    def read(self, refusal: Refused) -> Stopped:
-        about = self.at.get(refusal.line or 0)
-        if about is None or refusal.code not in (*ORDER, *OF_HEADINGS):
-            return Stopped(refusal, None, (0, 0))
-        if isinstance(about, Body):
-            return Stopped(refusal, about, (about.end - 1, OF_HEADINGS.index(refusal.code) if refusal.code in OF_HEADINGS else 0))
-        # After a turn is at the end of the block.
-        place = about.end - 1 if refusal.code == AFTER_TURN else about.start
-        return Stopped(refusal, about, (place, ORDER.index(refusal.code) if refusal.code in ORDER else 0))
+        its = read_explanation(self.judged(command, edits).text)
+        return its and Stopped(its.refusal.code, self.at.get(its.refusal.line or 0), its.refusal.rule, its.sentence)

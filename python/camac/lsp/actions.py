@@ -16,7 +16,7 @@ OF_HEADINGS = frozenset(("E11", "E12", "E18"))
 OF_LOOPS = frozenset(("E1", "E2", "E4", "E5", "E8", "E9", "E10", "E11", "E12", "E14", "E16", "E18", "E21"))
 # What loops keep is looked for at once in a script of at most so many bytes, else when it is asked for.
 QUICK = 8_000
-TITLES = {Code.UNUSED_KEEP: "Remove what is kept for nothing", Code.WIDE_KEEP: "Keep the least range", Code.SPLIT: "Split the loop, as it was tried"}
+TITLES = {Code.UNUSED_KEEP: "Remove what is kept for nothing", Code.WIDE_KEEP: "Keep the least range", Code.EACH: "Judge the loop turn by turn"}
 
 
 class Fix(NamedTuple):
