@@ -35,10 +35,11 @@ use Rattle.camac_rules.specs.Transfers.{is_one_crate, has_sub_addresses, scan_ru
 use Rattle.camac_rules.specs.Windows.{window_of, is_installed, is_declared}
 use Rattle.camac_rules.specs.Calls.{is_crate, lam_region, lock_rule}
 use Rattle.camac_rules.specs.Statements.{greatest_word, accept_statement, accept_block}
-use Rattle.camac_rules.specs.Each.{turn_costs, each_from, each_begins}
+use Rattle.camac_rules.specs.Each.{each_from, each_begins}
 use Rattle.camac_rules.specs.EachLimit.{count_block}
 use Rattle.camac_rules.specs.Accept.{at_start, own_body, within, accept_procedure, accept_service}
-use Rattle.camac_rules.proofs.EachCosts as each
+pub use Rattle.camac_rules.proofs.EachCosts.{cut, cut_all}
+use Rattle.camac_rules.proofs.EachCosts.{each_cut}
 use Rattle.camac_check_simple.specs.declared.context.Context as code
 use Rattle.camac_check_simple.specs.Gives.{by_code, by_rules}
 
@@ -49,14 +50,6 @@ in_code c = record c { limit = capped }
 -- these are of any size
 abbrev pub in_rules : Context → Context
 in_rules c = record c { limit = λ k. k }
-
--- a verdict with its costs cut
-abbrev pub cut : Verdict → Verdict
-cut v = verdict v.after (capped v.costs)
-
-abbrev pub cut_all : Result Verdict Fault → Result Verdict Fault
-cut_all (Ok v) = Ok (cut v)
-cut_all (Err f) = Err f
 
 -- a step that has no costs, and one that has
 go_same : {A : Type 0} (r : Result A Fault) (k l : A → Result Verdict Fault) → ((x : A) → k x ≡ cut_all (l x)) → go_on r k ≡ cut_all (go_on r l)
