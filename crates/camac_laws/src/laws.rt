@@ -62,8 +62,8 @@ pub fn calls_keep_to_ranges(checked: &Checked)
 }
 
 /// Where a script is refused, all procedures and services before one are accepted, and this one is refused. A statement of its body, to which
-/// the checker comes as all before it are accepted, has this fault, on its line, and none of those in its blocks has one. Or its body is
-/// accepted and costs more than its heading has.
+/// the checker comes as all before it are accepted, has this fault, on its line, and none of those in its blocks has one; in an `each` it is so in
+/// some turn. Or with an `each` on this line more is judged than its body may. Or its body is accepted and costs more than its heading has.
 pub fn refused_at_places()
     ensures { RefusedAtPlaces }
 {}
