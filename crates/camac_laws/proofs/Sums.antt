@@ -1,5 +1,5 @@
 -- Sums of shares, and of those of a block that counts so often.
-use Rattle.std.proofs.Common.{◌≡◌, ℕ, ◌+◌, ◌-◌, ◌*◌, ◌^◌, ◌<◌, suc, List, [], ◌∷◌, ◌++◌, map, refl, sym, ap, ap₂, subst, ◌∙◌, ⊎_elim, mul-add, arith}
+use Rattle.std.proofs.Common.{◌≡◌, ℕ, ◌+◌, ◌-◌, ◌*◌, ◌^◌, ◌<◌, ◌≤◌, suc, List, [], ◌∷◌, ◌++◌, map, refl, sym, ap, ap₂, subst, ◌∙◌, ⊎_elim, mul-add, arith}
 use Rattle.std.specs.Prelude.{min, max, nat_le, nat_lt, if◌then◌else◌}
 use Rattle.std.proofs.lemmas.Bool.{lt-ltb, le-ltb, lt-leb, le-leb, cases_lt}
 use Rattle.camac_model.specs.Fine.{Bounds}
@@ -162,13 +162,13 @@ less_rest a b s t k h = omega (arith, h)
 two_more : (a b s t n k : ℕ) → a + s + (b + t) < k → n ≡ s + t → min (a + b) k + n ≡ a + s + (b + t)
 two_more a b s t n k h e = omega (arith, h, e)
 
-pub total_merged : (as bs : List Row) → IsBelow (plus (total as) (total bs)) → total (merge capped as bs) ≡ plus (total as) (total bs)
-total_merged [] bs low = sym (none_plus (total bs))
-total_merged (a ∷ as) [] low = sym (plus_none (total (a ∷ as)))
-total_merged (a ∷ as) (b ∷ bs) (c, w, s) =
+pub total_merged : (xs ys : List Row) → IsBelow (plus (total xs) (total ys)) → total (merge capped xs ys) ≡ plus (total xs) (total ys)
+total_merged [] ys low = sym (none_plus (total ys))
+total_merged (a ∷ xs) [] low = sym (plus_none (total (a ∷ xs)))
+total_merged (a ∷ xs) (b ∷ ys) (c, w, s) =
     let k : ℕ = 2 ^ 64 - 1 in
     let e =
-    total_merged as bs
+    total_merged xs ys
     (less_rest a.share.cycles b.share.cycles _ _ k c, less_rest a.share.words b.share.words _ _ k w, less_rest a.share.steps b.share.steps _ _ k s) in
     same_costs _ _ _ _ _ _
     (two_more a.share.cycles b.share.cycles _ _ _ k c (ap (λ (t : Bounds). t.cycles) e))

@@ -44,10 +44,10 @@ no_more_both n [] ys h more = more
 no_more_both n (x ∷ xs) ys (first, h) more = (first, no_more_both n xs ys h more)
 
 -- of two turns
-pub no_more_merged : (m n : ℕ) (as bs : List Row) → NoMore (in_64_bits m) as → NoMore (in_64_bits n) bs → NoMore (in_64_bits (m + n)) (merge capped as bs)
-no_more_merged m n [] bs h g = no_more_up (in_64_bits n) (in_64_bits (m + n)) bs (omega arith) g
-no_more_merged m n (a ∷ as) [] h g = no_more_up (in_64_bits m) (in_64_bits (m + n)) (a ∷ as) (omega arith) h
-no_more_merged m n (a ∷ as) (b ∷ bs) (first, h) (second, g) = (omega (arith, first, second), no_more_merged m n as bs h g)
+pub no_more_merged : (m n : ℕ) (xs ys : List Row) → NoMore (in_64_bits m) xs → NoMore (in_64_bits n) ys → NoMore (in_64_bits (m + n)) (merge capped xs ys)
+no_more_merged m n [] ys h g = no_more_up (in_64_bits n) (in_64_bits (m + n)) ys (omega arith) g
+no_more_merged m n (a ∷ xs) [] h g = no_more_up (in_64_bits m) (in_64_bits (m + n)) (a ∷ xs) (omega arith) h
+no_more_merged m n (a ∷ xs) (b ∷ ys) (first, h) (second, g) = (omega (arith, first, second), no_more_merged m n xs ys h g)
 
 cut_both : (a b k : ℕ) → a ≤ b → min a k ≤ min (min b k) k
 cut_both a b k le = omega (arith, le)
@@ -282,8 +282,9 @@ turns_from_in_steps : (r : Context) (around : Around) (body : Block) → BlockIn
 unfolding if_reached
 turns_from_in_steps r around body fits zero x v last k w e = no_more_up 0 (in_64_bits w.costs.steps) (block_rows (in_code r) around body None) (omega arith) (block_never r around body)
 turns_from_in_steps r around body fits (suc n) x v last k w e =
-    turns_over_in_steps r around body fits (suc n) x v last (Some k) (turned 0 (block_rows (in_code r) around body None)) 0 w e
-    (no_more_up 0 (in_64_bits 0) (block_rows (in_code r) around body None) (omega arith) (block_never r around body))
+    no_more_up (in_64_bits (0 + w.costs.steps)) (in_64_bits w.costs.steps) _ (omega arith)
+    (turns_over_in_steps r around body fits (suc n) x v last (Some k) (turned 0 (block_rows (in_code r) around body None)) 0 w e
+    (no_more_up 0 (in_64_bits 0) (block_rows (in_code r) around body None) (omega arith) (block_never r around body)))
 
 each_in_steps : (r : Context) (around : Around) (line x v last : ℕ) (body : Block) (k : Facts) (w : Verdict)
     → BlockInSteps r (with_fixed x around) body → accept_statement (in_code r) around (for_each line x v last body) k ≡ Ok w
