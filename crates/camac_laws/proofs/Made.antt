@@ -51,6 +51,7 @@ use Rattle.camac_check_rows.specs.Rows.{found, block_verdict, Turning, turning_f
 use Rattle.camac_laws.specs.Lower.{AtMost}
 use Rattle.camac_laws.specs.Made.{Made, spent, both, from_end, where_some, by_test, for_made, while_made, lock_made, unmade_in, unmade, made_in, made}
 use Rattle.camac_laws.specs.Shares.{IsBelow}
+use Rattle.camac_laws.specs.Times.{NoMore}
 use Rattle.camac_laws.proofs.CostsBounds.{required_ok}
 use Rattle.camac_laws.proofs.MadeLists.{KeepsIn, AllIn, in_more, in_both, in_append, none_inside, all_inside, AllAdd, same_more, none_merged, adds_in, adds_none, adds_turn, turns_none, turns_unmade}
 use Rattle.camac_laws.proofs.Shares.{go_ok, ok_same}
@@ -294,8 +295,8 @@ module _ (c : Setting) (narrow : HasWidths c.plan) (serves : Serves c) (n : ℕ)
     abbrev over : (left next : ℕ) → Known → Turned → List Row
     over left v k so_far = (turns_over capped left x v (block_verdict Code (with_fixed x (around_of around)) body) (block_rows Code (with_fixed x (around_of around)) body) k so_far).rows
 
-    abbrev goes : (left allowed next : ℕ) → State → Made
-    goes left allowed v t = for_made left allowed x v (run body) (made (of c) n body) (unmade body) t
+    abbrev made_from : (left allowed next : ℕ) → State → Made
+    made_from left allowed v t = for_made left allowed x v (run body) (made (of c) n body) (unmade body) t
 
     unmade_at : (k : Known) → AllIn 0 (Rows k) (unmade body)
     unmade_at k = unmade_block (seen c) (with_fixed x (around_of around)) body k
@@ -312,7 +313,7 @@ module _ (c : Setting) (narrow : HasWidths c.plan) (serves : Serves c) (n : ℕ)
 
     each_turns_keep : (left allowed v : ℕ) → left + v ≡ last + 1 → (k : Known) (so_far : Turned) (m : ℕ) (w : Verdict) → if_reached unreached k (each_turns capped left x v last check) ≡ Ok w
         → IsBelow w.costs → m + w.costs.steps ≤ 2 ^ 64 - 1 → NoMore (in_64_bits m) so_far.rows → AllIn 0 so_far.rows (unmade body) → (t : State) → Reaches around k t
-        → AllAdd so_far.rows (over left v k so_far) (goes left allowed v t)
+        → AllAdd so_far.rows (over left v k so_far) (made_from left allowed v t)
     unfolding go_on if_reached
     each_turns_keep zero j v is k so_far m w e low room le none t r = adds_none so_far.rows (unmade body) none
     each_turns_keep (suc left) j v is None so_far m w e low room le none t r = absurd r
@@ -335,8 +336,8 @@ module _ (c : Setting) (narrow : HasWidths c.plan) (serves : Serves c) (n : ℕ)
         let after_is : b.whole.after ≡ turn.after = ap (λ u. u.after) b.is in
         adds_turn (in_64_bits m) (in_64_bits turn.costs.steps) so_far.rows (Rows (Some head)) (over (suc left) v (Some q) so_far) (made (of c) n body t') _
         (same_more 0 0 so_far.rows (Rows (Some head)) (unmade body) none (unmade_at (Some head))) few steps (omega (arith, parts.2)) (keeps (Some head) turn turn'.1 parts.0 t' i)
-        (subst (λ (u : Verdict). AllAdd after.rows (over left (v + 1) u.after after) (from_end (run body t') (goes left j (v + 1)) (unmade body))) (sym (ap (λ u. found unreached u) turn'.1))
-        (from_end_holds (AllAdd after.rows (over left (v + 1) turn.after after)) c.plan (StopsWell b.whole.costs t') (EndsWell (fixing x around) b.whole.after b.whole.costs t') (run body t') (goes left j (v + 1)) (unmade body)
+        (subst (λ (u : Verdict). AllAdd after.rows (over left (v + 1) u.after after) (from_end (run body t') (made_from left j (v + 1)) (unmade body))) (sym (ap (λ u. found unreached u) turn'.1))
+        (from_end_holds (AllAdd after.rows (over left (v + 1) turn.after after)) c.plan (StopsWell b.whole.costs t') (EndsWell (fixing x around) b.whole.after b.whole.costs t') (run body t') (made_from left j (v + 1)) (unmade body)
         (b.sound.each n le t' i)
         (λ u ended. each_turns_keep left j (v + 1) (omega (arith, is)) turn.after after (m + turn.costs.steps) rest rest'.1 parts.1 parts.3 few' none' u
         (outside around x turn.after u (subst (λ o. Reaches (fixing x around) o u) after_is ended.reaches)))
@@ -344,7 +345,7 @@ module _ (c : Setting) (narrow : HasWidths c.plan) (serves : Serves c) (n : ℕ)
 
     -- with and without a turn
     each_from_keeps : (count v : ℕ) → count ≡ last + 1 - v → (k : Facts) (w : Verdict) → each_from capped count x v last check k ≡ Ok w → IsBelow w.costs → (t : State) → Inside around k t
-        → AllIn 1 (over count v (Some k) (turned 0 (Rows None))) (goes count n v t)
+        → AllIn 1 (over count v (Some k) (turned 0 (Rows None))) (made_from count n v t)
     unfolding if_reached
     each_from_keeps zero v is k w e low t i = in_more 0 1 (Rows None) (unmade body) (omega arith) (unmade_at None)
     each_from_keeps (suc count) v is k w e low t i =

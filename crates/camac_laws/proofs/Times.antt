@@ -35,7 +35,7 @@ use Rattle.camac_laws.specs.Times.{NoMore, InSteps, TimesInSteps}
 use Rattle.camac_laws.proofs.Turned.{begun, no_turn}
 use Rattle.camac_laws.proofs.Shares.{in_code, go_ok, ok_same}
 
-no_more_up : (m n : ℕ) (rs : List Row) → m ≤ n → NoMore m rs → NoMore n rs
+pub no_more_up : (m n : ℕ) (rs : List Row) → m ≤ n → NoMore m rs → NoMore n rs
 no_more_up m n [] le h = tt
 no_more_up m n (r ∷ rs) le (first, h) = (le_trans first le, no_more_up m n rs le h)
 
@@ -95,7 +95,7 @@ mutual
   statement_never r around (while_ line test most m keeps body) = (omega arith, none_inside (turning 0) (block_rows (in_code r) around body None) (block_never r around body))
   statement_never r around (locked line e body) = (omega arith, none_inside once (block_rows (in_code r) around body None) (block_never r around body))
 
-  block_never : (r : Context) (around : Around) (b : Block) → NoMore 0 (block_rows (in_code r) around b None)
+  pub block_never : (r : Context) (around : Around) (b : Block) → NoMore 0 (block_rows (in_code r) around b None)
   block_never r around done = tt
   block_never r around (next s rest) = no_more_both 0 (statement_rows (in_code r) around s None) (block_rows (in_code r) around rest None) (statement_never r around s) (block_never r around rest)
 
@@ -276,7 +276,7 @@ turns_over_in_steps r around body fits (suc n) x v last (Some q) so_far m w e h 
     (no_more_merged m turn.costs.steps so_far.rows rows h (fits (Some head) turn turn'.1)))))
 
 -- with and without a turn
-turns_from_in_steps : (r : Context) (around : Around) (body : Block) → BlockInSteps r around body → (n x v last : ℕ) (k : Facts) (w : Verdict)
+pub turns_from_in_steps : (r : Context) (around : Around) (body : Block) → BlockInSteps r around body → (n x v last : ℕ) (k : Facts) (w : Verdict)
     → each_from capped n x v last (accept_block (in_code r) around body) k ≡ Ok w
     → NoMore (in_64_bits w.costs.steps) (turns_over capped n x v (block_verdict (in_code r) around body) (block_rows (in_code r) around body) (Some k) (turned 0 (block_rows (in_code r) around body None))).rows
 unfolding if_reached
