@@ -55,7 +55,7 @@ use Rattle.camac_laws.specs.Times.{NoMore}
 use Rattle.camac_laws.proofs.CostsBounds.{required_ok}
 use Rattle.camac_laws.proofs.MadeLists.{KeepsIn, AllIn, in_more, in_both, in_append, none_inside, all_inside, AllAdd, same_more, none_merged, adds_in, adds_none, adds_turn, turns_none, turns_unmade}
 use Rattle.camac_laws.proofs.Shares.{go_ok, ok_same}
-use Rattle.camac_laws.proofs.Sums.{if_below, choice_below, lock_below, then_below, turn_then_below}
+use Rattle.camac_laws.proofs.Sums.{if_below, choice_below, lock_below, then_below, loop_low, loop_room, turn_then_below}
 use Rattle.camac_laws.proofs.Times.{no_more_up, no_more_merged, block_never, block_in_steps, turns_from_in_steps}
 use Rattle.camac_laws.proofs.Turned.{begun}
 
@@ -120,10 +120,6 @@ from_end_holds H plan P Q (does p b) go none h f g = from_end_holds H plan P Q b
 from_end_holds H plan P Q (ends t) go none h f g = f t h
 from_end_holds H plan P Q (stops w t) go none h f g = g
 
-from_end_keeps : (m : ℕ) (rows : List Row) (plan : Layout) (P : Unit {0} → Stop → State → Type 0) (Q : Unit {0} → State → Type 0) (b : Behaviour State) (go : State → Made) (none : Made)
-    → Meets step (SafePiece plan) P Q tt b → ((t : State) → Q tt t → AllIn m rows (go t)) → AllIn m rows none → AllIn m rows (from_end b go none)
-from_end_keeps m rows plan P Q b go none h f g = from_end_holds (AllIn m rows) plan P Q b go none h f g
-
 test_keeps : (m : ℕ) (rows : List Row) (around : Place) (o : Option Bool) (arms : Branches) (t : State) (first second none : Made)
     → Decides around o arms t → (Reaches around arms.holds t → AllIn m rows first) → (Reaches around arms.fails t → AllIn m rows second) → AllIn m rows (by_test o first second none)
 test_keeps m rows around None arms t first second none d f g = absurd d
@@ -143,16 +139,6 @@ if_keeps m rows false none other f g = g
 
 allowed_at : {A : Type 0} {r : Result A Fault} {P : A → Type 0} (x : A) → Allows r P → r ≡ Ok x → P x
 allowed_at {A} {r} {P} x h e = subst (λ q. IfOk q P) e h.holds
-
-loop_low : (t : ℕ) (k : Bounds) → 1 ≤ t → IsBelow (capped (loop_costs t k)) → IsBelow k
-loop_low t k le (cycles, words, steps) =
-    let c : 1 * k.cycles ≤ t * k.cycles = mul-le 1 k.cycles t k.cycles le (omega arith) in
-    let w : 1 * k.words ≤ t * k.words = mul-le 1 k.words t k.words le (omega arith) in
-    let s : 1 * (1 + k.steps) ≤ t * (1 + k.steps) = mul-le 1 (1 + k.steps) t (1 + k.steps) le (omega arith) in
-    (omega arith, omega arith, omega arith)
-
-loop_room : (t : ℕ) (k : Bounds) → IsBelow (capped (loop_costs t k)) → t * in_64_bits k.steps ≤ 2 ^ 64 - 1
-loop_room t k (cycles, words, steps) = let more : t * in_64_bits k.steps ≤ t * (1 + k.steps) = mul-le-mul_left t (omega arith) in omega arith
 
 -- ---- of what is accepted, with at most n turns per loop
 
@@ -233,7 +219,7 @@ module _ (c : Setting) (narrow : HasWidths c.plan) (serves : Serves c) (n : ℕ)
         let t' : State = for_state x v' t in
         in_more (1 + j) (suc j) rows _ (omega arith)
         (in_both 1 j rows (made (of c) n body t') _ (keeps t' (counting.turn_begins c.plan around x body qs k l turn (run body) h s i v w f g j v' t b))
-        (from_end_keeps j rows c.plan (StopsWell (loop_costs (turns_between l) turn.costs) s) (λ y. counting.Turned c.plan around x body qs k l turn (run body) h s i v w f g j (v' + 1)) (run body t')
+        (from_end_holds (AllIn j rows) c.plan (StopsWell (loop_costs (turns_between l) turn.costs) s) (λ y. counting.Turned c.plan around x body qs k l turn (run body) h s i v w f g j (v' + 1)) (run body t')
         (for_made j m x (v' + 1) (run body) (made (of c) n body) (unmade body)) (unmade body)
         (counting.one_turn c.plan around x body qs k l turn (run body) h s i v w f g j v' t b)
         (λ u q. for_turns_keep j m (v' + 1) u q) (in_more 0 j rows (unmade body) (omega arith) none)))
@@ -255,7 +241,7 @@ module _ (c : Setting) (narrow : HasWidths c.plan) (serves : Serves c) (n : ℕ)
         let some_turn : 1 ≤ turn_bound arms.holds most = omega (arith, b.turns) in
         in_more (1 + left) (suc left) rows _ (omega arith)
         (in_both 1 left rows (made (of c) n body (stepped t)) _ (keeps some_turn (stepped t) (stepped_reaches around arms.holds t r))
-        (from_end_keeps left rows c.plan (StopsWell (loop_costs (turn_bound arms.holds most) turn.costs) s) (λ y. Left left j) (run body (stepped t)) (goes j) (unmade body)
+        (from_end_holds (AllIn left rows) c.plan (StopsWell (loop_costs (turn_bound arms.holds most) turn.costs) s) (λ y. Left left j) (run body (stepped t)) (goes j) (unmade body)
         (turning_while.one_turn c.plan around test most m fall qs body k arms turn (run body) h s i j left t b r)
         (λ u q. others left u q) (in_more 0 left rows (unmade body) (omega arith) none)))
 
@@ -604,5 +590,5 @@ module _ (c : Setting) (narrow : HasWidths c.plan) (serves : Serves c) (n : ℕ)
         subst (λ (w : Verdict). AllIn 1 (statement_rows Code A st (Some k) ++ block_rows Code A rest w.after) (own ++ others)) (sym (ap (λ q. found unreached q) first'.1))
         (in_append 1 (statement_rows Code A st (Some k)) (block_rows Code A rest first.after) own others
         (statement_keeps around st first_may k first first'.1 low.0 s i)
-        (from_end_keeps 1 (block_rows Code A rest first.after) c.plan (StopsWell j.whole.costs s) (EndsWell around j.whole.after j.whole.costs s) (meaning (of c) n st s) (made (of c) n rest) (unmade rest)
+        (from_end_holds (AllIn 1 (block_rows Code A rest first.after)) c.plan (StopsWell j.whole.costs s) (EndsWell around j.whole.after j.whole.costs s) (meaning (of c) n st s) (made (of c) n rest) (unmade rest)
         (j.sound.each n le s i) (λ t x. block_keeps around rest rest_may first.after second second'.1 low.1 t (subst (λ q. Reaches around q t) after x.reaches)) (none_of around rest first.after)))
