@@ -2,3 +2,4 @@ pub mod Trees
 pub mod Kept
 pub mod Passed
 pub mod Shape
+mod EachRows
