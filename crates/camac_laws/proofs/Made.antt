@@ -1,8 +1,6 @@
 -- What a run makes of an accepted body keeps to its rows: one induction over statements.
 use Rattle.std.proofs.Common.{◌≡◌, ℕ, ◌+◌, ◌-◌, ◌*◌, ◌^◌, ◌<◌, ◌≤◌, zero, suc, List, [], ◌∷◌, ◌++◌, Option, Some, None, Result, Ok, Err, Bool, true, false, refl, sym, ap, subst, ◌∙◌, arith}
-use Rattle.std.proofs.Math.Nat.{mul-le-mul_left}
 use Rattle.std.proofs.lemmas.Bool.{ltb-true, ltb-false}
-use Rattle.std.proofs.lemmas.Nat.{mul-le}
 use Rattle.std.specs.Prelude.{IfOk, nat_lt, unwrap_or, if◌then◌else◌}
 use Rattle.camac_lang.specs.Tree.{Expression, Condition, Keep, Statement, assign, set_register, single, address_scan, q_stop, q_repeat, put, crate_call, lam_call, choose, choose_else, for_, for_each, while_, locked, call, Block, done, next}
 use Rattle.camac_range.specs.Number.{greatest}
@@ -22,7 +20,7 @@ use Rattle.camac_rules.specs.Known.{Facts, Known, with_range}
 use Rattle.camac_rules.specs.Conditions.{Branches, branches, split}
 use Rattle.camac_rules.specs.Capped.{capped}
 use Rattle.camac_rules.specs.Costs.{costs, no_costs, plus, choice_costs, lock_costs, loop_costs, Verdict, unreached}
-use Rattle.camac_rules.specs.Cycles.{Context, Around, with_locked, may_write}
+use Rattle.camac_rules.specs.Cycles.{Context, Around, with_locked}
 use Rattle.camac_rules.specs.Calls.{lock_rule}
 use Rattle.camac_rules.specs.Loops.{Limits, with_fixed, for_limits, for_head, head, keeps_hold_after, turns_between, values_between, while_head, turn_bound}
 use Rattle.camac_rules.specs.Each.{turn_costs, each_turns, each_from, each_begins}
