@@ -6,7 +6,7 @@ use Rattle.std.proofs.lemmas.Bool.{leb-true, lt-leb, le-leb, cases_lt}
 use Rattle.camac_func.specs.Class.{class_of}
 use Rattle.camac_func.specs.declared.code.FunctionClass.TheVariants.{Read, Write, Control}
 use Rattle.camac_lang.specs.declared.word.WordSize.{WordSize}
-use Rattle.camac_lang.specs.Tree.{Expression, Move, no_data, into, from, Statement, assign, set_register, single, address_scan, q_stop, q_repeat, put, crate_call, lam_call, choose, choose_else, for_, while_, locked, call, Block, done, next, Procedure, Service}
+use Rattle.camac_lang.specs.Tree.{Expression, Move, no_data, into, from, Statement, assign, set_register, single, address_scan, q_stop, q_repeat, put, crate_call, lam_call, choose, choose_else, for_, for_each, while_, locked, call, Block, done, next, Procedure, Service}
 use Rattle.camac_esone.specs.Calls.{lam_function}
 use Rattle.camac_branch.specs.Plan.{crate_waits}
 use Rattle.camac_model.specs.Fine.{Bounds, annotated}
@@ -35,7 +35,11 @@ use Rattle.camac_rules.specs.Transfers.{is_one_crate, has_sub_addresses, scan_ru
 use Rattle.camac_rules.specs.Windows.{window_of, is_installed, is_declared}
 use Rattle.camac_rules.specs.Calls.{is_crate, lam_region, lock_rule}
 use Rattle.camac_rules.specs.Statements.{greatest_word, accept_statement, accept_block}
+use Rattle.camac_rules.specs.Each.{each_from, each_begins}
+use Rattle.camac_rules.specs.EachLimit.{count_block}
 use Rattle.camac_rules.specs.Accept.{at_start, own_body, within, accept_procedure, accept_service}
+pub use Rattle.camac_rules.proofs.EachCosts.{cut, cut_all}
+use Rattle.camac_rules.proofs.EachCosts.{each_cut}
 use Rattle.camac_check_simple.specs.declared.context.Context as code
 use Rattle.camac_check_simple.specs.Gives.{by_code, by_rules}
 
@@ -46,14 +50,6 @@ in_code c = record c { limit = capped }
 -- these are of any size
 abbrev pub in_rules : Context → Context
 in_rules c = record c { limit = λ k. k }
-
--- a verdict with its costs cut
-abbrev pub cut : Verdict → Verdict
-cut v = verdict v.after (capped v.costs)
-
-abbrev pub cut_all : Result Verdict Fault → Result Verdict Fault
-cut_all (Ok v) = Ok (cut v)
-cut_all (Err f) = Err f
 
 -- a step that has no costs, and one that has
 go_same : {A : Type 0} (r : Result A Fault) (k l : A → Result Verdict Fault) → ((x : A) → k x ≡ cut_all (l x)) → go_on r k ≡ cut_all (go_on r l)
@@ -139,6 +135,13 @@ scan_cut context around line f r1 r2 e x k =
     go_same (required (has_sub_addresses g && (has_sub_addresses h && is_declared context.plan f (window_of g h))) CommandNotDeclared line _) _ _ (λ _.
     go_same (required (same_class Read (class_of f)) WrongDirection line _) _ _ (λ _. refl))))))))
 
+step_cut : (a : Bounds) → capped (plus (costs 0 0 1) (capped a)) ≡ capped (plus (costs 0 0 1) a)
+step_cut a = same_costs _ _ _ _ _ _ (omega arith) (omega arith) (omega arith)
+
+from_cut : (n x v last : ℕ) (check rule : Facts → Result Verdict Fault) (k : Facts) → ((q : Facts) → check q ≡ cut_all (rule q)) → each_from capped n x v last check k ≡ cut_all (each_from (λ c. c) n x v last rule k)
+from_cut zero x v last check rule k h = refl
+from_cut (suc n) x v last check rule k h = each_cut (suc n) x v last check rule h k
+
 mutual
   pub statement_cut : (context : Context) (around : Around) (s : Statement) (k : Facts) → accept_statement (in_code context) around s k ≡ cut_all (accept_statement (in_rules context) around s k)
   statement_cut context around (assign line x e) k =
@@ -179,6 +182,11 @@ mutual
       (λ turn.
       go_same (required (keeps_hold_after keeps turn.after) KeepFailsAfterTurn line _) _ _ (λ _.
       ap (λ c. Ok (verdict (for_after x l keeps body k) c)) (loop_cut (turns_between l) turn.costs))))
+  statement_cut context around (for_each line x v last body) k =
+      go_same (each_begins around line x v last) _ _ (λ n.
+      go_cut (each_from capped n x v last (accept_block (in_code context) (with_fixed x around) body) k) (each_from (λ c. c) n x v last (accept_block (in_rules context) (with_fixed x around) body) k) _ _
+      (from_cut n x v last (accept_block (in_code context) (with_fixed x around) body) (accept_block (in_rules context) (with_fixed x around) body) k (λ q. block_cut context (with_fixed x around) body q))
+      (λ turns. ap (λ c. Ok (verdict turns.after c)) (step_cut turns.costs)))
   statement_cut context around (while_ line test most m keeps body) k =
       go_same (while_head around.body line most m keeps body k) _ _ (λ top.
       go_same (split line test top) _ _ (λ arms.
@@ -242,14 +250,16 @@ finish_all place most line hc hw hs q (Err f) e = ap (λ x. go_on x (λ v. withi
 pub service_cut : (context : code.Context) (v : Service) → v.cycles < 2 ^ 64 - 1 → v.words < 2 ^ 64 - 1 → accept_service (by_code context) v ≡ accept_service (by_rules context) v
 service_cut context v hc hw =
     let around : Around = alone_in (body.Service v.lam) in
-    finish_all (body.Service v.lam) (costs v.cycles v.words greatest) v.line hc hw (lit< tt) (accept_block (by_code context) around v.body at_start) (accept_block (by_rules context) around v.body at_start)
-    (block_cut (by_rules context) around v.body at_start)
+    ap (λ x. go_on (count_block (body.Service v.lam) v.body 0) (λ _. x))
+    (finish_all (body.Service v.lam) (costs v.cycles v.words greatest) v.line hc hw (lit< tt) (accept_block (by_code context) around v.body at_start) (accept_block (by_rules context) around v.body at_start)
+    (block_cut (by_rules context) around v.body at_start))
 
 pub procedure_cut : (context : code.Context) (p : Procedure) → p.cycles < 2 ^ 64 - 1 → p.words < 2 ^ 64 - 1 → p.steps < 2 ^ 64 - 1 → accept_procedure (by_code context) p ≡ accept_procedure (by_rules context) p
 procedure_cut context p hc hw hs =
     let place : Body = own_body (by_rules context) in
     let around : Around = alone_in place in
-    finish_all place (annotated p) p.line hc hw hs
+    ap (λ x. go_on (count_block place p.body 0) (λ _. x))
+    (finish_all place (annotated p) p.line hc hw hs
     (if_reached unreached (at_entry p.parameters) (accept_block (by_code context) around p.body))
     (if_reached unreached (at_entry p.parameters) (accept_block (by_rules context) around p.body))
-    (if_reached_cut (at_entry p.parameters) (accept_block (by_code context) around p.body) (accept_block (by_rules context) around p.body) (block_cut (by_rules context) around p.body))
+    (if_reached_cut (at_entry p.parameters) (accept_block (by_code context) around p.body) (accept_block (by_rules context) around p.body) (block_cut (by_rules context) around p.body)))

@@ -16,6 +16,7 @@ use Rattle.camac_rules.specs.Costs.{Verdict}
 use Rattle.camac_rules.specs.declared.case.Body.{Body}
 use Rattle.camac_rules.specs.declared.case.Body.TheVariants as body
 use Rattle.camac_rules.specs.Cycles.{Around, alone_in}
+use Rattle.camac_rules.specs.EachLimit.{count_block}
 use Rattle.camac_rules.specs.Statements.{accept_block}
 use Rattle.camac_rules.specs.Accept.{at_start, within}
 use Rattle.camac_check_simple.specs.declared.context.Context as code
@@ -54,5 +55,6 @@ finish_needs place plan line q (Err f) e = ap (λ x. and_then (checked x) (judge
 pub needs_cut : (context : code.Context) (v : Service) → service_needs (by_code context) v ≡ service_needs (by_rules context) v
 needs_cut context v =
     let around : Around = alone_in (body.Service v.lam) in
-    finish_needs (body.Service v.lam) context.plan.now v.line (accept_block (by_code context) around v.body at_start) (accept_block (by_rules context) around v.body at_start)
-    (block_cut (by_rules context) around v.body at_start)
+    ap (λ x. and_then (checked (count_block (body.Service v.lam) v.body 0)) (λ _. x))
+    (finish_needs (body.Service v.lam) context.plan.now v.line (accept_block (by_code context) around v.body at_start) (accept_block (by_rules context) around v.body at_start)
+    (block_cut (by_rules context) around v.body at_start))

@@ -24,6 +24,7 @@ use Rattle.camac_rules.specs.Fault.{Fault, broken}
 use Rattle.camac_rules.specs.Refusal.{go_on, required, if_reached}
 use Rattle.camac_rules.specs.Costs.{costs, Verdict, unreached}
 use Rattle.camac_rules.specs.Cycles.{Context, alone_in}
+use Rattle.camac_rules.specs.EachLimit.{count_block}
 use Rattle.camac_rules.specs.Procedures.{at_entry}
 use Rattle.camac_rules.specs.Statements.{accept_block}
 use Rattle.camac_rules.specs.Accept.{at_start, own_body, within, accept_procedure, accept_service, accept_items, with_procedure, bare}
@@ -92,9 +93,11 @@ procedure_accepted : (c : Context) (p : Procedure) (k : Bounds) → procedure_ne
 procedure_accepted c p k e =
     let place : Body = own_body c in
     let judged : Result Verdict Fault = if_reached unreached (at_entry p.parameters) (accept_block c (alone_in place) p.body) in
-    let v = go_ok judged (λ v. within place most v.costs p.line) k (checked_ok (accept_procedure c (needing most p)) k e) in
+    let n = go_ok (count_block place p.body 0) (λ _. go_on judged (λ v. within place most v.costs p.line)) k (checked_ok (accept_procedure c (needing most p)) k e) in
+    let v = go_ok judged (λ v. within place most v.costs p.line) k n.2 in
     let is = within_ok place most v.0.costs k p.line v.2 in
-    go_is judged v.0 (λ v. within place k v.costs p.line) v.1
+    go_is (count_block place p.body 0) n.0 (λ _. go_on judged (λ v. within place k v.costs p.line)) n.1
+    ∙ go_is judged v.0 (λ v. within place k v.costs p.line) v.1
     ∙ ap (λ b. within place k b p.line) (sym is.same)
     ∙ within_is place k k p.line (omega arith) (omega arith) (omega arith)
 
@@ -116,7 +119,9 @@ service_served : (c : Context) (v : Service) (k : Bounds) → service_needs c v 
 service_served c v k e =
     let place : Body = body.Service v.lam in
     let judged : Result Verdict Fault = accept_block c (alone_in place) v.body at_start in
-    let x = then_ok (checked judged) _ k e in
+    let n = then_ok (checked (count_block place v.body 0)) _ k e in
+    let counted = checked_ok (count_block place v.body 0) n.0 n.1 in
+    let x = then_ok (checked judged) _ k n.2 in
     let found = checked_ok judged x.0 x.1 in
     let y = then_ok (event_fits place c.plan x.0.costs.words v.line) _ k x.2 in
     let is = within_ok place most x.0.costs k v.line (checked_ok (within place most x.0.costs v.line) k y.2) in
@@ -126,7 +131,8 @@ service_served c v k e =
     let below : x.0.costs.steps ≤ greatest = is.steps in
     record {
       accepted =
-          go_is judged x.0 (λ v'. within place (costs k.cycles k.words greatest) v'.costs v.line) found
+          go_is (count_block place v.body 0) n.0 (λ _. go_on judged (λ v'. within place (costs k.cycles k.words greatest) v'.costs v.line)) counted
+          ∙ go_is judged x.0 (λ v'. within place (costs k.cycles k.words greatest) v'.costs v.line) found
           ∙ ap (λ b. within place (costs k.cycles k.words greatest) b v.line) (sym is.same)
           ∙ within_is place (costs k.cycles k.words greatest) k v.line (omega arith) (omega arith) (omega (arith, steps, below));
       words = omega (arith, words, small);

@@ -1,7 +1,7 @@
 -- The rows of each statement, from what the steps of its rule found.
 use Rattle.std.proofs.Common.{◌≡◌, ℕ, ◌+◌, List, [], ◌∷◌, ◌++◌, map, Option, Some, None, Result, Ok, false, refl, sym, ap, ap₂, ◌∙◌}
 use Rattle.std.specs.Prelude.{IsTrue, is_some, unwrap_or}
-use Rattle.camac_lang.specs.Tree.{Expression, Condition, Keep, Statement, assign, set_register, single, address_scan, q_stop, q_repeat, put, crate_call, lam_call, choose, choose_else, for_, while_, locked, call, Block, next, line_of}
+use Rattle.camac_lang.specs.Tree.{Expression, Condition, Keep, Statement, assign, set_register, single, address_scan, q_stop, q_repeat, put, crate_call, lam_call, choose, choose_else, for_, for_each, while_, locked, call, Block, next, line_of}
 use Rattle.camac_range.specs.Interval.{only}
 use Rattle.camac_branch.specs.Plan.{crate_waits}
 use Rattle.camac_model.specs.Fine.{Bounds}
@@ -52,6 +52,7 @@ simple_rows c around (call line p es) k h = refl
 simple_rows c around (choose line test a) k h = absurd (cc)
 simple_rows c around (choose_else line test a b) k h = absurd (cc)
 simple_rows c around (for_ line x e1 e2 keeps body) k h = absurd (cc)
+simple_rows c around (for_each line x v last body) k h = absurd (cc)
 simple_rows c around (while_ line test most m keeps body) k h = absurd (cc)
 simple_rows c around (locked line e body) k h = absurd (cc)
 

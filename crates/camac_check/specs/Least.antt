@@ -16,6 +16,7 @@ use Rattle.camac_rules.specs.declared.case.Body.{Body}
 use Rattle.camac_rules.specs.declared.case.Body.TheVariants as body
 use Rattle.camac_rules.specs.Cases.{budget}
 use Rattle.camac_rules.specs.Cycles.{Context, alone_in}
+use Rattle.camac_rules.specs.EachLimit.{count_block}
 use Rattle.camac_rules.specs.Statements.{accept_block}
 use Rattle.camac_rules.specs.Accept.{at_start, within, accept_procedure, with_procedure, bare}
 use Rattle.camac_check.specs.Faults.{of_link}
@@ -67,8 +68,9 @@ event_fits place plan words line =
 -- what a service needs
 abbrev pub service_needs : Context → Service → Result Bounds LeastFault
 service_needs c v =
-    and_then (checked (accept_block c (alone_in (body.Service v.lam)) v.body at_start))
-    (λ found. and_then (event_fits (body.Service v.lam) c.plan found.costs.words v.line) (λ _. checked (within (body.Service v.lam) most found.costs v.line)))
+    and_then (checked (count_block (body.Service v.lam) v.body 0))
+    (λ judged. and_then (checked (accept_block c (alone_in (body.Service v.lam)) v.body at_start))
+    (λ found. and_then (event_fits (body.Service v.lam) c.plan found.costs.words v.line) (λ _. checked (within (body.Service v.lam) most found.costs v.line))))
 
 -- procedures and services
 pub record Headed : Type 0 where

@@ -13,6 +13,7 @@ use crate::procedure::at_entry;
 use crate::statement::accept_block;
 use camac_branch::Plan;
 use camac_check_known::{Around, CheckFault, Costs, Facts};
+use camac_check_loops::count_block;
 use camac_check_rows::Rows;
 use camac_check_simple::Context;
 use camac_checked::Bounds;
@@ -111,6 +112,7 @@ fn procedure_in_64_bits(
     ensures { Gives (λ b. b) result (accept_procedure (by_code context.now) (annotate cycles words steps (procedure_of procedure.now))) }
 {
     let body = Body::Procedure(context.procedures.len());
+    count_block(body, &procedure.body, 0)?;
     let around = Around::alone_in(alloc, body);
     let known = at_entry(alloc, &procedure.parameters)?;
     let mut none = Rows::none();
@@ -148,6 +150,7 @@ fn accept_in_64_bits(
     ensures { Gives (λ b. b) result (accept_service (by_code context.now) (service_of service.now)) }
 {
     let body = Body::Service(service.lam);
+    count_block(body, &service.body, 0)?;
     let around = Around::alone_in(alloc, body);
     let known = Some(Facts::at_start(alloc));
     let mut none = Rows::none();
@@ -181,6 +184,7 @@ fn needs_in_64_bits(
     ensures { Finds (λ b. b) result (service_needs (by_code context.now) (service_of service.now)) }
 {
     let body = Body::Service(service.lam);
+    count_block(body, &service.body, 0)?;
     let around = Around::alone_in(alloc, body);
     let known = Some(Facts::at_start(alloc));
     let mut none = Rows::none();

@@ -83,6 +83,7 @@ fn is_simple(statement: &Stmt) -> bool
         Stmt::If { .. }
         | Stmt::IfElse { .. }
         | Stmt::For { .. }
+        | Stmt::ForEach { .. }
         | Stmt::While { .. }
         | Stmt::Lock { .. } => false,
         _ => true,
@@ -172,6 +173,7 @@ fn by_its_rule(
         Stmt::If { .. }
         | Stmt::IfElse { .. }
         | Stmt::For { .. }
+        | Stmt::ForEach { .. }
         | Stmt::While { .. }
         | Stmt::Lock { .. } => unreachable!(),
     }
@@ -249,6 +251,7 @@ fn accept_reached(
             body,
         } => accept_lock(alloc, place, *line, crate_no, body, known, rows),
         Stmt::For { head, body } => accept_for(alloc, place, head, body, known, rows),
+        Stmt::ForEach { .. } => Err(CheckFault::OutOfMemory),
         Stmt::While { head, body } => accept_while(alloc, place, head, body, known, rows),
         Stmt::Assign(_)
         | Stmt::SetRegister(_)

@@ -54,6 +54,10 @@ fn forget(left: &mut Facts, statement: &Stmt) -> Result<(), AllocError>
             forget_block(left, body)?;
             left.forget_variable(head.variable)
         }
+        Stmt::ForEach { variable, body, .. } => {
+            forget_block(left, body)?;
+            left.forget_variable(*variable)
+        }
         Stmt::While { body, .. } | Stmt::Lock { body, .. } => forget_block(left, body),
     }
 }

@@ -2,12 +2,16 @@
 // A crate of its own, so that it is proved beside the rules of simple statements.
 #![tactic(auto)]
 
+mod each;
 mod for_loop;
 mod forgotten;
+mod judged;
 mod keeps;
 mod while_loop;
 mod written;
 
+pub use each::{EachHead, each_begins};
 pub use for_loop::{Limits, LoopFacts, for_limits};
+pub use judged::count_block;
 pub use keeps::keeps_after;
 pub use while_loop::{turn_bound, while_head};

@@ -59,6 +59,11 @@ fn writes(statement: &Stmt, variable: usize) -> bool
             ..
         } => block_writes(then, variable) || block_writes(otherwise, variable),
         Stmt::For { head, body } => variable == head.variable || block_writes(body, variable),
+        Stmt::ForEach {
+            variable: counted,
+            body,
+            ..
+        } => variable == *counted || block_writes(body, variable),
         Stmt::While { body, .. } | Stmt::Lock { body, .. } => block_writes(body, variable),
     }
 }
@@ -89,7 +94,7 @@ fn fall_in(measure: usize, statement: &Stmt) -> Option<u32>
         Stmt::Scan(_) | Stmt::QStop { .. } | Stmt::QRepeat { .. } => None,
         Stmt::CrateCall(_) | Stmt::LamCall(_) | Stmt::Call(_) => None,
         Stmt::If { .. } | Stmt::IfElse { .. } | Stmt::Lock { .. } => None,
-        Stmt::For { .. } | Stmt::While { .. } => None,
+        Stmt::For { .. } | Stmt::ForEach { .. } | Stmt::While { .. } => None,
     }
 }
 

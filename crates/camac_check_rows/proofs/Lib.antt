@@ -3,3 +3,4 @@ pub mod Kept
 pub mod Passed
 pub mod Shape
 mod EachRows
+pub mod Merged

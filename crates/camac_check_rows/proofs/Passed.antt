@@ -1,18 +1,21 @@
 -- The rows of what can't be reached.
-use Rattle.std.proofs.Common.{◌≡◌, ℕ, List, [], ◌∷◌, ◌++◌, map, None, refl, sym, ap, ◌∙◌, append_assoc}
-use Rattle.camac_lang.specs.Tree.{Condition, Statement, choose_else, Block, next, line_of}
+use Rattle.std.proofs.Common.{◌≡◌, ℕ, ◌+◌, ◌-◌, List, [], ◌∷◌, ◌++◌, map, None, refl, sym, ap, ◌∙◌, append_assoc}
+use Rattle.camac_lang.specs.Tree.{Condition, Statement, choose_else, for_each, Block, next, line_of}
 use Rattle.camac_model.specs.Fine.{Bounds}
 use Rattle.camac_rules.specs.Refusal.{if_reached}
 use Rattle.camac_rules.specs.Costs.{no_costs}
 use Rattle.camac_rules.specs.Cycles.{Context, Around}
+use Rattle.camac_rules.specs.Loops.{with_fixed}
 use Rattle.camac_check_rows.specs.declared.row.Kind.TheVariants as kind
 use Rattle.camac_check_rows.specs.declared.row.Detail.{Detail}
 use Rattle.camac_check_rows.specs.declared.row.Detail.TheVariants as detail
 use Rattle.camac_check_rows.specs.declared.row.Row.{Row}
 use Rattle.camac_check_rows.specs.declared.inside.Weight.{Weight}
 use Rattle.camac_check_rows.specs.Statements.{kind_of, detail_of, first_row}
-use Rattle.camac_check_rows.specs.Weights.{first_arm, second_arm, inside_row}
-use Rattle.camac_check_rows.specs.Rows.{inside, statement_rows, block_rows}
+use Rattle.camac_check_rows.specs.Turns.{Turned, turned}
+use Rattle.camac_check_rows.specs.Weights.{once, first_arm, second_arm, inside_row}
+use Rattle.camac_check_rows.specs.Rows.{inside, block_verdict, statement_rows, block_rows}
+use Rattle.camac_check_rows.proofs.Merged.{none_turned}
 
 map_both : {A B : Type 0} (f : A → B) (xs ys : List A) → map f (xs ++ ys) ≡ map f xs ++ map f ys
 map_both f [] ys = refl
@@ -56,4 +59,26 @@ none_choice c around s line test a b first_block second_block n told first other
     ∙ ap (λ w. first ∷ (inside c (first_arm no_costs no_costs) (block_rows c around a None) ++ (other ∷ inside c w (block_rows c around b None)))) w2_is
     ∙ ap (λ o. first ∷ (inside c (first_arm no_costs no_costs) (block_rows c around a None) ++ (o ∷ inside c (second_arm no_costs no_costs) (block_rows c around b None)))) other_is
     ∙ ap (λ f. f ∷ (inside c (first_arm no_costs no_costs) (block_rows c around a None) ++ (first_row line kind.Else 0 no_costs no_costs detail.Nothing ∷ inside c (second_arm no_costs no_costs) (block_rows c around b None)))) first_is
+    ∙ sym (ap (λ q. statement_rows c around q None) is)
+
+-- an `each` that can't be reached, a part at a time
+pub none_each : (c : Context) (around : Around) (s : Statement) (line x v last : ℕ) (body block : Block) (n : Bounds) (told : Detail) (own : Row) (w : Weight) (r0 r1 r2 : List Row)
+    → s ≡ for_each line x v last body → block ≡ body → n ≡ no_costs → told ≡ detail_of c s None
+    → own ≡ first_row (line_of s) (kind_of s) 0 n n told → w ≡ once
+    → r0 ≡ [] → r1 ≡ r0 ++ (own ∷ []) → r2 ≡ r1 ++ inside c w (block_rows c (with_fixed x around) block None)
+    → r2 ≡ statement_rows c around s None
+unfolding if_reached
+none_each c around s line x v last body block n told own w r0 r1 r2 is eb en et eo ew p0 p1 p2 =
+    let own_is : own ≡ first_row line kind.For 0 no_costs no_costs detail.Nothing =
+    eo
+    ∙ ap (λ m. first_row (line_of s) (kind_of s) 0 m m told) en
+    ∙ ap (λ d. first_row (line_of s) (kind_of s) 0 no_costs no_costs d) et
+    ∙ ap (λ q. first_row (line_of q) (kind_of q) 0 no_costs no_costs (detail_of c q None)) is in
+    p2
+    ∙ ap (λ r. r ++ inside c w (block_rows c (with_fixed x around) block None)) (p1 ∙ ap (λ r. r ++ (own ∷ [])) p0)
+    ∙ ap (λ b. own ∷ inside c w (block_rows c (with_fixed x around) b None)) eb
+    ∙ ap (λ u. own ∷ inside c u (block_rows c (with_fixed x around) body None)) ew
+    ∙ ap (λ o. o ∷ inside c once (block_rows c (with_fixed x around) body None)) own_is
+    ∙ ap (λ (t : Turned). first_row line kind.For 0 no_costs no_costs detail.Nothing ∷ inside c once t.rows)
+    (sym (none_turned c.limit (last + 1 - v) x v (block_verdict c (with_fixed x around) body) (block_rows c (with_fixed x around) body) (turned 0 (block_rows c (with_fixed x around) body None))))
     ∙ sym (ap (λ q. statement_rows c around q None) is)

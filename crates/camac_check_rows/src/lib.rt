@@ -6,6 +6,7 @@ mod inside;
 mod row;
 mod rows;
 mod statement;
+mod turns;
 mod unreached;
 
 pub use inside::{Weight, first_arm, once, second_arm, turning};

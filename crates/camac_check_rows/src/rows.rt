@@ -1,6 +1,6 @@
 // Where a walk puts the rows of the statements: in a list, or nowhere.
 
-ghost use Rattle.std.specs.Prelude.{◌≡◌, ◌∷◌, [], OnOk, None, Some, is_some, map, unwrap_or};
+ghost use Rattle.std.specs.Prelude.{◌≡◌, ◌∷◌, [], OnOk, None, Some, is_some, map, option_map, unwrap_or};
 ghost use Rattle.camac_lang.specs.Tree.{line_of};
 ghost use Rattle.camac_lang.specs.View.{statement_of};
 ghost use Rattle.camac_rules.specs.Capped.{capped};
@@ -8,11 +8,13 @@ ghost use Rattle.camac_rules.specs.Cycles.{Around as Surroundings};
 ghost use Rattle.camac_check_simple.specs.Gives.{by_code};
 ghost use Rattle.camac_check_rows.specs.Rows.{none_yet, statement_rows, with_rows};
 ghost use Rattle.camac_check_rows.specs.Statements.{first_row, kind_of};
+ghost use Rattle.camac_check_rows.specs.Turns.{merge};
 ghost use Rattle.camac_check_rows.specs.Weights.{inside_row};
 
 use crate::inside::{Weight, push_inside};
 use crate::row::{Detail, Row};
 use crate::statement::simple_row;
+use crate::turns::merge_rows;
 use crate::unreached::unreached_rows;
 use camac_check_known::Costs;
 use camac_check_simple::Context;
@@ -104,6 +106,20 @@ impl Rows {
                     None => Ok(()),
                 }
             }
+            None => Ok(()),
+        }
+    }
+
+    /// Merges the rows of one more turn of an `each` into these, row by row, if they are kept.
+    #[tactic(auto, using(crate::proofs::Merged::merge_none))]
+    pub fn merge(&mut self, turn: &Rows) -> Result<(), AllocError>
+        ensures { OnOk result (self.new ≡ option_map (λ rows. merge capped rows (unwrap_or turn.now [])) self.old) }
+    {
+        match &mut self.kept {
+            Some(rows) => match &turn.kept {
+                Some(turn) => merge_rows(rows, turn),
+                None => Ok(()),
+            },
             None => Ok(()),
         }
     }

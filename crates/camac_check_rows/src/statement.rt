@@ -97,7 +97,7 @@ fn kind_of(statement: &Stmt) -> Kind
         Stmt::CrateCall(action) => crate_kind(action.call),
         Stmt::LamCall(action) => lam_kind(action.call),
         Stmt::If { .. } | Stmt::IfElse { .. } => Kind::If,
-        Stmt::For { .. } => Kind::For,
+        Stmt::For { .. } | Stmt::ForEach { .. } => Kind::For,
         Stmt::While { .. } => Kind::While,
         Stmt::Lock { .. } => Kind::Lock,
         Stmt::Call(_) => Kind::Call,

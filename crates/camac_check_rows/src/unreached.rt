@@ -50,6 +50,10 @@ pub fn unreached_rows(
             push_unreached(alloc, context, &mut rows, body, turning(0))?;
             Ok(rows)
         }
+        Stmt::ForEach { body, .. } => {
+            push_unreached(alloc, context, &mut rows, body, once())?;
+            Ok(rows)
+        }
         Stmt::Lock { body, .. } => {
             push_unreached(alloc, context, &mut rows, body, once())?;
             Ok(rows)

@@ -3,8 +3,9 @@ use Rattle.camac_lang.specs.View.{statement_of, statements_of}
 use Rattle.camac_check_simple.specs.Gives.{by_code}
 use Rattle.camac_check_rows.proofs.Trees.{next_of}
 use Rattle.camac_check_rows.specs.Rows.{block_rows, inside}
-use Rattle.camac_check_rows.proofs.Passed.{none_choice, none_next}
-use Rattle.camac_check_rows.proofs.Trees.{choose_else_is}
+use Rattle.camac_rules.specs.Loops.{with_fixed}
+use Rattle.camac_check_rows.proofs.Passed.{none_choice, none_each, none_next}
+use Rattle.camac_check_rows.proofs.Trees.{choose_else_is, each_tree}
 use Rattle.camac_check_rows.proofs.unreached.+unreached.Goals as goal
 
 pub push_unreached-statements-preserved : goal.push_unreached-statements-preserved
@@ -36,3 +37,13 @@ unreached_rows-returns-in_ok-push_unreached-in-IfElse-2 t c = λ around.
     c.new-nothing.ensures c.in_ok-detail.ensures c.simple_row.ensures c.else_row.ensures c.first_arm-first.ensures c.second_arm-second.ensures
     c.new-rows.ensures.items c.in_ok-push.ensures.items (c.in_ok-push_unreached-in-IfElse.ensures around)
     c.in_ok-push-in-IfElse.ensures.items (c.in_ok-push_unreached-in-IfElse-2.ensures around)
+
+pub unreached_rows-returns-in_ok-push_unreached-in-ForEach : goal.unreached_rows-returns-in_ok-push_unreached-in-ForEach
+unreached_rows-returns-in_ok-push_unreached-in-ForEach t c = λ around.
+    let it = c.in-ForEach in
+    none_each (by_code c.args.context.now) around (statement_of c.args.statement.now) it.line it.variable it.first it.last (statements_of it.body.items) (statements_of c.deref-in-ForEach.result.now)
+    c.new-nothing.result c.in_ok-detail.detail c.simple_row.result c.once-in-ForEach.result
+    c.new-rows.result.items c.push.new.self.items c.push_unreached-in-ForEach.new.rows.items
+    (ap statement_of it.is ∙ each_tree it.line it.variable it.first it.last it.body) (ap statements_of c.deref-in-ForEach.ensures.value)
+    c.new-nothing.ensures c.in_ok-detail.ensures c.simple_row.ensures c.once-in-ForEach.ensures
+    c.new-rows.ensures.items c.in_ok-push.ensures.items (c.in_ok-push_unreached-in-ForEach.ensures (with_fixed it.variable around))

@@ -1,0 +1,64 @@
+-- Counts that stay at the greatest number of 64 bits.
+use Rattle.std.proofs.Common.{◌≡◌, ℕ, zero, suc, ◌+◌, ◌-◌, ◌*◌, ◌^◌, ◌<◌, ◌≤◌, Ok, Err, Vec, sym, ap, ◌∙◌, ⊎_elim, arith}
+use Rattle.std.specs.Prelude.{min}
+use Rattle.std.specs.declared.alloc.Global.{Global}
+use Rattle.std.proofs.Math.Nat.{mul-le-mul_left}
+use Rattle.std.proofs.lemmas.Bool.{cases_lt, le-leb, lt-leb}
+use Rattle.camac_lang.specs.declared.tree.Stmt.{Stmt}
+use Rattle.camac_lang.specs.declared.tree.Stmt.TheVariants as rust
+use Rattle.camac_lang.specs.declared.tree.Stmt.TheFolds.{fold-roll-Stmt}
+use Rattle.camac_lang.specs.declared.tree.Stmt.TheOpen as layer
+use Rattle.camac_lang.specs.Tree.{Statement, for_each}
+use Rattle.camac_lang.specs.View.{statement_of, statements_of, statement_step}
+use Rattle.camac_rules.specs.declared.case.Body.{Body}
+use Rattle.camac_rules.specs.declared.case.Case.TheVariants.{Judged}
+use Rattle.camac_rules.specs.declared.rule.CheckRule.TheVariants.{TooManyTurns}
+use Rattle.camac_rules.specs.Cases.{judged_case}
+use Rattle.camac_rules.specs.EachLimit.{judged_limit}
+use Rattle.camac_rules.specs.Fault.{broken}
+use Rattle.camac_rules.specs.Refusal.{go_on, required}
+use Rattle.camac_check_loops.specs.Counting.{counted}
+
+-- so many times a number that is cut
+pub scaled : (t n k : ℕ) → min (t * min n k) k ≡ min (t * n) k
+scaled zero n k = omega arith
+scaled (suc t) n k =
+    ⊎_elim
+    (λ above.
+    let all : k ≤ k + t * k = omega arith in
+    let more : t * k ≤ t * n = mul-le-mul_left t (omega arith) in
+    let cut' : min n k ≡ k = omega arith in
+    let left : suc t * min n k ≡ k + t * k = ap (λ m. suc t * m) cut' ∙ suc_times t k in
+    let right : suc t * n ≡ n + t * n = suc_times t n in
+    omega (arith, left, right))
+    (λ below. let same : min n k ≡ n = omega arith in ap (λ m. min (suc t * m) k) same)
+    (cases_lt k n)
+  where
+    suc_times : (t n : ℕ) → suc t * n ≡ n + t * n
+    suc_times t n = omega arith
+
+-- the turns of an `each` after what was counted
+pub turns_cut : (before turns n k : ℕ) → min (before + min (turns * min (min n k + 1) k) k) k ≡ min (before + turns * (1 + n)) k
+turns_cut before turns n k =
+    let inner : min (min n k + 1) k ≡ min (1 + n) k = omega arith in
+    let outer = ap (λ m. min (turns * m) k) inner ∙ scaled turns (1 + n) k in
+    omega (arith, outer)
+
+-- a sum of 64 bits before the limit, and past it
+pub below_limit : (place : Body) (line needed n : ℕ) → needed ≡ min n (2 ^ 64 - 1) → needed ≤ 65536 → counted place line n ≡ Ok needed
+unfolding go_on required
+below_limit place line needed n e le =
+    let small : n ≤ judged_limit = omega (arith, e, le) in
+    let same : n ≡ needed = omega (arith, e, le) in
+    ap (λ b. go_on (required b TooManyTurns line (judged_case place n judged_limit)) (λ _. Ok n)) (le-leb n judged_limit small) ∙ ap (λ m. Ok m) same
+
+pub past_limit : (place : Body) (line needed n : ℕ) → needed ≡ min n (2 ^ 64 - 1) → 65536 < needed → counted place line n ≡ Err (broken TooManyTurns line (Judged place needed 65536))
+unfolding go_on required
+past_limit place line needed n e lt =
+    let large : judged_limit < n = omega (arith, e, lt) in
+    ap (λ b. go_on (required b TooManyTurns line (judged_case place n judged_limit)) (λ _. Ok n)) (lt-leb n judged_limit large)
+    ∙ ap (λ m. Err (broken TooManyTurns line (Judged place m 65536))) (sym e)
+
+-- an `each` of the code as the tree has it
+pub each_is : (line x first last : ℕ) (body : Vec Stmt Global) → statement_of (rust.ForEach line x first last body) ≡ for_each line x first last (statements_of body.items)
+each_is line x first last body = ap statement_of (sym (rust.rolls-ForEach line x first last body)) ∙ fold-roll-Stmt Statement statement_step (layer.ForEach line x first last body)
