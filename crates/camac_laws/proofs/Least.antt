@@ -15,6 +15,7 @@ use Rattle.camac_rules.specs.Costs.{costs, Verdict, unreached}
 use Rattle.camac_rules.specs.declared.case.Body.{Body}
 use Rattle.camac_rules.specs.declared.case.Body.TheVariants as body
 use Rattle.camac_rules.specs.Cycles.{Context, Around, alone_in}
+use Rattle.camac_rules.specs.EachLimit.{count_block}
 use Rattle.camac_rules.specs.Laws.{EventsFit}
 use Rattle.camac_rules.specs.Procedures.{at_entry}
 use Rattle.camac_rules.specs.Statements.{accept_block}
@@ -51,7 +52,8 @@ procedure_least c low own h p found numbers e =
     let around : Around = alone_in place in
     let judged : Result Verdict Fault = if_reached unreached (at_entry p.parameters) (accept_block (calling c own) around p.body) in
     let lower : Result Verdict Fault = if_reached unreached (at_entry p.parameters) (accept_block (calling c low) around p.body) in
-    let v = go_ok judged (λ v. within place (annotated p) v.costs p.line) found e in
+    let counted = go_ok (count_block place p.body 0) (λ _. go_on judged (λ v. within place (annotated p) v.costs p.line)) found e in
+    let v = go_ok judged (λ v. within place (annotated p) v.costs p.line) found counted.2 in
     let inside = within_ok place (annotated p) v.0.costs found p.line v.2 in
     let w =
     lower_ok lower judged
@@ -61,7 +63,8 @@ procedure_least c low own h p found numbers e =
     let below = w.2 in (
       w.0.costs,
       ap checked
-          (ap (λ n. go_on (if_reached unreached (at_entry p.parameters) (accept_block (calling c low) (alone_in (body.Procedure n)) p.body)) (λ v. within (body.Procedure n) most v.costs p.line)) (as_many low own h)
+          (ap (λ n. go_on (count_block (body.Procedure n) p.body 0) (λ _. go_on (if_reached unreached (at_entry p.parameters) (accept_block (calling c low) (alone_in (body.Procedure n)) p.body)) (λ v. within (body.Procedure n) most v.costs p.line))) (as_many low own h)
+          ∙ go_is (count_block place p.body 0) counted.0 (λ _. go_on lower (λ v. within place most v.costs p.line)) counted.1
           ∙ go_is lower w.0 (λ v. within place most v.costs p.line) w.1
           ∙ within_is place most w.0.costs p.line (record {
             cycles = omega (arith, below.cycles, inside.cycles, numbers.cycles);
@@ -82,12 +85,14 @@ service_least c low own h v found fits e =
     let around : Around = alone_in place in
     let judged : Result Verdict Fault = accept_block (calling c own) around v.body at_start in
     let lower : Result Verdict Fault = accept_block (calling c low) around v.body at_start in
-    let u = go_ok judged (λ u. within place (costs v.cycles v.words greatest) u.costs v.line) found e in
+    let counted = go_ok (count_block place v.body 0) (λ _. go_on judged (λ u. within place (costs v.cycles v.words greatest) u.costs v.line)) found e in
+    let u = go_ok judged (λ u. within place (costs v.cycles v.words greatest) u.costs v.line) found counted.2 in
     let inside = within_ok place (costs v.cycles v.words greatest) u.0.costs found v.line u.2 in
     let w = lower_ok lower judged (block_lower c low own h around v.body at_start) u.0 u.1 in
     let below = w.2 in (
       w.0.costs,
-      then_is (checked lower) w.0 (λ found. and_then (event_fits place c.plan found.costs.words v.line) (λ _. checked (within place most found.costs v.line))) (ap checked w.1)
+      then_is (checked (count_block place v.body 0)) counted.0 (λ _. and_then (checked lower) (λ found. and_then (event_fits place c.plan found.costs.words v.line) (λ _. checked (within place most found.costs v.line)))) (ap checked counted.1)
+          ∙ then_is (checked lower) w.0 (λ found. and_then (event_fits place c.plan found.costs.words v.line) (λ _. checked (within place most found.costs v.line))) (ap checked w.1)
           ∙ then_is (event_fits place c.plan w.0.costs.words v.line) tt (λ _. checked (within place most w.0.costs v.line))
           (event_is place c.plan w.0.costs.words v.line (omega (arith, below.words, inside.words, fits.words)) (omega (arith, below.words, inside.words, fits.buffer)))
           ∙ ap checked

@@ -1,8 +1,6 @@
 -- What a run makes of an accepted body keeps to its rows: one induction over statements.
 use Rattle.std.proofs.Common.{◌≡◌, ℕ, ◌+◌, ◌-◌, ◌*◌, ◌^◌, ◌<◌, ◌≤◌, zero, suc, List, [], ◌∷◌, ◌++◌, Option, Some, None, Result, Ok, Err, Bool, true, false, refl, sym, ap, subst, ◌∙◌, arith}
-use Rattle.std.proofs.Math.Nat.{mul-le-mul_left}
 use Rattle.std.proofs.lemmas.Bool.{ltb-true, ltb-false}
-use Rattle.std.proofs.lemmas.Nat.{mul-le}
 use Rattle.std.specs.Prelude.{IfOk, nat_lt, unwrap_or, if◌then◌else◌}
 use Rattle.camac_lang.specs.Tree.{Expression, Condition, Keep, Statement, assign, set_register, single, address_scan, q_stop, q_repeat, put, crate_call, lam_call, choose, choose_else, for_, for_each, while_, locked, call, Block, done, next}
 use Rattle.camac_range.specs.Number.{greatest}
@@ -22,7 +20,7 @@ use Rattle.camac_rules.specs.Known.{Facts, Known, with_range}
 use Rattle.camac_rules.specs.Conditions.{Branches, branches, split}
 use Rattle.camac_rules.specs.Capped.{capped}
 use Rattle.camac_rules.specs.Costs.{costs, no_costs, plus, choice_costs, lock_costs, loop_costs, Verdict, unreached}
-use Rattle.camac_rules.specs.Cycles.{Context, Around, with_locked, may_write}
+use Rattle.camac_rules.specs.Cycles.{Context, Around, with_locked}
 use Rattle.camac_rules.specs.Calls.{lock_rule}
 use Rattle.camac_rules.specs.Loops.{Limits, with_fixed, for_limits, for_head, head, keeps_hold_after, turns_between, values_between, while_head, turn_bound}
 use Rattle.camac_rules.specs.Each.{turn_costs, each_turns, each_from, each_begins}
@@ -51,10 +49,11 @@ use Rattle.camac_check_rows.specs.Rows.{found, block_verdict, Turning, turning_f
 use Rattle.camac_laws.specs.Lower.{AtMost}
 use Rattle.camac_laws.specs.Made.{Made, spent, both, from_end, where_some, by_test, for_made, while_made, lock_made, unmade_in, unmade, made_in, made}
 use Rattle.camac_laws.specs.Shares.{IsBelow}
+use Rattle.camac_laws.specs.Times.{NoMore}
 use Rattle.camac_laws.proofs.CostsBounds.{required_ok}
 use Rattle.camac_laws.proofs.MadeLists.{KeepsIn, AllIn, in_more, in_both, in_append, none_inside, all_inside, AllAdd, same_more, none_merged, adds_in, adds_none, adds_turn, turns_none, turns_unmade}
 use Rattle.camac_laws.proofs.Shares.{go_ok, ok_same}
-use Rattle.camac_laws.proofs.Sums.{if_below, choice_below, lock_below, then_below, turn_then_below}
+use Rattle.camac_laws.proofs.Sums.{if_below, choice_below, lock_below, then_below, loop_low, loop_room, turn_then_below}
 use Rattle.camac_laws.proofs.Times.{no_more_up, no_more_merged, block_never, block_in_steps, turns_from_in_steps}
 use Rattle.camac_laws.proofs.Turned.{begun}
 
@@ -119,10 +118,6 @@ from_end_holds H plan P Q (does p b) go none h f g = from_end_holds H plan P Q b
 from_end_holds H plan P Q (ends t) go none h f g = f t h
 from_end_holds H plan P Q (stops w t) go none h f g = g
 
-from_end_keeps : (m : ℕ) (rows : List Row) (plan : Layout) (P : Unit {0} → Stop → State → Type 0) (Q : Unit {0} → State → Type 0) (b : Behaviour State) (go : State → Made) (none : Made)
-    → Meets step (SafePiece plan) P Q tt b → ((t : State) → Q tt t → AllIn m rows (go t)) → AllIn m rows none → AllIn m rows (from_end b go none)
-from_end_keeps m rows plan P Q b go none h f g = from_end_holds (AllIn m rows) plan P Q b go none h f g
-
 test_keeps : (m : ℕ) (rows : List Row) (around : Place) (o : Option Bool) (arms : Branches) (t : State) (first second none : Made)
     → Decides around o arms t → (Reaches around arms.holds t → AllIn m rows first) → (Reaches around arms.fails t → AllIn m rows second) → AllIn m rows (by_test o first second none)
 test_keeps m rows around None arms t first second none d f g = absurd d
@@ -142,16 +137,6 @@ if_keeps m rows false none other f g = g
 
 allowed_at : {A : Type 0} {r : Result A Fault} {P : A → Type 0} (x : A) → Allows r P → r ≡ Ok x → P x
 allowed_at {A} {r} {P} x h e = subst (λ q. IfOk q P) e h.holds
-
-loop_low : (t : ℕ) (k : Bounds) → 1 ≤ t → IsBelow (capped (loop_costs t k)) → IsBelow k
-loop_low t k le (cycles, words, steps) =
-    let c : 1 * k.cycles ≤ t * k.cycles = mul-le 1 k.cycles t k.cycles le (omega arith) in
-    let w : 1 * k.words ≤ t * k.words = mul-le 1 k.words t k.words le (omega arith) in
-    let s : 1 * (1 + k.steps) ≤ t * (1 + k.steps) = mul-le 1 (1 + k.steps) t (1 + k.steps) le (omega arith) in
-    (omega arith, omega arith, omega arith)
-
-loop_room : (t : ℕ) (k : Bounds) → IsBelow (capped (loop_costs t k)) → t * in_64_bits k.steps ≤ 2 ^ 64 - 1
-loop_room t k (cycles, words, steps) = let more : t * in_64_bits k.steps ≤ t * (1 + k.steps) = mul-le-mul_left t (omega arith) in omega arith
 
 -- ---- of what is accepted, with at most n turns per loop
 
@@ -232,7 +217,7 @@ module _ (c : Setting) (narrow : HasWidths c.plan) (serves : Serves c) (n : ℕ)
         let t' : State = for_state x v' t in
         in_more (1 + j) (suc j) rows _ (omega arith)
         (in_both 1 j rows (made (of c) n body t') _ (keeps t' (counting.turn_begins c.plan around x body qs k l turn (run body) h s i v w f g j v' t b))
-        (from_end_keeps j rows c.plan (StopsWell (loop_costs (turns_between l) turn.costs) s) (λ y. counting.Turned c.plan around x body qs k l turn (run body) h s i v w f g j (v' + 1)) (run body t')
+        (from_end_holds (AllIn j rows) c.plan (StopsWell (loop_costs (turns_between l) turn.costs) s) (λ y. counting.Turned c.plan around x body qs k l turn (run body) h s i v w f g j (v' + 1)) (run body t')
         (for_made j m x (v' + 1) (run body) (made (of c) n body) (unmade body)) (unmade body)
         (counting.one_turn c.plan around x body qs k l turn (run body) h s i v w f g j v' t b)
         (λ u q. for_turns_keep j m (v' + 1) u q) (in_more 0 j rows (unmade body) (omega arith) none)))
@@ -254,7 +239,7 @@ module _ (c : Setting) (narrow : HasWidths c.plan) (serves : Serves c) (n : ℕ)
         let some_turn : 1 ≤ turn_bound arms.holds most = omega (arith, b.turns) in
         in_more (1 + left) (suc left) rows _ (omega arith)
         (in_both 1 left rows (made (of c) n body (stepped t)) _ (keeps some_turn (stepped t) (stepped_reaches around arms.holds t r))
-        (from_end_keeps left rows c.plan (StopsWell (loop_costs (turn_bound arms.holds most) turn.costs) s) (λ y. Left left j) (run body (stepped t)) (goes j) (unmade body)
+        (from_end_holds (AllIn left rows) c.plan (StopsWell (loop_costs (turn_bound arms.holds most) turn.costs) s) (λ y. Left left j) (run body (stepped t)) (goes j) (unmade body)
         (turning_while.one_turn c.plan around test most m fall qs body k arms turn (run body) h s i j left t b r)
         (λ u q. others left u q) (in_more 0 left rows (unmade body) (omega arith) none)))
 
@@ -294,8 +279,8 @@ module _ (c : Setting) (narrow : HasWidths c.plan) (serves : Serves c) (n : ℕ)
     abbrev over : (left next : ℕ) → Known → Turned → List Row
     over left v k so_far = (turns_over capped left x v (block_verdict Code (with_fixed x (around_of around)) body) (block_rows Code (with_fixed x (around_of around)) body) k so_far).rows
 
-    abbrev goes : (left allowed next : ℕ) → State → Made
-    goes left allowed v t = for_made left allowed x v (run body) (made (of c) n body) (unmade body) t
+    abbrev made_from : (left allowed next : ℕ) → State → Made
+    made_from left allowed v t = for_made left allowed x v (run body) (made (of c) n body) (unmade body) t
 
     unmade_at : (k : Known) → AllIn 0 (Rows k) (unmade body)
     unmade_at k = unmade_block (seen c) (with_fixed x (around_of around)) body k
@@ -312,7 +297,7 @@ module _ (c : Setting) (narrow : HasWidths c.plan) (serves : Serves c) (n : ℕ)
 
     each_turns_keep : (left allowed v : ℕ) → left + v ≡ last + 1 → (k : Known) (so_far : Turned) (m : ℕ) (w : Verdict) → if_reached unreached k (each_turns capped left x v last check) ≡ Ok w
         → IsBelow w.costs → m + w.costs.steps ≤ 2 ^ 64 - 1 → NoMore (in_64_bits m) so_far.rows → AllIn 0 so_far.rows (unmade body) → (t : State) → Reaches around k t
-        → AllAdd so_far.rows (over left v k so_far) (goes left allowed v t)
+        → AllAdd so_far.rows (over left v k so_far) (made_from left allowed v t)
     unfolding go_on if_reached
     each_turns_keep zero j v is k so_far m w e low room le none t r = adds_none so_far.rows (unmade body) none
     each_turns_keep (suc left) j v is None so_far m w e low room le none t r = absurd r
@@ -335,8 +320,8 @@ module _ (c : Setting) (narrow : HasWidths c.plan) (serves : Serves c) (n : ℕ)
         let after_is : b.whole.after ≡ turn.after = ap (λ u. u.after) b.is in
         adds_turn (in_64_bits m) (in_64_bits turn.costs.steps) so_far.rows (Rows (Some head)) (over (suc left) v (Some q) so_far) (made (of c) n body t') _
         (same_more 0 0 so_far.rows (Rows (Some head)) (unmade body) none (unmade_at (Some head))) few steps (omega (arith, parts.2)) (keeps (Some head) turn turn'.1 parts.0 t' i)
-        (subst (λ (u : Verdict). AllAdd after.rows (over left (v + 1) u.after after) (from_end (run body t') (goes left j (v + 1)) (unmade body))) (sym (ap (λ u. found unreached u) turn'.1))
-        (from_end_holds (AllAdd after.rows (over left (v + 1) turn.after after)) c.plan (StopsWell b.whole.costs t') (EndsWell (fixing x around) b.whole.after b.whole.costs t') (run body t') (goes left j (v + 1)) (unmade body)
+        (subst (λ (u : Verdict). AllAdd after.rows (over left (v + 1) u.after after) (from_end (run body t') (made_from left j (v + 1)) (unmade body))) (sym (ap (λ u. found unreached u) turn'.1))
+        (from_end_holds (AllAdd after.rows (over left (v + 1) turn.after after)) c.plan (StopsWell b.whole.costs t') (EndsWell (fixing x around) b.whole.after b.whole.costs t') (run body t') (made_from left j (v + 1)) (unmade body)
         (b.sound.each n le t' i)
         (λ u ended. each_turns_keep left j (v + 1) (omega (arith, is)) turn.after after (m + turn.costs.steps) rest rest'.1 parts.1 parts.3 few' none' u
         (outside around x turn.after u (subst (λ o. Reaches (fixing x around) o u) after_is ended.reaches)))
@@ -344,7 +329,7 @@ module _ (c : Setting) (narrow : HasWidths c.plan) (serves : Serves c) (n : ℕ)
 
     -- with and without a turn
     each_from_keeps : (count v : ℕ) → count ≡ last + 1 - v → (k : Facts) (w : Verdict) → each_from capped count x v last check k ≡ Ok w → IsBelow w.costs → (t : State) → Inside around k t
-        → AllIn 1 (over count v (Some k) (turned 0 (Rows None))) (goes count n v t)
+        → AllIn 1 (over count v (Some k) (turned 0 (Rows None))) (made_from count n v t)
     unfolding if_reached
     each_from_keeps zero v is k w e low t i = in_more 0 1 (Rows None) (unmade body) (omega arith) (unmade_at None)
     each_from_keeps (suc count) v is k w e low t i =
@@ -603,5 +588,5 @@ module _ (c : Setting) (narrow : HasWidths c.plan) (serves : Serves c) (n : ℕ)
         subst (λ (w : Verdict). AllIn 1 (statement_rows Code A st (Some k) ++ block_rows Code A rest w.after) (own ++ others)) (sym (ap (λ q. found unreached q) first'.1))
         (in_append 1 (statement_rows Code A st (Some k)) (block_rows Code A rest first.after) own others
         (statement_keeps around st first_may k first first'.1 low.0 s i)
-        (from_end_keeps 1 (block_rows Code A rest first.after) c.plan (StopsWell j.whole.costs s) (EndsWell around j.whole.after j.whole.costs s) (meaning (of c) n st s) (made (of c) n rest) (unmade rest)
+        (from_end_holds (AllIn 1 (block_rows Code A rest first.after)) c.plan (StopsWell j.whole.costs s) (EndsWell around j.whole.after j.whole.costs s) (meaning (of c) n st s) (made (of c) n rest) (unmade rest)
         (j.sound.each n le s i) (λ t x. block_keeps around rest rest_may first.after second second'.1 low.1 t (subst (λ q. Reaches around q t) after x.reaches)) (none_of around rest first.after)))

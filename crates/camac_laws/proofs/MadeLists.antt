@@ -94,20 +94,20 @@ all_inside w n (r ∷ rows) (ks ∷ made) le (fits, most) (first, h) =
 
 -- ---- the turns of an `each`, whose rows become one
 
-pub same_more : (m n : ℕ) (as bs : List Row) (none : Made) → AllIn m as none → AllIn n bs none → length as ≡ length bs
+pub same_more : (m n : ℕ) (xs ys : List Row) (none : Made) → AllIn m xs none → AllIn n ys none → length xs ≡ length ys
 same_more m n [] [] none h g = refl
-same_more m n [] (b ∷ bs) [] h g = absurd g
-same_more m n [] (b ∷ bs) (ks ∷ none) h g = absurd h
-same_more m n (a ∷ as) bs [] h g = absurd h
-same_more m n (a ∷ as) [] (ks ∷ none) h g = absurd g
-same_more m n (a ∷ as) (b ∷ bs) (ks ∷ none) (first, h) (second, g) = let e = same_more m n as bs none h g in omega (arith, e)
+same_more m n [] (b ∷ ys) [] h g = absurd g
+same_more m n [] (b ∷ ys) (ks ∷ none) h g = absurd h
+same_more m n (a ∷ xs) ys [] h g = absurd h
+same_more m n (a ∷ xs) [] (ks ∷ none) h g = absurd g
+same_more m n (a ∷ xs) (b ∷ ys) (ks ∷ none) (first, h) (second, g) = let e = same_more m n xs ys none h g in omega (arith, e)
 
-pub none_merged : (as bs : List Row) (none : Made) → AllIn 0 as none → AllIn 0 bs none → AllIn 0 (merge capped as bs) none
-none_merged [] bs none h g = g
-none_merged (a ∷ as) [] none h g = h
-none_merged (a ∷ as) (b ∷ bs) [] h g = absurd h
-none_merged (a ∷ as) (b ∷ bs) (ks ∷ none) (first, h) (second, g) =
-    let few = first.few in (record { few = omega arith; each = none_there ks _ (omega arith) }, none_merged as bs none h g)
+pub none_merged : (xs ys : List Row) (none : Made) → AllIn 0 xs none → AllIn 0 ys none → AllIn 0 (merge capped xs ys) none
+none_merged [] ys none h g = g
+none_merged (a ∷ xs) [] none h g = h
+none_merged (a ∷ xs) (b ∷ ys) [] h g = absurd h
+none_merged (a ∷ xs) (b ∷ ys) (ks ∷ none) (first, h) (second, g) =
+    let few = first.few in (record { few = omega arith; each = none_there ks _ (omega arith) }, none_merged xs ys none h g)
 
 above_all : (k l : Bounds) (ks : List Bounds) → AtMost k l → NoneAbove k ks → NoneAbove l ks
 above_all k l [] le h = tt
@@ -134,64 +134,64 @@ abbrev pub AllAdd : List Row → List Row → Made → Type 0
 AllAdd [] [] [] = Unit {0}
 AllAdd [] [] (ks ∷ made) = ⊥
 AllAdd [] (r ∷ rs) made = ⊥
-AllAdd (a ∷ as) [] made = ⊥
-AllAdd (a ∷ as) (r ∷ rs) [] = ⊥
-AllAdd (a ∷ as) (r ∷ rs) (ks ∷ made) = AddsTo a r ks × AllAdd as rs made
+AllAdd (a ∷ xs) [] made = ⊥
+AllAdd (a ∷ xs) (r ∷ rs) [] = ⊥
+AllAdd (a ∷ xs) (r ∷ rs) (ks ∷ made) = AddsTo a r ks × AllAdd xs rs made
 
-pub adds_in : (as rs : List Row) (made : Made) → AllAdd as rs made → AllIn 1 rs made
+pub adds_in : (xs rs : List Row) (made : Made) → AllAdd xs rs made → AllIn 1 rs made
 adds_in [] [] [] h = tt
 adds_in [] [] (ks ∷ made) h = absurd h
 adds_in [] (r ∷ rs) made h = absurd h
-adds_in (a ∷ as) [] made h = absurd h
-adds_in (a ∷ as) (r ∷ rs) [] h = absurd h
-adds_in (a ∷ as) (r ∷ rs) (ks ∷ made) (first, h) = let few = first.times in (record { few = omega arith; each = first.each }, adds_in as rs made h)
+adds_in (a ∷ xs) [] made h = absurd h
+adds_in (a ∷ xs) (r ∷ rs) [] h = absurd h
+adds_in (a ∷ xs) (r ∷ rs) (ks ∷ made) (first, h) = let few = first.times in (record { few = omega arith; each = first.each }, adds_in xs rs made h)
 
-pub adds_none : (as : List Row) (none : Made) → AllIn 0 as none → AllAdd as as none
+pub adds_none : (xs : List Row) (none : Made) → AllIn 0 xs none → AllAdd xs xs none
 adds_none [] [] h = tt
 adds_none [] (ks ∷ none) h = absurd h
-adds_none (a ∷ as) [] h = absurd h
-adds_none (a ∷ as) (ks ∷ none) (first, h) =
+adds_none (a ∷ xs) [] h = absurd h
+adds_none (a ∷ xs) (ks ∷ none) (first, h) =
     let few = first.few in
-    (record { times = omega arith; most = record { cycles = omega arith; words = omega arith; steps = omega arith }; each = none_there ks _ (omega arith) }, adds_none as none h)
+    (record { times = omega arith; most = record { cycles = omega arith; words = omega arith; steps = omega arith }; each = none_there ks _ (omega arith) }, adds_none xs none h)
 
 -- a turn in which nothing is made
-pub adds_unmade : (as bs rs : List Row) (none : Made) → length as ≡ length bs → NoMore (2 ^ 64 - 1) as → AllAdd (merge capped as bs) rs none → AllAdd as rs none
+pub adds_unmade : (xs ys rs : List Row) (none : Made) → length xs ≡ length ys → NoMore (2 ^ 64 - 1) xs → AllAdd (merge capped xs ys) rs none → AllAdd xs rs none
 adds_unmade [] [] rs none e le h = h
-adds_unmade [] (b ∷ bs) rs none e le h = absurd (omega (arith, e))
-adds_unmade (a ∷ as) [] rs none e le h = h
-adds_unmade (a ∷ as) (b ∷ bs) [] none e le h = absurd h
-adds_unmade (a ∷ as) (b ∷ bs) (r ∷ rs) [] e le h = absurd h
-adds_unmade (a ∷ as) (b ∷ bs) (r ∷ rs) (ks ∷ none) e (fits, le) (first, h) =
+adds_unmade [] (b ∷ ys) rs none e le h = absurd (omega (arith, e))
+adds_unmade (a ∷ xs) [] rs none e le h = h
+adds_unmade (a ∷ xs) (b ∷ ys) [] none e le h = absurd h
+adds_unmade (a ∷ xs) (b ∷ ys) (r ∷ rs) [] e le h = absurd h
+adds_unmade (a ∷ xs) (b ∷ ys) (r ∷ rs) (ks ∷ none) e (fits, le) (first, h) =
     let few = first.times in
-    (record { times = omega arith; most = first_most a.each b.each r.each first.most; each = first.each }, adds_unmade as bs rs none (omega (arith, e)) le h)
+    (record { times = omega arith; most = first_most a.each b.each r.each first.most; each = first.each }, adds_unmade xs ys rs none (omega (arith, e)) le h)
 
 -- a turn, and then the others
-pub adds_turn : (m n : ℕ) (as bs rs : List Row) (made others : Made) → length as ≡ length bs → NoMore m as → NoMore n bs → m + n ≤ 2 ^ 64 - 1
-    → AllIn 1 bs made → AllAdd (merge capped as bs) rs others → AllAdd as rs (both made others)
+pub adds_turn : (m n : ℕ) (xs ys rs : List Row) (made others : Made) → length xs ≡ length ys → NoMore m xs → NoMore n ys → m + n ≤ 2 ^ 64 - 1
+    → AllIn 1 ys made → AllAdd (merge capped xs ys) rs others → AllAdd xs rs (both made others)
 adds_turn m n [] [] rs [] others e le less room g h = h
 adds_turn m n [] [] rs (ks ∷ made) others e le less room g h = absurd g
-adds_turn m n [] (b ∷ bs) rs made others e le less room g h = absurd (omega (arith, e))
-adds_turn m n (a ∷ as) [] rs made others e le less room g h = absurd (omega (arith, e))
-adds_turn m n (a ∷ as) (b ∷ bs) rs [] others e le less room g h = absurd g
-adds_turn m n (a ∷ as) (b ∷ bs) [] (ks ∷ made) others e le less room g h = absurd h
-adds_turn m n (a ∷ as) (b ∷ bs) (r ∷ rs) (ks ∷ made) [] e le less room g h = absurd h
-adds_turn m n (a ∷ as) (b ∷ bs) (r ∷ rs) (ks ∷ made) (us ∷ others) e (fits, le) (fit, less) room (one, g) (first, h) = (
+adds_turn m n [] (b ∷ ys) rs made others e le less room g h = absurd (omega (arith, e))
+adds_turn m n (a ∷ xs) [] rs made others e le less room g h = absurd (omega (arith, e))
+adds_turn m n (a ∷ xs) (b ∷ ys) rs [] others e le less room g h = absurd g
+adds_turn m n (a ∷ xs) (b ∷ ys) [] (ks ∷ made) others e le less room g h = absurd h
+adds_turn m n (a ∷ xs) (b ∷ ys) (r ∷ rs) (ks ∷ made) [] e le less room g h = absurd h
+adds_turn m n (a ∷ xs) (b ∷ ys) (r ∷ rs) (ks ∷ made) (us ∷ others) e (fits, le) (fit, less) room (one, g) (first, h) = (
   record {
     times = sum;
     most = first_most a.each b.each r.each first.most;
     each = above_both r.each ks us (above_all b.each r.each ks (second_most a.each b.each r.each first.most) one.each) first.each;
   },
-  adds_turn m n as bs rs made others (omega (arith, e)) le less room g h,
+  adds_turn m n xs ys rs made others (omega (arith, e)) le less room g h,
 )
   where
     sum : length (ks ++ us) + a.times ≤ r.times
     sum = let few = one.few in let more = first.times in let long = length-append ks us in omega arith
 
-fits_merged : (as bs : List Row) → length as ≡ length bs → NoMore (2 ^ 64 - 1) as → NoMore (2 ^ 64 - 1) (merge capped as bs)
+fits_merged : (xs ys : List Row) → length xs ≡ length ys → NoMore (2 ^ 64 - 1) xs → NoMore (2 ^ 64 - 1) (merge capped xs ys)
 fits_merged [] [] e le = tt
-fits_merged [] (b ∷ bs) e le = absurd (omega (arith, e))
-fits_merged (a ∷ as) [] e le = le
-fits_merged (a ∷ as) (b ∷ bs) e (fits, le) = (omega arith, fits_merged as bs (omega (arith, e)) le)
+fits_merged [] (b ∷ ys) e le = absurd (omega (arith, e))
+fits_merged (a ∷ xs) [] e le = le
+fits_merged (a ∷ xs) (b ∷ ys) e (fits, le) = (omega arith, fits_merged xs ys (omega (arith, e)) le)
 
 -- all further turns
 module _ (judge : Known → Verdict) (rows : Known → List Row) (none : Made) (unmade : (k : Known) → AllIn 0 (rows k) none) where

@@ -1,5 +1,7 @@
 -- Sums of shares, and of those of a block that counts so often.
-use Rattle.std.proofs.Common.{◌≡◌, ℕ, ◌+◌, ◌-◌, ◌*◌, ◌^◌, ◌<◌, suc, List, [], ◌∷◌, ◌++◌, map, refl, sym, ap, ap₂, subst, ◌∙◌, ⊎_elim, mul-add, arith}
+use Rattle.std.proofs.Common.{◌≡◌, ℕ, ◌+◌, ◌-◌, ◌*◌, ◌^◌, ◌<◌, ◌≤◌, suc, List, [], ◌∷◌, ◌++◌, map, refl, sym, ap, ap₂, subst, ◌∙◌, ⊎_elim, mul-add, arith}
+use Rattle.std.proofs.Math.Nat.{mul-le-mul_left}
+use Rattle.std.proofs.lemmas.Nat.{mul-le}
 use Rattle.std.specs.Prelude.{min, max, nat_le, nat_lt, if◌then◌else◌}
 use Rattle.std.proofs.lemmas.Bool.{lt-ltb, le-ltb, lt-leb, le-leb, cases_lt}
 use Rattle.camac_model.specs.Fine.{Bounds}
@@ -9,7 +11,7 @@ use Rattle.camac_rules.specs.Each.{turn_costs}
 use Rattle.camac_check_rows.specs.declared.inside.Weight.{Weight}
 use Rattle.camac_check_rows.specs.declared.row.Row.{Row}
 use Rattle.camac_check_rows.specs.Turns.{merge}
-use Rattle.camac_check_rows.specs.Weights.{once, turning, first_arm, second_arm, weighed, inside_row}
+use Rattle.camac_check_rows.specs.Weights.{once, turning, first_arm, second_arm, in_64_bits, weighed, inside_row}
 use Rattle.camac_laws.specs.Shares.{total, IsBelow}
 
 pub same_costs : (a b c d e f : ℕ) → a ≡ d → b ≡ e → c ≡ f → costs a b c ≡ costs d e f
@@ -148,6 +150,17 @@ no_less t n k h = let d : suc t * n ≡ n + t * n = omega arith in omega (arith,
 pub turn_below : (t : ℕ) (a : Bounds) → IsBelow (weighed (turning (suc t)) a) → IsBelow a
 turn_below t a (c, w, s) = (no_less t a.cycles _ c, no_less t a.words _ w, no_less t a.steps _ s)
 
+-- of a loop that turns, its body
+pub loop_low : (t : ℕ) (k : Bounds) → 1 ≤ t → IsBelow (capped (loop_costs t k)) → IsBelow k
+loop_low t k le (cycles, words, steps) =
+    let c : 1 * k.cycles ≤ t * k.cycles = mul-le 1 k.cycles t k.cycles le (omega arith) in
+    let w : 1 * k.words ≤ t * k.words = mul-le 1 k.words t k.words le (omega arith) in
+    let s : 1 * (1 + k.steps) ≤ t * (1 + k.steps) = mul-le 1 (1 + k.steps) t (1 + k.steps) le (omega arith) in
+    (omega arith, omega arith, omega arith)
+
+pub loop_room : (t : ℕ) (k : Bounds) → IsBelow (capped (loop_costs t k)) → t * in_64_bits k.steps ≤ 2 ^ 64 - 1
+loop_room t k (cycles, words, steps) = let more : t * in_64_bits k.steps ≤ t * (1 + k.steps) = mul-le-mul_left t (omega arith) in omega arith
+
 -- one after the other
 pub then_sum : (a b : Bounds) → IsBelow (capped (plus a b)) → plus a b ≡ capped (plus a b)
 then_sum a b (c, w, s) = same_costs _ _ _ _ _ _ (omega (arith, c)) (omega (arith, w)) (omega (arith, s))
@@ -162,13 +175,13 @@ less_rest a b s t k h = omega (arith, h)
 two_more : (a b s t n k : ℕ) → a + s + (b + t) < k → n ≡ s + t → min (a + b) k + n ≡ a + s + (b + t)
 two_more a b s t n k h e = omega (arith, h, e)
 
-pub total_merged : (as bs : List Row) → IsBelow (plus (total as) (total bs)) → total (merge capped as bs) ≡ plus (total as) (total bs)
-total_merged [] bs low = sym (none_plus (total bs))
-total_merged (a ∷ as) [] low = sym (plus_none (total (a ∷ as)))
-total_merged (a ∷ as) (b ∷ bs) (c, w, s) =
+pub total_merged : (xs ys : List Row) → IsBelow (plus (total xs) (total ys)) → total (merge capped xs ys) ≡ plus (total xs) (total ys)
+total_merged [] ys low = sym (none_plus (total ys))
+total_merged (a ∷ xs) [] low = sym (plus_none (total (a ∷ xs)))
+total_merged (a ∷ xs) (b ∷ ys) (c, w, s) =
     let k : ℕ = 2 ^ 64 - 1 in
     let e =
-    total_merged as bs
+    total_merged xs ys
     (less_rest a.share.cycles b.share.cycles _ _ k c, less_rest a.share.words b.share.words _ _ k w, less_rest a.share.steps b.share.steps _ _ k s) in
     same_costs _ _ _ _ _ _
     (two_more a.share.cycles b.share.cycles _ _ _ k c (ap (λ (t : Bounds). t.cycles) e))

@@ -35,7 +35,7 @@ use Rattle.camac_laws.specs.Times.{NoMore, InSteps, TimesInSteps}
 use Rattle.camac_laws.proofs.Turned.{begun, no_turn}
 use Rattle.camac_laws.proofs.Shares.{in_code, go_ok, ok_same}
 
-no_more_up : (m n : ℕ) (rs : List Row) → m ≤ n → NoMore m rs → NoMore n rs
+pub no_more_up : (m n : ℕ) (rs : List Row) → m ≤ n → NoMore m rs → NoMore n rs
 no_more_up m n [] le h = tt
 no_more_up m n (r ∷ rs) le (first, h) = (le_trans first le, no_more_up m n rs le h)
 
@@ -44,10 +44,10 @@ no_more_both n [] ys h more = more
 no_more_both n (x ∷ xs) ys (first, h) more = (first, no_more_both n xs ys h more)
 
 -- of two turns
-pub no_more_merged : (m n : ℕ) (as bs : List Row) → NoMore (in_64_bits m) as → NoMore (in_64_bits n) bs → NoMore (in_64_bits (m + n)) (merge capped as bs)
-no_more_merged m n [] bs h g = no_more_up (in_64_bits n) (in_64_bits (m + n)) bs (omega arith) g
-no_more_merged m n (a ∷ as) [] h g = no_more_up (in_64_bits m) (in_64_bits (m + n)) (a ∷ as) (omega arith) h
-no_more_merged m n (a ∷ as) (b ∷ bs) (first, h) (second, g) = (omega (arith, first, second), no_more_merged m n as bs h g)
+pub no_more_merged : (m n : ℕ) (xs ys : List Row) → NoMore (in_64_bits m) xs → NoMore (in_64_bits n) ys → NoMore (in_64_bits (m + n)) (merge capped xs ys)
+no_more_merged m n [] ys h g = no_more_up (in_64_bits n) (in_64_bits (m + n)) ys (omega arith) g
+no_more_merged m n (a ∷ xs) [] h g = no_more_up (in_64_bits m) (in_64_bits (m + n)) (a ∷ xs) (omega arith) h
+no_more_merged m n (a ∷ xs) (b ∷ ys) (first, h) (second, g) = (omega (arith, first, second), no_more_merged m n xs ys h g)
 
 cut_both : (a b k : ℕ) → a ≤ b → min a k ≤ min (min b k) k
 cut_both a b k le = omega (arith, le)
@@ -95,7 +95,7 @@ mutual
   statement_never r around (while_ line test most m keeps body) = (omega arith, none_inside (turning 0) (block_rows (in_code r) around body None) (block_never r around body))
   statement_never r around (locked line e body) = (omega arith, none_inside once (block_rows (in_code r) around body None) (block_never r around body))
 
-  block_never : (r : Context) (around : Around) (b : Block) → NoMore 0 (block_rows (in_code r) around b None)
+  pub block_never : (r : Context) (around : Around) (b : Block) → NoMore 0 (block_rows (in_code r) around b None)
   block_never r around done = tt
   block_never r around (next s rest) = no_more_both 0 (statement_rows (in_code r) around s None) (block_rows (in_code r) around rest None) (statement_never r around s) (block_never r around rest)
 
@@ -276,14 +276,15 @@ turns_over_in_steps r around body fits (suc n) x v last (Some q) so_far m w e h 
     (no_more_merged m turn.costs.steps so_far.rows rows h (fits (Some head) turn turn'.1)))))
 
 -- with and without a turn
-turns_from_in_steps : (r : Context) (around : Around) (body : Block) → BlockInSteps r around body → (n x v last : ℕ) (k : Facts) (w : Verdict)
+pub turns_from_in_steps : (r : Context) (around : Around) (body : Block) → BlockInSteps r around body → (n x v last : ℕ) (k : Facts) (w : Verdict)
     → each_from capped n x v last (accept_block (in_code r) around body) k ≡ Ok w
     → NoMore (in_64_bits w.costs.steps) (turns_over capped n x v (block_verdict (in_code r) around body) (block_rows (in_code r) around body) (Some k) (turned 0 (block_rows (in_code r) around body None))).rows
 unfolding if_reached
 turns_from_in_steps r around body fits zero x v last k w e = no_more_up 0 (in_64_bits w.costs.steps) (block_rows (in_code r) around body None) (omega arith) (block_never r around body)
 turns_from_in_steps r around body fits (suc n) x v last k w e =
-    turns_over_in_steps r around body fits (suc n) x v last (Some k) (turned 0 (block_rows (in_code r) around body None)) 0 w e
-    (no_more_up 0 (in_64_bits 0) (block_rows (in_code r) around body None) (omega arith) (block_never r around body))
+    no_more_up (in_64_bits (0 + w.costs.steps)) (in_64_bits w.costs.steps) _ (omega arith)
+    (turns_over_in_steps r around body fits (suc n) x v last (Some k) (turned 0 (block_rows (in_code r) around body None)) 0 w e
+    (no_more_up 0 (in_64_bits 0) (block_rows (in_code r) around body None) (omega arith) (block_never r around body)))
 
 each_in_steps : (r : Context) (around : Around) (line x v last : ℕ) (body : Block) (k : Facts) (w : Verdict)
     → BlockInSteps r (with_fixed x around) body → accept_statement (in_code r) around (for_each line x v last body) k ≡ Ok w
