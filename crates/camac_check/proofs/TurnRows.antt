@@ -1,5 +1,5 @@
 -- The rows of the turns of an `each`, as code merges them.
-use Rattle.std.proofs.Common.{◌≡◌, ℕ, zero, suc, ◌+◌, ◌-◌, ◌≤◌, List, [], ◌∷◌, ◌++◌, map, Option, Some, None, Result, Ok, Err, refl, sym, ap, ap₂, ◌∙◌, arith}
+use Rattle.std.proofs.Common.{◌≡◌, ℕ, suc, ◌+◌, ◌-◌, ◌≤◌, List, [], ◌∷◌, ◌++◌, map, Option, Some, None, Result, Ok, Err, refl, sym, ap, ap₂, ◌∙◌, arith}
 use Rattle.std.specs.Prelude.{option_map, unwrap_or}
 use Rattle.camac_range.specs.Interval.{only}
 use Rattle.camac_lang.specs.Tree.{for_each, Block}
@@ -25,7 +25,7 @@ use Rattle.camac_check_rows.specs.declared.inside.Weight.{Weight}
 use Rattle.camac_check_rows.specs.Statements.{first_row}
 use Rattle.camac_check_rows.specs.Turns.{merge, Turned, turned, turns_over, each_turned}
 use Rattle.camac_check_rows.specs.Weights.{once, inside_row}
-use Rattle.camac_check_rows.specs.Rows.{found, times_at, block_verdict, block_rows, inside, statement_rows, none_yet, with_rows}
+use Rattle.camac_check_rows.specs.Rows.{found, times_at, block_verdict, block_rows, inside, statement_rows, with_rows}
 use Rattle.camac_check_rows.proofs.Merged.{none_turned}
 use Rattle.camac_check.specs.Ends.{each_judged, turn_rule, with_turn}
 use Rattle.camac_check.proofs.Rows.{verdict_is}

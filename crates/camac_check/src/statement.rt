@@ -429,7 +429,9 @@ fn accept_each(
         around: &around,
     };
     let mut all = before_turns(alloc, &inside, body, rows)?;
-    let Turns { found, reached } = accept_turns(alloc, &inside, head, turns, body, known, &mut all)?;
+    let Turns { found, reached } = accept_turns(
+        alloc, &inside, head, turns, body, known, &mut all,
+    )?;
     let own = loop_row(head.line, Kind::For, found.costs, reached);
     rows.put_block(own, &all, once())?;
     Ok(found)
@@ -522,7 +524,14 @@ fn accept_turn(
     };
     begun.put_range(variable, between(value, value))?;
     let mut own = rows.inside(alloc);
-    let turn = accept_block(alloc, inside.context, inside.around, body, Some(begun), &mut own)?;
+    let turn = accept_block(
+        alloc,
+        inside.context,
+        inside.around,
+        body,
+        Some(begun),
+        &mut own,
+    )?;
     rows.merge(&own)?;
     *known = turn.known;
     Ok(Costs::new(0, 0, 1).then(turn.costs))
