@@ -9,7 +9,6 @@ use Rattle.camac_rules.specs.declared.case.Case.{Case}
 use Rattle.camac_rules.specs.declared.case.Case.TheVariants.{Malformed, Measure, Turns, Annotation}
 use Rattle.camac_rules.specs.declared.rule.CheckRule.TheVariants.{MeasureBroken, KeepFailsAtEntry, TooManyTurns, LoopVariableAssigned, ValueOutOfRange}
 use Rattle.camac_rules.specs.Cycles.{may_write}
-use Rattle.camac_rules.specs.Each.{each_begins}
 use Rattle.camac_rules.specs.Expressions.{range_of}
 use Rattle.camac_rules.specs.Fault.{broken}
 use Rattle.camac_rules.specs.Refusal.{required, given}
