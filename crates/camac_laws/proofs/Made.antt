@@ -90,9 +90,11 @@ mutual
       let turn = for_turning around line x e1 e2 keeps body k in
       (none_row _, none_inside (turning turn.turns) _ (unmade body) (unmade_block r (with_fixed x around) body turn.head))
   unmade_statement r around (for_each line x v last body) k =
-      let rows = block_rows (in_code r) (with_fixed x around) body in
-      (none_row _, none_inside once _ (unmade body)
-      (turns_none (block_verdict (in_code r) (with_fixed x around) body) rows (unmade body) (λ q. unmade_block r (with_fixed x around) body q) (last + 1 - v) x v k (turned 0 (rows None)) (unmade_block r (with_fixed x around) body None)))
+      let rows = block_rows (in_code r) (with_fixed x around) body in (
+        none_row _,
+        none_inside once _ (unmade body)
+            (turns_none (block_verdict (in_code r) (with_fixed x around) body) rows (unmade body) (λ q. unmade_block r (with_fixed x around) body q) (last + 1 - v) x v k (turned 0 (rows None)) (unmade_block r (with_fixed x around) body None)),
+      )
   unmade_statement r around (while_ line test most m keeps body) k =
       let turn = while_turning around line test most m keeps body k in
       (none_row _, none_inside (turning turn.turns) _ (unmade body) (unmade_block r around body turn.head))

@@ -1,11 +1,12 @@
 -- What the case of too many turns shows.
-use Rattle.std.proofs.Common.{◌≡◌, ℕ, ◌/◌, ◌≤◌, Bool, true, false, List, Option, Some, Err, refl, sym, ◌∙◌, subst, arith, ⊎_elim}
+use Rattle.std.proofs.Common.{◌≡◌, ℕ, ◌+◌, ◌-◌, ◌/◌, ◌≤◌, Bool, true, false, List, Option, Some, Err, refl, sym, ◌∙◌, subst, arith, ⊎_elim}
 use Rattle.std.specs.Prelude.{◌&&◌, nat_le, if◌then◌else◌}
 use Rattle.std.proofs.lemmas.Bool.{and_cases, leb-false}
 use Rattle.camac_lang.specs.Tree.{Expression, Keep, Block}
+use Rattle.camac_range.specs.Number.{greatest}
 use Rattle.camac_rules.specs.declared.case.Body.{Body}
 use Rattle.camac_rules.specs.declared.case.Case.{Case}
-use Rattle.camac_rules.specs.declared.case.Case.TheVariants.{Measure, Turns, Annotation}
+use Rattle.camac_rules.specs.declared.case.Case.TheVariants.{Malformed, Measure, Turns, Annotation}
 use Rattle.camac_rules.specs.declared.rule.CheckRule.TheVariants.{MeasureBroken, KeepFailsAtEntry, TooManyTurns, LoopVariableAssigned, ValueOutOfRange}
 use Rattle.camac_rules.specs.Cycles.{may_write}
 use Rattle.camac_rules.specs.Expressions.{range_of}
@@ -14,7 +15,7 @@ use Rattle.camac_rules.specs.Refusal.{required, given}
 use Rattle.camac_rules.specs.Known.{Facts, range_at}
 use Rattle.camac_rules.specs.Loops.{turn_limit, keeps_hold, limits, turns_between, turns_case, while_head}
 use Rattle.camac_rules.specs.Writes.{fall_of}
-use Rattle.camac_laws.specs.Shown.{WhileShown, WhileTurnsAreShown, ForTurnsAreShown}
+use Rattle.camac_laws.specs.Shown.{WhileShown, WhileTurnsAreShown, ForTurnsAreShown, EachTurnsAreShown}
 use Rattle.camac_laws.proofs.Refused.{go_err, required_err, given_err, given_ok}
 use Rattle.camac_laws.proofs.ShownExpressions.{expressions_are_shown}
 
@@ -118,3 +119,18 @@ for_turns_are_shown around line x e1 e2 keeps k at case e =
     (go_err (required (may_write around x) LoopVariableAssigned line _) _ (broken TooManyTurns at case) s.2))
     (go_err (range_of line e2 k.ranges) _ (broken TooManyTurns at case) r.2))
     (go_err (range_of line e1 k.ranges) _ (broken TooManyTurns at case) e)
+
+pub each_turns_are_shown : EachTurnsAreShown
+each_turns_are_shown around line x v last at case e =
+    ⊎_elim
+    (λ h. absurd (let g = required_err (nat_le v greatest && nat_le last greatest) ValueOutOfRange line Malformed (broken TooManyTurns at case) h in let bad = g.1 in cc))
+    (λ w. ⊎_elim
+    (λ h. absurd (let g = required_err (may_write around x) LoopVariableAssigned line _ (broken TooManyTurns at case) h in let bad = g.1 in cc))
+    (λ t. ⊎_elim
+    (λ h. let g = required_err (nat_le (last + 1 - v) turn_limit) TooManyTurns line (Turns (last + 1 - v) turn_limit) (broken TooManyTurns at case) h in
+    let same = g.1 in
+    (leb-false (last + 1 - v) turn_limit g.0, cc))
+    (λ u. absurd (let bad = u.2 in cc))
+    (go_err (required (nat_le (last + 1 - v) turn_limit) TooManyTurns line _) _ (broken TooManyTurns at case) t.2))
+    (go_err (required (may_write around x) LoopVariableAssigned line _) _ (broken TooManyTurns at case) w.2))
+    (go_err (required (nat_le v greatest && nat_le last greatest) ValueOutOfRange line Malformed) _ (broken TooManyTurns at case) e)

@@ -1,5 +1,5 @@
 -- What the case of a refusal shows of arguments and kept variables, and of turns.
-use Rattle.std.specs.Prelude.{◌≡◌, ℕ, ◌/◌, ◌<◌, ◌≤◌, List, Some, Ok, Err, true, false, length, slice_get}
+use Rattle.std.specs.Prelude.{◌≡◌, ℕ, ◌+◌, ◌-◌, ◌/◌, ◌<◌, ◌≤◌, List, Some, Ok, Err, true, false, length, slice_get}
 use Rattle.camac_lang.specs.Tree.{Expression, Parameter, Keep, Block}
 use Rattle.camac_range.specs.Interval.{Interval, is_inside}
 use Rattle.camac_rules.specs.declared.case.Body.{Body}
@@ -9,6 +9,7 @@ use Rattle.camac_rules.specs.declared.case.Numbers.{Numbers}
 use Rattle.camac_rules.specs.declared.rule.CheckRule.TheVariants.{TooManyTurns}
 use Rattle.camac_rules.specs.Cases.{numbers_of}
 use Rattle.camac_rules.specs.Cycles.{Around}
+use Rattle.camac_rules.specs.Each.{each_begins}
 use Rattle.camac_rules.specs.Expressions.{range_of}
 use Rattle.camac_rules.specs.Fault.{broken}
 use Rattle.camac_rules.specs.Known.{Facts, range_at}
@@ -100,3 +101,9 @@ abbrev pub ForTurnsAreShown : Type 0
 ForTurnsAreShown =
     (around : Around) (line x : ℕ) (e1 e2 : Expression) (keeps : List Keep) (k : Facts) (at : ℕ) (case : Case)
     → for_limits around line x e1 e2 keeps k ≡ Err (broken TooManyTurns at case) → IsLongFor line e1 e2 k case
+
+-- The turns of an `each` are those from its first number to its last one.
+abbrev pub EachTurnsAreShown : Type 0
+EachTurnsAreShown =
+    (around : Around) (line x v last at : ℕ) (case : Case) → each_begins around line x v last ≡ Err (broken TooManyTurns at case)
+    → (turn_limit < last + 1 - v) × (case ≡ Turns (last + 1 - v) turn_limit)

@@ -7,7 +7,7 @@ ghost use Rattle.camac_laws.specs.Places.{RegistersHaveAddresses};
 ghost use Rattle.camac_laws.specs.Refused.{HeadingsAreShown, RefusedAtPlaces};
 ghost use Rattle.camac_laws.specs.Regions.{CommandsAreJudged, CostIsGreatest, StationsAreAll, WaitsMayCome, WidthsAreAll};
 ghost use Rattle.camac_laws.specs.Scans.{ScansAreJudged};
-ghost use Rattle.camac_laws.specs.Shown.{ArgumentsAreShown, ForTurnsAreShown, KeptAreShown, UnfitHaveOne, UnkeptHaveOne, WhileTurnsAreShown};
+ghost use Rattle.camac_laws.specs.Shown.{ArgumentsAreShown, EachTurnsAreShown, ForTurnsAreShown, KeptAreShown, UnfitHaveOne, UnkeptHaveOne, WhileTurnsAreShown};
 ghost use Rattle.camac_laws.specs.ShownAddresses.{MissingAreShown, UndeclaredAreShown};
 ghost use Rattle.camac_laws.specs.ShownExpressions.{ConditionsAreShown, ExpressionsAreShown, PartsAreShown};
 ghost use Rattle.camac_laws.specs.ShownWindows.{MissingOverAreShown, UndeclaredOverAreShown};
@@ -96,9 +96,10 @@ pub fn while_turns_are_shown()
 {}
 
 /// Where a `for` may have too many turns (E10), the case shows the turns from the least first value to the greatest last one, and the most
-/// that any loop may have.
+/// that any loop may have; with `each`, from its first number to its last one.
 pub fn for_turns_are_shown()
-    ensures { ForTurnsAreShown }
+    ensures plain { ForTurnsAreShown }
+    ensures each { EachTurnsAreShown }
 {}
 
 /// Where an expression may have no number as its value (E4), the case shows an operator in it, and the numbers of the parts on both sides, on
