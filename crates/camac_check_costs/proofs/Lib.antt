@@ -4,3 +4,4 @@ pub mod Placed
 pub mod PlaceLaws
 pub mod PlaceNumbers
 pub mod PlaceTurns
+pub mod TurnsTold

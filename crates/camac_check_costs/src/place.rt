@@ -90,6 +90,7 @@ fn place_over<'a>(
     }
 }
 
+#[tactic(auto, unfolding(camac_rules::specs::Refusal::go_on))]
 fn place_in_procedure<'a>(
     alloc: Global,
     context: &Context,
@@ -105,6 +106,7 @@ fn place_in_procedure<'a>(
     place_if_reached(alloc, context, around, &procedure.body, known, number)
 }
 
+#[tactic(auto, unfolding(camac_rules::specs::Refusal::go_on))]
 fn place_in_service<'a>(
     alloc: Global,
     context: &Context,
@@ -341,7 +343,10 @@ fn place_in_each<'a>(
         here.put_range(head.variable, between(value, value))?;
         let fixed = around.with_fixed(alloc, head.variable)?;
         let begun = here.try_clone(alloc)?;
-        let found = place_in_block(alloc, context, fixed, body, begun, number)?;
+        let found = match place_in_block(alloc, context, fixed, body, begun, number) {
+            Ok(found) => found,
+            Err(fault) => return Err(fault),
+        };
         told = told_of_both(alloc, told, found)?;
         let inside = around.with_fixed(alloc, head.variable)?;
         here = match left_by(alloc, context, &inside, body, here)? {

@@ -24,7 +24,7 @@ pub(crate) fn told_of_both<'a>(
     first: Option<Standing<'a>>,
     second: Option<Standing<'a>>,
 ) -> Result<Option<Standing<'a>>, AllocError>
-    ensures { IfOk result (λ t. place_found t ≡ told_of_both (place_found first) (place_found second)) }
+    ensures { IfOk result (λ t. place_found t ≡ told_of_both (place_found first.entry) (place_found second.entry)) }
 {
     let Some(first) = first else {
         return Ok(second);
@@ -53,6 +53,7 @@ fn locked_in_both(alloc: Global, first: &Around, second: &Around) -> Result<Arou
 }
 
 // What is known after a block, if it is accepted and its end can be reached.
+#[tactic(auto, using(crate::proofs::TurnsTold::known_left, crate::proofs::TurnsTold::none_left))]
 pub(crate) fn left_by(
     alloc: Global,
     context: &Context,
