@@ -1,22 +1,26 @@
 // The rules of all statements, and of blocks of them.
 
-ghost use Rattle.std.specs.Prelude.{◌≡◌, IfErr, IfOk, IsFalse, IsTrue, None, OnOk, Some, map};
-ghost use Rattle.camac_lang.specs.Tree.{choose, locked};
+ghost use Rattle.std.specs.Prelude.{◌≡◌, ◌≤◌, ◌+◌, ◌-◌, IfErr, IfOk, IsFalse, IsTrue, None, OnOk, Some, map, option_map};
+ghost use Rattle.camac_range.specs.Interval.{only};
+ghost use Rattle.camac_lang.specs.Tree.{choose, for_each, locked};
 ghost use Rattle.camac_lang.specs.View.{expression_of, for_of, keep_of, part_of, statement_of, statements_of, while_of};
+ghost use Rattle.camac_rules.specs.Capped.{capped};
+ghost use Rattle.camac_rules.specs.Known.{with_range};
 ghost use Rattle.camac_rules.specs.Loops.{for_rule, with_fixed};
 ghost use Rattle.camac_rules.specs.Costs.{no_costs, unreached, verdict};
 ghost use Rattle.camac_rules.specs.Refusal.{if_reached};
 ghost use Rattle.camac_rules.specs.Statements.{accept_statement, accept_block};
-ghost use Rattle.camac_check_rows.specs.Rows.{block_rows, statement_rows, with_rows};
+ghost use Rattle.camac_check_rows.specs.Rows.{block_rows, block_verdict, statement_rows, with_rows};
 ghost use Rattle.camac_check_rows.specs.Statements.{is_simple};
-ghost use Rattle.camac_check.specs.Ends.{loop_end};
+ghost use Rattle.camac_check_rows.specs.Turns.{turned, turns_over};
+ghost use Rattle.camac_check.specs.Ends.{each_judged, loop_end, turn_rule, with_turn};
 ghost use Rattle.camac_check_simple.specs.Gives.{Gives, by_code, leaving, verdict_of};
 ghost use Rattle.camac_check_known.specs.declared.fault.CheckFault.TheVariants.{OutOfMemory};
 ghost use Rattle.camac_rules.specs.Cycles.{Around as Surroundings};
 
 use crate::procedure::call;
-use camac_check_known::{Around, CheckFault, Costs, Facts, join, split, waits_of};
-use camac_check_loops::{for_limits, keeps_after, turn_bound, while_head};
+use camac_check_known::{Around, CheckFault, Costs, Facts, between, join, split, waits_of};
+use camac_check_loops::{EachHead, each_begins, for_limits, keeps_after, turn_bound, while_head};
 use camac_check_rows::{
     Kind, Rows, detail_of, else_row, first_arm, if_row, lock_row, loop_row, once, second_arm,
     times_at, turning,
@@ -27,7 +31,7 @@ use camac_check_simple::{
 };
 use camac_lang::{Expr, ForHead, Keep, Part, Stmt, WhileHead};
 use camac_rules::Body;
-use std::alloc::Global;
+use std::alloc::{AllocError, Global};
 
 /// Checks a block from what is known at its beginning, if it can be reached, and puts the rows of its statements.
 #[cycle(statements)]
@@ -251,7 +255,21 @@ fn accept_reached(
             body,
         } => accept_lock(alloc, place, *line, crate_no, body, known, rows),
         Stmt::For { head, body } => accept_for(alloc, place, head, body, known, rows),
-        Stmt::ForEach { .. } => Err(CheckFault::OutOfMemory),
+        Stmt::ForEach {
+            line,
+            variable,
+            first,
+            last,
+            body,
+        } => {
+            let head = EachHead {
+                line: *line,
+                variable: *variable,
+                first: *first,
+                last: *last,
+            };
+            accept_each(alloc, place, head, body, known, rows)
+        }
         Stmt::While { head, body } => accept_while(alloc, place, head, body, known, rows),
         Stmt::Assign(_)
         | Stmt::SetRegister(_)
@@ -387,6 +405,146 @@ fn accept_for(
     let own = loop_row(line, Kind::For, found.costs, turns);
     rows.put_block(own, &inner, turning(turns))?;
     Ok(found)
+}
+
+// Checks a `for` with `each`: its block once for each turn.
+#[inline(never)]
+#[cycle(statements)]
+#[tactic(auto, unfolding(camac_rules::specs::Refusal::go_on, camac_rules::specs::Refusal::if_reached))]
+fn accept_each(
+    alloc: Global,
+    place: &Place,
+    head: EachHead,
+    body: &[Stmt],
+    known: Facts,
+    rows: &mut Rows,
+) -> Result<Findings, CheckFault>
+    ensures found { Gives verdict_of result (accept_statement (by_code place.now.context.now) place.now.around.now (for_each head.line head.variable head.first head.last (statements_of body.now)) known) }
+    ensures rows { OnOk result (rows.new ≡ with_rows rows.old (statement_rows (by_code place.now.context.now) place.now.around.now (for_each head.line head.variable head.first head.last (statements_of body.now)) (Some known))) }
+{
+    let turns = each_begins(place.around, head)?;
+    let around = place.around.with_fixed(alloc, head.variable)?;
+    let inside = Place {
+        context: place.context,
+        around: &around,
+    };
+    let mut all = before_turns(alloc, &inside, body, rows)?;
+    let Turns { found, reached } = accept_turns(
+        alloc, &inside, head, turns, body, known, &mut all,
+    )?;
+    let own = loop_row(head.line, Kind::For, found.costs, reached);
+    rows.put_block(own, &all, once())?;
+    Ok(found)
+}
+
+// The rows of the block of an `each` before its first turn: nothing is reached. None are made where these are not kept.
+#[inline(never)]
+#[cycle(statements)]
+#[tactic(auto, unfolding(camac_rules::specs::Refusal::if_reached))]
+fn before_turns(
+    alloc: Global,
+    inside: &Place,
+    body: &[Stmt],
+    rows: &Rows,
+) -> Result<Rows, CheckFault>
+    ensures rows { IfOk result (λ r. r ≡ option_map (λ before. block_rows (by_code inside.now.context.now) inside.now.around.now (statements_of body.now) None) rows.now) }
+    ensures memory { IfErr result (λ e. e ≡ OutOfMemory) }
+{
+    let mut all = rows.inside(alloc);
+    if rows.are_kept() {
+        accept_block(alloc, inside.context, inside.around, body, None, &mut all)?;
+    }
+    Ok(all)
+}
+
+// What is found of all turns of an `each`, and how many of them can be reached.
+#[derive(Drop)]
+struct Turns {
+    found: Findings,
+    reached: u64,
+}
+
+// All turns of an `each`, with the statement's own step. The rows of each turn are merged into these.
+#[inline(never)]
+#[cycle(statements)]
+fn accept_turns(
+    alloc: Global,
+    inside: &Place,
+    head: EachHead,
+    turns: u32,
+    body: &[Stmt],
+    known: Facts,
+    rows: &mut Rows,
+) -> Result<Turns, CheckFault>
+    requires all { turns ≡ head.last + 1 - head.first }
+    ensures found { Gives (λ e. verdict_of e.found) result (each_judged turns head.variable head.first head.last (accept_block (by_code inside.now.context.now) inside.now.around.now (statements_of body.now)) known) }
+    ensures rows { IfOk result (λ e. option_map (turned e.reached) rows.new ≡ option_map (λ kept. turns_over capped turns head.variable head.first (block_verdict (by_code inside.now.context.now) inside.now.around.now (statements_of body.now))
+        (block_rows (by_code inside.now.context.now) inside.now.around.now (statements_of body.now)) (Some known) (turned 0 kept)) rows.old) }
+    ensures few { IfOk result (λ e. e.reached ≤ turns) }
+{
+    let mut costs = Costs::new(0, 0, 1);
+    let mut here = Some(known);
+    let mut reached = 0_u64;
+    if turns == 0 {
+        let found = Findings { known: here, costs };
+        return Ok(Turns { found, reached });
+    }
+    'turns: for turn in 0..turns {
+        reached += times_at(&here);
+        let value = head.first + turn;
+        let x = head.variable;
+        let next = match accept_turn(alloc, inside, x, value, body, &mut here, rows) {
+            Ok(next) => next,
+            Err(fault) => return Err(fault),
+        };
+        costs = costs.then(next);
+    }
+    leave_last(&mut here, head.variable, head.last)?;
+    let found = Findings { known: here, costs };
+    Ok(Turns { found, reached })
+}
+
+// One turn of an `each`, if it can be reached, with its own step. What was known before it is changed in place.
+#[cycle(statements)]
+#[tactic(auto, unfolding(camac_rules::specs::Refusal::go_on, camac_rules::specs::Refusal::if_reached))]
+fn accept_turn(
+    alloc: Global,
+    inside: &Place,
+    variable: usize,
+    value: u32,
+    body: &[Stmt],
+    known: &mut Option<Facts>,
+    rows: &mut Rows,
+) -> Result<Costs, CheckFault>
+    ensures found { Gives (verdict known.new) result (if_reached unreached known.old (turn_rule variable value (accept_block (by_code inside.now.context.now) inside.now.around.now (statements_of body.now)))) }
+    ensures rows { OnOk result (rows.new ≡ option_map (with_turn variable value (block_rows (by_code inside.now.context.now) inside.now.around.now (statements_of body.now)) known.old) rows.old) }
+{
+    let Some(mut begun) = known.take() else {
+        return Ok(Costs::new(0, 0, 0));
+    };
+    begun.put_range(variable, between(value, value))?;
+    let mut own = rows.inside(alloc);
+    let turn = accept_block(
+        alloc,
+        inside.context,
+        inside.around,
+        body,
+        Some(begun),
+        &mut own,
+    )?;
+    rows.merge(&own)?;
+    *known = turn.known;
+    Ok(Costs::new(0, 0, 1).then(turn.costs))
+}
+
+// After the turns the variable has the last value.
+fn leave_last(known: &mut Option<Facts>, variable: usize, last: u32) -> Result<(), AllocError>
+    ensures { OnOk result (known.new ≡ option_map (with_range variable (only last)) known.old) }
+{
+    match known {
+        None => Ok(()),
+        Some(facts) => facts.put_range(variable, between(last, last)),
+    }
 }
 
 // What a loop of at most so many turns leaves and costs, where this is known after it and this was found of a turn.

@@ -33,6 +33,11 @@ pub fn each_begins(around: &Around, head: EachHead) -> Result<u32, CheckFault>
     let needed = (u64::from(head.last) + 1).saturating_sub(u64::from(head.first));
     let allowed = limits::TURNS;
     let few = needed <= u64::from(allowed);
-    required(few, CheckRule::TooManyTurns, line, Case::Turns { needed, allowed })?;
+    required(
+        few,
+        CheckRule::TooManyTurns,
+        line,
+        Case::Turns { needed, allowed },
+    )?;
     Ok(needed as u32)
 }

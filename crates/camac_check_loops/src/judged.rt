@@ -100,14 +100,18 @@ fn judged(statement: &Stmt) -> u64
             ..
         } => {
             let turns = (u64::from(*last) + 1).saturating_sub(u64::from(*first));
-            turns.saturating_mul(block_judged(body).saturating_add(1)).saturating_add(1)
+            turns
+                .saturating_mul(block_judged(body).saturating_add(1))
+                .saturating_add(1)
         }
         Stmt::If { then, .. } => block_judged(then).saturating_add(1),
         Stmt::IfElse {
             then,
             otherwise,
             ..
-        } => block_judged(then).saturating_add(block_judged(otherwise)).saturating_add(1),
+        } => block_judged(then)
+            .saturating_add(block_judged(otherwise))
+            .saturating_add(1),
         Stmt::For { body, .. } | Stmt::While { body, .. } | Stmt::Lock { body, .. } => {
             block_judged(body).saturating_add(1)
         }

@@ -1,5 +1,5 @@
 -- Statements and blocks of the code as the tree has them.
-use Rattle.std.proofs.Common.{◌≡◌, ℕ, suc, ◌+◌, ◌<◌, List, length, get_or, drop, drop-cons, map, add-one, Vec, sym, ap, ◌∙◌}
+use Rattle.std.proofs.Common.{◌≡◌, ℕ, suc, ◌+◌, ◌<◌, List, length, get_or, drop, drop-cons, add-one, Vec, sym, ap, ◌∙◌}
 use Rattle.std.specs.declared.alloc.Global.{Global}
 use Rattle.camac_lang.specs.declared.tree.Cond.{Cond}
 use Rattle.camac_lang.specs.declared.tree.ForHead.{ForHead}

@@ -19,7 +19,7 @@ use Rattle.camac_check_rows.specs.declared.row.Detail.TheVariants as detail
 use Rattle.camac_check_rows.specs.declared.row.Row.{Row}
 use Rattle.camac_check_rows.specs.declared.inside.Weight.{Weight}
 use Rattle.camac_check_rows.specs.Statements.{kind_of, detail_of, first_row}
-use Rattle.camac_check_rows.specs.Turns.{Turned, turned, each_turned}
+use Rattle.camac_check_rows.specs.Turns.{Turned, each_turned}
 use Rattle.camac_check_rows.specs.Weights.{once, turning, first_arm, second_arm, inside_row}
 
 -- what is found where it is reached and not refused

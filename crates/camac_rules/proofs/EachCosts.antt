@@ -1,16 +1,15 @@
--- The turns of an `each` as code goes over them, with costs that stay at the greatest number of 64 bits. Its place is camac_check: Capped and Blocks.
-use Rattle.std.proofs.Common.{◌≡◌, ℕ, zero, suc, ◌+◌, ◌-◌, ◌^◌, Option, Some, None, Result, Ok, Err, refl, sym, ap, ◌∙◌, arith}
-use Rattle.std.specs.Prelude.{min}
+-- The turns of an `each` with costs that stay at the greatest number of 64 bits, for the code.
+use Rattle.std.proofs.Common.{◌≡◌, ℕ, zero, suc, ◌+◌, Option, Some, None, Result, Ok, Err, refl, ap, ◌∙◌, arith}
 use Rattle.camac_range.specs.Interval.{only}
 use Rattle.camac_model.specs.Fine.{Bounds}
 use Rattle.camac_rules.specs.Fault.{Fault}
 use Rattle.camac_rules.specs.Refusal.{go_on, if_reached}
 use Rattle.camac_rules.specs.Known.{Facts, with_range}
-use Rattle.camac_rules.specs.Costs.{costs, no_costs, plus, Verdict, verdict, unreached}
+use Rattle.camac_rules.specs.Costs.{costs, plus, Verdict, verdict, unreached}
 use Rattle.camac_rules.specs.Capped.{capped}
-use Rattle.camac_rules.specs.Each.{turn_costs, each_turns, each_from}
+use Rattle.camac_rules.specs.Each.{turn_costs, each_turns}
 
--- a verdict with its costs cut, as in camac_check's Capped
+-- a verdict with its costs cut
 abbrev pub cut : Verdict → Verdict
 cut v = verdict v.after (capped v.costs)
 
@@ -45,48 +44,3 @@ each_cut (suc n) x v last check rule h k =
     go_cut (if_reached unreached turn.after (each_turns capped n x (v + 1) last check)) (if_reached unreached turn.after (each_turns (λ c. c) n x (v + 1) last rule)) _ _
     (if_reached_cut turn.after (each_turns capped n x (v + 1) last check) (each_turns (λ c. c) n x (v + 1) last rule) (λ q. each_cut n x (v + 1) last check rule h q))
     (λ rest. verdict_ok rest.after _ _ (turn_cut turn.costs rest.costs)))
-
--- one after the other
-abbrev pub joined : Verdict → Verdict → Verdict
-joined a v = verdict v.after (capped (plus a.costs v.costs))
-
--- a turn as it joins what was found: with its own step
-abbrev pub turn_of : Verdict → Verdict
-turn_of v = verdict v.after (turn_costs v.costs)
-
--- so many turns that are left, after what was found: the invariant of the code's loop
-abbrev pub rest_turns : (left variable next last : ℕ) → (Facts → Result Verdict Fault) → Verdict → Result Verdict Fault
-rest_turns n x v last check a = go_on (if_reached unreached a.after (each_turns capped n x v last check)) (λ w. Ok (joined a w))
-
-capped_then : (a b c : Bounds) → capped (plus a (capped (plus b c))) ≡ capped (plus (capped (plus a b)) c)
-capped_then a b c = same_costs _ _ _ _ _ _ (omega arith) (omega arith) (omega arith)
-
-capped_last : (a : Bounds) → capped (plus a no_costs) ≡ capped a
-capped_last a = same_costs _ _ _ _ _ _ (omega arith) (omega arith) (omega arith)
-
--- one more turn
-pub turn_step : (n x v last : ℕ) (check : Facts → Result Verdict Fault) (k : Facts) (c : Bounds) (found : Verdict) → check (with_range x (only v) k) ≡ Ok found → rest_turns n x (v + 1) last check (joined (verdict (Some k) c) (turn_of found)) ≡ rest_turns (suc n) x v last check (verdict (Some k) c)
-unfolding go_on if_reached
-turn_step n x v last check k c found e =
-    inner (if_reached unreached found.after (each_turns capped n x (v + 1) last check))
-    ∙ ap (λ r. go_on (go_on r (λ turn. go_on (if_reached unreached turn.after (each_turns capped n x (v + 1) last check)) (λ rest. Ok (verdict rest.after (capped (plus (turn_costs turn.costs) rest.costs)))))) (λ w. Ok (joined (verdict (Some k) c) w))) (sym e)
-  where
-    inner : (r : Result Verdict Fault) → go_on r (λ w. Ok (joined (joined (verdict (Some k) c) (turn_of found)) w)) ≡ go_on (go_on r (λ rest. Ok (verdict rest.after (capped (plus (turn_costs found.costs) rest.costs))))) (λ w. Ok (joined (verdict (Some k) c) w))
-    inner (Ok rest) = verdict_ok rest.after _ _ (sym (capped_then c (turn_costs found.costs) rest.costs))
-    inner (Err f) = refl
-
--- a turn that is refused
-pub turn_fails : (n x v last : ℕ) (check : Facts → Result Verdict Fault) (k : Facts) (c : Bounds) (f : Fault) → check (with_range x (only v) k) ≡ Err f → rest_turns (suc n) x v last check (verdict (Some k) c) ≡ Err f
-unfolding go_on if_reached
-turn_fails n x v last check k c f e =
-    ap (λ r. go_on (go_on r (λ turn. go_on (if_reached unreached turn.after (each_turns capped n x (v + 1) last check)) (λ rest. Ok (verdict rest.after (capped (plus (turn_costs turn.costs) rest.costs)))))) (λ w. Ok (joined (verdict (Some k) c) w))) e
-
--- no turn is left
-pub turns_end : (x v last : ℕ) (check : Facts → Result Verdict Fault) (k : Facts) (c : Bounds) → capped c ≡ c → rest_turns zero x v last check (verdict (Some k) c) ≡ Ok (verdict (Some (with_range x (only last) k)) c)
-unfolding go_on if_reached
-turns_end x v last check k c e = verdict_ok _ _ _ (capped_last c ∙ e)
-
--- none that is left is reached
-pub turns_unreached : (n x v last : ℕ) (check : Facts → Result Verdict Fault) (c : Bounds) → capped c ≡ c → rest_turns n x v last check (verdict None c) ≡ Ok (verdict None c)
-unfolding go_on if_reached
-turns_unreached n x v last check c e = verdict_ok None _ _ (capped_last c ∙ e)

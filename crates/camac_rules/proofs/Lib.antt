@@ -36,5 +36,5 @@ mod Arms
 mod TransferRows
 mod LoopRows
 mod EachRows
-mod EachScripts
+mod EachScriptRows
 mod ProcedureRows

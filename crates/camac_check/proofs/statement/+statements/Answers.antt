@@ -1,6 +1,8 @@
-use Rattle.std.proofs.Common.{◌≡◌, ◌<◌, ◌≤◌, ◌+◌, ◌++◌, List, ◌∷◌, Some, length, drop, map, refl, sym, ap, ap₂, ◌∙◌, subst, arith}
-use Rattle.std.specs.Prelude.{OnOk}
+use Rattle.std.proofs.Common.{◌≡◌, ◌<◌, ◌≤◌, ◌+◌, ◌-◌, ◌++◌, suc, List, ◌∷◌, Some, None, Ok, Err, length, drop, map, refl, sym, ap, ap₂, ◌∙◌, subst, arith}
+use Rattle.std.specs.Prelude.{OnOk, option_map}
 use Rattle.std.proofs.lemmas.List.{drop_all}
+use Rattle.std.proofs.lemmas.Result.{err_from_is_err_and}
+use Rattle.camac_lang.specs.Tree.{for_each}
 use Rattle.camac_lang.specs.View.{condition_of, expression_of, for_of, keep_of, part_of, statement_of, statements_of, while_of}
 use Rattle.camac_model.specs.Fine.{Bounds}
 use Rattle.camac_rules.specs.Capped.{capped}
@@ -10,18 +12,21 @@ use Rattle.camac_rules.specs.Cycles.{Around, with_locked}
 use Rattle.camac_rules.specs.Known.{Known}
 use Rattle.camac_rules.specs.Loops.{for_head, turn_bound, while_head, with_fixed}
 use Rattle.camac_rules.specs.Refusal.{if_reached}
-use Rattle.camac_rules.specs.Statements.{accept_block}
-use Rattle.camac_check_simple.specs.Gives.{Fails, by_code, verdict_of}
+use Rattle.camac_rules.specs.Statements.{accept_block, accept_statement}
+use Rattle.camac_check_simple.specs.Gives.{Fails, Gives, by_code, verdict_of}
 use Rattle.camac_check_rows.specs.declared.row.Detail.TheVariants as detail
 use Rattle.camac_check_rows.specs.declared.row.Kind.TheVariants as kind
 use Rattle.camac_check_rows.specs.declared.row.Row.{Row}
-use Rattle.camac_check_rows.specs.Rows.{block_rows, statement_rows, times_at, with_rows}
+use Rattle.camac_check_rows.specs.Rows.{block_rows, block_verdict, statement_rows, times_at, with_rows}
 use Rattle.camac_check_rows.specs.Statements.{first_row}
+use Rattle.camac_check_rows.specs.Turns.{turned, turns_over}
 use Rattle.camac_check_rows.specs.Weights.{inside_row, once}
 use Rattle.camac_check_rows.proofs.Kept.{arms_put, block_put, no_more, then_rows}
-use Rattle.camac_check_rows.proofs.Trees.{choose_else_is, for_tree, next_of, while_tree}
-use Rattle.camac_check.specs.Ends.{loop_end}
+use Rattle.camac_check_rows.proofs.Trees.{choose_else_is, each_tree, for_tree, next_of, while_tree}
+use Rattle.camac_check.specs.Ends.{each_judged, loop_end}
 use Rattle.camac_check.proofs.Blocks.{rest_rule, capped_twice, block_starts, block_goes_on, block_stops, block_ends}
+use Rattle.camac_check.proofs.EachTurns.{no_turns, rest_at, turn_goes_on, turn_stops, turns_begin, turns_end}
+use Rattle.camac_check.proofs.TurnRows.{each_is, each_rows, each_stops, known_next, times_few, turned_at, turns_go_on}
 use Rattle.camac_check.proofs.Rows.{choice_rows, end_is, for_is, for_rows, if_rows, lock_rows, loop_row_is, own_row_is, rows_next, while_is, while_rows}
 use Rattle.camac_check.proofs.statement.+statements.Goals as goal
 
@@ -235,3 +240,143 @@ accept_outer-returns-in-None-clause-rows t c =
     let place = c.args.place.now in
     subst (λ k. OnOk c.pass_over.result (c.pass_over.new.rows ≡ with_rows c.args.rows.now (statement_rows (by_code place.context.now) place.around.now (statement_of c.args.statement.now) k)))
     (sym (sym c.take.ensures.value ∙ c.in-None.is)) (c.pass_over.ensures.rows place.around.now)
+
+pub accept_turns-turns-init : goal.accept_turns-turns-init
+accept_turns-turns-init t c =
+    let context = by_code c.args.inside.now.context.now in
+    let around = c.args.inside.now.around.now in
+    let body = statements_of c.args.body.now in
+    let it = c.args.head in
+    let Cut : Bounds → Type 0 = λ a. capped a ≡ a in
+    record {
+      rest = rest_at _ _ _ _ _ _ _ _ _ (omega arith) (omega arith) (ap (verdict (Some c.args.known)) c.new-costs.ensures);
+      cut = subst Cut (sym c.new-costs.ensures) refl;
+      few = omega arith;
+      rows = turned_at (c.args.turns - 0) c.args.turns it.variable (it.first + 0) it.first (block_verdict context around body) (block_rows context around body) (Some c.args.known) 0 c.args.rows.now (omega arith) (omega arith);
+    }
+
+pub accept_turns-turns-preserved : goal.accept_turns-turns-preserved
+accept_turns-turns-preserved t c =
+    let context = by_code c.args.inside.now.context.now in
+    let around = c.args.inside.now.around.now in
+    let body = statements_of c.args.body.now in
+    let check = accept_block context around body in
+    let judge = block_verdict context around body in
+    let rows = block_rows context around body in
+    let it = c.args.head in
+    let x = it.variable in
+    let turn = c.turns.turn in
+    let value = it.first + turn in
+    let lt : turn < c.args.turns = c.turns-test.true in
+    let n = c.args.turns - (turn + 1) in
+    let before = c.turns.here in
+    let here = c.accept_turn.new.known in
+    let found = verdict here c.in-Ok.next in
+    let Cut : Bounds → Type 0 = λ a. capped a ≡ a in
+    record {
+      rest =
+          rest_at _ n x _ (value + 1) it.last check _ _ (omega arith) (omega arith) (ap (verdict here) c.then-costs.ensures)
+          ∙ turn_goes_on n x value it.last check before c.turns.costs found c.in-Ok.ensures.found
+          ∙ rest_at (suc n) (c.args.turns - turn) x value value it.last check _ _ (omega arith) refl refl
+          ∙ c.turns.invariant.rest;
+      cut = subst Cut (sym c.then-costs.ensures) (capped_twice (plus c.turns.costs c.in-Ok.next));
+      few = omega (arith, c.times_at-reached.ensures, times_few before, c.turns.invariant.few);
+      rows =
+          turned_at _ n x _ (value + 1) judge rows here _ c.accept_turn.new.rows (omega arith) (omega arith)
+          ∙ turns_go_on n x value judge rows before here c.turns.reached (c.turns.reached + c.times_at-reached.result) c.turns.rows c.accept_turn.new.rows c.in-Ok.ensures.rows
+          (known_next context around body x value before found c.in-Ok.ensures.found) (ap (λ m. c.turns.reached + m) c.times_at-reached.ensures)
+          ∙ turned_at (suc n) (c.args.turns - turn) x value value judge rows before c.turns.reached c.turns.rows (omega arith) refl
+          ∙ c.turns.invariant.rows;
+    }
+
+pub accept_turns-returns-in-Err-clause-found : goal.accept_turns-returns-in-Err-clause-found
+accept_turns-returns-in-Err-clause-found t c =
+    let check = accept_block (by_code c.args.inside.now.context.now) c.args.inside.now.around.now (statements_of c.args.body.now) in
+    let it = c.args.head in
+    let x = it.variable in
+    let turn = c.turns.turn in
+    let value = it.first + turn in
+    let lt : turn < c.args.turns = c.turns-test.true in
+    let n = c.args.turns - (turn + 1) in
+    subst (λ r. Fails c.in-Err.fault r)
+    (rest_at (suc n) (c.args.turns - turn) x value value it.last check _ _ (omega arith) refl refl
+    ∙ c.turns.invariant.rest ∙ sym (turns_begin c.args.turns x it.first it.last check c.args.known (λ e. absurd (omega (arith, e)))))
+    (turn_stops n x value it.last check c.turns.here c.turns.costs c.in-Err.fault c.in-Err.ensures.found)
+
+pub accept_turns-returns-clause-found : goal.accept_turns-returns-clause-found
+accept_turns-returns-clause-found t c =
+    let check = accept_block (by_code c.args.inside.now.context.now) c.args.inside.now.around.now (statements_of c.args.body.now) in
+    let it = c.args.head in
+    let x = it.variable in
+    let turn = c.turns.turn in
+    let value = it.first + turn in
+    turns_begin c.args.turns x it.first it.last check c.args.known (λ e. absurd (omega (arith, e)))
+    ∙ sym c.turns.invariant.rest
+    ∙ rest_at (c.args.turns - turn) 0 x value value it.last check _ _ (omega arith) refl refl
+    ∙ turns_end x value it.last check c.turns.here c.turns.costs c.turns.invariant.cut
+    ∙ ap (λ k. Ok (verdict k c.turns.costs)) (sym c.in_ok-leave_last.ensures)
+
+pub accept_turns-returns-clause-rows : goal.accept_turns-returns-clause-rows
+accept_turns-returns-clause-rows t c =
+    let context = by_code c.args.inside.now.context.now in
+    let around = c.args.inside.now.around.now in
+    let body = statements_of c.args.body.now in
+    let it = c.args.head in
+    let value = it.first + c.turns.turn in
+    turned_at 0 (c.args.turns - c.turns.turn) it.variable value value (block_verdict context around body) (block_rows context around body) c.turns.here c.turns.reached c.turns.rows (omega arith) refl
+    ∙ c.turns.invariant.rows
+
+pub accept_turns-returns-then-turns-eq0-clause-found : goal.accept_turns-returns-then-turns-eq0-clause-found
+accept_turns-returns-then-turns-eq0-clause-found t c =
+    let check = accept_block (by_code c.args.inside.now.context.now) c.args.inside.now.around.now (statements_of c.args.body.now) in
+    let it = c.args.head in
+    no_turns c.args.turns it.variable it.first it.last check c.args.known c.if-turns-eq0.true ∙ ap (λ a. Ok (verdict (Some c.args.known) a)) (sym c.new-costs.ensures)
+
+pub accept_each-returns-in_err-found-clause-found : goal.accept_each-returns-in_err-found-clause-found
+accept_each-returns-in_err-found-clause-found t c =
+    let context = c.args.place.now.context.now in
+    let around = c.args.place.now.around.now in
+    let it = c.args.head in
+    let body = statements_of c.args.body.now in
+    let p = err_from_is_err_and c.from_residual-in_err-found.result c.from_residual-in_err-found.ensures.1 in
+    subst (λ r. Gives verdict_of r (accept_statement (by_code context) around (for_each it.line it.variable it.first it.last body) c.args.known)) (sym (p.1 ∙ ap (λ e. Err e) p.2))
+    (each_stops context around c.in_ok-around.around it.line it.variable it.first it.last body c.args.known c.in_ok-turns.turns c.in_err-found.field-0.0 c.in_ok-turns.ensures.rule c.in_ok-around.ensures c.in_err-found.ensures.found)
+
+pub accept_each-returns-clause-found : goal.accept_each-returns-clause-found
+accept_each-returns-clause-found t c =
+    let context = c.args.place.now.context.now in
+    let around = c.args.place.now.around.now in
+    let it = c.args.head in
+    let body = statements_of c.args.body.now in
+    let k = c.args.known in
+    let n = c.in_ok-turns.turns in
+    each_is context around it.line it.variable it.first it.last body k n (verdict_of c.in_ok-found.field-0.found) c.in_ok-turns.ensures.rule
+    (ap (λ r. each_judged n it.variable it.first it.last (accept_block (by_code context) r body) k) (sym c.in_ok-around.ensures) ∙ c.in_ok-found.ensures.found)
+
+pub accept_each-returns-clause-rows : goal.accept_each-returns-clause-rows
+accept_each-returns-clause-rows t c =
+    let context = c.args.place.now.context.now in
+    let around = c.args.place.now.around.now in
+    let it = c.args.head in
+    let body = statements_of c.args.body.now in
+    let k = c.args.known in
+    let n = c.in_ok-turns.turns in
+    let end = c.in_ok-found.field-0 in
+    let rows_at : Around → Known → List Row = λ r h. block_rows (by_code context) r body h in
+    let w = verdict_of end.found in
+    each_rows context around it.line it.variable it.first it.last body k n end.reached w
+    c.args.rows.now c.in_ok-all.all c.accept_turns.new.rows c.put_block.new.self c.loop_row-own.result c.once.result
+    (each_is context around it.line it.variable it.first it.last body k n w c.in_ok-turns.ensures.rule
+    (ap (λ r. each_judged n it.variable it.first it.last (accept_block (by_code context) r body) k) (sym c.in_ok-around.ensures) ∙ c.in_ok-found.ensures.found))
+    c.in_ok-turns.ensures.turns
+    (c.in_ok-all.ensures.rows ∙ ap (λ r. option_map (λ before. rows_at r None) c.args.rows.now) c.in_ok-around.ensures)
+    (c.in_ok-found.ensures.rows
+    ∙ ap (λ r. option_map (λ xs. turns_over capped n it.variable it.first (block_verdict (by_code context) r body) (rows_at r) (Some k) (turned 0 xs)) c.in_ok-all.all) c.in_ok-around.ensures)
+    c.loop_row-own.ensures c.once.ensures c.in_ok-put_block.ensures
+
+pub accept_reached-returns-in-ForEach-clause-rows : goal.accept_reached-returns-in-ForEach-clause-rows
+accept_reached-returns-in-ForEach-clause-rows t c =
+    let it = c.in-ForEach in
+    subst (λ s. OnOk c.accept_each.result (c.accept_each.new.rows ≡ with_rows c.args.rows.now (statement_rows (by_code c.args.place.now.context.now) c.args.place.now.around.now s (Some c.args.known))))
+    (ap (λ b. for_each it.line it.variable it.first it.last (statements_of b)) c.deref-in-ForEach.ensures.value ∙ sym (ap statement_of it.is ∙ each_tree it.line it.variable it.first it.last it.body))
+    c.accept_each.ensures.rows

@@ -1,4 +1,4 @@
-use Rattle.std.proofs.Common.{◌≡◌, ◌≤◌, ◌<◌, sym, subst, arith}
+use Rattle.std.proofs.Common.{◌≤◌, ◌<◌, sym, subst, arith}
 use Rattle.camac_check_known.specs.Gives.{Fails}
 use Rattle.camac_check_loops.specs.Counting.{counted}
 use Rattle.camac_check_loops.proofs.Counts.{below_limit, past_limit}

@@ -1,7 +1,6 @@
-use Rattle.std.proofs.Common.{◌≡◌, ◌++◌, ◌≤◌, ◌<◌, length, take, drop, sym, ap, ◌∙◌, arith}
+use Rattle.std.proofs.Common.{◌≡◌, ◌++◌, length, drop, sym, ap, ◌∙◌, arith}
 use Rattle.std.specs.Prelude.{min}
 use Rattle.camac_rules.specs.Capped.{capped}
-use Rattle.camac_check_rows.specs.Turns.{merge}
 use Rattle.camac_check_rows.proofs.Merged.{merge_end, rest_of}
 use Rattle.camac_check_rows.proofs.turns.merge_rows.Goals as goal
 
