@@ -1,7 +1,7 @@
 """The Python package around the program camac.
 
 It gives what the program prints as values: `plan`, `check`, `bounds`, `costs`, `response` and `run` call its subcommands. `warnings` says what is
-probably not meant, and `propose` what the loops of a refused script have to keep. `read_events` reads an event file and tests it as `camac events`
+probably not meant, and `propose` what the loops of a refused script need. `read_events` reads an event file and tests it as `camac events`
 does (`whole` and `whole_size`: one that was cut; `event_arrays`: as arrays, if numpy is; `open_runs`: those of many runs, over dask if that is). A branch driver in Python is run by a checked script
 (`drive`, and `call` for one service once), and `camac.mock` has a branch without hardware. `play` does what `drive` does in this process, over the
 library for C (`camac.library`), which also answers if no program is there. Both write a record of the run if it is asked for (`Recording`,

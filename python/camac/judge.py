@@ -76,7 +76,7 @@ class Judged(NamedTuple):
 
 def judge(plan: str, scripts: Sequence[str], program: Optional[File] = None, writes: bool = False, keeps: bool = False) -> List[Judged]:
     """Judges scripts on a plan. If `keeps`, what helps the loops of a refused script is proposed; if `writes`, the least headings are put into each
-    script before, and with `keeps` what its loops have to keep. A plan that is refused or cannot be read is reported alone, since no script can be
+    script before, and with `keeps` what its loops need. A plan that is refused or cannot be read is reported alone, since no script can be
     judged then."""
     its = TextFile(plan, is_plan=True)
     found = _faults(lambda: _look_at_plan(its, program), [its], program)

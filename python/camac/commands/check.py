@@ -22,8 +22,8 @@ def _fill(it: argparse.ArgumentParser) -> None:
     it.add_argument("--format", choices=judge.FORMATS, default="text", metavar="FORMAT", help="text: lines FILE:LINE: TEXT; json; github: annotations; sarif: SARIF 2.1.0")
     it.add_argument("--json", action="store_const", const="json", dest="format", help="--format json")
     it.add_argument("--strict", action="store_true", help="a warning is status 1, too")
-    it.add_argument("--keeps", action="store_true", help="proposes what the loops of a refused script have to keep")
-    write = "first puts the least accepted headings into each script, with --keeps what loops have to keep, too"
+    it.add_argument("--keeps", action="store_true", help="proposes what the loops of a refused script need")
+    write = "first puts the least accepted headings into each script, with --keeps what loops need, too"
     it.add_argument("--write", action="store_true", help=write)
     it.set_defaults(do=do, out=None)
 
