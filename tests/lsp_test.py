@@ -191,7 +191,7 @@ class Documents(unittest.TestCase):
     def test_each(self):
         """`each` is a word behind the last number of a `for`, and elsewhere a name."""
         text = b"var each i service adc within 0 cycles event 0 words { for i = 0 to # to 4\n 3 each { put each } for each = 0 to 3 { } for i = 0 to each { } # to 5\n each = i }"
-        places = [it.start for it in re.finditer(b"each", text)]
+        places = [it.start() for it in re.finditer(b"each", text)]
         names = [it.start for it in Names(text).mentions if it.symbol.name == "each"]
         self.assertEqual(places, sorted([*names, places[1]]))
 
