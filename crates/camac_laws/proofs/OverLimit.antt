@@ -53,7 +53,7 @@ sum_first xs ys n m e = let h = judged_append xs ys in omega arith
 over_later : (place : Body) (xs ys : List Statement) (n m : ℕ) (fault : Fault) → m ≡ n + judged_in xs → IsOver place ys m fault → IsOver place (xs ++ ys) n fault
 over_later place xs ys n m fault e h =
     let with_loop : m + judged_in (h.before ++ h.loop ∷ []) ≡ n + judged_in ((xs ++ h.before) ++ h.loop ∷ []) =
-        sum_first xs (h.before ++ h.loop ∷ []) n m e ∙ ap (λ l. n + judged_in l) (sym (append_assoc xs h.before (h.loop ∷ []))) in
+    sum_first xs (h.before ++ h.loop ∷ []) n m e ∙ ap (λ l. n + judged_in l) (sym (append_assoc xs h.before (h.loop ∷ []))) in
     record {
       before = xs ++ h.before;
       loop = h.loop;

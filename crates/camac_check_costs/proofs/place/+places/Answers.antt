@@ -64,9 +64,9 @@ place_in_each-turns-preserved t c =
     let now = with_range it.variable (only (it.first + turn)) c.turns.here in
     let moved : c.put_range.new.self ≡ now = c.in_ok-put_range.ensures.ok ∙ ap (λ r. with_range it.variable r c.turns.here) c.between.ensures in
     let f : find now ≡ Ok (place_found c.in-Ok.found) =
-        ap₂ (λ a k. place_in_block context a body k c.args.number []) (sym c.in_ok-fixed.ensures) (sym (c.in_ok-begun.ensures ∙ moved)) ∙ c.in-Ok.ensures in
+    ap₂ (λ a k. place_in_block context a body k c.args.number []) (sym c.in_ok-fixed.ensures) (sym (c.in_ok-begun.ensures ∙ moved)) ∙ c.in-Ok.ensures in
     let after : left_by (check now) ≡ c.in_ok-left_by.field-0 =
-        ap₂ (λ a k. left_by (accept_block context a body k)) (sym c.in_ok-inside.ensures) (sym moved) ∙ left_is _ _ c.in_ok-left_by.ensures in
+    ap₂ (λ a k. left_by (accept_block context a body k)) (sym c.in_ok-inside.ensures) (sym moved) ∙ left_is _ _ c.in_ok-left_by.ensures in
     ap (over_turns (turns - (turn + 1)) it.variable (it.first + (turn + 1)) check find c.in-Some.known) c.in_ok-told.ensures
     ∙ turn_told turns turn it.variable it.first check find c.turns.here told (place_found c.in-Ok.found) c.in-Some.known lt f (after ∙ c.in-Some.is)
     ∙ c.turns.invariant
@@ -104,9 +104,9 @@ place_in_each-returns-in-None t c =
     let now = with_range it.variable (only (it.first + turn)) c.turns.here in
     let moved : c.put_range.new.self ≡ now = c.in_ok-put_range.ensures.ok ∙ ap (λ r. with_range it.variable r c.turns.here) c.between.ensures in
     let f : find now ≡ Ok (place_found c.in-Ok.found) =
-        ap₂ (λ a k. place_in_block context a body k c.args.number []) (sym c.in_ok-fixed.ensures) (sym (c.in_ok-begun.ensures ∙ moved)) ∙ c.in-Ok.ensures in
+    ap₂ (λ a k. place_in_block context a body k c.args.number []) (sym c.in_ok-fixed.ensures) (sym (c.in_ok-begun.ensures ∙ moved)) ∙ c.in-Ok.ensures in
     let after : left_by (check now) ≡ c.in_ok-left_by.field-0 =
-        ap₂ (λ a k. left_by (accept_block context a body k)) (sym c.in_ok-inside.ensures) (sym moved) ∙ left_is _ _ c.in_ok-left_by.ensures in
+    ap₂ (λ a k. left_by (accept_block context a body k)) (sym c.in_ok-inside.ensures) (sym moved) ∙ left_is _ _ c.in_ok-left_by.ensures in
     each_begun context c.args.around.now it body c.args.known c.args.number turns c.in_ok-turns.ensures.rule
     ∙ sym c.turns.invariant
     ∙ turn_ends turns turn it.variable it.first check find c.turns.here told (place_found c.in-Ok.found) lt f (after ∙ c.in-None.is)
