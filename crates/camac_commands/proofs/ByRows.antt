@@ -35,13 +35,13 @@ over_all [] = refl
 over_all (r ∷ rows) = (below_same r.detail, over_all rows)
 
 -- also where each of these others is changed, but not its detail
-pub over_inside : (change : Row → Row) (rows xs rest : List Row) → Over rows (map change xs) rest → ((r : Row) → (change r).detail ≡ r.detail) → Over rows xs rest
+over_inside : (change : Row → Row) (rows xs rest : List Row) → Over rows (map change xs) rest → ((r : Row) → (change r).detail ≡ r.detail) → Over rows xs rest
 unfolding Over
 over_inside change rows [] rest h same = h
 over_inside change [] (x ∷ xs) rest h same = absurd h
 over_inside change (r ∷ rows) (x ∷ xs) rest h same = (subst (λ d. Below d r.detail) (same x) h.0, over_inside change rows xs rest h.1 same)
 
-pub over_both : (rows xs ys rest : List Row) → Over rows (xs ++ ys) rest → (middle : List Row) × Over rows xs middle × Over middle ys rest
+over_both : (rows xs ys rest : List Row) → Over rows (xs ++ ys) rest → (middle : List Row) × Over rows xs middle × Over middle ys rest
 unfolding Over
 over_both rows [] ys rest h = (rows, refl, h)
 over_both [] (x ∷ xs) ys rest h = absurd h
@@ -54,12 +54,12 @@ unfolding Over
 over_none rows rest h = h
 
 -- the first row alone, and those behind it
-pub first_below : (own : Row) (rows xs rest : List Row) → Over rows (own ∷ xs) rest → Below own.detail (detail_told rows)
+first_below : (own : Row) (rows xs rest : List Row) → Over rows (own ∷ xs) rest → Below own.detail (detail_told rows)
 unfolding Over
 first_below own [] xs rest h = absurd h
 first_below own (r ∷ rows) xs rest h = h.0
 
-pub behind_first : (own : Row) (rows xs rest : List Row) → Over rows (own ∷ xs) rest → Over (drop 1 rows) xs rest
+behind_first : (own : Row) (rows xs rest : List Row) → Over rows (own ∷ xs) rest → Over (drop 1 rows) xs rest
 unfolding Over
 behind_first own [] xs rest h = absurd h
 behind_first own (r ∷ rows) xs rest h = h.1
@@ -94,7 +94,7 @@ module _ (c : Context) (around : Around) (b : Block) (limit : Bounds → Bounds)
   rows_at k = block_rows c around b k
 
   -- those so far
-  pub over_so_far : (n x v : ℕ) (judge : Known → Verdict) (k : Known) (so_far : Turned) (rows rest : List Row) → AreOf (block_sorts b) so_far.rows
+  over_so_far : (n x v : ℕ) (judge : Known → Verdict) (k : Known) (so_far : Turned) (rows rest : List Row) → AreOf (block_sorts b) so_far.rows
       → Over rows (turns_over limit n x v judge rows_at k so_far).rows rest → Over rows so_far.rows rest
   over_so_far zero x v judge k so_far rows rest i h = h
   over_so_far (suc n) x v judge None so_far rows rest i h = h
@@ -119,7 +119,7 @@ module _ (c : Context) (around : Around) (b : Block) (limit : Bounds → Bounds)
 
 module _ (c : Context) where
   mutual
-    pub statement_behind : (around : Around) (s : Statement) (k : Known) (rows rest : List Row) → Over rows (statement_rows c around s k) rest → behind s rows ≡ rest
+    statement_behind : (around : Around) (s : Statement) (k : Known) (rows rest : List Row) → Over rows (statement_rows c around s k) rest → behind s rows ≡ rest
     statement_behind around (choose line test a) k rows rest h = block_behind around a (ways line test k).holds (drop 1 rows) rest (over_block _ _ rows _ rest h (λ _. refl))
     statement_behind around (choose_else line test a b) k rows rest h =
         let arms = ways line test k in
@@ -157,7 +157,7 @@ module _ (c : Context) where
 
 -- ---- the rows of the checker's code, where the rules accept
 
-pub after_statement : (c : Context) (around : Around) (s : Statement) (k : Facts) (v : Verdict) → accept_statement (in_rules c) around s k ≡ Ok v → (statement_verdict (in_code c) around s (Some k)).after ≡ v.after
+after_statement : (c : Context) (around : Around) (s : Statement) (k : Facts) (v : Verdict) → accept_statement (in_rules c) around s k ≡ Ok v → (statement_verdict (in_code c) around s (Some k)).after ≡ v.after
 unfolding if_reached
 after_statement c around s k v is = ap (λ q. (found unreached q).after) (statement_cut c around s k ∙ ap cut_all is)
 

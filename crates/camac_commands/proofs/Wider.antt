@@ -37,7 +37,7 @@ IsAt (Some g) at = InRegion g at
 abbrev pub Grows : Option Region → Option Region → Type 0
 Grows o p = (at : Address) → IsAt o at → IsAt p at
 
-pub told_more : (line f : ℕ) (o p : Option Region) → Grows o p → (at : Address) (g : ℕ) → list_any (is_told at g) (made_at line f o) ≡ true → list_any (is_told at g) (made_at line f p) ≡ true
+told_more : (line f : ℕ) (o p : Option Region) → Grows o p → (at : Address) (g : ℕ) → list_any (is_told at g) (made_at line f o) ≡ true → list_any (is_told at g) (made_at line f p) ≡ true
 told_more line f None p h at g e = absurd (false≢true e)
 told_more line f (Some r) p h at g e =
     let own = and_parts (nat_eq g f) (lies_in r at) (only_one (nat_eq g f && lies_in r at) e) in
