@@ -2,7 +2,7 @@
 
 ghost use Rattle.std.specs.Prelude.{◌≡◌};
 ghost use Rattle.camac_lang.specs.View.{expression_of, statement_of};
-ghost use Rattle.camac_text_statements.specs.Statements.{if_statement, for_statement, each_ends, for_ends, single_number, while_statement, lock_statement, block_at};
+ghost use Rattle.camac_text_statements.specs.Statements.{if_statement, for_statement, single_number, while_statement, lock_statement, block_at};
 ghost use Rattle.camac_text_cursor.specs.Parser.{state, Gives};
 
 use crate::statements::block;
