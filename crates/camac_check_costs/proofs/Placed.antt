@@ -1,8 +1,8 @@
 -- The place of a statement, from what the statements before it come to.
-use Rattle.std.proofs.Common.{◌≡◌, ℕ, ◌<◌, ◌≤◌, ◌+◌, List, [], Option, Some, None, Result, Ok, Err, drop, length, refl, sym, ap, subst, ◌∙◌}
+use Rattle.std.proofs.Common.{◌≡◌, ℕ, ◌<◌, ◌≤◌, ◌+◌, List, [], Option, Some, None, Result, Ok, drop, length, sym, ap, ◌∙◌}
 use Rattle.std.specs.Prelude.{get_or, option_and_then}
 use Rattle.std.proofs.lemmas.List.{drop_all}
-use Rattle.camac_lang.specs.Tree.{Statement, Block, done, next}
+use Rattle.camac_lang.specs.Tree.{next}
 use Rattle.camac_lang.specs.View.{statement_of, statements_of}
 use Rattle.camac_lang.specs.declared.tree.Stmt.{Stmt}
 use Rattle.camac_check_known.specs.declared.fault.CheckFault.{CheckFault}
@@ -14,7 +14,6 @@ use Rattle.camac_rules.specs.Refusal.{go_on, if_reached}
 use Rattle.camac_rules.specs.Statements.{accept_statement}
 use Rattle.camac_check_simple.specs.Gives.{Fails}
 use Rattle.camac_check_known.specs.declared.fault.CheckFault.TheVariants.{OutOfMemory, Broken}
-use Rattle.camac_rules.specs.Fault.{broken}
 use Rattle.camac_check_rows.proofs.Trees.{next_of}
 use Rattle.camac_check_costs.specs.Places.{Place, first_or, past, past_block, place_in, place_in_block}
 

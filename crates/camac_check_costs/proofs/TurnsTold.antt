@@ -1,5 +1,5 @@
 -- What is told over turns, one turn at a time.
-use Rattle.std.proofs.Common.{◌≡◌, ℕ, zero, suc, ◌+◌, ◌-◌, ◌<◌, ◌≤◌, [], Option, Some, None, Result, Ok, Err, refl, sym, ap, ◌∙◌, subst, arith}
+use Rattle.std.proofs.Common.{◌≡◌, ℕ, zero, suc, ◌+◌, ◌-◌, ◌<◌, ◌≤◌, [], Option, Some, None, Result, Ok, Err, refl, sym, ap, ◌∙◌, arith}
 use Rattle.camac_lang.specs.Tree.{Block}
 use Rattle.camac_range.specs.Interval.{only}
 use Rattle.camac_check_known.specs.declared.fault.CheckFault.{CheckFault}

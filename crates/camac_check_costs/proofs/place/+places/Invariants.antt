@@ -1,7 +1,6 @@
 use Rattle.std.proofs.Common.{◌≡◌, ◌+◌, ◌-◌, [], None, drop}
 use Rattle.camac_lang.specs.View.{statements_of}
 use Rattle.camac_check_simple.specs.Gives.{by_code}
-use Rattle.camac_rules.specs.Known.{Facts}
 use Rattle.camac_rules.specs.Loops.{with_fixed}
 use Rattle.camac_rules.specs.Statements.{accept_block}
 use Rattle.camac_check_costs.specs.Places.{over_turns, place_in_block}
