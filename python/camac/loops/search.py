@@ -70,9 +70,10 @@ def least_ranges(plan: File, script: bytes, kept: AbstractSet[int], program: Opt
     stopped = search.stopped(BOUNDS) if its else None
     while stopped and search.may_ask() and search.widen(stopped):
         stopped = search.stopped(BOUNDS)
-    less = {cause: found for cause, found in search.found.kept.items() if found != search.given[cause]}
-    is_good = not stopped and less and search.stopped(CHECK) is None
-    return {its[cause].start: found for cause, found in less.items()} if is_good else {}
+    inside = {cause: (low, high) for cause, (low, high) in search.found.kept.items() if search.given[cause][0] <= low and high <= search.given[cause][1]}
+    search.found.kept = {cause: found for cause, found in inside.items() if found != search.given[cause]}
+    is_good = not stopped and search.found.kept and search.stopped(CHECK) is None
+    return {its[cause].start: found for cause, found in search.found.kept.items()} if is_good else {}
 
 
 class _Search:
@@ -197,7 +198,8 @@ class _Search:
         self.guarded[name] = step
         self.lost = {one for one in self.lost if one[1] != name}
         its = [it for it in all_in(body.statements) if isinstance(it, Assign) and it.name == name and grows(it)]
-        self.found.changed.update((it, self.changes.guard(it, step)) for it in its)
+        changed = self.found.changed
+        changed.update((it, self.changes.guard(it, step)) for it in its if it not in changed or changed[it].step)
 
     def fit_headings(self) -> None:
         """Where the headings of a script refuse it, finds what lowers its costs, or proposes the least headings."""

@@ -22,11 +22,17 @@ def _judged(statements: Iterable[Statement], chosen: Container[Statement]) -> Tu
 def turn_by_turn(body: Body) -> List[For]:
     """The loops of a body that may all be judged turn by turn and are not: `for` loops between two numbers that keep nothing. Where that is too much,
     those that judge most are left out."""
-    loops = [it for it in all_in(body.statements) if isinstance(it, For) and not it.keeps and not it.is_each]
-    chosen = [it for it in loops if it.turns and it.turns <= MOST_TURNS]
-    while chosen and _judged(body.statements, chosen)[1] > MOST_JUDGED:
-        chosen.remove(max(chosen, key=lambda it: _judged([it], chosen)[1]))
-    return chosen
+    its = [it for it in all_in(body.statements) if isinstance(it, For) and it.turns and it.turns <= MOST_TURNS and not it.keeps and not it.is_each]
+    chosen = set(its)
+    its.sort(key=lambda it: _judged([it], chosen)[1])
+    least, most = 0, len(its)
+    while least < most:
+        count = (least + most + 1) // 2
+        if _judged(body.statements, set(its[:count]))[1] <= MOST_JUDGED:
+            least = count
+        else:
+            most = count - 1
+    return its[:least]
 
 
 def is_each(it: Loop) -> bool:
