@@ -482,16 +482,13 @@ class Changed(Served):
         loop = "  for t = 1 to 4{} {{ if v < 9 {{ v = v + 1 }} }}\n  put v\n  cclc adc\n"
         head = "cdlam adc 1 1 5 12\nvar v t\nservice adc within 3 cycles event 1 words {\n"
         text = head + "  for t = 1 to 4 { v = v + 1 }\n  put v\n  cclc adc\n}\n"
-        fixed = self.fixed(text, 3, "Write what helps the loops")
-        self.assertEqual(self.shown(self.open(fixed)), [])
+        self.assertEqual(self.fixed(text, 3, "Write what helps the loops: for t = 1 to 4 each {"), text.replace("4 {", "4 each {"))
         wide = head + loop.format(" keep v in 0..1000") + "}\n"
         self.assertEqual(self.fixed(wide, 3, "Keep the least range", 1), wide.replace("1000", "9"))
         unused = head + loop.format(" keep v in 0..9").replace("put v\n", "put 1\n") + "}\n"
         self.assertEqual(self.fixed(unused, 3, "Remove what is kept for nothing", 1), unused.replace("keep v in 0..9 ", ""))
-        split = head.replace("within 3", "within 75").replace("event 1 words", "event 0 words") + "  cdreg o 1 1 6 0\n  for t = 0 to 11 {\n    cdreg r 1 1 5 t\n    cfsa 0 r -> v\n    if t < 8 { cfsa 16 o <- v / 16 }\n  }\n  cclc adc\n}\n"
-        made = self.fixed(split, 4, "Split the loop", 1)
-        self.assertIn("for t = 0 to 7 {", made)
-        self.assertIn("for t = 8 to 11 {", made)
+        dear = head.replace("within 3", "within 75").replace("event 1", "event 0") + "  cdreg o 1 1 6 0\n  for t = 0 to 11 {\n    if t < 8 { cfsa 16 o <- 1 }\n  }\n  cclc adc\n}\n"
+        self.assertEqual(self.fixed(dear, 4, "Judge the loop turn by turn", 1), dear.replace("11 {", "11 each {"))
 
     def test_loops_of_a_long_script(self):
         """What helps them is looked for when it is asked for, and the client is asked to put it in."""

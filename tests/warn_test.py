@@ -11,6 +11,7 @@ from unittest import mock
 from support.live import PROGRAM, TOP, Case, run_tests, script
 from support.seconds import is_within
 import camac
+from camac.edits import edited
 from camac.warn import Code
 
 ACCEPTED = re.compile(r"^```camac accepted([^\n]*)\n(.*?)^```$", re.M | re.S)
@@ -132,38 +133,37 @@ class Warnings(Case):
         (found,) = camac.warnings("@sample", self.write("a.script", text))
         self.assertEqual((found.line, found.text), (5, "this kept bound of `k` is wider than it has to be: `k in 0..4095` is accepted, too"))
 
-    def test_split(self):
-        """Conditions on a loop's own variable: as two loops, or three, it pays for less. Each is shown by its starts, and what is less."""
+    def test_each(self):
+        """A loop whose turns do not cost the same pays for less turn by turn. What is less is told."""
         read = "cfsa 0 r -> v"
-        for head, block, wanted in [
-            ("for i = 0 to 15", f"put i if i < 8 {{ {read} }}", ("8", "24 cycles in place of 48")),
-            ("for i = 0 to 15", f"if i >= 12 {{ {read} put v }}", ("12", "12 cycles in place of 48 and 5 words in place of 17")),
-            ("for i = 0 to 15", f"if not 3 < i {{ {read} }}", ("4", "12 cycles in place of 48")),
-            ("for i = 0 to 15", f"if i == 0 {{ {read} }} else {{ put 1 }}", ("1", "3 cycles in place of 48 and 16 words in place of 17")),
-            ("for i = 2 to 5", f"if i == 3 {{ {read} }}", ("3 and 4", "3 cycles in place of 12")),
-            ("for i = 0 to 15", f"if q {{ if i < 8 {{ {read} }} }}", ("8", "24 cycles in place of 48")),
-            ("for i = 0 to 15", f"if i < 8 {{ {read} }} if i < 4 {{ k = 1 }}", ("8", "24 cycles in place of 48")),
-            ("for i = 0 to 3 keep k in 0..4", f"if i < 2 {{ {read} if k < 4 {{ k = k + 1 }} }}", ("2", "6 cycles in place of 12")),
-            # nothing is less, or it is not known where to split
+        for head, block, less in [
+            ("for i = 0 to 15", f"put i if i < 8 {{ {read} }}", "24 cycles in place of 48"),
+            ("for i = 0 to 15", f"if i >= 12 {{ {read} put v }}", "12 cycles in place of 48 and 5 words in place of 17"),
+            ("for i = 0 to 15", f"if i / 8 == 0 {{ {read} }} else {{ put 1 }}", "24 cycles in place of 48 and 9 words in place of 17"),
+            ("for i = 0 to 3", f"for k = 0 to i {{ {read} }}", "30 cycles in place of 48"),
+            ("for i = 0 to 3 keep k in 0..4", f"if i < 2 {{ {read} if k < 4 {{ k = k + 1 }} }}", "6 cycles in place of 12"),
+            # nothing is less, or it may not be judged so, or it is
             ("for i = 0 to 15", f"if i < 8 {{ {read} }} else {{ cfsa 0 r -> k }}", None),
-            ("for i = 0 to 7", f"if i < 8 {{ {read} }} if i >= 0 {{ k = 2 }}", None),
-            ("for i = 0 to 15", f"if i % 2 == 0 {{ {read} }}", None),
             ("for i = 0 to k", f"if i < 8 {{ {read} }}", None),
-            ("for i = 0 to 15", f"if i < k {{ {read} }}", None),
+            ("for i = 0 to 65534", f"if i < 8 {{ {read} }}", None),
             ("for i = 0 to 15", f"{read} if v < 8 {{ put 1 }}", None),
+            ("for i = 0 to 15 each", f"if i < 8 {{ {read} }}", None),
         ]:
             with self.subTest(head=head, block=block):
-                text = script(["cdreg r 1 1 5 0", f"{head} {{ {block} }}", "put k" if "keep" in head else "put 1"])
-                found = [it.text for it in camac.warnings("@sample", self.write("a.script", text)) if it.code is Code.SPLIT]
-                told = "split at {}, this loop has a lower bound: `adc` then takes {}"
-                self.assertEqual(found, [told.format(*wanted)] if wanted else [])
+                text = script(["cdreg r 1 1 5 0", f"{head} {{ {block} }}", "put k" if "keep" in head else "put 1"], 999_999, 99)
+                found = [it for it in camac.warnings("@sample", self.write("a.script", text)) if it.code is Code.EACH]
+                told = "judged turn by turn (`each`), this loop has a lower bound: `adc` then takes {}"
+                self.assertEqual([it.text for it in found], [told.format(less)] if less else [])
+                fixed = f"{head.partition(' keep')[0]} each {{"
+                self.assertEqual([fixed in edited(text.encode(), it.edits).decode() for it in found], [True] * len(found))
 
-    def test_split_of_a_procedure(self):
+    def test_each_in_a_procedure(self):
         body = "for s = 0 to 11 { if s < 4 { cdreg r 1 1 5 s cfsa 0 r -> v put v } }"
         procedure = f"proc get(s in 0..0, v in 0..0) within 36 cycles event 12 words steps 85 {{\n{body}\n}}\n"
         text = f"cdlam adc 1 1 5 12\n{procedure}service adc within 36 cycles event 12 words {{ call get(0, 0) }}\n"
-        found = [(it.line, it.text) for it in camac.warnings("@sample", self.write("a.script", text)) if it.code is Code.SPLIT]
-        self.assertEqual(found, [(3, "split at 4, this loop has a lower bound: `get` then takes 12 cycles in place of 36 and 4 words in place of 12")])
+        found = [(it.line, it.text) for it in camac.warnings("@sample", self.write("a.script", text)) if it.code is Code.EACH]
+        told = "judged turn by turn (`each`), this loop has a lower bound: `get` then takes 12 cycles in place of 36 and 4 words in place of 12"
+        self.assertEqual(found, [(3, told)])
 
     def test_no_service(self):
         for text in ("", "# nothing\n", "cdlam adc 1 1 5 12\nvar v\n", script(["cclc adc"]).replace("\n", "\r").replace("cdlam", "#\rcdlam")):

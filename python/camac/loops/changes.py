@@ -67,7 +67,7 @@ class Changes:
 
     def at(self, it: Statement, stopped: Stopped) -> Optional[Change]:
         """What may help in the statement that is refused."""
-        put, sides = PUT.match(stopped.sentence), SIDES.match(stopped.sentence)
+        put, sides = PUT.search(stopped.sentence), SIDES.search(stopped.sentence)
         if put and isinstance(it, Plain) and not isinstance(it.values[0], Number):
             return self.words(it, it.values[0])
         if sides and sides[1] == "-":

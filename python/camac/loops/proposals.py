@@ -92,9 +92,10 @@ class Found:
     def leave_out(self, is_good: Callable[[], bool]) -> None:
         """Leaves out what is there for nothing, so that the rest is good, as the whole is: once more if something may be for nothing only now. A single
         thing is not."""
+        all_found: List[MutableMapping[Any, Any]] = [self.kept, self.each, self.changed]
         out = [False, True]
         while any(it < other for it, other in zip(out, out[1:])):
-            its = [(its, it) for its in (self.kept, self.each, self.changed) for it in its]
+            its = [(found, it) for found in all_found for it in found]
             out = _leave_out(its, is_good) if len(its) > 1 else []
 
 

@@ -132,7 +132,7 @@ class _Search:
 
     def widen(self, stopped: Stopped) -> bool:
         """Makes a range wider that is kept and does not hold, or gives it up."""
-        out, loop = OUT.match(stopped.sentence), stopped.about
+        out, loop = OUT.search(stopped.sentence), stopped.about
         if not out or not isinstance(loop, Loop):
             return False
         name, cause, told = out[1], (loop, out[1]), (int(out[2]), int(out[3] or out[2]))

@@ -14,7 +14,7 @@ MOST_TURNS = 65_535
 OF_HEADINGS = frozenset(("E11", "E12", "E18"))
 # Rules of the checker that a loop breaks when it forgets a variable.
 OF_LOOPS = frozenset(("E1", "E2", "E4", "E5", "E8", "E9", "E10", "E11", "E12", "E14", "E16", "E18", "E21"))
-# What loops keep is looked for at once in a script of at most so many bytes, else when it is asked for.
+# What loops need is looked for at once in a script of at most so many bytes, else when it is asked for.
 QUICK = 8_000
 TITLES = {Code.UNUSED_KEEP: "Remove what is kept for nothing", Code.WIDE_KEEP: "Keep the least range", Code.EACH: "Judge the loop turn by turn"}
 
@@ -78,7 +78,7 @@ def _headings(judged: Judged, code: str) -> Iterator[Fix]:
 
 
 def kept(judged: Judged) -> List[Fix]:
-    """What loops have to keep, and what else helps there, as `camac-check --keeps` proposes it. This may take long."""
+    """What loops need, `each` first, as `camac-check --keeps` proposes it. This may take long."""
     if "kept" not in judged.kept:
         found = propose(judged.judge.file, judged.text.data, judged.judge.program)
         edits = tuple(edit for it in found.proposals for edit in it.edits)

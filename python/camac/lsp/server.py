@@ -379,7 +379,7 @@ class Server:
         shown = [it for it in params.get("context", {}).get("diagnostics", []) if isinstance(it, dict)]
         made = [self.action(uri, judged, it, shown) for it in {it.edits: it for it in reversed(list(found))}.values()][::-1]
         if len(text.data) > actions.QUICK and any(it.code in actions.OF_LOOPS for it in refusals(judged)):
-            title = "Find what the loops have to keep"
+            title = "Find what the loops need"
             made.append({"title": title, "kind": "quickfix", "command": {"title": title, "command": KEEPS, "arguments": [uri]}})
         return made
 

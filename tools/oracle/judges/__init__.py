@@ -16,7 +16,7 @@ JUDGES = {
         Judge("mark", "explain: the place of ^", mark.judge, ("L1", "E4", "no mark")),
         Judge("also", "explain: the further refusals", also.judge, ("also L", "also E")),
         Judge("expected", "explain: the words and signs that would fit in the place of the one found", expected.judge, ("set",)),
-        Judge("keeps", "camac-check --keeps: each proposal", keeps.judge, ("keep", "guard", "heading", "needed", "played")),
+        Judge("keeps", "camac-check --keeps: each proposal", keeps.judge, ("each", "keep", "guard", "heading", "needed", "alone")),
         Judge("response", "response: its lines, and its law along runs", response.judge, LATE),
     )
 }

@@ -1,15 +1,13 @@
-"""What `camac-check --keeps` proposes: with all of it the script is accepted, each part of it is needed, and what it calls always true is."""
+"""What `camac-check --keeps` proposes: with all of it the script is accepted, each part of it is needed, and where `each` suffices there is nothing else."""
 from __future__ import annotations
 
 import pathlib
 import re
 import sys
-from random import Random
 from typing import Iterator, List, Optional, Tuple
 
 from oracle.comparing import Comparison
 from oracle.maker.beginners import make_beginner
-from oracle.maker.extremes import BY_CHANCE, GREATEST, LEAST, RISEN, SILENT, events
 from oracle.reader.checker import Checker
 from oracle.reader.engines import GOOD, REFUSED, Inputs, told
 from oracle.reader.grammar import read_script
@@ -17,16 +15,17 @@ from oracle.reader.plan import sample_plan
 from oracle.reader.refusals import Refused
 
 sys.path.append(str(pathlib.Path(__file__).resolve().parents[3] / "python"))
-from camac.loops.proposals import Proposals
+from camac.edits import edited
+from camac.loops.changes import Kind
+from camac.loops.proposals import put_before_block
 from camac.loops.search import propose
+from camac.loops.turns import turn_by_turn
+from camac.reader import read_script as read_tree
 
 PLAN = sample_plan()
 KEEP = re.compile(rb" keep ([^{]*) \{")
 HEADING = re.compile(rb"within (\d+) cycles event (\d+) words")
-TRUE, MARK = b"  # always true", b" else { put 1 }"
-# A service that may take more steps is not played.
-STEPS = 20_000
-KINDS = GREATEST, LEAST, SILENT, RISEN, *BY_CHANCE
+EACH = b" each {"
 
 
 def judged(text: bytes, is_least: bool = False) -> Tuple[Checker, Optional[Refused]]:
@@ -43,7 +42,9 @@ def narrower(kept: bytes) -> List[bytes]:
 
 
 def lesser(text: bytes) -> Iterator[bytes]:
-    """A script with one bound one less, or one range left out."""
+    """A script with one bound one less, or one range or one `each` left out."""
+    for it in re.finditer(EACH, text):
+        yield text[: it.start()] + b" {" + text[it.end() :]
     for it in KEEP.finditer(text):
         kept = it[1].split(b", ")
         for at, one in enumerate(kept):
@@ -57,14 +58,9 @@ def lesser(text: bytes) -> Iterator[bytes]:
                 yield text[: it.start()] + b"within %d cycles event %d words" % numbers + text[it.end() :]
 
 
-def marked(text: bytes, found: Proposals) -> bytes:
-    """The script with one more word in an event if a condition is false that is told to be always true."""
-    lines = text.split(b"\n")
-    for it in found.proposals:
-        guard, always, _ = it.text.encode().partition(TRUE)
-        if always:
-            lines[it.line - 1] = lines[it.line - 1].replace(guard, guard + MARK)
-    return b"\n".join(lines)
+def with_each(text: bytes) -> bytes:
+    """The script with all loops turn by turn that may be."""
+    return edited(text, [put_before_block(text, it, "each") for body in read_tree(text).bodies for it in turn_by_turn(body)])
 
 
 def judge(it: Comparison) -> None:
@@ -88,10 +84,7 @@ def judge(it: Comparison) -> None:
         it.seen["needed"] += 1
         if not judged(other)[1]:
             differs(other, "refused: less than was proposed", REFUSED)
-    other = marked(applied, found)
-    if other != applied and checker.costs[0].steps < STEPS:
-        for kind in KINDS:
-            seed = random.random()
-            it.seen["played"] += 1
-            if events(PLAN, other, Random(seed), kind) != events(PLAN, applied, Random(seed), kind):
-                differs(other, "the same events: the conditions are always true", GOOD)
+    if {one.kind for one in found.proposals} - {Kind.EACH, Kind.HEADING}:
+        it.seen["alone"] += 1
+        if not judged(with_each(text), True)[1]:
+            differs(text, "accepted with `each` alone", GOOD)
