@@ -62,21 +62,6 @@ first_turn_alone : rows_of 1 12 once_a_word at_start
 unfolding go_on required given if_reached
 first_turn_alone = refl
 
--- a turn begins with what the one before has left: here with a register that the first has not
-abbrev read_then_set : List Statement
-read_then_set =
-    choose 5 (plain (compare (number 1) Less (variable i)) ∷ []) (block_of (single 6 Full 0 r (into v) ∷ [])) ∷
-    set_register 7 r (number 1) (number 5) (number 0) ∷ []
-
-set_in_the_turn_before : rows_of 1 2 read_then_set at_start
-    ≡ row 4 1 kind.For 1 (costs 3 0 8) (costs 0 0 3) (detail.Turns 2)
-    ∷ row 5 2 kind.If 2 (costs 3 0 2) (costs 0 0 2) detail.Nothing
-    ∷ row 6 3 kind.Cfsa 1 (costs 3 0 1) (costs 3 0 1) (detail.At (region (only 1) (only 5) (only 0)))
-    ∷ row 7 2 kind.Cdreg 2 (costs 0 0 1) (costs 0 0 2) detail.Nothing
-    ∷ []
-unfolding go_on required given if_reached
-set_in_the_turn_before = refl
-
 -- without a turn, and where it can't be reached, its statements are not made
 no_turn : rows_of 5 4 stations at_start
     ≡ row 4 1 kind.For 1 (costs 0 0 1) (costs 0 0 1) (detail.Turns 0)
