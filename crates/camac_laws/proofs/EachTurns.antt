@@ -6,7 +6,8 @@ use Rattle.camac_rules.specs.Costs.{Verdict, unreached}
 use Rattle.camac_rules.specs.Each.{each_turns, each_from}
 use Rattle.camac_rules.specs.Fault.{Fault}
 use Rattle.camac_rules.specs.Known.{Facts, Known, with_range}
-use Rattle.camac_rules.specs.Refusal.{go_on, if_reached}
+use Rattle.camac_rules.specs.Refusal.{if_reached}
+use Rattle.camac_check_costs.proofs.PlaceLaws.{next_turn}
 use Rattle.camac_laws.specs.Places.{at_turn}
 use Rattle.camac_laws.proofs.Refused.{go_err, reached_err}
 use Rattle.camac_laws.proofs.Steps.{go_ok}
@@ -15,16 +16,9 @@ use Rattle.camac_laws.proofs.Steps.{go_ok}
 abbrev pub IsTurn : (turns variable value : ℕ) → (Facts → Result Verdict Fault) → Facts → (Facts → Type 0) → Type 0
 IsTurn n x v check k P = (turn : ℕ) × (turn < n) × ((t : Facts) × (at_turn check x v turn k ≡ Ok (Some t)) × P t)
 
--- after the first one
-later : (check : Facts → Result Verdict Fault) (x v turn : ℕ) (k q : Facts) (left : Verdict) → check (with_range x (only v) k) ≡ Ok left → left.after ≡ Some q
-    → at_turn check x v (suc turn) k ≡ at_turn check x (v + 1) turn q
-unfolding go_on if_reached
-later check x v turn k q left e after =
-    ap (λ r. go_on r (λ (w : Verdict). if_reached None w.after (at_turn check x (v + 1) turn))) e ∙ ap (λ o. if_reached None o (at_turn check x (v + 1) turn)) after
-
 one_more : (n x v : ℕ) (check : Facts → Result Verdict Fault) (k q : Facts) (left : Verdict) (P : Facts → Type 0) → check (with_range x (only v) k) ≡ Ok left → left.after ≡ Some q
     → IsTurn n x (v + 1) check q P → IsTurn (suc n) x v check k P
-one_more n x v check k q left P e after h = (suc h.0, omega (arith, h.1), (h.2.0, later check x v h.0 k q left e after ∙ h.2.1, h.2.2))
+one_more n x v check k q left P e after h = (suc h.0, omega (arith, h.1), (h.2.0, next_turn check x v h.0 k q left e after ∙ h.2.1, h.2.2))
 
 turns_refused : (limit : Bounds → Bounds) (n x v last : ℕ) (check : Facts → Result Verdict Fault) (k : Facts) (fault : Fault) → each_turns limit n x v last check k ≡ Err fault
     → IsTurn n x v check k (λ t. check t ≡ Err fault)
