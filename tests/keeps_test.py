@@ -1,12 +1,12 @@
 #!/usr/bin/env python3
-"""Tries what camac proposes for loops (`camac-check --keeps`): on the loops of tests/loops, which beginners write, and on scripts whose `keep`s are
-taken out.
+"""Tries what camac proposes for loops (`camac-check --keeps`): on the loops of tests/loops, which beginners write, on scripts whose `keep`s are
+taken out, and by hand. tools/oracle tries it on scripts made at random.
 
 usage: tests/keeps_test.py [--whole] [-v] [TEST ..]     from any folder; takes some seconds
 
-With --whole all of it is tried and the figures are printed: 300 accepted scripts made at random that keep something, and 300 that are refused without
-it. That takes some minutes. If the library for C is there (tests/support/of_c.py), it judges, else the program: crates/camac/out/camac (cd
-crates/camac && rt run makes it), or what the environment variable CAMAC_PROGRAM names. CAMAC_SEED is another seed than the usual one.
+With --whole all loops are tried, not one of five, and the figures are printed. If the library for C is there (tests/support/of_c.py), it judges, else
+the program: crates/camac/out/camac (cd crates/camac && rt run makes it), or what the environment variable CAMAC_PROGRAM names. CAMAC_SEED is another
+seed than the usual one.
 """
 import functools
 import json
@@ -32,18 +32,13 @@ from camac.tree import Loop, all_in
 
 sys.path.insert(0, str(TOP / "tools"))
 
-import oracle.maker.scripts
 from oracle.maker.extremes import BY_CHANCE, GREATEST, LEAST, RISEN, SILENT, events
-from oracle.maker.nodes import Node
-from oracle.maker.plans import make_plan
-from oracle.maker.scripts import make_script
-from oracle.maker.statements import Maker
 from oracle.reader.plan import read_plan, sample_plan
 
 SEED = os.environ.get("CAMAC_SEED") or "camac"
 HERE = TOP / "tests/loops"
-# The sample of the gate: one of this number of loops, this number of scripts; and the scripts of the whole.
-EVERY, SAMPLES, WHOLE = 5, 20, 300
+# The sample of the gate: one of this number of loops.
+EVERY = 5
 # How many loops need `each` and nothing else; and those that another script helps, by the judgement of an expert.
 BY_EACH = 168
 LEFT = {"channels_by_while", "exponential_mean_by_parts", "ramp_that_is_too_long", "scaled_mean", "time_between_pulses"}
@@ -157,9 +152,6 @@ class Written:
         self.plan, self.text, self.bare = plan, text, without_keeps(text)
         self.kept = [{it.name: it.range for it in loop.keeps} for loop in loops_of(text)]
 
-    def is_needed(self):
-        return not accepts(self.plan, self.bare, judge())
-
     def is_mended(self, found):
         kinds = {it.kind for it in found.proposals}
         return found.remaining is None and kinds <= {Kind.EACH, Kind.KEEP} and accepts(self.plan, found.applied(self.bare), judge())
@@ -180,83 +172,17 @@ def written_here():
             yield from [Written(plan, text) for plan in plans if accepts(plan, text, judge())][:1]
 
 
-class Keeper(Maker):
-    """Makes scripts of many loops that keep what is looked at."""
-
-    is_keeping = False
-
-    def odds(self, chance):
-        return super().odds(0.9 if self.is_keeping and chance == 0.3 else chance)
-
-    def keeps(self, own):
-        self.is_keeping = True
-        try:
-            return super().keeps(own)
-        finally:
-            self.is_keeping = False
-
-    def statements(self):
-        if self.depth < 4 and self.left > 0 and self.random.random() < 0.4:
-            self.left -= 1
-            return self.random.choice((self.kept, self.for_, self.while_))()
-        return super().statements()
-
-    def put(self):
-        return [Node(f"put {self.variable()}")] if self.random.random() < 0.6 else super().put()
-
-
-def made(seed, maker, room):
-    """Scripts made at random that are accepted and keep something."""
-    number = 0
-    while True:
-        number += 1
-        dice = random.Random(f"{seed}/{number}")
-        plan = None if dice.random() < 0.35 else make_plan(dice)
-        oracle.maker.scripts.Maker = maker
-        text = make_script(dice, sample_plan() if plan is None else read_plan(plan))
-        oracle.maker.scripts.Maker = Maker
-        if b"keep" in text:
-            file = room / f"{number}.toml"
-            file.write_bytes(plan or b"")
-            it = "@sample" if plan is None else str(file)
-            if accepts(it, text, judge()) and any(loop.keeps for loop in loops_of(text)):
-                yield Written(it, text)
-
-
 class TakenOut(Case):
     """Where ranges are taken out, something is found that helps as well."""
 
-    def tried(self, scripts, what):
-        tried, needed, mended, wider, calls = 0, 0, 0, [], []
-        for it in scripts:
-            found = propose(it.plan, it.bare, judge())
-            tried += 1
-            needed += it.is_needed()
-            mended += it.is_mended(found)
-            wider += it.wider(found)
-            calls.append(found.calls)
-        if is_whole:
-            print(f"{what}: {tried}, of which {needed} are refused without")
-            print(f"  {mended} are accepted again, {len(wider)} ranges are wider; calls {max(calls)} at most, {sum(calls) / len(calls):.1f} in the mean")
-        self.assertLessEqual(len(wider), tried // 20)
-        self.assertLessEqual(max(calls), MOST_CALLS)
-        return tried, mended
-
     def test_examples_and_pages(self):
-        tried, mended = self.tried(written_here(), "scripts of examples and pages")
-        self.assertEqual(mended, tried)
-
-    def test_made(self):
-        count = WHOLE if is_whole else SAMPLES
-        scripts = made(SEED, Maker, self.room)
-        tried, mended = self.tried((next(scripts) for _ in range(count)), "scripts made at random that keep something")
-        self.assertGreaterEqual(mended, tried * 0.95)
-
-    def test_made_and_needed(self):
-        count = WHOLE if is_whole else 1
-        scripts = (it for it in made(SEED, Keeper, self.room) if it.is_needed())
-        tried, mended = self.tried((next(scripts) for _ in range(count)), "scripts made at random that need what they keep")
-        self.assertGreaterEqual(mended, tried * 0.95)
+        tried = 0
+        for it in written_here():
+            tried += 1
+            found = propose(it.plan, it.bare, judge())
+            with self.subTest(text=it.text):
+                self.assertEqual((it.is_mended(found), it.wider(found)), (True, []))
+        self.assertGreater(tried, 0)
 
 
 class Proposed(Case):
