@@ -59,7 +59,7 @@ def _open(rows: Sequence[Row], at: Tuple[int, int], procedures: Mapping[str, Bod
         if not body or not row.share.cycles or len(found) + len(body.rows) > most or row.depth >= deepest:
             found.append(row)
             continue
-        counted = row.counted()
+        counted = _counted(row)
         slack = counted * (row.each.cycles - body.most.cycles)
         found.append(row._replace(share=Cost(slack, 0, 0), waits=0, slack=slack))
         _open(body.rows, (counted, row.depth), procedures, into)
@@ -68,6 +68,11 @@ def _open(rows: Sequence[Row], at: Tuple[int, int], procedures: Mapping[str, Bod
 def called(row: Row, procedures: Mapping[str, Body]) -> Optional[Body]:
     """The procedure that a row calls."""
     return procedures.get(row.called()) if row.word == "call" else None
+
+
+def _counted(row: Row) -> int:
+    """How many times a call is counted in the bound. In an `each` the greater arm of an `if` may be another one in each turn; all its calls cost the same."""
+    return row.share.cycles // row.each.cycles
 
 
 def _times(row: Row, times: int) -> Row:
@@ -95,7 +100,7 @@ def calls_of(body: Body, procedures: Mapping[str, Body], most: int = 40) -> List
     for row in body.rows:
         its = called(row, procedures)
         if its and row.share.cycles and len(found) < most:
-            counted = row.counted()
+            counted = _counted(row)
             rows = tuple(_times(it, counted) for it in its.rows)
             scaled = its._replace(rows=rows, most=Cost(*(counted * it for it in its.most)))
             found += [Call(row.line, scaled, counted, row.each.cycles), *calls_of(scaled, procedures, most - len(found) - 1)]

@@ -150,10 +150,7 @@ class Row(NamedTuple):
         return self.each.cycles if self.word not in BLOCKS else self.share.cycles // self.times if self.times else 0
 
     def counted(self) -> int:
-        """How many times are counted in the bound: as often as it is made at most, and never in the arm of an `if` that costs less. In an `each` that
-        arm may be another one in each turn; the calls that are counted cost the same."""
-        if self.word == "call" and self.share.cycles:
-            return self.share.cycles // self.each.cycles
+        """How many times are counted in the bound: as often as it is made at most, and never in the arm of an `if` that costs less."""
         return self.times if self.share.cycles else 0
 
     def addresses(self) -> List[Address]:
