@@ -95,7 +95,7 @@ class Calls(unittest.TestCase):
         with tempfile.TemporaryDirectory() as room:
             (pathlib.Path(room) / "script").write_text(script)
             status, out, _ = called("response", "@sample", f"{room}/script", timeout=5)
-        self.assertEqual((status, out.decode()), (0, f"service adc gl 3 cycles {cycles} once start 0 end {cycles} longest {cycles}\n"))
+        self.assertEqual((status, out.decode()), (0, f"service adc gl 3 cycles {cycles} once start 0 end {cycles} longest {cycles} clears 2\n"))
 
 
 class Edges(unittest.TestCase):

@@ -12,7 +12,7 @@ use Rattle.camac_response.specs.Kept.{AreKept}
 use Rattle.camac_response.specs.Lines.{responses_text}
 use Rattle.camac_engines.specs.Engine.{Shows}
 use Rattle.camac_engines.specs.Report.{refused}
-use Rattle.camac_engines.specs.Response.{IsResponse, RespondsOn, SaysKept, unkept_in}
+use Rattle.camac_engines.specs.Response.{IsResponse, RespondsOn, SaysKept, unkept_in, twice_in}
 use Rattle.camac_engines.specs.declared.fault.ToolFault.{ToolFault}
 use Rattle.camac_engines.specs.declared.judging.Judged.TheVariants as judged
 use Rattle.camac_engines.specs.declared.outcome.Outcome.{Outcome}
@@ -20,7 +20,7 @@ use Rattle.camac_engines.specs.declared.response.Responded.{Responded}
 use Rattle.camac_engines.proofs.Told.{reported}
 
 pub response_of : (s : Settings) (c : CheckedScript) (ts : List Source) (outcome : Outcome) → IsNoService c.script s.every.items s.within.items None → AreTold c s.every.items ts
-    → SaysKept (AreKept c.script s.within.items (unkept_in c ts) ts) outcome → IsResponse s c outcome (responses_text c.script s.within.items (unkept_in c ts) ts)
+    → SaysKept (AreKept c.script s.within.items (unkept_in c ts) ts) outcome → IsResponse s c outcome (responses_text c.script s.within.items (unkept_in c ts) (twice_in c) ts)
 response_of s c ts outcome named told kept = record { named = named; sources = ts; told = told; text_is = refl; kept = kept }
 
 -- the line of a refusal, where it could not be written

@@ -1,5 +1,5 @@
 -- What `camac response` tells of a plan and a script, at the numbers that the words tell.
-use Rattle.std.specs.Prelude.{◌≡◌, ℕ, List, Option, Some, None, Result, Ok, Err}
+use Rattle.std.specs.Prelude.{◌≡◌, ℕ, Bool, List, Option, Some, None, Result, Ok, Err}
 use Rattle.std.specs.Io.KnownBytes.{Keeps}
 use Rattle.camac_checked.specs.Checked.{CheckedScript}
 use Rattle.camac_explain.specs.Finding.{refusal_of}
@@ -9,6 +9,7 @@ use Rattle.camac_response_times.specs.declared.source.Source.{Source}
 use Rattle.camac_response.specs.Checked.{AreTold, IsNoService}
 use Rattle.camac_response.specs.Kept.{AreKept}
 use Rattle.camac_response.specs.Lines.{responses_text}
+use Rattle.camac_response.specs.Twice.{twice_of}
 use Rattle.camac_response.specs.Unkept.{unkept_of}
 use Rattle.camac_response.specs.declared.unkept.Unkept.{Unkept}
 use Rattle.camac_engines.specs.Engine.{IsWritten}
@@ -28,6 +29,10 @@ use Rattle.camac_engines.specs.declared.response.Responded.TheVariants.{Told, Mi
 abbrev pub unkept_in : CheckedScript → List Source → List Unkept
 unkept_in c ts = unkept_of c.plan c.script ts
 
+-- which of its services may clear their look-at-mes twice
+abbrev pub twice_in : CheckedScript → List Bool
+twice_in c = twice_of c.plan c.script
+
 -- the outcome says whether the script does it, and each service ends within the number that is asked for
 abbrev pub SaysKept : (IsKept : Type 0) → Outcome → Type 0
 SaysKept IsKept Good = IsKept
@@ -38,7 +43,7 @@ pub record IsResponse (s : Settings) (c : CheckedScript) (outcome : Outcome) (te
   pub named : IsNoService c.script s.every.items s.within.items None
   pub sources : List Source
   pub told : AreTold c s.every.items sources
-  pub text_is : text ≡ responses_text c.script s.within.items (unkept_in c sources) sources
+  pub text_is : text ≡ responses_text c.script s.within.items (unkept_in c sources) (twice_in c) sources
   pub kept : SaysKept (AreKept c.script s.within.items (unkept_in c sources) sources) outcome
 
 -- of a refused script the line of `camac check`

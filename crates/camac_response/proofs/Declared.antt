@@ -1,13 +1,14 @@
 -- No module declares a command where there is no crate, no station and no sub-address.
 use Rattle.std.proofs.Common.{◌≡◌, ℕ, zero, suc, ◌+◌, ◌-◌, ◌<◌, ◌≤◌, Option, Some, None, Bool, true, false, refl, ap, inr, ⊎_elim, arith}
 use Rattle.std.specs.List.{list_any, range_with_len}
-use Rattle.std.specs.Prelude.{◌||◌, option_and_then, option_map}
+use Rattle.std.specs.Prelude.{◌||◌, option_and_then, option_map, if◌then◌else◌}
 use Rattle.std.proofs.lemmas.Bool.{cases_lt}
 use Rattle.camac_module.specs.Entry.{Entry, clears_entry}
 use Rattle.camac_module.specs.Commands.{entry}
 use Rattle.camac_branch.specs.Plan.{Layout, IsPlan, numbered, crate_at, station, kind, declared_clears}
 use Rattle.camac_branch.specs.declared.plan.Crate.{Crate}
 use Rattle.camac_branch.proofs.Numbered.{numbered-outside}
+use Rattle.camac_response.specs.Twice.{up_to_two, count}
 
 no_crate : (plan : Layout) (c : ℕ) → IsPlan plan → ((1 ≤ c) × (c ≤ 7) → ⊥) → crate_at plan c ≡ None
 no_crate plan zero is out = refl
@@ -34,6 +35,13 @@ any_next test k end lt = let count : end - k ≡ suc (end - (k + 1)) = omega (ar
 
 pub any_none : (test : ℕ → Bool) (k end : ℕ) → end ≤ k → list_any test (range_with_len k (end - k)) ≡ false
 any_none test k end le = let count : end - k ≡ 0 = omega (arith, le) in ap (λ n. list_any test (range_with_len k n)) count
+
+-- the same of how many there are
+pub count_next : (test : ℕ → Bool) (k end : ℕ) → k < end → count test (range_with_len k (end - k)) ≡ up_to_two (if test k then 1 else 0) (count test (range_with_len (k + 1) (end - (k + 1))))
+count_next test k end lt = let many : end - k ≡ suc (end - (k + 1)) = omega (arith, lt) in ap (λ n. count test (range_with_len k n)) many
+
+pub count_none : (test : ℕ → Bool) (k end : ℕ) → end ≤ k → count test (range_with_len k (end - k)) ≡ 0
+count_none test k end le = let many : end - k ≡ 0 = omega (arith, le) in ap (λ n. count test (range_with_len k n)) many
 
 -- what clears is at a sub-address that there is
 pub clears_below : (plan : Layout) (c n a f : ℕ) → IsPlan plan → declared_clears plan c n a f ≡ true → a < 16

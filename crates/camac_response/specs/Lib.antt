@@ -6,6 +6,7 @@ pub mod Served
 pub mod Reach
 pub mod First
 pub mod Unkept
+pub mod Twice
 pub mod Checked
 pub mod Lines
 pub mod Kept

@@ -7,8 +7,10 @@ ghost use Rattle.camac_lang.specs.declared.word.LamCall.TheVariants.{Disable};
 ghost use Rattle.camac_branch.specs.Address.{address};
 ghost use Rattle.camac_branch.specs.Plan.{declared_clears};
 ghost use Rattle.camac_commands.specs.Commands.{lies_in};
+ghost use Rattle.camac_response.specs.Twice.{count};
 ghost use Rattle.camac_response.specs.Reach.{clears_at, could_clear, could_hide, may_call_crate, may_call_lam, may_clear_by_plan, must_clear, spares_at};
 
+use crate::twice::up_to_two;
 use camac_branch::Plan;
 use camac_check_known::Region;
 use camac_commands::Command;
@@ -130,6 +132,20 @@ fn clears_from(plan: &Plan, lam: Address, command: &Command, a: u32) -> bool
     ensures { result ≡ list_any (clears_at plan.now lam command.now) (range_with_len a (16 - a)) }
 {
     a < 16 && (clears_at(plan, lam, command, a) || clears_from(plan, lam, command, a + 1))
+}
+
+/// How many of its sub-addresses, from this one on, the plan lets clear it at its station, up to two.
+#[tactic(auto, using(crate::proofs::Declared::count_next, crate::proofs::Declared::count_none))]
+pub fn places_of(plan: &Plan, lam: Address, command: &Command, a: u32) -> u32
+    requires { a ≤ 16 }
+    ensures { result ≡ count (clears_at plan.now lam command.now) (range_with_len a (16 - a)) }
+{
+    if a < 16 {
+        let here = u32::from(clears_at(plan, lam, command, a));
+        up_to_two(here, places_of(plan, lam, command, a + 1))
+    } else {
+        0
+    }
 }
 
 fn may_be_at(lam: Address, region: Region) -> bool

@@ -8,6 +8,7 @@ pub mod laws;
 mod least;
 mod lines;
 mod of_checked;
+mod twice;
 mod unkept;
 
 pub use camac_response_times::{
@@ -17,4 +18,5 @@ pub use camac_response_times::{
 pub use kept::are_kept;
 pub use lines::write_responses;
 pub use of_checked::{no_service, sources_of};
+pub use twice::twice_of;
 pub use unkept::{Unkept, Why, unkept_of};

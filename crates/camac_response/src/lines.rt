@@ -1,6 +1,6 @@
 // The lines of `camac response`.
 
-ghost use Rattle.std.specs.Prelude.{◌≡◌, ◌<◌, ◌≤◌, ◌+◌, ◌||◌, ◌++◌, is_err, length, nat_eq};
+ghost use Rattle.std.specs.Prelude.{◌≡◌, ◌<◌, ◌≤◌, ◌+◌, ◌||◌, ◌++◌, false, is_err, length, nat_eq, slice_get, unwrap_or};
 ghost use Rattle.std.specs.List.{flat_map, position};
 ghost use Rattle.camac_lines.specs.Texts.{texts};
 ghost use Rattle.camac_response.specs.Lines.{bit_text, cycles_text, limit_text, numbers_text, promised, rate_text, response_line, responses_text, service_text, unkept_line, why_text};
@@ -16,20 +16,21 @@ use camac_word::{GlBit, Watched, WriteFault};
 use std::io::Write;
 
 /// Writes a line for each service, in the order of their bits: its bound, its rate, the most cycles from its look-at-me to its beginning and to
-/// its end, with the number that was asked for, and its longest stretch. Numbers are told below the bits of what is unkept alone. Then a line for
-/// each of this. After a write fault a prefix of all was written.
+/// its end, with the number that was asked for, and its longest stretch. Numbers are told below the bits of what is unkept alone, and which services may clear their look-at-mes twice. Then a line for
+/// each thing that is unkept. After a write fault a prefix of all was written.
 pub fn write_responses<W: Write>(
     out: &mut Watched<W>,
     checked: &Checked,
     responses: &Responses,
     unkept: &[Unkept],
+    twice: &[bool],
     within: &[Setting<'_>],
 ) -> Result<(), WriteFault>
     requires { length responses.now ≡ length checked.now.script.services }
-    ensures text { Writes (W.contents (inner_of out.old)) (W.contents (inner_of out.new)) result (responses_text checked.now.script within.now unkept.now responses.now) }
+    ensures text { Writes (W.contents (inner_of out.old)) (W.contents (inner_of out.new)) result (responses_text checked.now.script within.now unkept.now twice.now responses.now) }
     ensures failed { has_failed out.new ≡ (has_failed out.old || is_err result) }
 {
-    write_services(out, checked, responses, unkept, within)?;
+    write_services(out, checked, responses, unkept, twice, within)?;
     write_unkept(out, checked, unkept)
 }
 
@@ -38,14 +39,15 @@ fn write_services<W: Write>(
     checked: &Checked,
     responses: &Responses,
     unkept: &[Unkept],
+    twice: &[bool],
     within: &[Setting<'_>],
 ) -> Result<(), WriteFault>
     requires { length responses.now ≡ length checked.now.script.services }
-    ensures text { Writes (W.contents (inner_of out.old)) (W.contents (inner_of out.new)) result (texts (bit_text checked.now.script within.now unkept.now responses.now) 1 24) }
+    ensures text { Writes (W.contents (inner_of out.old)) (W.contents (inner_of out.new)) result (texts (bit_text checked.now.script within.now unkept.now twice.now responses.now) 1 24) }
     ensures failed { has_failed out.new ≡ (has_failed out.old || is_err result) }
 {
     'bits: for bit in 1..25 {
-        let line = line_of_bit(checked, responses, unkept, within, bit);
+        let line = line_of_bit(checked, responses, unkept, twice, within, bit);
         out.write_text(line.as_bytes())?;
     }
     Ok(())
@@ -103,13 +105,14 @@ fn line_of_bit(
     checked: &Checked,
     responses: &Responses,
     unkept: &[Unkept],
+    twice: &[bool],
     within: &[Setting<'_>],
     bit: u32,
 ) -> Line
-    ensures { result ≡ bit_text checked.now.script within.now unkept.now responses.now bit }
+    ensures { result ≡ bit_text checked.now.script within.now unkept.now twice.now responses.now bit }
 {
     match place_of(responses.sources(), bit) {
-        Some(number) => line_of(checked, responses, unkept, within, number),
+        Some(number) => line_of(checked, responses, unkept, twice, within, number),
         None => Line::new(),
     }
 }
@@ -124,11 +127,12 @@ fn line_of(
     checked: &Checked,
     responses: &Responses,
     unkept: &[Unkept],
+    twice: &[bool],
     within: &[Setting<'_>],
     number: usize,
 ) -> Line
     requires { number < length responses.now }
-    ensures { result ≡ service_text checked.now.script within.now unkept.now responses.now number }
+    ensures { result ≡ service_text checked.now.script within.now unkept.now twice.now responses.now number }
 {
     let name = service_name(checked, number);
     let bit = responses.sources()[number].bit;
@@ -137,6 +141,7 @@ fn line_of(
         responses.sources()[number],
         told_for(within, name),
         promised(unkept, bit, responses.at(number)),
+        is_twice(twice, number),
     )
 }
 
@@ -151,9 +156,25 @@ fn promised(unkept: &[Unkept], bit: GlBit, response: Option<Response>) -> Option
     }
 }
 
-fn laid_out(name: &[u8], source: Source, within: Option<u32>, response: Option<Response>) -> Line
+// Whether it is told of the service of this number.
+fn is_twice(twice: &[bool], number: usize) -> bool
+    ensures { result ≡ unwrap_or (slice_get twice.now number) false }
+{
+    match twice.get(number) {
+        Some(clears) => *clears,
+        None => false,
+    }
+}
+
+fn laid_out(
+    name: &[u8],
+    source: Source,
+    within: Option<u32>,
+    response: Option<Response>,
+    twice: bool,
+) -> Line
     requires { length name.now ≤ 32 }
-    ensures { result ≡ response_line name.now source within response }
+    ensures { result ≡ response_line name.now source within response twice }
 {
     let mut line = Line::new();
     line.push_str("service ");
@@ -164,6 +185,10 @@ fn laid_out(name: &[u8], source: Source, within: Option<u32>, response: Option<R
     line.push_number(source.cycles);
     push_rate(&mut line, source.every);
     push_numbers(&mut line, within, response);
+    if twice {
+        line.push_str(" clears 2");
+    }
+    line.push_str("\n");
     line
 }
 
@@ -183,7 +208,8 @@ fn push_rate(line: &mut Line, every: Option<Rate>)
 
 fn push_numbers(line: &mut Line, within: Option<u32>, response: Option<Response>)
     requires { length line.old ≤ 120 }
-    ensures { line.new ≡ line.old ++ numbers_text within response }
+    ensures text { line.new ≡ line.old ++ numbers_text within response }
+    ensures len { length line.new ≤ length line.old + 66 }
 {
     line.push_str(" start ");
     push_cycles(line, response.map(|found| found.start));
@@ -192,7 +218,6 @@ fn push_numbers(line: &mut Line, within: Option<u32>, response: Option<Response>
     push_limit(line, within);
     line.push_str(" longest ");
     push_cycles(line, response.map(|found| found.longest));
-    line.push_str("\n");
 }
 
 fn push_cycles(line: &mut Line, cycles: Option<u32>)

@@ -34,13 +34,19 @@ class Judged:
         # Of each `each` its turns.
         self.turns: Dict[int, List[Judged]] = {}
 
-    def known(self, it: Statement) -> Iterator[Known]:
-        """What is known before a statement wherever it is judged: in an `each` once for each turn."""
-        if id(it) in self.found:
-            yield self.found[id(it)][0]
+    def all(self) -> Iterator[Judged]:
+        """This and each turn in it."""
+        yield self
         for turns in self.turns.values():
             for one in turns:
-                yield from one.known(it)
+                yield from one.all()
+
+    def found_of(self, it: Statement) -> Iterator[Tuple[Known, Cost]]:
+        """What is known before a statement and what it costs, wherever it is judged: in an `each` once for each turn."""
+        return (one.found[id(it)] for one in self.all() if id(it) in one.found)
+
+    def known(self, it: Statement) -> Iterator[Known]:
+        return (known for known, _ in self.found_of(it))
 
 
 class Checker:

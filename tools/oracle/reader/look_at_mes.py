@@ -2,7 +2,7 @@
 from __future__ import annotations
 
 import functools
-from typing import Callable, Dict, Iterator, List, NamedTuple, Set, Tuple
+from typing import Callable, Dict, Iterator, List, NamedTuple, Set, Tuple, Union
 
 from oracle.reader.addresses import numbers
 from oracle.reader.checker import LAM_FUNCTIONS, Checker
@@ -11,7 +11,7 @@ from oracle.reader.loops import everything
 from oracle.reader.meaning import CRATE_COMMANDS
 from oracle.reader.plan import CONTROLLER, Plan
 from oracle.reader.ranges import Address, hull, value_of
-from oracle.reader.tree import Block, Body, Call, CrateCall, Cycle, For, ForEach, If, Lam, LamCall, Lock, Scan, Statement
+from oracle.reader.tree import Block, Body, Call, CrateCall, Cycle, For, ForEach, If, Lam, LamCall, Lock, Scan, Statement, While
 
 CLEAR, DISABLE = LAM_FUNCTIONS["cclc"], LAM_FUNCTIONS["cclm off"]
 # Crate, station, sub-address, function.
@@ -62,6 +62,8 @@ class Looks:
         self.checker, self.script, self.plan = checker, checker.script, checker.plan
         # By body the commands that it may send, each with its first line, those of procedures that it calls too.
         self.sent: Dict[str, Dict[Command, int]] = {}
+        # By procedure and look-at-me, how often it may clear it.
+        self.called: Dict[Tuple[str, int, int, int], int] = {}
 
     def unkept(self) -> List[Unkept]:
         """In the order of bits, then of lines; on one line first what is not cleared, then what is cleared, then what is hidden, by the others' order."""
@@ -96,6 +98,41 @@ class Looks:
         if isinstance(it, Call):
             return self.clears(self.script.procedures[it.procedure].block, lam)
         return isinstance(it, Lock) and self.clears(it.body, lam)
+
+    def may_clear_twice(self, it: Body) -> bool:
+        return self.times(it.block, self.script.lams[it.name]) == 2
+
+    def times(self, block: List[Statement], lam: Lam) -> int:
+        """How often a way through a block may clear the look-at-me, up to two."""
+        return min(2, sum(self.times_of(it, lam) for it in block))
+
+    def times_of(self, it: Statement, lam: Lam) -> int:
+        if isinstance(it, If):
+            return max(self.times(it.body, lam), self.times(it.otherwise or [], lam))
+        if isinstance(it, (For, ForEach, While)):
+            return self.turns(it) * self.times(it.body, lam)
+        if isinstance(it, Lock):
+            return self.times(it.body, lam)
+        if isinstance(it, Call):
+            which = it.procedure, lam.crate, lam.station, lam.sub
+            if which not in self.called:
+                self.called[which] = self.times(self.script.procedures[it.procedure].block, lam)
+            return self.called[which]
+        its = [command for command in self.of_statement(it) if may_clear(self.plan, lam, command)]
+        if not its or not isinstance(it, (Block, Scan)):
+            return min(1, len(its))
+        most = max(cost.steps for _, cost in self.checker.judged.found_of(it)) - 1
+        return min(most, len({sub for _, _, sub, _ in its})) if isinstance(it, Scan) else most
+
+    def turns(self, it: Union[For, ForEach, While]) -> int:
+        """The most turns of a loop; none where it, or its block, is not reached."""
+        judged = [one for one in self.checker.judged.all() if it.body and id(it) in one.found]
+        if isinstance(it, ForEach):
+            return max((len(one.turns.get(id(it), [])) for one in judged), default=0)
+        known = [one.found[id(it)][0] for one in judged if id(it.body[0]) in one.found]
+        if isinstance(it, While):
+            return it.turns if known else 0
+        return max((value_of(one, it.last, it.line)[1] - value_of(one, it.first, it.line)[0] + 1 for one in known), default=0)
 
     def commands(self, body: Body) -> Dict[Command, int]:
         found: Dict[Command, int] = {}

@@ -99,11 +99,12 @@ def services_of(checker: Checker, every: Dict[str, int]) -> Tuple[Service, ...]:
     return tuple(sorted(services, key=lambda it: it.bit))
 
 
-def line_of(its: Service, found: Optional[Response], within: Optional[int]) -> str:
+def line_of(its: Service, found: Optional[Response], within: Optional[int], twice: bool) -> str:
     start, end, longest = found or ("-", "-", "-")
     rate = "once" if its.every is None else f"every {its.every}"
     promised = "" if within is None else f" of {within}"
-    return f"service {its.name} gl {its.bit} cycles {its.cycles} {rate} start {start} end {end}{promised} longest {longest}"
+    again = " clears 2" if twice else ""
+    return f"service {its.name} gl {its.bit} cycles {its.cycles} {rate} start {start} end {end}{promised} longest {longest}{again}"
 
 
 def response_lines(checker: Checker, every: Dict[str, int], within: Dict[str, int]) -> Tuple[List[str], bool]:
@@ -113,8 +114,9 @@ def response_lines(checker: Checker, every: Dict[str, int], within: Dict[str, in
         for name in rates:
             if name not in [it.name for it in services]:
                 raise WordFault(f"{option} {name}: no such service")
-    unkept = Looks(checker).unkept()
+    looks = Looks(checker)
+    unkept, twice = looks.unkept(), {it.name: looks.may_clear_twice(it) for it in checker.script.services()}
     found = {it.name: response_of(services, it) for it in kept_of(services, unkept)}
-    lines = [*(line_of(it, found.get(it.name), within.get(it.name)) for it in services), *(it.text() for it in unkept)]
+    lines = [*(line_of(it, found.get(it.name), within.get(it.name), twice[it.name]) for it in services), *(it.text() for it in unkept)]
     ends = {name: it.end for name, it in found.items() if it}
     return lines, not unkept and all(name in ends and ends[name] <= most for name, most in within.items())

@@ -11,11 +11,11 @@ use Rattle.camac_response.proofs.lines.write_responses.Goals as goal
 pub returns-in_err-write_services-clause-text : goal.returns-in_err-write_services-clause-text
 returns-in_err-write_services-clause-text g c =
     Writes-at_err c.from_residual.result _ _ _ c.from_residual.ensures.0
-    (prefix_longer (texts (bit_text c.args.checked.now.script c.args.within.now c.args.unkept.now c.args.responses.now) 1 24) (flat_map (unkept_line c.args.checked.now.script) c.args.unkept.now) _ _ c.in_err-write_services.ensures.text)
+    (prefix_longer (texts (bit_text c.args.checked.now.script c.args.within.now c.args.unkept.now c.args.twice.now c.args.responses.now) 1 24) (flat_map (unkept_line c.args.checked.now.script) c.args.unkept.now) _ _ c.in_err-write_services.ensures.text)
 
 pub returns-clause-text : goal.returns-clause-text
 returns-clause-text g c =
-    Writes-after c.write_unkept.result (texts (bit_text c.args.checked.now.script c.args.within.now c.args.unkept.now c.args.responses.now) 1 24) (flat_map (unkept_line c.args.checked.now.script) c.args.unkept.now) _ _ _
+    Writes-after c.write_unkept.result (texts (bit_text c.args.checked.now.script c.args.within.now c.args.unkept.now c.args.twice.now c.args.responses.now) 1 24) (flat_map (unkept_line c.args.checked.now.script) c.args.unkept.now) _ _ _
     c.in_ok-write_services.ensures.text c.write_unkept.ensures.text
 
 pub returns-clause-failed : goal.returns-clause-failed
