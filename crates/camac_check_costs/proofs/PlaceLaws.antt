@@ -49,10 +49,6 @@ tells_more : (P Q : Place → Type 0) → ((p : Place) → P p → Q p) → (b :
 tells_more P Q more true told h = more told h
 tells_more P Q more false told h = told_more P Q more told h
 
-tells_one : (P : Place → Type 0) (b : Bool) (p : Place) → P p → Tells P b p
-tells_one P true p h = h
-tells_one P false p h = at_one p h
-
 is_told : (P : Place → Type 0) (b : Bool) (told : Place) → Tells P b told → IsTold P told
 is_told P true told h = at_one told h
 is_told P false told h = h
