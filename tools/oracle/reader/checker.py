@@ -193,9 +193,11 @@ class Checker:
         fails = where(known, it.condition, False, it.line)
         if fails is None:
             self.judged.never_else.add(id(it))
+        around = self.loop_variables
         try:
             after, cost = self.block(where(known, it.condition, True, it.line), it.body)
         except Refused:
+            self.loop_variables = around
             with suppress(Refused):
                 self.block(fails, it.otherwise or [])
             raise

@@ -127,6 +127,9 @@ def each(checker: Checker, known: Known, it: ForEach) -> Tuple[State, Cost]:
             state, one = checker.block(state.with_variable(it.name, (number, number)), it.body)
         cost = cost.plus(STEP).plus(one)
     checker.loop_variables = around
+    if state is not None and turns_of(it):
+        # A loop in the block may keep it in a wider range.
+        state = state.with_variable(it.name, (it.last, it.last))
     return state, cost
 
 
