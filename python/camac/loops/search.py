@@ -3,7 +3,7 @@ be: the checker judges what it finds."""
 import bisect
 import re
 from collections import Counter
-from typing import AbstractSet, Dict, List, Optional, Set, Union
+from typing import AbstractSet, Callable, Dict, List, Optional, Set, Union
 
 from camac.drive import File, Refused
 from camac.edits import edited
@@ -119,7 +119,24 @@ class _Search:
             self.found = before
             return self.stopped(command)
         found.leave_out(lambda: self.is_as_good(command, stopped, found))
+        for cause in [it for it in found.kept if self.grown[it] > FEW]:
+            for side in (0, 1):
+                self.narrow(cause, side, lambda: self.is_as_good(command, stopped, found))
         return stopped
+
+    def narrow(self, cause: Cause, side: int, is_good: Callable[[], bool]) -> None:
+        """Moves an end of a range that went on to a step towards the other end: by 1, 2, 4 and so on, then by halves of that."""
+        low, high = self.found.kept[cause]
+        moved, step, is_halving = 0, 1, False
+        while step:
+            by = min(moved + step, high - low)
+            self.found.kept[cause] = (low + by, high) if side == 0 else (low, high - by)
+            if by > moved and is_good():
+                moved = by
+            else:
+                is_halving = True
+            step = step // 2 if is_halving else step * 2
+        self.found.kept[cause] = (low + moved, high) if side == 0 else (low, high - moved)
 
     def is_as_good(self, command: str, best: Optional[Stopped], found: Found) -> bool:
         """Whether the script gets as far with this."""

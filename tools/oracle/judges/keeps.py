@@ -34,10 +34,10 @@ def judged(text: bytes, is_least: bool = False) -> Tuple[Checker, Optional[Refus
 
 
 def narrower(kept: bytes) -> List[bytes]:
-    """A range with each of its bounds one less, and no range."""
+    """A range with each of its bounds one less, and no range. What a condition keeps in one word may have room below that."""
     name, _, range_ = kept.split()
     low, high = (int(it) for it in range_.split(b".."))
-    bounds = [(low + 1, high), (low, high - 1)] if low < high else []
+    bounds = [(low + 1, high), *([(low, high - 1)] if high < 16_777_215 else [])] if low < high else []
     return [b"", *(b"%b in %d..%d" % (name, *it) for it in bounds)]
 
 
