@@ -16,8 +16,8 @@ use crate::outcome::Outcome;
 use crate::plan::PlanSource;
 use camac_check::Checked;
 use camac_response::{
-    Misuse, Responses, Settings, Unkept, are_kept, no_service, sources_of, twice_of,
-    unkept_of, write_responses,
+    Misuse, Responses, Settings, Unkept, are_kept, no_service, sources_of, twice_of, unkept_of,
+    write_responses,
 };
 use camac_word::Watched;
 use std::alloc::Global;
@@ -84,14 +84,7 @@ fn respond_to<'a, W: Write>(
     let twice = twice_of(alloc, checked)?;
     let responses = Responses::of(alloc, sources)?;
     let outcome = outcome_of(checked, &responses, &unkept, settings);
-    write_responses(
-        out,
-        checked,
-        &responses,
-        &unkept,
-        &twice,
-        &settings.within,
-    )?;
+    write_responses(out, checked, &responses, &unkept, &twice, &settings.within)?;
     Ok(Responded::Told(outcome))
 }
 
