@@ -2,7 +2,7 @@
 import csv
 import importlib
 import io
-from typing import Any, BinaryIO, Dict, Iterable, Iterator, List, NamedTuple, Sequence, Tuple, Union
+from typing import Any, BinaryIO, Dict, Iterable, Iterator, List, NamedTuple, Sequence, Tuple
 
 from camac.arrays import Array, EventArrays, Events, as_events
 from camac.events import Event
@@ -10,8 +10,8 @@ from camac.words import Words
 
 # A byte that is in no text.
 NOTHING = 0xFF
-# The fewest events of one kind, one after another, whose rows numpy makes, and the most at once.
-FEW, MANY = 64, 1 << 13
+# The most events whose rows numpy makes at once.
+MANY = 1 << 13
 
 
 class Table(NamedTuple):
@@ -47,12 +47,12 @@ def write_events(pieces: Iterable[Events], its: Table, to_events: BinaryIO, to_w
     number, first = 1, 0
     for out, head in zip((to_events, to_words), its.heads()):
         out.write(_text([head]).encode())
-    for piece, is_alike in (some for piece in pieces for some in _runs(piece, bool(plain))):
-        rows: List[List[object]] = []
-        if is_alike and isinstance(piece, EventArrays):
-            _write_alike(piece, its, number, first, to_events, to_words)
+    for piece in (some for piece in pieces for some in _parts(piece)):
+        if isinstance(piece, EventArrays) and not plain:
+            _write_arrays(piece, its, number, first, to_events, to_words)
             number, first = number + len(piece.gl), first + len(piece.words)
             continue
+        rows: List[List[object]] = []
         for event in as_events(piece, number):
             usage = [event.cycles, event.missed] if its.has_cycles else []
             rows.append([event.number, event.gl, *usage, first, len(event.words)])
@@ -62,37 +62,42 @@ def write_events(pieces: Iterable[Events], its: Table, to_events: BinaryIO, to_w
         number += len(rows)
 
 
-def _runs(piece: Events, has_names: bool) -> Iterator[Tuple[Events, bool]]:
-    """The events of a piece, and whether numpy can make their rows: by those of one kind, one after another, if there are many of each."""
-    if has_names or not isinstance(piece, EventArrays):
-        yield piece, False
+def _parts(piece: Events) -> Iterator[Events]:
+    """The events of a piece, so many of arrays at once as a processor has near."""
+    if not isinstance(piece, EventArrays):
+        yield piece
         return
-    numpy = importlib.import_module("numpy")
-    kinds = piece.gl.astype("i8") << 32 | numpy.diff(piece.first)
-    ends = [*(numpy.flatnonzero(numpy.diff(kinds)) + 1).tolist(), len(kinds)]
-    if FEW * len(ends) > len(kinds):
-        yield piece, False
-        return
-    for begin, end in zip([0, *ends], ends):
-        for low in range(begin, end, MANY):
-            high = min(low + MANY, end)
-            cycles, missed = (it if it is None else it[low:high] for it in (piece.cycles, piece.missed))
-            first = piece.first[low : high + 1]
-            yield EventArrays(piece.gl[low:high], cycles, missed, first - first[0], piece.words[first[0] : first[-1]]), high - low >= FEW
+    for low in range(0, len(piece.gl), MANY):
+        its = slice(low, low + MANY)
+        cycles, missed = (it if it is None else it[its] for it in (piece.cycles, piece.missed))
+        first = piece.first[low : low + MANY + 1]
+        yield EventArrays(piece.gl[its], cycles, missed, first - first[0], piece.words[first[0] : first[-1]])
 
 
-def _write_alike(piece: EventArrays, its: Table, number: int, first: int, to_events: BinaryIO, to_words: BinaryIO) -> None:
-    """Writes both tables of events of one kind, whose words have no names of the user's."""
+def _write_arrays(piece: EventArrays, its: Table, number: int, first: int, to_events: BinaryIO, to_words: BinaryIO) -> None:
+    """Writes both tables of events whose words have no names of the user's."""
     numpy = importlib.import_module("numpy")
-    many, size = len(piece.gl), int(piece.first[1])
-    numbers = _digits(numpy, numpy.arange(number, number + many))
-    cycles, missed, firsts = (_digits(numpy, it) for it in (piece.cycles, piece.missed, piece.first[:-1] + first))
-    to_events.write(_rows(numpy, [numbers, f",{piece.gl[0]},", cycles, ",", missed, ",", firsts, f",{size}\n"]))
-    if size:
-        words, parts = _digits(numpy, piece.words).reshape(many, size, -1), []
-        for _, gl, place, word, *source in its.first_columns(Event(0, int(piece.gl[0]), 0, 0, (0,) * size)):
-            parts += [numbers, f",{gl},{place},", words[:, place - 1], _text([[word, *source]])[1:]]
-        to_words.write(_rows(numpy, parts))
+    counts = numpy.diff(piece.first)
+    numbers = numpy.arange(number, number + len(counts))
+    usage = [piece.cycles, piece.missed] if its.has_cycles else []
+    to_events.write(_rows(numpy, [numbers, piece.gl, *usage, piece.first[:-1] + first, counts]))
+    if len(piece.words):
+        places = numpy.arange(1, len(piece.words) + 1) - numpy.repeat(piece.first[:-1], counts)
+        sources = [_sources(numpy, piece.gl, counts, places, its)] if its.sources.fields else []
+        to_words.write(_rows(numpy, [numpy.repeat(numbers, counts), numpy.repeat(piece.gl, counts), places, piece.words, *sources]))
+
+
+def _sources(numpy: Any, gl: Array, counts: Array, places: Array, its: Table) -> Array:
+    """The texts of the sources of all words, in rows of bytes."""
+    kinds, kind = numpy.unique(gl.astype("i8") << 32 | counts, return_inverse=True)
+    texts: List[bytes] = []
+    starts = []
+    for one in kinds.tolist():
+        starts.append(len(texts))
+        texts += [_text([["", *row[4:]]])[1:-1].encode() for row in its.first_columns(Event(0, one >> 32, 0, 0, (0,) * (one & 0xFFFFFFFF)))]
+    rows = numpy.array(texts, "S")
+    rows = rows.view("u1").reshape(len(texts), rows.itemsize)
+    return numpy.where(rows, rows, NOTHING).astype("u1")[numpy.repeat(numpy.array(starts)[kind], counts) + places - 1]
 
 
 def _digits(numpy: Any, numbers: Array) -> Array:
@@ -105,10 +110,15 @@ def _digits(numpy: Any, numbers: Array) -> Array:
     return rows
 
 
-def _rows(numpy: Any, parts: Sequence[Union[str, Array]]) -> bytes:
-    """The lines of rows whose parts are digits, the first one too, and texts, which are the same in each."""
-    texts = [it if not isinstance(it, str) else numpy.tile(numpy.frombuffer(it.encode(), "u1"), (len(parts[0]), 1)) for it in parts]
-    whole = numpy.concatenate(texts, axis=1)
+def _rows(numpy: Any, columns: Sequence[Array]) -> bytes:
+    """The lines of rows, by their columns: of numbers, or of texts in rows of bytes."""
+    parts = [it if it.ndim == 2 else _digits(numpy, it) for it in columns]
+    whole = numpy.full((len(parts[0]), sum(it.shape[1] + 1 for it in parts)), ord(","), "u1")
+    at = 0
+    for it in parts:
+        whole[:, at : at + it.shape[1]] = it
+        at += it.shape[1] + 1
+    whole[:, -1] = ord("\n")
     return bytes(whole[whole != NOTHING].tobytes())
 
 
