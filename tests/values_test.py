@@ -220,7 +220,6 @@ class Printed(Case):
             (begun + "put 1 put 2\n}\n", printed.read_allowed, ("event", 2)),
             (begun + "while v > 0 turns 70000 by v { v = v - 1 }\n}\n", printed.read_allowed, ("turns", 65_535)),
             (begun + "v = 9 while v > 0 turns 3 by v { v = v - 1 }\n}\n", printed.read_allowed, ("turns", 9)),
-            (begun + "cdreg r 1 1 5 0 cfsa 0 r -> v put v - 4294967295\n}\n", printed.LEFT_SIDE.find, {"greatest": 4095}),
         ):
             told = program.verdict("explain", "@sample", script.encode())
             self.assertEqual(read(told.text), wanted, told.text)

@@ -128,7 +128,6 @@ ALLOWED: Tuple["Form[Tuple[str, int]]", ...] = (
     Form(lambda number: ("turns", number), r"The loop may take {number} turns, and \d+ are allowed"),
     Form(lambda number: ("turns", number), r"The number after `turns` is \d+, and no loop may take more than {number} turns"),
 )
-LEFT_SIDE: Fields = Form(dict, "^The left of `-` may be 0 to {greatest}, ")
 PLACE: Fields = Form(dict, "Line {line}, column {column}")
 STEPS = (
     Form(lambda array, place, of: Step(of or array, "", place), "{array:array} number {place}(?: of `{of:word}`)?"),

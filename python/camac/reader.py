@@ -31,12 +31,6 @@ def read_headings(text: bytes) -> List[Body]:
     return found
 
 
-def read_statements(text: bytes) -> List[Statement]:
-    """The statements of a text that has nothing else."""
-    reader = _Reader(tokens_of(text))
-    return reader.statements_until("")
-
-
 class _Reader:
     """Tokens, of which those before `at` are read."""
 
@@ -115,14 +109,10 @@ class _Reader:
 
     def block(self) -> List[Statement]:
         self.expect("{")
-        found = self.statements_until("}")
-        self.expect("}")
-        return found
-
-    def statements_until(self, word: str) -> List[Statement]:
         found = []
-        while self.word() != word:
+        while self.word() != "}":
             found.append(self.statement())
+        self.expect("}")
         return found
 
     def statement(self) -> Statement:
