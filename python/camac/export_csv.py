@@ -11,7 +11,7 @@ from camac.words import Words
 # A byte that is in no text.
 NOTHING = 0xFF
 # The most events whose rows numpy makes at once.
-MANY = 1 << 13
+MANY = 1 << 12
 
 
 class Table(NamedTuple):
@@ -82,13 +82,14 @@ def _write_arrays(piece: EventArrays, its: Table, number: int, first: int, to_ev
     usage = [piece.cycles, piece.missed] if its.has_cycles else []
     to_events.write(_rows(numpy, [numbers, piece.gl, *usage, piece.first[:-1] + first, counts]))
     if len(piece.words):
-        places = numpy.arange(1, len(piece.words) + 1) - numpy.repeat(piece.first[:-1], counts)
+        places = numpy.arange(len(piece.words)) - numpy.repeat(piece.first[:-1], counts)
+        of_event = [numpy.repeat(_digits(numpy, it), counts, axis=0) for it in (numbers, piece.gl)]
         sources = [_sources(numpy, piece.gl, counts, places, its)] if its.sources.fields else []
-        to_words.write(_rows(numpy, [numpy.repeat(numbers, counts), numpy.repeat(piece.gl, counts), places, piece.words, *sources]))
+        to_words.write(_rows(numpy, [*of_event, _digits(numpy, numpy.arange(1, counts.max() + 1))[places], piece.words, *sources]))
 
 
 def _sources(numpy: Any, gl: Array, counts: Array, places: Array, its: Table) -> Array:
-    """The texts of the sources of all words, in rows of bytes."""
+    """The texts of the sources of all words, whose places are from 0, in rows of bytes."""
     kinds, kind = numpy.unique(gl.astype("i8") << 32 | counts, return_inverse=True)
     texts: List[bytes] = []
     starts = []
@@ -97,16 +98,19 @@ def _sources(numpy: Any, gl: Array, counts: Array, places: Array, its: Table) ->
         texts += [_text([["", *row[4:]]])[1:-1].encode() for row in its.first_columns(Event(0, one >> 32, 0, 0, (0,) * (one & 0xFFFFFFFF)))]
     rows = numpy.array(texts, "S")
     rows = rows.view("u1").reshape(len(texts), rows.itemsize)
-    return numpy.where(rows, rows, NOTHING).astype("u1")[numpy.repeat(numpy.array(starts)[kind], counts) + places - 1]
+    return numpy.where(rows, rows, NOTHING).astype("u1")[numpy.repeat(numpy.array(starts)[kind], counts) + places]
 
 
 def _digits(numpy: Any, numbers: Array) -> Array:
     """A row of decimal digits for each number, with NOTHING in place of each zero before it."""
-    rows = numpy.empty((len(numbers), len(str(numbers.max()))), "u1")
+    greatest = int(numbers.max())
+    rows = numpy.empty((len(numbers), len(str(greatest))), "u1")
+    rest = numbers.astype("u4" if greatest < 1 << 32 else "u8")
     for at in reversed(range(rows.shape[1])):
-        rest = numbers // 10
-        rows[:, at] = numpy.where((numbers > 0) | (at == rows.shape[1] - 1), numbers - 10 * rest + ord("0"), NOTHING)
-        numbers = rest
+        more = rest // 10
+        digits = (rest - 10 * more + ord("0")).astype("u1")
+        rows[:, at] = digits if at == rows.shape[1] - 1 else numpy.where(rest > 0, digits, numpy.uint8(NOTHING))
+        rest = more
     return rows
 
 
