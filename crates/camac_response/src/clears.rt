@@ -48,27 +48,25 @@ impl<'a> Asked for Clearing<'a> {
     ghost told = { λ q. surely_block (must_clear q.plan.now q.lam) };
 
     fn of_body(&self, called: &[bool], body: &[Stmt], rows: &[Row]) -> bool {
-        let (clears, _) = block_clears(self.plan, self.lam, called, body, rows);
-        clears
+        block_clears(self, called, body, rows).0
     }
 }
 
 // Whether a block does, whose rows come first, and the rows behind them. Of these procedures, by their numbers, is known whether they do.
 #[cycle(clears)]
 fn block_clears<'r>(
-    plan: &Plan,
-    lam: Address,
+    asked: &Clearing<'_>,
     called: &[bool],
     block: &[Stmt],
     rows: &'r [Row],
 ) -> (bool, &'r [Row])
-    ensures clears { result.0 ≡ surely_block (must_clear plan.now lam) called.now (statements_of block.now) rows.now }
+    ensures clears { result.0 ≡ surely_block (must_clear asked.now.plan.now asked.now.lam) called.now (statements_of block.now) rows.now }
     ensures behind { result.1.now ≡ behind_block (statements_of block.now) rows.now }
 {
     let mut clears = false;
     let mut left = rows;
     'statements: for statement in block {
-        let (one, behind) = statement_clears(plan, lam, called, statement, left);
+        let (one, behind) = statement_clears(asked, called, statement, left);
         clears = clears || one;
         left = behind;
     }
@@ -77,32 +75,30 @@ fn block_clears<'r>(
 
 #[cycle(clears)]
 fn statement_clears<'r>(
-    plan: &Plan,
-    lam: Address,
+    asked: &Clearing<'_>,
     called: &[bool],
     statement: &Stmt,
     rows: &'r [Row],
 ) -> (bool, &'r [Row])
-    ensures clears { result.0 ≡ surely (must_clear plan.now lam) called.now (statement_of statement.now) rows.now }
+    ensures clears { result.0 ≡ surely (must_clear asked.now.plan.now asked.now.lam) called.now (statement_of statement.now) rows.now }
     ensures behind { result.1.now ≡ behind (statement_of statement.now) rows.now }
 {
     let inside = behind_first(rows);
     match statement {
         Stmt::If { then: body, .. } | Stmt::While { body, .. } => {
-            let (_, left) = block_clears(plan, lam, called, body, inside);
-            (false, left)
+            (false, block_clears(asked, called, body, inside).1)
         }
         Stmt::IfElse {
             then,
             otherwise,
             ..
         } => {
-            let (first, other) = block_clears(plan, lam, called, then, inside);
-            let (second, left) = block_clears(plan, lam, called, otherwise, behind_first(other));
+            let (first, other) = block_clears(asked, called, then, inside);
+            let (second, left) = block_clears(asked, called, otherwise, behind_first(other));
             (first && second, left)
         }
         Stmt::For { head, body } => {
-            let (clears, left) = block_clears(plan, lam, called, body, inside);
+            let (clears, left) = block_clears(asked, called, body, inside);
             (has_turn(head.from.term(), head.to.term()) && clears, left)
         }
         Stmt::ForEach {
@@ -111,57 +107,46 @@ fn statement_clears<'r>(
             body,
             ..
         } => {
-            let (clears, left) = block_clears(plan, lam, called, body, inside);
+            let (clears, left) = block_clears(asked, called, body, inside);
             (first <= last && clears, left)
         }
-        Stmt::Lock { body, .. } => block_clears(plan, lam, called, body, inside),
+        Stmt::Lock { body, .. } => block_clears(asked, called, body, inside),
         Stmt::Call(call) => (told_at(called, call.procedure, false), inside),
-        Stmt::Assign(_)
-        | Stmt::SetRegister(_)
-        | Stmt::Single(_)
-        | Stmt::Scan(_)
-        | Stmt::QStop { .. }
-        | Stmt::QRepeat { .. }
-        | Stmt::Put(_)
-        | Stmt::CrateCall(_)
-        | Stmt::LamCall(_) => (
-            clears_alone(plan, lam, statement, detail_told(rows)),
-            inside,
-        ),
+        _ => (clears_alone(asked, statement, detail_told(rows)), inside),
     }
 }
 
 // Whether a statement does that holds no others and calls no procedure.
-fn clears_alone(plan: &Plan, lam: Address, statement: &Stmt, detail: Detail) -> bool
-    ensures { result ≡ surely_alone (must_clear plan.now lam) (statement_of statement.now) detail }
+fn clears_alone(asked: &Clearing<'_>, statement: &Stmt, detail: Detail) -> bool
+    ensures { result ≡ surely_alone (must_clear asked.now.plan.now asked.now.lam) (statement_of statement.now) detail }
 {
     match statement {
-        Stmt::Single(single) => command_clears(plan, lam, single.line, single.function, detail),
+        Stmt::Single(single) => command_clears(asked, single.line, single.function, detail),
         Stmt::QStop { transfer } => {
             is_some_number(transfer.max.term())
-                && command_clears(plan, lam, transfer.line, transfer.function, detail)
+                && command_clears(asked, transfer.line, transfer.function, detail)
         }
         Stmt::QRepeat { transfer, limit } => {
             is_some_number(transfer.max.term())
                 && is_some_number(limit.term())
-                && command_clears(plan, lam, transfer.line, transfer.function, detail)
+                && command_clears(asked, transfer.line, transfer.function, detail)
         }
         Stmt::LamCall(action) => {
             let function = lam_function(action.call);
-            command_clears(plan, lam, action.line, function, detail)
+            command_clears(asked, action.line, function, detail)
         }
         _ => false,
     }
 }
 
 // Whether a command does, at the addresses that its row tells.
-fn command_clears(plan: &Plan, lam: Address, line: u32, function: Function, detail: Detail) -> bool
-    ensures { result ≡ list_any (must_clear plan.now lam) (made_at line function (told_region detail)) }
+fn command_clears(asked: &Clearing<'_>, line: u32, function: Function, detail: Detail) -> bool
+    ensures { result ≡ list_any (must_clear asked.now.plan.now asked.now.lam) (made_at line function (told_region detail)) }
 {
     match told_region(detail) {
         Some(region) => must_clear(
-            plan,
-            lam,
+            asked.plan,
+            asked.lam,
             &Command {
                 line,
                 function,

@@ -53,8 +53,7 @@ impl<'a> Asked for Least<'a> {
     ghost told = { λ q. first_in (asks q.plan.now q.asked q.lam) };
 
     fn of_body(&self, called: &[Option<u32>], body: &[Stmt], rows: &[Row]) -> Option<u32> {
-        let (line, _) = block_line(self, called, None, body, rows);
-        line
+        block_line(self, called, None, body, rows).0
     }
 }
 

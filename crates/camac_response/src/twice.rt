@@ -82,28 +82,26 @@ impl<'a> Asked for Cycles<'a> {
     ghost told = { λ q. clears_in q.plan.now q.lam };
 
     fn of_body(&self, called: &[u32], body: &[Stmt], rows: &[Row]) -> u32 {
-        let (clears, _) = block_clears(self.plan, self.lam, called, 0, body, rows);
-        clears
+        block_clears(self, called, 0, body, rows).0
     }
 }
 
 // That of a block, whose rows come first, after so many; and the rows behind them. Of these procedures, by their numbers, it is known.
 #[cycle(twice)]
 fn block_clears<'r>(
-    plan: &Plan,
-    lam: Address,
+    asked: &Cycles<'_>,
     called: &[u32],
     so_far: u32,
     block: &[Stmt],
     rows: &'r [Row],
 ) -> (u32, &'r [Row])
-    ensures clears { result.0 ≡ clears_block plan.now lam called.now so_far (statements_of block.now) rows.now }
+    ensures clears { result.0 ≡ clears_block asked.now.plan.now asked.now.lam called.now so_far (statements_of block.now) rows.now }
     ensures behind { result.1.now ≡ behind_block (statements_of block.now) rows.now }
 {
     let mut clears = so_far;
     let mut left = rows;
     'statements: for statement in block {
-        let (one, behind) = statement_clears(plan, lam, called, statement, left);
+        let (one, behind) = statement_clears(asked, called, statement, left);
         clears = up_to_two(clears, one);
         left = behind;
     }
@@ -112,59 +110,50 @@ fn block_clears<'r>(
 
 #[cycle(twice)]
 fn statement_clears<'r>(
-    plan: &Plan,
-    lam: Address,
+    asked: &Cycles<'_>,
     called: &[u32],
     statement: &Stmt,
     rows: &'r [Row],
 ) -> (u32, &'r [Row])
-    ensures clears { result.0 ≡ clears_made plan.now lam called.now (statement_of statement.now) rows.now }
+    ensures clears { result.0 ≡ clears_made asked.now.plan.now asked.now.lam called.now (statement_of statement.now) rows.now }
     ensures behind { result.1.now ≡ behind (statement_of statement.now) rows.now }
 {
     let inside = behind_first(rows);
     match statement {
         Stmt::If { then: body, .. } | Stmt::Lock { body, .. } => {
-            block_clears(plan, lam, called, 0, body, inside)
+            block_clears(asked, called, 0, body, inside)
         }
         Stmt::IfElse {
             then,
             otherwise,
             ..
         } => {
-            let (first, other) = block_clears(plan, lam, called, 0, then, inside);
+            let (first, other) = block_clears(asked, called, 0, then, inside);
             let behind = behind_first(other);
-            let (second, left) = block_clears(plan, lam, called, 0, otherwise, behind);
+            let (second, left) = block_clears(asked, called, 0, otherwise, behind);
             (first.max(second), left)
         }
         Stmt::For { body, .. } | Stmt::ForEach { body, .. } | Stmt::While { body, .. } => {
-            let (once, left) = block_clears(plan, lam, called, 0, body, inside);
+            let (once, left) = block_clears(asked, called, 0, body, inside);
             (in_turns(turns_told(detail_told(rows)), once), left)
         }
         Stmt::Call(call) => (told_at(called, call.procedure, 0), inside),
-        Stmt::Assign(_)
-        | Stmt::SetRegister(_)
-        | Stmt::Single(_)
-        | Stmt::Scan(_)
-        | Stmt::QStop { .. }
-        | Stmt::QRepeat { .. }
-        | Stmt::Put(_)
-        | Stmt::CrateCall(_)
-        | Stmt::LamCall(_) => (alone(plan, lam, statement, rows), inside),
+        _ => (alone(asked, statement, rows), inside),
     }
 }
 
 // That of a statement that holds no others and calls no procedure, by its row.
-fn alone(plan: &Plan, lam: Address, statement: &Stmt, rows: &[Row]) -> u32
-    ensures { result ≡ clears_alone plan.now lam (statement_of statement.now) (steps_told rows.now) (made_alone (statement_of statement.now) (detail_told rows.now)) }
+fn alone(asked: &Cycles<'_>, statement: &Stmt, rows: &[Row]) -> u32
+    ensures { result ≡ clears_alone asked.now.plan.now asked.now.lam (statement_of statement.now) (steps_told rows.now) (made_alone (statement_of statement.now) (detail_told rows.now)) }
 {
     let Some(command) = made_alone(statement, detail_told(rows)) else {
         return 0;
     };
-    if could_clear(plan, lam, &command) {
+    if could_clear(asked.plan, asked.lam, &command) {
         cycles_of(
             statement,
             steps_told(rows),
-            places_of(plan, lam, &command, 0),
+            places_of(asked.plan, asked.lam, &command, 0),
         )
     } else {
         0
