@@ -2,14 +2,14 @@
 
 ghost use Rattle.std.specs.Prelude.{◌≡◌, IfOk};
 ghost use Rattle.camac_lang.specs.View.{statement_of, statements_of};
-ghost use Rattle.camac_commands.specs.Commands.{behind, behind_block, made_alone};
+ghost use Rattle.camac_commands.specs.Commands.{behind, behind_block, detail_told, made_alone};
 ghost use Rattle.camac_response.specs.First.{asks, first_block, first_in, first_made, least_line, lesser, lines_of, with_line};
 
 use crate::bodies::{Asked, told_at, told_over};
 use crate::command::{could_clear, could_hide};
 use camac_branch::Plan;
 use camac_check_costs::BodyCosts;
-use camac_check_rows::{Detail, Row};
+use camac_check_rows::Row;
 use camac_checked::Checked;
 use camac_commands::{Command, behind_first, detail_told, made_alone};
 use camac_esone::Address;
@@ -118,23 +118,15 @@ fn statement_line<'r>(
         | Stmt::QRepeat { .. }
         | Stmt::Put(_)
         | Stmt::CrateCall(_)
-        | Stmt::LamCall(_) => {
-            let line = alone_line(least, so_far, statement, detail_told(rows));
-            (line, inside)
-        }
+        | Stmt::LamCall(_) => (alone_line(least, so_far, statement, rows), inside),
     }
 }
 
 // That of a statement that holds no others and calls no procedure, by what its row tells.
-fn alone_line(
-    least: &Least<'_>,
-    so_far: Option<u32>,
-    statement: &Stmt,
-    detail: Detail,
-) -> Option<u32>
-    ensures { result ≡ least_line (asks least.now.plan.now least.now.asked least.now.lam) so_far (made_alone (statement_of statement.now) detail) }
+fn alone_line(least: &Least<'_>, so_far: Option<u32>, statement: &Stmt, rows: &[Row]) -> Option<u32>
+    ensures { result ≡ least_line (asks least.now.plan.now least.now.asked least.now.lam) so_far (made_alone (statement_of statement.now) (detail_told rows.now)) }
 {
-    match made_alone(statement, detail) {
+    match made_alone(statement, detail_told(rows)) {
         Some(command) => with_line(asks(least, &command), command.line, so_far),
         None => so_far,
     }
