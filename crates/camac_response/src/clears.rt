@@ -1,14 +1,14 @@
 // Whether a service clears its look-at-me on every way: its text, walked together with its rows.
 
-ghost use Rattle.std.specs.Prelude.{◌≡◌, ◌++◌, IfOk, OnOk, false, map, slice_get, unwrap_or};
+ghost use Rattle.std.specs.Prelude.{◌≡◌, IfOk, map, slice_get};
 ghost use Rattle.std.specs.List.{list_any};
-ghost use Rattle.camac_lang.specs.View.{item_of, lam_of, procedure_of, service_of, statement_of, statements_of, term_of};
+ghost use Rattle.camac_lang.specs.View.{lam_of, statement_of, statements_of, term_of};
 ghost use Rattle.camac_model.specs.Meaning.{lam_address};
-ghost use Rattle.camac_rules.specs.Accept.{sections};
-ghost use Rattle.camac_commands.specs.Commands.{behind, behind_block, made_at, told_over, told_region};
+ghost use Rattle.camac_commands.specs.Commands.{behind, behind_block, made_at, told_region};
 ghost use Rattle.camac_commands.specs.Surely.{has_turn, is_some_number, surely, surely_alone, surely_block};
 ghost use Rattle.camac_response.specs.Reach.{clears_lam, must_clear};
 
+use crate::bodies::{Asked, told_at, told_over};
 use crate::command::must_clear;
 use camac_branch::Plan;
 use camac_check_costs::BodyCosts;
@@ -16,7 +16,7 @@ use camac_check_rows::{Detail, Row};
 use camac_checked::Checked;
 use camac_commands::{Command, behind_first, detail_told, told_region};
 use camac_esone::{Address, lam_function};
-use camac_lang::{Form, Item, Lam, Procedure, Service, Stmt, Term};
+use camac_lang::{Form, Lam, Stmt, Term};
 use camac_word::Function;
 use std::alloc::{AllocError, Global};
 
@@ -30,80 +30,43 @@ pub fn clears_lam(
 ) -> Result<bool, AllocError>
     ensures { IfOk result (λ b. b ≡ clears_lam checked.now.plan checked.now.script costs.now lam number) }
 {
-    let script = checked.script();
-    let mut called = Vec::new(alloc);
-    let mut served = Vec::new(alloc);
-    push_bodies(
-        checked.plan(),
-        lam,
-        script.order(),
-        script.procedures(),
-        script.services(),
-        costs,
-        &mut called,
-        &mut served,
-    )?;
-    Ok(clears_at(&served, number))
+    let plan = checked.plan();
+    let found = told_over(alloc, &Clearing { plan, lam }, checked, costs)?;
+    Ok(told_at(&found, number, false))
 }
 
-// Puts that of the services of these declarations at the end, after the procedures that are called so far.
-fn push_bodies(
-    plan: &Plan,
+// Whether a body clears the look-at-me at an address, wherever it ends.
+#[derive(Clone, Copy)]
+struct Clearing<'a> {
+    plan: &'a Plan,
     lam: Address,
-    items: &[Item],
-    procedures: &[Procedure],
-    services: &[Service],
-    costs: &[BodyCosts],
-    called: &mut Vec<bool>,
-    served: &mut Vec<bool>,
-) -> Result<(), AllocError>
-    ensures { OnOk result (served.new.items ≡ served.old.items ++ told_over (surely_block (must_clear plan.now lam)) called.old.items
-        (sections (map item_of items.now) (map procedure_of procedures.now) (map service_of services.now)) costs.now) }
-{
-    match items {
-        [] => Ok(()),
-        [Item::Procedure, rest @ ..] => match procedures {
-            [] => push_bodies(plan, lam, rest, procedures, services, costs, called, served),
-            [procedure, others @ ..] => match costs {
-                [] => Ok(()),
-                [body, more @ ..] => {
-                    let (clears, _) = block_clears(plan, lam, called, &procedure.body, body.rows());
-                    called.push(clears)?;
-                    push_bodies(plan, lam, rest, others, services, more, called, served)
-                }
-            },
-        },
-        [Item::Service, rest @ ..] => match services {
-            [] => push_bodies(plan, lam, rest, procedures, services, costs, called, served),
-            [service, others @ ..] => match costs {
-                [] => Ok(()),
-                [body, more @ ..] => {
-                    let (clears, _) = block_clears(plan, lam, called, &service.body, body.rows());
-                    served.push(clears)?;
-                    push_bodies(plan, lam, rest, procedures, others, more, called, served)
-                }
-            },
-        },
-        [_, rest @ ..] => push_bodies(plan, lam, rest, procedures, services, costs, called, served),
+}
+
+impl<'a> Asked for Clearing<'a> {
+    type Answer = bool;
+
+    ghost told = { λ q. surely_block (must_clear q.plan.now q.lam) };
+
+    fn of_body(&self, called: &[bool], body: &[Stmt], rows: &[Row]) -> bool {
+        block_clears(self, called, body, rows).0
     }
 }
 
 // Whether a block does, whose rows come first, and the rows behind them. Of these procedures, by their numbers, is known whether they do.
 #[cycle(clears)]
 fn block_clears<'r>(
-    plan: &Plan,
-    lam: Address,
+    asked: &Clearing<'_>,
     called: &[bool],
     block: &[Stmt],
     rows: &'r [Row],
 ) -> (bool, &'r [Row])
-    ensures clears { result.0 ≡ surely_block (must_clear plan.now lam) called.now (statements_of block.now) rows.now }
+    ensures clears { result.0 ≡ surely_block (must_clear asked.now.plan.now asked.now.lam) called.now (statements_of block.now) rows.now }
     ensures behind { result.1.now ≡ behind_block (statements_of block.now) rows.now }
 {
     let mut clears = false;
     let mut left = rows;
     'statements: for statement in block {
-        let (one, behind) = statement_clears(plan, lam, called, statement, left);
+        let (one, behind) = statement_clears(asked, called, statement, left);
         clears = clears || one;
         left = behind;
     }
@@ -112,32 +75,30 @@ fn block_clears<'r>(
 
 #[cycle(clears)]
 fn statement_clears<'r>(
-    plan: &Plan,
-    lam: Address,
+    asked: &Clearing<'_>,
     called: &[bool],
     statement: &Stmt,
     rows: &'r [Row],
 ) -> (bool, &'r [Row])
-    ensures clears { result.0 ≡ surely (must_clear plan.now lam) called.now (statement_of statement.now) rows.now }
+    ensures clears { result.0 ≡ surely (must_clear asked.now.plan.now asked.now.lam) called.now (statement_of statement.now) rows.now }
     ensures behind { result.1.now ≡ behind (statement_of statement.now) rows.now }
 {
     let inside = behind_first(rows);
     match statement {
         Stmt::If { then: body, .. } | Stmt::While { body, .. } => {
-            let (_, left) = block_clears(plan, lam, called, body, inside);
-            (false, left)
+            (false, block_clears(asked, called, body, inside).1)
         }
         Stmt::IfElse {
             then,
             otherwise,
             ..
         } => {
-            let (first, other) = block_clears(plan, lam, called, then, inside);
-            let (second, left) = block_clears(plan, lam, called, otherwise, behind_first(other));
+            let (first, other) = block_clears(asked, called, then, inside);
+            let (second, left) = block_clears(asked, called, otherwise, behind_first(other));
             (first && second, left)
         }
         Stmt::For { head, body } => {
-            let (clears, left) = block_clears(plan, lam, called, body, inside);
+            let (clears, left) = block_clears(asked, called, body, inside);
             (has_turn(head.from.term(), head.to.term()) && clears, left)
         }
         Stmt::ForEach {
@@ -146,73 +107,52 @@ fn statement_clears<'r>(
             body,
             ..
         } => {
-            let (clears, left) = block_clears(plan, lam, called, body, inside);
+            let (clears, left) = block_clears(asked, called, body, inside);
             (first <= last && clears, left)
         }
-        Stmt::Lock { body, .. } => block_clears(plan, lam, called, body, inside),
-        Stmt::Call(call) => (clears_at(called, call.procedure), inside),
-        Stmt::Assign(_)
-        | Stmt::SetRegister(_)
-        | Stmt::Single(_)
-        | Stmt::Scan(_)
-        | Stmt::QStop { .. }
-        | Stmt::QRepeat { .. }
-        | Stmt::Put(_)
-        | Stmt::CrateCall(_)
-        | Stmt::LamCall(_) => (
-            clears_alone(plan, lam, statement, detail_told(rows)),
-            inside,
-        ),
+        Stmt::Lock { body, .. } => block_clears(asked, called, body, inside),
+        Stmt::Call(call) => (told_at(called, call.procedure, false), inside),
+        _ => (clears_alone(asked, statement, detail_told(rows)), inside),
     }
 }
 
 // Whether a statement does that holds no others and calls no procedure.
-fn clears_alone(plan: &Plan, lam: Address, statement: &Stmt, detail: Detail) -> bool
-    ensures { result ≡ surely_alone (must_clear plan.now lam) (statement_of statement.now) detail }
+fn clears_alone(asked: &Clearing<'_>, statement: &Stmt, detail: Detail) -> bool
+    ensures { result ≡ surely_alone (must_clear asked.now.plan.now asked.now.lam) (statement_of statement.now) detail }
 {
     match statement {
-        Stmt::Single(single) => command_clears(plan, lam, single.line, single.function, detail),
+        Stmt::Single(single) => command_clears(asked, single.line, single.function, detail),
         Stmt::QStop { transfer } => {
             is_some_number(transfer.max.term())
-                && command_clears(plan, lam, transfer.line, transfer.function, detail)
+                && command_clears(asked, transfer.line, transfer.function, detail)
         }
         Stmt::QRepeat { transfer, limit } => {
             is_some_number(transfer.max.term())
                 && is_some_number(limit.term())
-                && command_clears(plan, lam, transfer.line, transfer.function, detail)
+                && command_clears(asked, transfer.line, transfer.function, detail)
         }
         Stmt::LamCall(action) => {
             let function = lam_function(action.call);
-            command_clears(plan, lam, action.line, function, detail)
+            command_clears(asked, action.line, function, detail)
         }
         _ => false,
     }
 }
 
 // Whether a command does, at the addresses that its row tells.
-fn command_clears(plan: &Plan, lam: Address, line: u32, function: Function, detail: Detail) -> bool
-    ensures { result ≡ list_any (must_clear plan.now lam) (made_at line function (told_region detail)) }
+fn command_clears(asked: &Clearing<'_>, line: u32, function: Function, detail: Detail) -> bool
+    ensures { result ≡ list_any (must_clear asked.now.plan.now asked.now.lam) (made_at line function (told_region detail)) }
 {
     match told_region(detail) {
         Some(region) => must_clear(
-            plan,
-            lam,
+            asked.plan,
+            asked.lam,
             &Command {
                 line,
                 function,
                 region,
             },
         ),
-        None => false,
-    }
-}
-
-// That of the body of this number.
-fn clears_at(found: &[bool], number: usize) -> bool
-    ensures { result ≡ unwrap_or (slice_get found.now number) false }
-{
-    match found.get(number) {
-        Some(clears) => *clears,
         None => false,
     }
 }

@@ -1,6 +1,7 @@
 //! How long a look-at-me of a checked script waits for its service, at told rates: what `camac response` prints, and the laws on every run.
 #![tactic(auto)]
 
+mod bodies;
 mod clears;
 mod command;
 mod kept;

@@ -1,12 +1,13 @@
 // The lines of `camac response`.
 
-ghost use Rattle.std.specs.Prelude.{◌≡◌, ◌<◌, ◌≤◌, ◌+◌, ◌||◌, ◌++◌, false, is_err, length, nat_eq, slice_get, unwrap_or};
+ghost use Rattle.std.specs.Prelude.{◌≡◌, ◌<◌, ◌≤◌, ◌+◌, ◌||◌, ◌++◌, is_err, length, nat_eq};
 ghost use Rattle.std.specs.List.{flat_map, position};
 ghost use Rattle.camac_lines.specs.Texts.{texts};
 ghost use Rattle.camac_response.specs.Lines.{bit_text, cycles_text, limit_text, numbers_text, promised, rate_text, response_line, responses_text, service_text, unkept_line, why_text};
 ghost use Rattle.camac_word.specs.Watched.{inner_of, has_failed};
 ghost use Rattle.camac_word.specs.Writing.{Writes};
 
+use crate::bodies::told_at;
 use crate::of_checked::service_name;
 use crate::unkept::{Unkept, Why, is_kept_to};
 use camac_checked::Checked;
@@ -141,7 +142,7 @@ fn line_of(
         responses.sources()[number],
         told_for(within, name),
         promised(unkept, bit, responses.at(number)),
-        is_twice(twice, number),
+        told_at(twice, number, false),
     )
 }
 
@@ -153,16 +154,6 @@ fn promised(unkept: &[Unkept], bit: GlBit, response: Option<Response>) -> Option
         response
     } else {
         None
-    }
-}
-
-// Whether it is told of the service of this number.
-fn is_twice(twice: &[bool], number: usize) -> bool
-    ensures { result ≡ unwrap_or (slice_get twice.now number) false }
-{
-    match twice.get(number) {
-        Some(clears) => *clears,
-        None => false,
     }
 }
 

@@ -1,12 +1,12 @@
 // Which services may clear their look-at-mes twice on one way: their texts, walked together with their rows.
 
-ghost use Rattle.std.specs.Prelude.{◌≡◌, ◌<◌, ◌≤◌, ◌+◌, ◌-◌, ◌^◌, ◌++◌, IfOk, OnOk, length, map, min, slice_get, unwrap_or};
-ghost use Rattle.camac_lang.specs.View.{item_of, procedure_of, service_of, statement_of, statements_of};
-ghost use Rattle.camac_rules.specs.Accept.{sections};
-ghost use Rattle.camac_commands.specs.Commands.{behind, behind_block, detail_told, made_alone, told_over};
+ghost use Rattle.std.specs.Prelude.{◌≡◌, ◌<◌, ◌≤◌, ◌+◌, ◌-◌, ◌^◌, ◌++◌, IfOk, OnOk, length, map, min};
+ghost use Rattle.camac_lang.specs.View.{service_of, statement_of, statements_of};
+ghost use Rattle.camac_commands.specs.Commands.{behind, behind_block, detail_told, made_alone};
 ghost use Rattle.camac_response.specs.Lams.{lams_of};
-ghost use Rattle.camac_response.specs.Twice.{clears_alone, clears_block, clears_in, clears_made, clears_of, cycles_of, in_turns, is_twice, steps_told, turns_told, twice_from, twice_of, up_to_two};
+ghost use Rattle.camac_response.specs.Twice.{clears_alone, clears_block, clears_in, clears_made, cycles_of, in_turns, is_twice, steps_told, turns_told, twice_from, twice_of, up_to_two};
 
+use crate::bodies::{Asked, told_at, told_over};
 use crate::clears::lam_at;
 use crate::command::{could_clear, places_of};
 use camac_branch::Plan;
@@ -15,7 +15,7 @@ use camac_check_rows::{Detail, Row};
 use camac_checked::Checked;
 use camac_commands::{behind_first, detail_told, made_alone};
 use camac_esone::Address;
-use camac_lang::{Item, Procedure, Service, Stmt};
+use camac_lang::{Service, Stmt};
 use std::alloc::{AllocError, Global};
 
 /// Of each service whether there may be a way on which it clears its look-at-me twice. The error is want of memory.
@@ -64,93 +64,44 @@ fn is_twice(
     let Some(lam) = lam_at(script.lams(), service.lam) else {
         return Ok(false);
     };
-    let found = clears_of(alloc, checked, costs, lam)?;
-    Ok(number_at(&found, number) >= 2)
+    let plan = checked.plan();
+    let found = told_over(alloc, &Cycles { plan, lam }, checked, costs)?;
+    Ok(told_at(&found, number, 0) >= 2)
 }
 
-fn clears_of(
-    alloc: Global,
-    checked: &Checked,
-    costs: &[BodyCosts],
+// How often a body may clear the look-at-me at an address on one way, up to two.
+#[derive(Clone, Copy)]
+struct Cycles<'a> {
+    plan: &'a Plan,
     lam: Address,
-) -> Result<Vec<u32>, AllocError>
-    ensures { IfOk result (λ v. v.items ≡ clears_of checked.now.plan checked.now.script costs.now lam) }
-{
-    let script = checked.script();
-    let mut called = Vec::new(alloc);
-    let mut served = Vec::new(alloc);
-    push_bodies(
-        checked.plan(),
-        lam,
-        script.order(),
-        script.procedures(),
-        script.services(),
-        costs,
-        &mut called,
-        &mut served,
-    )?;
-    Ok(served)
 }
 
-// Puts that of the services of these declarations at the end, after the procedures that are called so far.
-fn push_bodies(
-    plan: &Plan,
-    lam: Address,
-    items: &[Item],
-    procedures: &[Procedure],
-    services: &[Service],
-    costs: &[BodyCosts],
-    called: &mut Vec<u32>,
-    served: &mut Vec<u32>,
-) -> Result<(), AllocError>
-    ensures { OnOk result (served.new.items ≡ served.old.items ++ told_over (clears_in plan.now lam) called.old.items
-        (sections (map item_of items.now) (map procedure_of procedures.now) (map service_of services.now)) costs.now) }
-{
-    match items {
-        [] => Ok(()),
-        [Item::Procedure, rest @ ..] => match procedures {
-            [] => push_bodies(plan, lam, rest, procedures, services, costs, called, served),
-            [procedure, others @ ..] => match costs {
-                [] => Ok(()),
-                [body, more @ ..] => {
-                    let (n, _) = block_clears(plan, lam, called, 0, &procedure.body, body.rows());
-                    called.push(n)?;
-                    push_bodies(plan, lam, rest, others, services, more, called, served)
-                }
-            },
-        },
-        [Item::Service, rest @ ..] => match services {
-            [] => push_bodies(plan, lam, rest, procedures, services, costs, called, served),
-            [service, others @ ..] => match costs {
-                [] => Ok(()),
-                [body, more @ ..] => {
-                    let (n, _) = block_clears(plan, lam, called, 0, &service.body, body.rows());
-                    served.push(n)?;
-                    push_bodies(plan, lam, rest, procedures, others, more, called, served)
-                }
-            },
-        },
-        [_, rest @ ..] => push_bodies(plan, lam, rest, procedures, services, costs, called, served),
+impl<'a> Asked for Cycles<'a> {
+    type Answer = u32;
+
+    ghost told = { λ q. clears_in q.plan.now q.lam };
+
+    fn of_body(&self, called: &[u32], body: &[Stmt], rows: &[Row]) -> u32 {
+        block_clears(self, called, 0, body, rows).0
     }
 }
 
 // That of a block, whose rows come first, after so many; and the rows behind them. Of these procedures, by their numbers, it is known.
 #[cycle(twice)]
 fn block_clears<'r>(
-    plan: &Plan,
-    lam: Address,
+    asked: &Cycles<'_>,
     called: &[u32],
     so_far: u32,
     block: &[Stmt],
     rows: &'r [Row],
 ) -> (u32, &'r [Row])
-    ensures clears { result.0 ≡ clears_block plan.now lam called.now so_far (statements_of block.now) rows.now }
+    ensures clears { result.0 ≡ clears_block asked.now.plan.now asked.now.lam called.now so_far (statements_of block.now) rows.now }
     ensures behind { result.1.now ≡ behind_block (statements_of block.now) rows.now }
 {
     let mut clears = so_far;
     let mut left = rows;
     'statements: for statement in block {
-        let (one, behind) = statement_clears(plan, lam, called, statement, left);
+        let (one, behind) = statement_clears(asked, called, statement, left);
         clears = up_to_two(clears, one);
         left = behind;
     }
@@ -159,59 +110,50 @@ fn block_clears<'r>(
 
 #[cycle(twice)]
 fn statement_clears<'r>(
-    plan: &Plan,
-    lam: Address,
+    asked: &Cycles<'_>,
     called: &[u32],
     statement: &Stmt,
     rows: &'r [Row],
 ) -> (u32, &'r [Row])
-    ensures clears { result.0 ≡ clears_made plan.now lam called.now (statement_of statement.now) rows.now }
+    ensures clears { result.0 ≡ clears_made asked.now.plan.now asked.now.lam called.now (statement_of statement.now) rows.now }
     ensures behind { result.1.now ≡ behind (statement_of statement.now) rows.now }
 {
     let inside = behind_first(rows);
     match statement {
         Stmt::If { then: body, .. } | Stmt::Lock { body, .. } => {
-            block_clears(plan, lam, called, 0, body, inside)
+            block_clears(asked, called, 0, body, inside)
         }
         Stmt::IfElse {
             then,
             otherwise,
             ..
         } => {
-            let (first, other) = block_clears(plan, lam, called, 0, then, inside);
+            let (first, other) = block_clears(asked, called, 0, then, inside);
             let behind = behind_first(other);
-            let (second, left) = block_clears(plan, lam, called, 0, otherwise, behind);
+            let (second, left) = block_clears(asked, called, 0, otherwise, behind);
             (first.max(second), left)
         }
         Stmt::For { body, .. } | Stmt::ForEach { body, .. } | Stmt::While { body, .. } => {
-            let (once, left) = block_clears(plan, lam, called, 0, body, inside);
+            let (once, left) = block_clears(asked, called, 0, body, inside);
             (in_turns(turns_told(detail_told(rows)), once), left)
         }
-        Stmt::Call(call) => (number_at(called, call.procedure), inside),
-        Stmt::Assign(_)
-        | Stmt::SetRegister(_)
-        | Stmt::Single(_)
-        | Stmt::Scan(_)
-        | Stmt::QStop { .. }
-        | Stmt::QRepeat { .. }
-        | Stmt::Put(_)
-        | Stmt::CrateCall(_)
-        | Stmt::LamCall(_) => (alone(plan, lam, statement, rows), inside),
+        Stmt::Call(call) => (told_at(called, call.procedure, 0), inside),
+        _ => (alone(asked, statement, rows), inside),
     }
 }
 
 // That of a statement that holds no others and calls no procedure, by its row.
-fn alone(plan: &Plan, lam: Address, statement: &Stmt, rows: &[Row]) -> u32
-    ensures { result ≡ clears_alone plan.now lam (statement_of statement.now) (steps_told rows.now) (made_alone (statement_of statement.now) (detail_told rows.now)) }
+fn alone(asked: &Cycles<'_>, statement: &Stmt, rows: &[Row]) -> u32
+    ensures { result ≡ clears_alone asked.now.plan.now asked.now.lam (statement_of statement.now) (steps_told rows.now) (made_alone (statement_of statement.now) (detail_told rows.now)) }
 {
     let Some(command) = made_alone(statement, detail_told(rows)) else {
         return 0;
     };
-    if could_clear(plan, lam, &command) {
+    if could_clear(asked.plan, asked.lam, &command) {
         cycles_of(
             statement,
             steps_told(rows),
-            places_of(plan, lam, &command, 0),
+            places_of(asked.plan, asked.lam, &command, 0),
         )
     } else {
         0
@@ -274,15 +216,5 @@ fn turns_told(detail: Detail) -> u64
         Detail::Turns(turns) => turns,
         Detail::Nothing | Detail::At(_) | Detail::Between(..) => 0,
         Detail::Crates(_) | Detail::Procedure(_) => 0,
-    }
-}
-
-// That of the body of this number.
-fn number_at(found: &[u32], number: usize) -> u32
-    ensures { result ≡ unwrap_or (slice_get found.now number) 0 }
-{
-    match found.get(number) {
-        Some(clears) => *clears,
-        None => 0,
     }
 }

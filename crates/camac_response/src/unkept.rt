@@ -3,7 +3,7 @@
 ghost use Rattle.std.specs.Prelude.{◌≡◌, ◌<◌, ◌≤◌, ◌+◌, ◌^◌, IfOk, OnOk, length, slice_get};
 ghost use Rattle.camac_lang.specs.View.{service_of};
 ghost use Rattle.camac_response.specs.Lams.{lams_of};
-ghost use Rattle.camac_response.specs.Unkept.{comes_after, is_kept_to, not_cleared, place_of, told, told_cleared, told_from, told_hidden, told_if, told_of, unkept_of};
+ghost use Rattle.camac_response.specs.Unkept.{comes_after, is_kept_to, not_cleared, place_of, told, told_cleared, told_from, told_hidden, told_if, unkept_of};
 
 use crate::clears::{clears_lam, lam_at};
 use crate::least::{Question, lines_of};
@@ -86,21 +86,6 @@ fn tell_if(
     let Some(lam) = lam_at(script.lams(), service.lam) else {
         return Ok(());
     };
-    tell_of(alloc, found, checked, costs, bit, number, lam, service)
-}
-
-fn tell_of(
-    alloc: Global,
-    found: &mut Vec<Unkept>,
-    checked: &Checked,
-    costs: &[BodyCosts],
-    bit: GlBit,
-    number: usize,
-    lam: Address,
-    service: &Service,
-) -> Result<(), AllocError>
-    ensures { OnOk result (found.new.items ≡ told_of checked.now.plan checked.now.script costs.now bit number lam (service_of service.now) found.old.items) }
-{
     let heading = not_cleared(alloc, checked, costs, lam, number, service)?;
     tell(found, bit, number, Why::NotCleared, heading)?;
     let clearing = lines_of(alloc, checked, costs, Question::Clears, lam)?;

@@ -8,6 +8,6 @@ use Rattle.camac_response.proofs.clears.+clears.Given as goal
 
 abbrev pub invariant-block_clears-statements : goal.invariant-block_clears-statements
 invariant-block_clears-statements l = record {
-  clears : (l.clears || surely_block (must_clear l.plan l.lam) l.called (statements_of (drop l.statement-index l.block)) l.left) ≡ surely_block (must_clear l.plan l.lam) l.called (statements_of l.block) l.rows;
+  clears : (l.clears || surely_block (must_clear l.asked.plan.now l.asked.lam) l.called (statements_of (drop l.statement-index l.block)) l.left) ≡ surely_block (must_clear l.asked.plan.now l.asked.lam) l.called (statements_of l.block) l.rows;
   behind : behind_block (statements_of (drop l.statement-index l.block)) l.left ≡ behind_block (statements_of l.block) l.rows;
 }

@@ -5,7 +5,9 @@ use Rattle.camac_response.specs.First.{asks, first_block}
 use Rattle.camac_response.proofs.least.+first.Given as goal
 
 abbrev pub invariant-block_line-statements : goal.invariant-block_line-statements
-invariant-block_line-statements l = record {
-  line : first_block (asks l.plan l.asked l.lam) l.called l.least (statements_of (drop l.statement-index l.block)) l.left ≡ first_block (asks l.plan l.asked l.lam) l.called l.fn.so_far (statements_of l.block) l.rows;
-  behind : behind_block (statements_of (drop l.statement-index l.block)) l.left ≡ behind_block (statements_of l.block) l.rows;
-}
+invariant-block_line-statements l =
+    let test = asks l.least.plan.now l.least.asked l.least.lam in
+    record {
+      line : first_block test l.called l.line (statements_of (drop l.statement-index l.block)) l.left ≡ first_block test l.called l.fn.so_far (statements_of l.block) l.rows;
+      behind : behind_block (statements_of (drop l.statement-index l.block)) l.left ≡ behind_block (statements_of l.block) l.rows;
+    }

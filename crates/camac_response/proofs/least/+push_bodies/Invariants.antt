@@ -1,5 +1,0 @@
-use Rattle.std.proofs.Common.{length}
-use Rattle.camac_response.proofs.least.+push_bodies.Given as goal
-
-abbrev pub decreases-push_bodies : goal.decreases-push_bodies
-decreases-push_bodies l = length l.items.now
