@@ -97,8 +97,8 @@ class Lines(unittest.TestCase):
     def test_forms(self):
         self.assertEqual(VETO, Response("veto", 1, 5, 15, 7, 12, 12))
         self.assertEqual(SLOW, Response("slow", 12, 7, 60, None, None, None))
-        within = "service reg gl 7 cycles 6 once start 3 end 9 of 10 longest 12\nservice adc gl 3 cycles 3 every 3 start - end - of 10 longest -\n"
-        self.assertEqual(read_responses(within), [Response("reg", 7, 6, None, 3, 9, 12), Response("adc", 3, 3, 3, None, None, None)])
+        within = "service reg gl 7 cycles 6 once start 3 end 9 of 10 longest 12 clears 2\nservice adc gl 3 cycles 3 every 3 start - end - of 10 longest -\n"
+        self.assertEqual(read_responses(within), [Response("reg", 7, 6, None, 3, 9, 12, (), True), Response("adc", 3, 3, 3, None, None, None)])
         self.assertEqual(read_responses(""), [])
         for line in ("service adc gl 3 cycles 3 start 3 end 9 longest 12", "refused E12 line 3: more cycles than annotated"):
             with self.assertRaises(ValueError):

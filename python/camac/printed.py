@@ -30,6 +30,7 @@ PARTS: Dict[str, Tuple[str, Callable[[str], Any]]] = {
     "head": ("service|proc", lambda it: it == "service"),
     "probe": ("(?: probe)?", bool),
     "clears": ("(?: clears)?", bool),
+    "twice": ("(?: clears 2)?", bool),
     "harm": ("|".join(it.value for it in Harm), Harm),
     "each": (r"cycles \d+ words \d+ steps \d+", lambda it: Cost(*map(int, it.split()[1::2]))),
     "cost": (r"\d+ \d+ \d+", lambda it: Cost(*map(int, it.split()))),
@@ -87,7 +88,7 @@ def _declaration(first: int, last: Optional[int], **its: Any) -> Declaration:
 
 SERVICE = Form(Service, "service {name:word} gl {gl} cycles {cycles} of {annotated_cycles} words {words} of {annotated_words} steps {steps}")
 HEADING = Form(Heading, r"{is_service:head} {name:word}(?:\(.*\))? within {cycles} cycles event {words} words(?: steps {steps})?", has_line=True)
-RESPONSE = Form(Response, r"service {name:word} gl {gl} cycles {cycles} (?:once|every {every}) start {start:maybe} end {end:maybe}(?: of \d+)? longest {longest:maybe}(?: clears 2)?")
+RESPONSE = Form(Response, r"service {name:word} gl {gl} cycles {cycles} (?:once|every {every}) start {start:maybe} end {end:maybe}(?: of \d+)? longest {longest:maybe}{clears_twice:twice}")
 UNKEPT = Form(Unkept, "unkept {name:word} line {line}: {why:harm}(?: {other:word})?")
 BODY = Form(
     _body,

@@ -82,7 +82,8 @@ class Response(NamedTuple):
     """How late a service of an accepted script can be, in dataway cycles (with those of auxiliary controllers): the name of its LAM, its
     bit of the graded-L pattern, and its own bound. `every` is how soon its module may raise its look-at-me again, None if nothing was
     said. `start` and `end` are the most cycles from a look-at-me until its service begins and has ended; within `longest` all look-at-mes
-    up to this bit are answered. These three are None if there is no such number. `unkept` has what the script does to its look-at-me."""
+    up to this bit are answered. These three are None if there is no such number. `unkept` has what the script does to its look-at-me. A service that
+    `clears_twice` may lose one that comes between."""
 
     name: str
     gl: int
@@ -92,6 +93,7 @@ class Response(NamedTuple):
     end: Optional[int]
     longest: Optional[int]
     unkept: Tuple[Unkept, ...] = ()
+    clears_twice: bool = False
 
     def calls(self, elapsed: int) -> int:
         """How often the service is called at most within so many cycles."""

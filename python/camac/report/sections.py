@@ -139,6 +139,7 @@ def late(facts: Facts) -> str:
         "what RESPONSE.md asks of them: that modules keep the given rates (<code>--every</code>), for one.</p>"
     )
     out += [f'<p class="bad">No number from bit {it.gl} on: {escape(one.text())}.</p>' for it in facts.responses for one in it.unkept]
+    out += [f"<p>{escape(it.name)} may clear its look-at-me twice: one that comes between is lost.</p>" for it in facts.responses if it.clears_twice]
     out.append(figure(draw_response(facts.responses, run)))
     if not run.has_listing:
         return "".join(out) + '<p class="mute">An event file does not show how late a service was: answers do.</p>'
