@@ -75,7 +75,7 @@ service adc within 9 cycles event 9 words {
   put k
 }
 """
-KEPT = KEEPS.replace("1 to 2 {", "1 to 2 keep k in 0..2 {").replace("within 9 cycles event 9", "within 0 cycles event 1")
+KEPT = KEEPS.replace("1 to 2 {", "1 to 2 each {").replace("within 9 cycles event 9", "within 0 cycles event 1")
 SIMULATE = ("simulate", "@sample", "script", "--rate", "adc=9", "--cycle-us", "1", "--services", "9")
 
 
