@@ -1,7 +1,7 @@
 #!/usr/bin/env python3
 """Measures the processor time and the peak memory of the built program on large inputs, beside `cat` of the same bytes.
 
-usage: benchmarks/speed.py [--best N] [--growth | --instructions] [--only WORD] [PROGRAM ..]
+usage: benchmarks/speed.py [--best N] [--growth | --instructions | --corpus] [--only WORD] [PROGRAM ..]
 
 PROGRAM is crates/camac/out/camac unless given (built by: cd crates/camac && rt run). Several programs are measured in turn, so that versions
 can be compared. Processor time is user and system time together, in milliseconds, the least of N calls (5). Peak memory is in KiB, by GNU
@@ -10,6 +10,9 @@ time if that is there. Inputs are files, and output goes to /dev/null, unless th
 The first table has one line for each case. --growth prints the second: inputs of a hundredth, a tenth and the whole of the greatest size.
 --instructions prints a third, of millions of instructions by valgrind, which are the same on every computer. A run has a tenth of its answers
 there, and its instructions for each answer are beside.
+--corpus prints a fourth, of millions of instructions for `check` of the five shapes of corpus.py: of a whole call, and of its tokens, its parser (for
+some mistakes with the tokens once more), and of linking and judging. The last line is the mean. Each program has its ratio to the first one, and the
+last line the geometric mean of these, in which each shape counts the same.
 --only takes the cases whose names have this word in them.
 """
 import argparse
@@ -24,6 +27,7 @@ import tempfile
 
 sys.path.insert(0, os.path.dirname(os.path.abspath(__file__)))
 sys.dont_write_bytecode = True
+import corpus  # noqa: E402
 import large_inputs  # noqa: E402
 import long_runs  # noqa: E402
 from long_runs import AGAIN, CYCLE, DEMAND, QUIET  # noqa: E402
@@ -244,15 +248,45 @@ def instructions(words):
     return int(re.search(r"Collected : (\d+)", said.stderr)[1])
 
 
+def counted(case, program):
+    with tempfile.TemporaryDirectory(prefix="camac-speed-") as room:
+        words, _ = case.put(room)
+        return instructions([program, *words])
+
+
 def print_instructions(chosen, programs):
     print("| case |" + "".join(f" {os.path.basename(it)}: million instructions | for an answer |" for it in programs))
     print("|---|" + "---|---|" * len(programs))
     for case in (it.tenth() for it in chosen if it.to == "/dev/null"):
-        with tempfile.TemporaryDirectory(prefix="camac-speed-") as room:
-            words, _ = case.put(room)
-            counts = [instructions([program, *words]) for program in programs]
+        counts = [counted(case, program) for program in programs]
         cells = [(f"{count / 1e6:.2f}", f"{count / case.answers():.0f}" if case.answers() else "") for count in counts]
         print(f"| {case.name} |" + "".join(f" {count} | {each} |" for count, each in cells), flush=True)
+
+
+# What in front of a text has `check` end early: a wrong first token when all tokens are read, a LAM in no crate of the plan when it is parsed.
+ENDS = (")", "cdlam none 1 7 1 0\n", "")
+
+
+def of_shape(texts, program, ends=ENDS):
+    """Instructions of `check` up to each of these ends, the mean of the texts."""
+    return [statistics.mean(counted(checked("", f"{end}{it}"), program) for it in texts) for end in ends]
+
+
+def print_corpus(chosen, programs):
+    print("| shape | bytes |" + "".join(f" {os.path.basename(it)} | tokens | parser | judging | ratio |" for it in programs))
+    print("|---|---|" + "---|---|---|---|---|" * len(programs))
+    lines, starts = [], [counted(checked("", ""), it) for it in programs]
+    for name, texts in chosen.items():
+        lines.append([])
+        for program, start in zip(programs, starts):
+            tokens, parsed, whole = of_shape(texts, program)
+            lines[-1].append([whole, tokens - start, parsed - tokens, whole - parsed, whole / (lines[-1][0][0] if lines[-1] else whole)])
+        tell_shape(name, len(texts[0]), lines[-1])
+    tell_shape("all", "", [[*map(statistics.mean, its[:4]), statistics.geometric_mean(its[4])] for its in (list(zip(*them)) for them in zip(*lines))])
+
+
+def tell_shape(name, size, line):
+    print(f"| {name} | {size} |" + "".join("".join(f" {it / 1e6:.2f} |" for it in its) + f" {ratio:.3f} |" for *its, ratio in line), flush=True)
 
 
 def main():
@@ -261,6 +295,7 @@ def main():
     tables = words.add_mutually_exclusive_group()
     tables.add_argument("--growth", action="store_true", help="the table of growing inputs")
     tables.add_argument("--instructions", action="store_true", help="the table of instructions, by valgrind")
+    tables.add_argument("--corpus", action="store_true", help="the table of the corpus, by valgrind")
     words.add_argument("--only", default="", help="the cases whose names have this word in them")
     words.add_argument("programs", nargs="*", metavar="PROGRAM")
     given = words.parse_args()
@@ -269,10 +304,12 @@ def main():
     for program in programs:
         if not os.access(program, os.X_OK):
             sys.exit(f"{program} is not there: build it by 'cd crates/camac && rt run'")
+    if (given.instructions or given.corpus) and not shutil.which("valgrind"):
+        sys.exit("instructions are counted by valgrind, which is not there")
+    if given.corpus:
+        return print_corpus({name: texts for name, texts in corpus.shapes().items() if given.only in name}, programs)
     chosen = [it for it in (growing() if given.growth else cases()) if given.only in it.name]
     if given.instructions:
-        if not shutil.which("valgrind"):
-            sys.exit("instructions are counted by valgrind, which is not there")
         return print_instructions(chosen, programs)
     heads = ["cat"] + [os.path.basename(it) for it in programs]
     print("| case | bytes |" + "".join(f" {it}: ms | KiB |" for it in heads))

@@ -38,10 +38,10 @@ _camac() {
     *) _camac_file "${words[1]}:$place" "$word" && return ;;
     esac
     ;;
-  [1-6]:explain)
+  [1-9]:explain)
     case $word:${words[-2]} in
-    -*) offered='--at --bounds --help -h' ;;
-    *:--at) ;;
+    -*) offered='--at --turn --bounds --help -h' ;;
+    *:--at | *:--turn) ;;
     *) _camac_file "${words[1]}:$place" "$word" && return ;;
     esac
     ;;

@@ -19,6 +19,7 @@ complete -c camac -n __fish_use_subcommand -a events -d 'Lists an event file'
 complete -c camac -n __fish_use_subcommand -a help -d 'Print this message or the help of the given subcommand(s)'
 complete -c camac -n '__fish_seen_subcommand_from plan' -l commands -d 'Lists the commands of each type, too'
 complete -c camac -n '__fish_seen_subcommand_from explain' -l at -d 'Prints what is known before the statement there' -x
+complete -c camac -n '__fish_seen_subcommand_from explain' -l turn -d "The turn of the 'each' around it that is meant" -x
 complete -c camac -n '__fish_seen_subcommand_from explain' -l bounds -d 'Explains what bounds refuses'
 complete -c camac -n '__fish_seen_subcommand_from response' -l every -d 'Its look-at-mes come at least this many cycles apart' -x
 complete -c camac -n '__fish_seen_subcommand_from response' -l within -d 'Asks whether it has ended this many cycles after its look-at-me' -x

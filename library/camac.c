@@ -42,13 +42,15 @@ void camac_raw_close(void *run);
 /* What an export takes in the place of NULL. */
 #define IN(bytes, size) (bytes) ? (const uint8_t *)(bytes) : (const uint8_t *)"", (size)
 #define OUT(buffer, room) (buffer) ? (uint8_t *)(buffer) : nowhere, (room)
-#define IS_NULL(bytes, size) (!(bytes) && (size) > 0)
+
+/* Whether bytes are not there, as after a read or a malloc that failed: nothing has more than PTRDIFF_MAX. */
+#define IS_NULL(bytes, size) ((!(bytes) && (size) > 0) || (size) > PTRDIFF_MAX)
 
 /* No struct of a later version is larger. */
 #define MOST_BYTES 4096u
 
-/* Whether a struct is as large as here, or larger, as in a later version. */
-#define IS_KNOWN(its) ((its) && (its)->size >= sizeof *(its) && (its)->size <= MOST_BYTES)
+/* Whether a struct is as large as here, or larger, as in a later version, so that the next of a list is aligned. */
+#define IS_KNOWN(its) ((its) && (its)->size >= sizeof *(its) && (its)->size <= MOST_BYTES && (its)->size % 4 == 0)
 
 /* Puts zeros behind the size of a struct. */
 #define CLEAR(its) memset(&(its)->size + 1, 0, (its)->size - sizeof (its)->size)
@@ -184,7 +186,9 @@ int camac_open(camac_session *s, const void *plan, size_t plan_size, const void 
     size_t unasked;
     size = told(size, &unasked);
     if (!is_session(s) || IS_NULL(plan, plan_size) || IS_NULL(script, script_size) || IS_NULL(text, room)) return CAMAC_MISUSE;
-    return (int)camac_raw_open(run_of(s), IN(plan, plan_size), IN(script, script_size), OUT(text, room), size);
+    const uint32_t code = camac_raw_open(run_of(s), IN(plan, plan_size), IN(script, script_size), OUT(text, room), size);
+    if (code == CAMAC_OK) s->camac_is_short = s->camac_serving = 0;
+    return (int)code;
 }
 
 int camac_wants(const camac_session *s, camac_want *want) {
@@ -200,6 +204,7 @@ int camac_wants(const camac_session *s, camac_want *want) {
 size_t camac_ahead(const camac_session *s, camac_want *want, size_t room) {
     uint32_t numbers[7 * CAMAC_AHEAD];
     if (!is_session(s) || !room || !IS_KNOWN(want)) return 0;
+    if (s->camac_is_short) room = 1;
     const uint32_t size = want->size;
     const size_t all = camac_raw_ahead(run_of(s), (uint8_t *)numbers, sizeof numbers) / 7, count = all < room ? all : room;
     for (size_t i = 0; i < count; i++) {
@@ -217,17 +222,25 @@ size_t camac_ahead(const camac_session *s, camac_want *want, size_t room) {
     return count;
 }
 
+/* Adds which service left the event: the one that the last demand called. */
+static int served(camac_session *s, camac_progress *its, uint32_t code) {
+    if (its->kind == CAMAC_DEMAND) s->camac_serving = its->service;
+    its->event_service = its->event ? s->camac_serving : 0;
+    return (int)code;
+}
+
 int camac_next(camac_session *s, const camac_answer *answer, camac_progress *progress) {
     if (!IS_KNOWN(progress)) return CAMAC_MISUSE;
     if (!is_session(s) || !IS_KNOWN(answer) || !is_known(answer)) return CLEAR(progress), CAMAC_MISUSE;
     CLEAR_SPARE(progress);
-    return (int)camac_raw_next(run_of(s), &answer->word, &progress->kind);
+    return served(s, progress, camac_raw_next(run_of(s), &answer->word, &progress->kind));
 }
 
 int camac_next_many(camac_session *s, const camac_answer *answer, camac_progress *progress, size_t count, size_t *taken) {
     size_t unasked;
     taken = told(taken, &unasked);
-    if (count ? !IS_KNOWN(progress) : !is_session(s)) return CAMAC_MISUSE;
+    camac_want want = CAMAC_WANT;
+    if (count ? !IS_KNOWN(progress) : camac_wants(s, &want) == CAMAC_MISUSE) return CAMAC_MISUSE;
     const uint32_t size = count ? progress->size : 0;
     int code = CAMAC_OK;
     for (size_t i = 0; i < count; i++) {
@@ -244,7 +257,7 @@ int camac_step(camac_session *s, const camac_answer *answer, camac_progress *pro
     if (!is_session(s) || !IS_KNOWN(answer) || !is_known(answer)) return CLEAR(progress), CLEAR(want), CAMAC_MISUSE;
     CLEAR_SPARE(progress);
     CLEAR_SPARE(want);
-    return (int)camac_raw_step(run_of(s), &answer->word, &progress->kind, &want->kind);
+    return served(s, progress, camac_raw_step(run_of(s), &answer->word, &progress->kind, &want->kind));
 }
 
 /* Numbers of 32 bits, which an export writes as bytes. */
@@ -314,14 +327,65 @@ int camac_abandon(camac_session *s, uint32_t *unlocked, size_t room, size_t *cou
 }
 
 int camac_limit_steps(camac_session *s, uint32_t most) {
-    return is_session(s) ? (int)camac_raw_limit_steps(run_of(s), most) : CAMAC_MISUSE;
+    const uint32_t code = is_session(s) ? camac_raw_limit_steps(run_of(s), most) : CAMAC_MISUSE;
+    if (code == CAMAC_OK) s->camac_is_short = most < CAMAC_AHEAD_STEPS;
+    return (int)code;
 }
 
 int camac_go_on(camac_session *s, camac_progress *progress) {
     if (!IS_KNOWN(progress)) return CAMAC_MISUSE;
     if (!is_session(s)) return CLEAR(progress), CAMAC_MISUSE;
     CLEAR_SPARE(progress);
-    return (int)camac_raw_go_on(run_of(s), &progress->kind);
+    return served(s, progress, camac_raw_go_on(run_of(s), &progress->kind));
+}
+
+/* Leaves the service in progress, and has its lockouts released. */
+static int left(camac_session *s, const camac_branch *branch, void *user) {
+    uint32_t crates[CAMAC_CRATES];
+    size_t count;
+    const int code = camac_abandon(s, crates, CAMAC_CRATES, &count);
+    for (size_t i = 0; i < count; i++) branch->unlock(user, crates[i]);
+    return code;
+}
+
+/* Does what an answer or a pause calls for: tells the event, and has lockouts released. */
+static void settle(camac_session *s, const camac_branch *branch, void *user, const camac_progress *its) {
+    if (its->event && branch->event) branch->event(user, s, its);
+    for (const uint8_t *c = its->unlocked; *c; c++) branch->unlock(user, *c);
+}
+
+/* Has the branch make what is wanted until the run ends, and tells how. */
+static int played(camac_session *s, const camac_branch *branch, void *user) {
+    const camac_answer nothing = CAMAC_ANSWER;
+    camac_want want = CAMAC_WANT;
+    camac_progress its = CAMAC_PROGRESS;
+    int code, made;
+    while ((code = camac_wants(s, &want)) == CAMAC_OK || code == CAMAC_BUSY) {
+        camac_answer answer = nothing;
+        if (code == CAMAC_BUSY) {
+            if (branch->pause) branch->pause(user);
+            code = camac_go_on(s, &its);
+        } else if ((made = branch->make(user, &want, &answer)) == CAMAC_MADE) {
+            code = camac_next(s, &answer, &its);
+        } else {
+            if (made != CAMAC_FAULT) return CAMAC_OK;
+            if ((code = left(s, branch, user)) != CAMAC_OK) return code;
+            continue;
+        }
+        if (code != CAMAC_OK && code != CAMAC_BUSY) break;
+        settle(s, branch, user, &its);
+    }
+    if (want.kind == CAMAC_LOCK) branch->unlock(user, want.c); /* it was made, but its answer not taken */
+    return code;
+}
+
+int camac_play(camac_session *s, const camac_branch *branch, void *user) {
+    uint32_t crates[CAMAC_CRATES];
+    if (!IS_KNOWN(branch) || !branch->make || !branch->unlock) return CAMAC_MISUSE;
+    const int code = played(s, branch, user);
+    const size_t count = camac_held(s, crates, CAMAC_CRATES);
+    for (size_t i = 0; i < count; i++) branch->unlock(user, crates[i]);
+    return code;
 }
 
 int camac_rewind(camac_session *s) { return is_session(s) ? (int)camac_raw_rewind(run_of(s)) : CAMAC_MISUSE; }

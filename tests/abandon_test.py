@@ -102,7 +102,7 @@ class Abandoned(Case):
         self.assertEqual(session.next(Answer(wait=15)).kind, library.STOPPED)
         with self.assertRaises(UsageFault) as found:
             session.abandon()
-        self.assertEqual(str(found.exception), "the run is over")
+        self.assertEqual(str(found.exception), "abandon needs a run that goes on: this one is over")
 
 
 if __name__ == "__main__":

@@ -5,6 +5,7 @@ without it.
 usage: tests/archive_test.py [-v] [TEST ..]     from any folder; takes some seconds
 
 It is left out if numpy (package python3-numpy of Debian) is not installed, and the parts with dask without python3-dask and python3-distributed.
+CAMAC_EVENTS is how many events the cluster reads, of 64 bytes, in place of a million; 100000000 are a run for a night.
 """
 import contextlib
 import dataclasses
@@ -13,6 +14,7 @@ import logging
 import math
 import os
 import random
+import re
 import sys
 import tracemalloc
 from unittest import mock
@@ -25,6 +27,8 @@ from camac.events import NEW_FILE, Event, EventFileFault, record
 from camac.record import Played, describe
 
 RUNS, EVENTS = 5, 100_000
+# The events of the cluster, those of one file and those that are made at once; and the bytes that a worker may take.
+MANY, OF_FILE, PIECE, ROOM = int(os.environ.get("CAMAC_EVENTS") or 1_000_000), 10_000_000, 250_000, 1_000_000_000
 WORDS = """\
 [[word]]
 service = "adc"
@@ -57,10 +61,8 @@ class Archive(Case):
     def setUpClass(cls):
         super().setUpClass()
         os.environ["CAMAC_PROGRAM"] = PROGRAM
-        cls.made = Case()
-        cls.made.setUp()
-        cls.addClassCleanup(cls.made.doCleanups)
-        room, chance = cls.made.room, random.Random(11)
+        cls.made, chance = cls.shared(), random.Random(11)
+        room = cls.made
         (room / "bench.toml").write_text(laboratory.PLAN)
         (room / "bench.script").write_text(laboratory.SCRIPT)
         (room / "words.toml").write_text(WORDS)
@@ -135,16 +137,47 @@ class Archive(Case):
             finally:
                 tracemalloc.stop()
 
+    @needed("python3-dask")
     def test_dask(self):
-        if not has("python3-dask"):
-            return
         self.check(partition=1 << 20)
-        if has("python3-distributed"):
-            distributed = importlib.import_module("distributed")
-            with mock.patch.dict(os.environ, {"PYTHONPATH": str(TOP / "python")}), contextlib.ExitStack() as opened:
-                cluster = opened.enter_context(distributed.LocalCluster(2, threads_per_worker=1, processes=True, dashboard_address=None, silence_logs=logging.ERROR))
-                opened.enter_context(distributed.Client(cluster.scheduler_address))
-                self.check(partition=1 << 20)
+
+    @needed("python3-dask", "python3-distributed")
+    def test_cluster(self):
+        """Over processes of which none takes a GB, however many events there are."""
+        wanted = self.make_many()
+        distributed = importlib.import_module("distributed")
+        with mock.patch.dict(os.environ, {"PYTHONPATH": str(TOP / "python")}), contextlib.ExitStack() as opened:
+            options = {"threads_per_worker": 1, "processes": True, "memory_limit": ROOM, "dashboard_address": None, "silence_logs": logging.ERROR}
+            cluster = opened.enter_context(distributed.LocalCluster(n_workers=2, **options))
+            client = opened.enter_context(distributed.Client(cluster.scheduler_address))
+            runs = camac.open_runs(str(self.room / "many*.events"), self.words)
+            gated = runs.gate("height[1]", 1100, 1300)
+            for its, found in zip(wanted, (runs.histogram("height[2]"), gated.histogram("height[3]"), [sum(it.values()) for it in runs.rates().values()])):
+                self.assertEqual(list(found), list(its))
+            most = client.run(lambda: int(re.search(r"VmHWM:\s*(\d+) kB", open("/proc/self/status").read())[1]) << 10)
+        self.assertEqual(len(most), 2)
+        self.assertLess(max(most.values()), ROOM, most)
+
+    def make_many(self):
+        """Makes the runs of the cluster, each of 10 s. Returns by hand the counts of a column, those of another with a gate, and the rates."""
+        numpy = importlib.import_module("numpy")
+        chance, ends = numpy.random.default_rng(11), [*range(0, MANY, OF_FILE), MANY]
+        of = camac.read_record(self.made / "run1.json")
+        counts, gated = numpy.zeros((2, 4096), "i8")
+        for first, end in zip(ends, ends[1:]):
+            name = f"many{first // OF_FILE:03}"
+            (self.room / f"{name}.json").write_text(dataclasses.replace(of, events=f"{name}.events", demands=10.0, services=0.0).text())
+            with open(self.room / f"{name}.events", "wb") as file:
+                file.write(NEW_FILE)
+                for at in range(1, end - first + 1, PIECE):
+                    its = numpy.zeros(min(PIECE, end - first + 1 - at), [("head", ">u2", 2), ("of", ">u4", 2), ("counts", ">u2", 2), ("words", ">u4", 12)])
+                    heights = chance.integers(0, 4096, (len(its), 12))
+                    its["head"], its["counts"], its["words"] = (0xCA4D, 3), (0, 12), heights | numpy.arange(12) << 16
+                    its["of"][:, 0], its["of"][:, 1] = numpy.arange(at, at + len(its)), 30
+                    its.tofile(file)
+                    counts += numpy.bincount(heights[:, 2], minlength=4096)
+                    gated += numpy.bincount(heights[(1100 <= heights[:, 1]) & (heights[:, 1] <= 1300), 3], minlength=4096)
+        return counts, gated, [(end - first) / 10 for first, end in zip(ends, ends[1:])]
 
     def test_what_is_refused(self):
         with self.assertRaises(FileNotFoundError):
@@ -152,11 +185,11 @@ class Archive(Case):
         runs = camac.open_runs(self.pattern)
         with self.assertRaisesRegex(KeyError, "no word has the name 'nothing'; there are: .*SCALER-12 crate 2"):
             runs.array("nothing")
-        data = (self.made.room / "run1.events").read_bytes()
+        data = (self.made / "run1.events").read_bytes()
         cut = data.index(record(self.events[1][50_000]))
         for name, its in (("cut", data[:-3]), ("lost", data[:cut] + data[cut + len(record(self.events[1][50_000])) :]), ("no", b"no event file"), ("empty", NEW_FILE)):
             (self.room / f"{name}.events").write_bytes(its)
-            (self.room / f"{name}.json").write_text(dataclasses.replace(camac.read_record(self.made.room / "run1.json"), events=f"{name}.events").text())
+            (self.room / f"{name}.json").write_text(dataclasses.replace(camac.read_record(self.made / "run1.json"), events=f"{name}.events").text())
             with mock.patch.dict(sys.modules, {"dask": None}):
                 runs = camac.open_runs(str(self.room / f"{name}.events"), self.words, 1 << 20)
                 if name == "empty":
@@ -172,7 +205,7 @@ class Archive(Case):
         its = [it._replace(cycles=None, missed=None) for it in self.events[0][:1000]]
         head = lambda it: b"\xca\x4d" + it.gl.to_bytes(2, "big") + it.number.to_bytes(4, "big") + len(it.words).to_bytes(2, "big")
         (self.room / "one.events").write_bytes(b"CAMACEV1" + b"".join(head(it) + b"".join(word.to_bytes(4, "big") for word in it.words) for it in its))
-        (self.room / "one.json").write_text(dataclasses.replace(camac.read_record(self.made.room / "run1.json"), events="one.events").text())
+        (self.room / "one.json").write_text(dataclasses.replace(camac.read_record(self.made / "run1.json"), events="one.events").text())
         runs = camac.open_runs(str(self.room / "one.events"), self.words, 4096).gate("channel", 0, 2)
         self.assertEqual(int(runs.histogram("channel").sum()), sum(len(it.words) for it in its if it.gl == 3 and any(word >> 16 < 3 for word in it.words)))
 

@@ -43,7 +43,7 @@ def told(run):
     return (
         [list(it) for it in (run.gl, run.cycles, run.no_x, run.words)], {at: spectrum(it) for at, it in run.by_place.items()},
         {column: (spectrum(it.spectrum), series(it.series)) for column, it in run.channels.items()}, str(run.fault), run.checks,
-        run.pairs and (run.pairs.ends, run.pairs.shifts, dict(run.pairs.cells), run.pairs.count),
+        (pairs := run.channels.pairs) and (pairs.ends, pairs.shifts, dict(pairs.cells), pairs.count),
     )
 
 

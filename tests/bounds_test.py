@@ -1,5 +1,6 @@
 #!/usr/bin/env python3
-"""Tries that `camac bounds` prints the least headings: of the examples, of the accepted scripts of the pages, and of scripts made at random.
+"""Tries that `camac bounds` prints the least headings: of the examples, of the accepted scripts of the pages, and of scripts that tools/oracle
+makes at random.
 
 usage: tests/bounds_test.py [-v] [TEST ..]     from any folder; takes a few seconds
 """
@@ -8,14 +9,15 @@ import re
 import unittest
 
 from support.program import TOP, called
+from oracle.maker.nodes import text_of
+from oracle.maker.scripts import ScriptMaker
+from oracle.reader.plan import sample_plan
 
 HEADING = re.compile(r"\b(?:proc\s+\w+\s*\([^)]*\)|service\s+\w+)\s+within\s+\d+\s+cycles\s+event\s+\d+\s+words(?:\s+steps\s+\d+)?")
 BLOCK = re.compile(r"^```camac accepted[^\n]*\n(.*?)^```$", re.M | re.S)
 # Of each number of a heading, the rule that a body above it breaks.
 RULES = ("E12", "E11", "E18")
 GREATEST = 2**32 - 1
-# the variables of a script made at random, and the parameters of its procedures
-NAMES = ["a", "b", "t", "i0", "i1", "i2", "k"]
 
 
 def camac(command, plan, script):
@@ -49,83 +51,6 @@ def found_bounds(verdict):
     return [[int(it) for it in pair] for pair in re.findall(r" cycles (\d+) of \d+ words (\d+) of \d+ ", verdict)]
 
 
-class Writer:
-    """Writes a script at random, for the plan @sample."""
-
-    def __init__(self, dice):
-        self.dice = dice
-        self.procedures = []
-
-    def script(self):
-        parts = ["cdlam adc 1 1 5 12", "table g = 1 2 3"]
-        for number in range(self.dice.randrange(4)):
-            parameters = ", ".join(f"{it} in 0..{self.dice.choice([11, 40])}" for it in NAMES)
-            # a procedure has no `lock`
-            parts.append(f"proc p{number}({parameters}) {self.heading()} steps {self.number()} {self.block(0, True)}")
-            self.procedures.append(number)
-        parts += [f"var {' '.join(NAMES)}", f"service adc {self.heading()} {self.block(0, False)}"]
-        return "\n".join(parts) + "\n"
-
-    def number(self):
-        return self.dice.choice([0, 1, 7, 60, 1000, GREATEST])
-
-    def heading(self):
-        return f"within {self.number()} cycles event {self.dice.choice([0, 1, 7, 60, 4096])} words"
-
-    def block(self, depth, locked):
-        return "{ " + " ".join(self.statement(depth, locked) for _ in range(self.dice.randrange(4))) + " }"
-
-    def statement(self, depth, locked):
-        simple = [self.cycle, self.put, self.assign, self.transfer, self.crate_call, self.call]
-        nested = [self.choose, self.count, self.repeat] + ([] if locked else [self.lock])
-        return self.dice.choice(simple + (nested if depth < 3 else []))(depth, locked)
-
-    def cycle(self, _depth, _locked):
-        return f"cdreg r 1 1 5 {self.dice.randrange(12)} cfsa 0 r -> a"
-
-    def put(self, _depth, _locked):
-        return "put a % 4096"
-
-    def assign(self, _depth, _locked):
-        return f"b = {self.dice.randrange(20)}"
-
-    def transfer(self, _depth, _locked):
-        return self.dice.choice(
-            [
-                f"cdreg r 1 1 5 0 cfubc 0 r max {self.dice.randrange(5)} tally t",
-                f"cdreg r 1 1 5 0 cfubr 0 r max 2 limit {self.dice.randrange(5)} tally t",
-                f"cdreg r 1 1 6 0 cfubc 16 r table g max {self.dice.randrange(4)} tally t",
-                f"cdreg r 1 1 5 0 cdreg s 1 1 5 {self.dice.randrange(16)} cfmad 0 r s max {self.dice.randrange(9)} tally t",
-            ]
-        )
-
-    def crate_call(self, _depth, _locked):
-        return self.dice.choice(["ccci 1 on", "ccci 1 off", "ctlm adc"])
-
-    def call(self, depth, locked):
-        if not self.procedures:
-            return self.put(depth, locked)
-        return f"call p{self.dice.choice(self.procedures)}({', '.join(str(self.dice.randrange(12)) for _ in NAMES)})"
-
-    def choose(self, depth, locked):
-        other = self.dice.choice(["", f" else {self.block(depth + 1, locked)}"])
-        return f"if {self.dice.choice(['q', 'b < 9', 'not x', 'a > 3 and q'])} {self.block(depth + 1, locked)}{other}"
-
-    def count(self, depth, locked):
-        return f"for i{depth} = 1 to {self.dice.randrange(6)} {self.block(depth + 1, locked)}"
-
-    def repeat(self, depth, locked):
-        turns = self.dice.randrange(1, 6)
-        # only the outermost block writes the measure
-        if depth:
-            return self.assign(depth, locked)
-        body = " ".join(self.statement(3, locked) for _ in range(2))
-        return f"k = {turns} while k > 0 and not q turns {turns} by k {{ {body} k = k - 1 }}"
-
-    def lock(self, depth, _locked):
-        return f"lock 1 {self.block(depth + 1, True)}"
-
-
 def scripts():
     """Each script with its plan: the examples, those of the pages, and some at random."""
     for path in sorted((TOP / "examples").glob("*.script")):
@@ -135,8 +60,11 @@ def scripts():
         for script in BLOCK.findall(page.read_text()):
             yield "@sample", script
     dice = random.Random(4100)
-    for _ in range(60):
-        yield "@sample", Writer(dice).script()
+    for _ in range(100):
+        made = ScriptMaker(dice, sample_plan())
+        made.make()
+        made.repair()
+        yield "@sample", text_of(made.nodes)
 
 
 class Bounds(unittest.TestCase):

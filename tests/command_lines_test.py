@@ -1,13 +1,12 @@
 #!/usr/bin/env python3
-"""Plays the command lines of tests/command_lines.text over the built program, one after the other in one folder: the examples, each subcommand, event
-files that are inputs, words that name no job, inputs that are missing or too long, help.
+"""Plays the command lines of tests/command_lines.text over the built program, one after the other in one folder: inputs that are too long, help, and
+what tests/program_test.py has not.
 
 usage: tests/command_lines_test.py [-v]     from any folder; takes a second
 
 The text has each line after '$ camac', then what the program writes to standard output, and its status. Standard input is the straight-line script
 where a line has '@in' for a script, and else empty.
 """
-import os
 import re
 import shutil
 import unittest
@@ -15,16 +14,12 @@ import unittest
 from support.live import CLEARED, STRAIGHT_LINE
 from support.program import TOP, Room
 
-EXAMPLES = [*(TOP / "examples").glob("*.toml"), TOP / "examples/three_modules.script", TOP / "examples/three_modules.answers"]
 FILES = {
     "straight.script": STRAIGHT_LINE,
     "cleared.script": CLEARED,
     # with a cycle less than it can take
     "greedy.script": STRAIGHT_LINE.replace("within 3", "within 2"),
     "answers": "0 0 000000 0 000004\n1 1 123fff 2 000000\n",
-    # a wait that the sample plan does not permit, and a line that is no answer
-    "late.answers": "0 0 000000 0 000004\n1 1 123fff 3 000000\n",
-    "bad.answers": "0 0 000000 0 000004\n1 1 fffffff 0 000000\n",
     # at the limits of a text and of an event file, and above them
     "whole.text": " " * 1_048_576,
     "long.text": " " * 1_048_577,
@@ -36,11 +31,9 @@ FILES = {
 class CommandLines(Room):
     def setUp(self):
         super().setUp()
-        for path in EXAMPLES:
-            shutil.copy(path, self.room)
+        shutil.copy(TOP / "examples/sample_plan.toml", self.room)
         for name, text in FILES.items():
             (self.room / name).write_text(text)
-        os.link(self.room / "answers", self.room / "link")
 
     def played(self, line):
         given = STRAIGHT_LINE if line.split().count("@in") == 1 else ""
@@ -50,7 +43,7 @@ class CommandLines(Room):
     def test_each(self):
         text = (TOP / "tests/command_lines.text").read_text()
         parts = re.split(r"^(?=\$ camac )", text, flags=re.MULTILINE)[1:]
-        self.assertEqual(len(parts), 66)
+        self.assertEqual(len(parts), 28)
         for part in parts:
             line = part.partition("\n")[0].removeprefix("$ camac ")
             with self.subTest(line):

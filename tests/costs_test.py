@@ -8,17 +8,12 @@ The worked rows of tests/rows/costs.rows are played by tests/rows_test.py. The s
 import random
 import re
 import resource
-import sys
 import unittest
 
 from support.live import TOP, Case
 from support.program import called
 from camac.bodies import services_of
 from camac.printed import HEADING, read_bodies, read_services
-
-sys.path.insert(0, str(TOP / "tools"))
-sys.dont_write_bytecode = True
-
 from oracle.maker.plans import make_plan
 from oracle.maker.scripts import make_script
 from oracle.reader.engines import Inputs, checked, tell

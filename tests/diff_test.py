@@ -8,7 +8,7 @@ import unittest
 from urllib.parse import unquote
 
 from support.live import Case
-from camac.diff import Bounds, Change, command_lines
+from camac.commands.diff import Bounds, Change, command_lines
 
 PLAN = """\
 [[type]]

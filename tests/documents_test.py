@@ -214,15 +214,17 @@ def anchors(text):
     return {re.sub(r"[^\w -]", "", it).lower().replace(" ", "-") for it in headings}
 
 
-def lost_links(page):
-    """The links of a page that lead to no file, or to no heading of the page they name."""
-    lost = []
+def links(page):
+    """The links of a page to files, each with the file and the heading that it names."""
     for link in re.findall(r"\]\(([^)\s]+)\)", BLOCK.sub("", page.read_text())):
         name, _, heading = link.partition("#")
-        file = page.parent / name if name else page
-        if "://" not in link and not (file.exists() and (not heading or heading in anchors(file.read_text()))):
-            lost.append(link)
-    return lost
+        if "://" not in link:
+            yield link, page.parent / name if name else page, heading
+
+
+def lost_links(page):
+    """The links of a page that lead to no file, or to no heading of the page they name."""
+    return [link for link, file, heading in links(page) if not (file.exists() and (not heading or heading in anchors(file.read_text())))]
 
 
 class Documents(Room):
@@ -254,6 +256,15 @@ class Documents(Room):
         page = self.room / "page.md"
         page.write_text("# A page\n\n[a](#a-page) [b](page.md#a-page) [c](examples) [d](#b-page) [e](none.md) [f](page.md#none)\n")
         self.assertEqual(lost_links(page), ["#b-page", "none.md", "page.md#none"])
+
+    def test_links_of_installed_pages(self):
+        """They lead to what `install` puts beside the pages."""
+        loops = (TOP / "install").read_text().partition("\nput_pages() {")[2].partition("\n}")[0]
+        put = " ".join(re.findall(r"for name in ([^;]*);", loops)).split()
+        self.assertIn("docs", put)
+        for page in PAGES:
+            files = {file.resolve().relative_to(TOP) for _, file, _ in links(page)}
+            self.assertEqual([it for it in files if not any(it.is_relative_to(name) for name in put)], [], page.name)
 
     def test_files_of_live_runs(self):
         """The page on live runs runs or explains each file of examples/live."""
@@ -338,6 +349,14 @@ class Sentences(unittest.TestCase):
         self.assertEqual(len(mine), 2)
         self.assertEqual({" ".join(it.split()) for it in mine} - {" ".join(it.split()) for it in its}, set())
 
+    def test_names_in_promises(self):
+        """PROMISES names what is there: a function, a clause, a definition or a field."""
+        files = [it for place in ("crates/*/src", "crates/*/specs", "include") for it in TOP.glob(f"{place}/**/*.*")]
+        known = {word for it in files for word in re.findall(r"\w+", it.read_text())}
+        named = re.findall(r"`(?:\w+::)*(\w+)`", self.page("docs/inside/PROMISES.md"))
+        self.assertGreater(len(named), 200)
+        self.assertEqual({*named} - known, set())
+
     def test_sentences_of_look_at_mes(self):
         """The pages that say the law of look-at-mes have a sentence for each field of the record that it assumes, and one on where a run stops."""
         fields = self.page("crates/camac_response/specs/Lams.antt").partition("pub record ModulesKeep")[2]
@@ -345,11 +364,11 @@ class Sentences(unittest.TestCase):
         comments = re.findall(r"((?: +-- .*\n)+) +pub \w+ :", fields)
         self.assertEqual(len(comments), len(re.findall(r"(?m)^ +pub \w+ :", fields)))
         sentences = [" ".join(re.sub(r"(?m)^ *-- ", "", it).split()) for it in (*comments, ends)]
-        for page, heading in (("README.md", "> At the rates"), ("docs/RESPONSE.md", "## What has to hold"), ("docs/inside/PROMISES.md", "## Look-at-mes")):
+        for page, heading in (("README.md", "> At the rates"), ("docs/RESPONSE.md", "## What has to hold")):
             listed = re.findall(r"(?m)^\d\. (.*(?:\n   .*)*)", self.page(page).partition(heading)[2].partition("\n## ")[0])
             self.assertEqual([" ".join(it.split()) for it in listed], sentences, page)
         number = ("four", "five", "six", "seven")[len(sentences) - 4]
-        told = [it for page in PAGES for it in re.findall(r"\[(\w+) sentences\]", page.read_text())]
+        told = [it for page in PAGES for it in re.findall(r"\[(\w+)\s+sentences\]", page.read_text())]
         self.assertEqual({*told}, {number})
 
     def test_what_has_to_be_believed(self):

@@ -9,14 +9,10 @@ import fcntl
 import select
 import signal
 import subprocess
-import sys
 import unittest
 
 from support.live import LOCKOUT, PATIENCE, STRAIGHT_LINE, TOP, Case, Pipes
 from support.needs import needed
-
-sys.path.insert(0, str(TOP / "tools"))
-
 from oracle.reader.engines import Inputs, tell
 
 # A call of a service, its cycles, and an idle demand between.

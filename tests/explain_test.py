@@ -198,34 +198,34 @@ MISTAKES = [
     ("an argument out of range", procedure("call get(12)"), "E21", 9, "Argument 1 may be 12, and `s` takes 0 to 11."),
 ]
 
-# Those of them whose rule could refuse two statements of the line.
-UNMARKED = ("a lock in a lock", "a later part of a while", "a difference of two words", "a counted parameter beside a variable")
+# Those of them that are refused behind another statement of the line, and where.
+INSIDE = {"a lock in a lock": "lock 1 { }", "a difference of two words": "i = v", "a counted parameter beside a variable": "n = i"}
 
-# A refusal by E or L, and the script with a `^` before the token that is marked; without one where several could be meant.
+# A refusal by E or L, and the script with a `^` before the token that is marked.
 MARKED = [
     ("a LAM behind another declaration", "var v ^cdlam adc 1 1 4 12\n"),
-    ("two LAMs, of which one is refused", "cdlam adc 1 1 5 12 cdlam bad 1 1 4 12\n"),
-    ("a service behind its LAM", "cdlam reg 1 1 6 0 service reg within 0 cycles event 0 words { }\n"),
+    ("two LAMs, of which one is refused", "cdlam adc 1 1 5 12 ^cdlam bad 1 1 4 12\n"),
+    ("a service behind its LAM", "cdlam reg 1 1 6 0 ^service reg within 0 cycles event 0 words { }\n"),
     ("a service behind a variable", "cdlam reg 1 1 6 0\nvar v ^service reg within 0 cycles event 0 words { }\n"),
     ("a heading whose service is on its line", "cdlam adc 1 1 5 12 ^service adc within 0 cycles event 1 words { put 1 put 2 }\n"),
-    ("two headings", "proc p() within 0 cycles event 0 words steps 9 { } proc q1() within 0 cycles event 0 words steps 9 { put 1 }\n"),
+    ("two headings", "proc p() within 0 cycles event 0 words steps 9 { } ^proc q1() within 0 cycles event 0 words steps 9 { put 1 }\n"),
     ("a heading behind a table", "cdlam adc 1 1 5 12\ntable g = 1 2 ^proc p() within 0 cycles event 0 words steps 9 { put 1 }\n"),
     ("a cycle among others", service("cdreg r 1 1 4 0 ^cfsa 0 r -> v put v")),
-    ("two cycles", service("cdreg r 1 1 4 0 cfsa 0 r -> v cfsa 0 r -> v")),
+    ("two cycles", service("cdreg r 1 1 4 0 ^cfsa 0 r -> v cfsa 0 r -> v")),
     ("a transfer behind a word", service("cdreg r 1 1 4 0 put 1 ^cfubc 0 r max 3 tally t")),
     ("a call of a LAM", service("put 1 ^cclc adc").replace("adc 1 1 5 12", "adc 1 1 6 0").replace("service adc", "cdlam full 1 1 5 12 service full")),
     ("a word in a loop", service("for i = 0 to 3 { ^put 16777216 }")),
     ("an assignment behind a call of a LAM", service("cclc adc ^v = v - 1")),
-    ("an assignment of a difference in a loop", service("for i = 0 to 3 { v = v - 1 }")),
+    ("an assignment of a difference in a loop", service("for i = 0 to 3 { ^v = v - 1 }")),
     ("an assignment to a counted variable behind a word", service("for i = 0 to 3 {", "put i ^i = 1 }")),
-    ("two assignments", service("k = 1 v = v - 1")),
+    ("two assignments", service("k = 1 ^v = v - 1")),
     ("a loop whose body is on its line", service("k = 5", "put 1 ^while k > 0 turns 3 by k { k = k - 1 put 1 }")),
     ("a loop that keeps nothing after a turn", service("put 1 ^for i = 0 to 3 keep k in 0..2 { k = k + 1 }")),
     ("a scan behind its registers", service("cdreg a 1 1 5 0 cdreg b 1 2 5 0 ^cfmad 0 a b max 4 tally t")),
     ("a lock around calls", service("put 1 ^lock 2 { cclc adc }")),
-    ("a call of a crate in a lock", service("lock 1 { ccci 2 on }")),
+    ("a call of a crate in a lock", service("lock 1 { ^ccci 2 on }")),
     ("a call of a procedure", procedure("put 1 ^call get(12)")),
-    ("an if behind an assignment", service("v = 1 if v - 2 > 3 { }")),
+    ("an if behind an assignment", service("v = 1 ^if v - 2 > 3 { }")),
     ("a statement behind a comment of the line before, and a tab", service("# v = v - 1", "\t^v = v - 1")),
     ("a statement at the end of a long line", service("cclc adc " * 25 + "^v = v - 1")),
     ("a variable in a heading's range", "proc p(a in 0..5) within 0 cycles event 0 words steps 9 { ^a = a - 6 }\n"),
@@ -275,8 +275,8 @@ def beginners():
     """The mistakes of tests/mistakes.text by their names."""
     found = {}
     for part in (TOP / "tests/mistakes.text").read_text().split("\n== ")[1:]:
-        name, kind, text, refused, said = re.fullmatch(r"(.*)\n-- (\w+)\n(.*\n)-- (\w\d+(?: \d+)?)\n(.*)", part.strip("\n"), re.S).groups()
-        if kind == "body":
+        name, kind, text, refused, said = re.fullmatch(r"(.*?)\n(?:-- (\w+)\n)?(.*\n)-- (\w\d+(?: \d+)?)\n(.*)", part.strip("\n"), re.S).groups()
+        if not kind:
             text = service(*text.rstrip("\n").split("\n"))
         found[name] = Mistake(kind, text, refused.replace(" ", " line "), said.split("\n"))
     return found
@@ -386,23 +386,20 @@ class Explain(Room):
                 self.assertEqual(source, f"{line:5} | " + (script.split("\n")[line - 1] or "(end of the script)"))
                 if rule[0] == "S":
                     self.assert_marked(source, rest.pop(0), said)
-                elif what not in UNMARKED:
-                    self.assertEqual(rest.pop(0), re.match(r"      \| *", "      | " + source[8:])[0] + "^")
+                else:
+                    self.assertEqual(rest.pop(0), "      | ".ljust(source.index(INSIDE.get(what, source[8:].lstrip()))) + "^")
                 sentence, *rest = rest
                 self.assertEqual(sentence, said)
                 self.assert_told(rule, *rest)
 
     def test_marks(self):
-        """A refusal of a rule or of linking has its mark below what it refuses, if the line tells which."""
+        """A refusal of a rule or of linking has its mark below what it refuses."""
         for what, marked in MARKED:
             with self.subTest(what=what):
-                first, source, *rest = self.explain(marked.replace("^", ""))
+                first, source, mark, *_ = self.explain(marked.replace("^", ""))
                 self.assertRegex(first, "^refused [EL]")
-                wanted = re.search(r"(?m)^.*\^(\w+)", marked)
-                mark = rest[0] if rest[0].startswith("      | ") else None
-                self.assertEqual(mark is None, wanted is None, mark)
-                if wanted:
-                    self.assertTrue(source[mark.index("^") :].startswith(wanted[1]), (source, mark))
+                # Of a long line the end is shown.
+                self.assertTrue(marked.partition("^")[2].startswith(source[mark.index("^") :]), (source, mark))
 
     def test_mistakes_of_beginners(self):
         found = beginners()
@@ -433,8 +430,8 @@ class Explain(Room):
         """The page shows the table of what the language does not have."""
         source = (TOP / "crates/camac_explain_text_place/src/absent.rt").read_text()
         text = r'"((?:[^"\\]|\\.)*)"'
-        rows = [it.partition("write: ") for it in source.split("    Row {\n")[1:]]
-        table = [([it.replace('\\"', '"') for it in re.findall(text, words)], re.match(text, write)[1]) for words, _, write in rows]
+        rows = re.findall(rf"\(\s*&\[(.*?)\],\s*{text},?\s*\)", source, re.S)
+        table = [([it.replace('\\"', '"') for it in re.findall(text, words)], write) for words, write in rows]
         self.assertGreater(len(table), 35)
         shown = [f"| {', '.join(f'`{it}`' for it in words)} | {write} |".replace("`|", "`\\|").replace("||", "|\\|") for words, write in table]
         part = (TOP / "docs/LANGUAGE.md").read_text().partition("## What the language does not have")[2]

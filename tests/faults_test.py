@@ -7,7 +7,6 @@ usage: tests/faults_test.py [-v] [TEST ..]     from any folder; takes about half
 import collections
 import os
 import subprocess
-import tempfile
 
 from support.needs import needed, skip
 from support.program import ANSWERS, DEMAND, EVENT_FILE, LISTING, PROGRAM, REQUESTS, STRAIGHT_LINE, TWICE, Case, fault, lacks, run_tests, unwritten
@@ -194,9 +193,7 @@ class Logged(Case):
         with open(PROGRAM, "rb") as program:
             if program.read(4) != b"\x7fELF":
                 skip("a built program")  # the calls of a launcher would fail
-        room = tempfile.TemporaryDirectory(prefix="camac-test-")
-        cls.addClassCleanup(room.cleanup)
-        cls.library = f"{room.name}/calls.so"
+        cls.library = cls.shared() / "calls.so"
         subprocess.run(["cc", "-shared", "-fPIC", "-O1", "-xc", "-o", cls.library, "-"], input=SHIM.encode(), check=True)
 
     def ran(self, line, given=None, turn=0, error=0, piece=0, there=None, later=False):

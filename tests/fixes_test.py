@@ -15,7 +15,7 @@ import sys
 import unittest
 
 from support import of_c
-from support.live import PROGRAM, TOP, Case
+from support.live import PROGRAM, Case
 from camac.edits import Edit, edited
 from camac.loops.search import propose
 from camac.lsp.actions import OF_LOOPS, _of_refusal
@@ -26,9 +26,6 @@ from camac.reader import read_script
 from camac.texts import SAMPLE, plan_text
 from camac.tokens import tokens_of
 from camac.tree import Loop, all_in
-
-sys.path.insert(0, str(TOP / "tools"))
-
 from oracle.cases import script_case
 
 REFUSALS, SEED = 800, os.environ.get("SEED", "1")

@@ -10,24 +10,20 @@ judges, else what needs it is left out.
 import os
 import random
 import re
-import sys
 import unittest
 
 from support import of_c
 from support.live import TOP, Case
 from camac import library
 from camac.edits import edited
-from camac.layout import LayoutFault, formatted, kept_by
+from camac.layout import LayoutFault, _kept, formatted
 from camac.lsp.documents import Text
 from camac.lsp.protocol import ResponseError
 from camac.lsp.symbols import renamed
 from camac.lsp.workspace import Judge, Judged
 from camac.names import Names
 from camac.texts import SAMPLE, plan_text
-from camac.tokens import tokens_of
-
-sys.path.insert(0, str(TOP / "tools"))
-
+from camac.tokens import rows_of, tokens_of
 from oracle.cases import edge_case, script_case
 
 CASES = int(os.environ.get("CAMAC_CASES", "60"))
@@ -162,7 +158,7 @@ class RandomScripts(Case):
                     continue
                 tried += 1
                 self.assertEqual([it.text for it in tokens_of(made)], [it.text for it in tokens_of(its.script)])
-                self.assertEqual(kept_by(made), kept_by(its.script))
+                self.assertEqual(_kept(rows_of(made)), _kept(rows_of(its.script)))
                 self.assertEqual(formatted(made), made)
                 self.assertEqual(self.told(plan, made, its.answers), self.told(plan, its.script, its.answers))
         self.assertGreater(tried, CASES // 2)

@@ -24,14 +24,10 @@ import camac
 from camac.edits import Edit, edited
 from camac.loops.changes import LEAVES_OUT, Kind
 from camac.loops.proposals import put_before_block
-from camac.loops.search import MOST_CALLS, propose
-from camac.loops.turns import turn_by_turn
+from camac.loops.search import MOST_CALLS, propose, turn_by_turn
 from camac.program import IN_PROCESS, accepts, verdict
 from camac.reader import read_script
 from camac.tree import Loop, all_in
-
-sys.path.insert(0, str(TOP / "tools"))
-
 from oracle.maker.extremes import BY_CHANCE, GREATEST, LEAST, RISEN, SILENT, events
 from oracle.reader.plan import read_plan, sample_plan
 
@@ -43,6 +39,10 @@ EVERY = 5
 BY_EACH = 168
 LEFT = {"channels_by_while", "exponential_mean_by_parts", "ramp_that_is_too_long", "scaled_mean", "time_between_pulses"}
 ROW = re.compile(r"^== (\w+)(?: on (\S+))?\n((?:.*\n)*?)(?=^== |\Z)", re.M)
+# What begins loops that many rows have.
+CHANNELS = re.compile(r"^( *)channels \{$", re.M), r"\1for i = 0 to 11 {\n\1  cdreg r 1 1 5 i\n\1  cfsa 0 r -> v"
+READINGS = re.compile(r"^readings (\d+) \{$", re.M), r"cdreg r 1 1 5 0\nfor k = 1 to \1 {\n  cfsa 0 r -> v"
+WRITES = re.compile(r"for (\w+) =|-> (\w+)|tally (\w+)|(\w+) = ")
 BLOCK = re.compile(r"^```camac accepted([^\n]*)\n(.*?)^```$", re.M | re.S)
 SUM = """cdlam adc 1 1 5 12
 var i v sum top
@@ -78,10 +78,12 @@ def rows():
     """Of each loop its name, its plan and the script."""
     for name, plan, text in ROW.findall((HERE / "loops.text").read_text()):
         lam = "clock 1 1 1 0" if plan else "adc 1 1 5 12"
-        if text.startswith("var "):
-            variables, _, body = text.rstrip().partition("\n")
-            service = lam.split()[0]
-            text = f"cdlam {lam}\n{variables}\nservice {service} within 0 cycles event 0 words {{\n{body}\ncclc {service}\n}}\n"
+        for form, whole in (CHANNELS, READINGS):
+            text = form.sub(whole, text)
+        if not text.startswith("cdlam "):
+            body, service = text.rstrip(), lam.split()[0]
+            variables = " ".join(dict.fromkeys("".join(it) for it in WRITES.findall(body)))
+            text = f"cdlam {lam}\nvar {variables}\nservice {service} within 0 cycles event 0 words {{\n{body}\ncclc {service}\n}}\n"
         yield name, str(HERE / plan) if plan else "@sample", text.encode()
 
 

@@ -3,8 +3,6 @@
 
 usage: tests/late_test.py [-v] [TEST ..]     from any folder; takes a few seconds
 """
-import contextlib
-import io
 import os
 import random
 import re
@@ -12,12 +10,11 @@ import unittest
 import xml.etree.ElementTree as ElementTree
 from unittest import mock
 
-from support.live import PROGRAM, TOP, run_tests
+from support.live import PROGRAM, TOP, command, run_tests
 from support import laboratory
 import camac
 from support import two_crates
 from camac import Harm, Response, Unkept
-from camac import __main__ as commands
 from camac import pictures
 from camac.late import Broken
 from camac.pictures.response import NO_NUMBER, pieces_of
@@ -217,14 +214,9 @@ class Shown(laboratory.BenchCase):
     RATES = ("--every", "adc=60", "--every", "tick=400")
 
     def call(self, *words, status=0):
-        out, err = io.StringIO(), io.StringIO()
-        with contextlib.redirect_stdout(out), contextlib.redirect_stderr(err):
-            try:
-                found = commands.main([str(it) for it in words])
-            except SystemExit as stop:
-                found = stop.code
-        self.assertEqual(found, status, err.getvalue())
-        return out.getvalue() + err.getvalue()
+        found, out, err = command(*words)
+        self.assertEqual(found, status, err)
+        return out + err
 
     def page(self, *rates, source=None):
         plan, script, answers = self.files
@@ -302,6 +294,8 @@ class Shown(laboratory.BenchCase):
         self.assertEqual(drawn[0], drawn[2])
         made = report(self.inputs, every={"adc": 60, "tick": 400}).text
         part = re.search(r'<h2 id="late">.*?(<svg .*?</svg>)', made, re.S)[1]
+        # In a page its tips are read by keys.
+        part = part.replace('<svg tabindex="0" aria-roledescription="picture" class="camac" role="application"', '<svg class="camac" role="img"')
         self.assertEqual(re.sub(r"<style>.*?</style><rect[^>]*/>", "", drawn[1].replace(' xmlns="http://www.w3.org/2000/svg"', "")), part + "\n")
 
     def test_words(self):

@@ -8,6 +8,7 @@ It needs gcc and the archive that tests/support/of_c.py names, else all is left 
 import collections
 import concurrent.futures
 import functools
+import itertools
 import os
 import re
 import shutil
@@ -26,8 +27,6 @@ import camac
 from camac import Answer, Ending, ProgramFault, Refused, UsageFault, judge, library
 from camac.mock import Adc, Auxiliary, MockBranch, Recorder, Register
 from camac.program import lines_of, output_of
-
-sys.path.insert(0, str(TOP / "tools"))
 from oracle.maker.plans import make_plan
 from oracle.maker.scripts import make_script
 from oracle.reader.plan import read_plan
@@ -36,7 +35,7 @@ EXAMPLES = TOP / "examples"
 SAMPLE = EXAMPLES / "sample_plan.toml"
 HERE = TOP / "tests/library"
 # the lists of answers for each script of examples, and for each one of the folders in it
-LISTS, FEW_LISTS = 1000, 50
+LISTS, FEW_LISTS = 300, 20
 OPENINGS = 1_000_000
 # the scripts that are played by a consumer
 SCRIPTS = 1000
@@ -124,6 +123,18 @@ service reg within 50 cycles event 0 words {
   ccci 1 on
 }
 """
+NESTED = "cdlam charge 1 1 1 0\nservice charge within 200 cycles event 0 words {\n  lock 1 {\n    lock 2 { cclc charge }\n  }\n}\n"
+MISUSE_IN_CPP = """1 taken, code 2
+2 next needs answers that begin as CAMAC_ANSWER
+2 wants needs a session that was not moved from
+2 explain_at needs a line and a column from 1 on
+2 response needs services of the script, each once at most, as adc=200
+"""
+# up to its last lock; at the second one, and at a demand, the branch fails once
+NESTED_PLAYED = (
+    "demand 0 0\nlock 1 0\nlock 2 0\nfault at line 4\nunlock 1\ndemand 0 0\nfault at line 0\ndemand 0 0\nlock 1 0\nlock 2 0\ncycle 1 1\n"
+    "event 1 service 1 words 0\nunlock 2\nunlock 1\ndemand 0 0\nlock 1 0\n"
+)
 DEMAND, CYCLE = Answer(gl=4), Answer(1, 1, 0x123)
 # `run`, of a refused script too, and `drive`, with no program
 PLAYED = """import sys, camac
@@ -273,49 +284,33 @@ class Calls(Case):
     def program(self, name, **how):
         return of_c.compiled(self.room, name, HERE / f"{name}.c", **how)
 
-    def test_sessions_run_and_program_are_alike(self):
-        compare, every = self.program("compare"), pairs()
-        self.assertGreater(sum(EXAMPLES == plan.parent == its.parent for plan, its in every), 10)
-
-        def ran(number):
-            plan, its = every[number]
-            lists = LISTS if EXAMPLES == plan.parent == its.parent else FEW_LISTS
-            folder = self.room / str(number)
-            folder.mkdir()
-            return call(compare, PROGRAM, plan, its, lists, number, folder)
-
-        with concurrent.futures.ThreadPoolExecutor(len(os.sched_getaffinity(0))) as pool:
-            told = list(pool.map(ran, range(len(every))))
-        self.assertEqual([(pair, it) for pair, it in zip(every, told) if it[0]], [])
-        counts = [[int(number) for number in it[1].split()] for it in told]
-        print(f"\n{len(every)} pairs, {sum(it[0] for it in counts)} events, {sum(it[1] for it in counts)} overruns", flush=True)
-        self.assertTrue(all(overruns for _, overruns in counts))
-        self.assertGreater(sum(events for events, _ in counts), LISTS)
-
     def test_a_consumer_writes_what_the_program_writes(self):
-        """Its listing and its event file of random scripts are those of `camac run`, byte for byte, and the same answers in lists do the same."""
+        """Its listing and its event file of random scripts and of the examples are those of `camac run`, byte for byte, and the same answers in lists do
+        the same."""
         pool = concurrent.futures.ProcessPoolExecutor()
-        made = filter(None, pool.map(accepted_script, range(10 * SCRIPTS), chunksize=20))
-        for k, (plan, script) in zip(range(SCRIPTS), made):
-            (self.room / f"{k}.plan").write_bytes(plan)
-            (self.room / f"{k}.script").write_bytes(script)
+        its = list(itertools.islice(filter(None, pool.map(accepted_script, range(10 * SCRIPTS), chunksize=20)), SCRIPTS))
         pool.shutdown(cancel_futures=True)
-        status, counts = call(self.program("consumer"), self.room, SCRIPTS)
+        for pair in pairs():
+            its += [tuple(it.read_bytes() for it in pair)] * (LISTS if pair[0].parent == EXAMPLES else FEW_LISTS)
+        for k, texts in enumerate(its):
+            for kind, text in zip(("plan", "script"), texts):
+                (self.room / f"{k}.{kind}").write_bytes(text)
+        status, counts = call(self.program("consumer"), self.room, len(its))
         self.assertEqual(status, 0, counts)
         lists, answers = map(int, counts.split())
-        self.assertGreater(answers - lists, SCRIPTS)
+        self.assertGreater(answers - lists, len(its))
 
         def ran(k):
             words = [self.room / f"{k}.{kind}" for kind in ("plan", "script", "answers", "its_events")]
             status, listing = call(PROGRAM, "run", *words)
-            return status, listing.encode(), self.file(f"{k}.its_events")
+            self.assertEqual((listing.encode(), self.file(f"{k}.its_events")), (self.file(f"{k}.listing"), self.file(f"{k}.events")), k)
+            self.assertEqual(status, int("overrun" in listing))
+            return listing.split()[-6 if status else -3]
 
         with concurrent.futures.ThreadPoolExecutor(len(os.sched_getaffinity(0))) as pool:
-            told = list(pool.map(ran, range(SCRIPTS)))
-        for k, (status, listing, events) in enumerate(told):
-            self.assertEqual((status, listing, events), (int(b"overrun" in listing), self.file(f"{k}.listing"), self.file(f"{k}.events")), k)
-        ends = collections.Counter(listing.split()[-6 if status else -3] for status, listing, _ in told)
-        print(f"\n{sum(listing.count(10) for _, listing, _ in told)} lines, ends {dict(ends)}, {answers} answers in {lists} lists", flush=True)
+            ends = collections.Counter(pool.map(ran, range(len(its))))
+        self.assertGreater(min(ends[it] for it in ("ended", "short", "overrun")), 100)
+        print(f"\nends {dict(ends)}, {answers} answers in {lists} lists", flush=True)
 
     def test_codes_sessions_and_threads(self):
         for static in (False, True):
@@ -325,15 +320,24 @@ class Calls(Case):
         for its in ("straight_line", "lockout", "procedure"):
             self.assertEqual(call(self.program("sessions"), SAMPLE, EXAMPLES / f"{its}.script"), (0, ""))
 
-    def test_response_in_cpp(self):
-        program = of_c.compiled(self.room, "response", HERE / "response.cpp")
+    def test_sessions_in_cpp(self):
+        """A rate, lists and their end, and misuse by the call's name, with what the call needs."""
+        program = of_c.compiled(self.room, "sessions_in_cpp", HERE / "sessions.cpp")
         told = ONE_SERVICE.format("once", "") + ONE_SERVICE.format("every 200", "of 3 ")
-        self.assertEqual(call(program, SAMPLE, self.write("its.script", CLEARED)), (library.MISUSE, told))
+        lists = "".join(f"1 12\n1 event {number} words 12\n" for number in (1, 2)) + "1 12\noverrun 1 wait 15\n"
+        self.assertEqual(call(program, SAMPLE, self.write("its.script", CLEARED), EXAMPLES / "all_channels.script"), (0, told + lists + MISUSE_IN_CPP))
 
-    def test_lists_in_cpp(self):
-        program = of_c.compiled(self.room, "lists_in_cpp", HERE / "lists.cpp")
-        told = "".join(f"1 12\n1 event {number} words 12\n" for number in (1, 2)) + "1 12\noverrun 1 wait 15\n"
-        self.assertEqual(call(program, SAMPLE, EXAMPLES / "all_channels.script"), (0, told))
+    def test_play_in_c_and_cpp(self):
+        """What an answer did is told before lockouts are released, the last one first. One that failed is not held, and one with a wait too long is released."""
+        program, its = of_c.compiled(self.room, "play", HERE / "play.cpp"), self.write("nested.script", NESTED)
+        answers = ["0 0 0 0 1", "0 0 0 0 0", "fault", "fault", "0 0 0 0 1", *["0 0 0 0 0"] * 2, "1 1 0 0 0", "0 0 0 0 1", "0 0 0 0 0"]
+        for end, told, code in (("", "lock 2 0\nunlock 1\n", library.OK), ("0 0 0 f 0", "lock 2 0\nunlock 2\nunlock 1\n", library.OVERRUN)):
+            for by in ("c", "cpp"):
+                for limit in (library.NO_LIMIT, 0):
+                    status, found = call(program, EXAMPLES / "three_crates.toml", its, by, limit, *answers, *filter(None, [end]))
+                    lines, wanted = found.replace("pause\n", "").splitlines(), (NESTED_PLAYED + told).splitlines()
+                    self.assertEqual((status, lines if limit else sorted(lines)), (code, wanted if limit else sorted(wanted)))
+                    self.assertEqual("pause" in found, limit == 0)
 
     def test_a_run_in_cpp(self):
         """It is played once, and twice if it prints much more than its answers let expect."""
@@ -361,10 +365,10 @@ class Calls(Case):
     @needed("valgrind")
     def test_all_is_freed(self):
         words = ["valgrind", "-q", "--leak-check=full", "--show-leak-kinds=all", "--errors-for-leak-kinds=all", "--error-exitcode=9"]
-        folder = self.room / "folder"
-        folder.mkdir()
         its = (SAMPLE, EXAMPLES / "lockout.script")
-        status, told = call(*words, self.program("compare"), PROGRAM, *its, 3, 1, folder)
+        for kind, path in zip(("plan", "script"), its):
+            shutil.copy(path, self.room / f"0.{kind}")
+        status, told = call(*words, self.program("consumer"), self.room, 1)
         self.assertEqual(status, 0, told)
         status, told = call(*words, self.program("calls"), *its, 5)
         self.assertEqual(status, 0, told)
@@ -501,8 +505,7 @@ class Python(Case):
         return branch.asked, raised, events.read_bytes()
 
     def test_nested_locks_are_released_in_the_order_of_drive(self):
-        text = "cdlam charge 1 1 1 0\nservice charge within 200 cycles event 0 words {\n  lock 1 {\n    lock 2 { cclc charge }\n  }\n}\n"
-        its, answers = self.write("nested.script", text), (Answer(gl=1), Answer(), Answer(), CYCLE)
+        its, answers = self.write("nested.script", NESTED), (Answer(gl=1), Answer(), Answer(), CYCLE)
         runs = [self.asked_and_left(by, EXAMPLES / "three_crates.toml", its, Listed(*answers)) for by in (camac.drive, camac.play)]
         self.assertEqual(*runs)
         self.assertEqual(runs[0][0][-3:], [("unlock", 2), ("unlock", 1), ("demand",)])
@@ -606,6 +609,19 @@ class Python(Case):
                 is_held = count > 1 or isinstance(error, KeyboardInterrupt)
                 self.assertEqual(self.branch_asked.asked.count(("unlock", 1)), int(is_held))
 
+    def test_what_on_fault_leaves(self):
+        """The event file is that of the run without the demand and the answers of that service; its lockout is released."""
+        whole, broken, places = [DEMAND, Answer(), *[CYCLE] * 4], Broken(), []
+        for asked in (1, 2, 4):
+            self.play(LOCKOUT, *whole[:asked], broken, *whole, events=self.room / f"{asked}.events", on_fault=lambda *its: not places.append(its))
+            lines = "".join(f"{it.line()}\n" for it in whole)
+            self.assertEqual(self.file(f"{asked}.events"), library.run(self.sample(), LOCKOUT, lines)[1])
+            self.assertEqual(self.branch_asked.asked[asked + 1], ("demand",) if asked == 1 else ("unlock", 1))
+        self.assertEqual(places, [(broken, (1, line)) for line in (5, 6, 8)])
+        with self.assertRaises(Broken):
+            self.play(LOCKOUT, *whole[:3], broken, on_fault=lambda *_: False)
+        self.assertEqual(self.branch_asked.asked[-1], ("unlock", 1))
+
     def test_sessions(self):
         with library.Session(self.sample(), STRAIGHT_LINE) as session:
             self.assertEqual(session.wants().kind, library.DEMAND)
@@ -618,10 +634,10 @@ class Python(Case):
             session.next(DEMAND)
             self.assertEqual(session.next(Answer(wait=15)).kind, library.STOPPED)
             self.assertIsNone(session.wants())
-        for use in (session.wants, lambda: session.next(DEMAND), lambda: session.step(DEMAND), session.item, session.record, session.where, session.abandon, session.rewind):
+        for name, *words in (("next", DEMAND), ("step", DEMAND), ("next_many", []), *((it,) for it in "wants item record where abandon rewind limit_steps go_on".split())):
             with self.assertRaises(UsageFault) as found:
-                use()
-            self.assertEqual(str(found.exception), "the session is closed")
+                getattr(session, name)(*words)
+            self.assertEqual(str(found.exception), f"{name} needs an open session: this one is closed")
         self.assertEqual((session.services(), session.held(), session.answers_left()), ([], (), 0))
         session.close()
 

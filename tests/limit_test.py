@@ -8,6 +8,7 @@ It needs gcc and the archive that tests/support/of_c.py names, else all is left 
 makes it), or what the environment variable CAMAC_PROGRAM names.
 """
 import os
+import signal
 import sys
 import time
 import unittest
@@ -36,6 +37,8 @@ service adc within 40 cycles event 4 words {
   put i
 }
 """
+# It makes 1,800,000,000 steps.
+NESTED = "cdlam adc 1 1 5 12\nvar i j k v\nservice adc within 0 cycles event 0 words {\n  for i = 1 to 30000 { for j = 1 to 30000 { v = j } }\n}\n"
 DEMAND, LOCK, CYCLE = Answer(gl=4), Answer(), Answer(1, 1, 0x123)
 ANSWERS = [Answer(), DEMAND, CYCLE, LOCK, CYCLE, CYCLE, CYCLE, Answer(), DEMAND, CYCLE]
 
@@ -94,10 +97,10 @@ class Limited(Case):
         session = self.session(1000)
         session.next(DEMAND)
         told = self.told(session)
-        for call in (session.wants, lambda: session.next(CYCLE), lambda: session.step(CYCLE)):
+        for name, *words in (("wants",), ("next", CYCLE), ("step", CYCLE), ("next_many", [CYCLE])):
             with self.assertRaises(UsageFault) as found:
-                call()
-            self.assertEqual(str(found.exception), "the run pauses, and wants no answer")
+                getattr(session, name)(*words)
+            self.assertEqual(str(found.exception), f"{name} needs a run that does not pause: go_on comes first")
         self.assertEqual(self.told(session), told)
         self.assertEqual((told[4], told[5]), (4_294_967_295 - 1, None))
 
@@ -133,9 +136,39 @@ class Limited(Case):
             with self.assertRaises(UsageFault):
                 session.limit_steps(most)
 
+    def test_lists(self):
+        """What is ahead is made once: no list ends in a pause before its last answer."""
+        cycles = "v = 1\n".join([*["  cfsa 0 a -> v\n  put v\n"] * 3]).replace("v = 1\n", "  v = 1\n" * 60)
+        script = f"cdlam adc 1 1 5 12\nvar v\nservice adc within 9 cycles event 3 words {{\n  cdreg a 1 1 5 0\n{cycles}}}\n"
+        for most, lists in ((0, 3), (30, 3), (511, 3), (512, 1), (library.NO_LIMIT, 1)):
+            session, made = self.session(most, script), []
+            its = session.next(DEMAND)
+            while not its.event:
+                if session.is_busy():
+                    its = session.go_on()
+                else:
+                    made.append([Answer(1, 1, sum(map(len, made)) + k) for k in range(len(session.ahead()))])
+                    its = session.next_many(made[-1])[-1]
+            self.assertEqual((len(made), session.words()), (lists, (0, 1, 2)))
+
+    def test_pauses_that_nobody_asked_for(self):
+        """Without a limit a list of answers does what it does one by one, over pauses that only signals see."""
+        session = self.session(library.NO_LIMIT)
+        told = [(it.kind, it.event, it.unlocked) for it in session.next_many(ANSWERS)]
+        kinds = [library.DEMAND, library.DEMAND, library.CYCLE, library.LOCK, *[library.CYCLE] * 2]
+        self.assertEqual(told, [*((kind, 0, ()) for kind in kinds), (library.CYCLE, 1, (1,))])
+        self.assertEqual((session.item(), session.words()), ("cycle 1 5 0 0 in 000123 x1 q1 wait 0\nunlock 1\n", (0x123, 30)))
+        self.assertEqual(len(session.next_many(ANSWERS[7:9])), 2)
+        self.assertEqual((session.item(), session.wants().kind), ("demand 000004 adc\n", library.CYCLE))
+        session = self.session(library.NO_LIMIT, NESTED)
+        self.addCleanup(signal.signal, signal.SIGALRM, signal.signal(signal.SIGALRM, signal.default_int_handler))
+        signal.setitimer(signal.ITIMER_REAL, 0.1)
+        with self.assertRaises(KeyboardInterrupt):
+            session.next(DEMAND)
+        self.assertTrue(session.is_busy())
+
     def test_one_call_is_short(self):
-        nested = "cdlam adc 1 1 5 12\nvar i j k v\nservice adc within 0 cycles event 0 words {\n  for i = 1 to 10000 { for j = 1 to 10000 { v = j } }\n}\n"
-        session = self.session(10_000, nested)
+        session = self.session(10_000, NESTED)
         session.next(DEMAND)
         longest = 0.0
         for _ in range(100):

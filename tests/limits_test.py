@@ -5,15 +5,10 @@ program answers is compared with the independent reader of tools/oracle.
 usage: tests/limits_test.py [-v] [TEST ..]     from any folder; takes some seconds
 """
 import pathlib
-import sys
 import tempfile
 import unittest
 
-from support.program import PROGRAM, TOP
-
-sys.path.insert(0, str(TOP / "tools"))
-sys.dont_write_bytecode = True
-
+from support.program import PROGRAM
 from oracle.calls import Program
 from oracle.reader.engines import Inputs, tell
 

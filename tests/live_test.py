@@ -8,7 +8,6 @@ import itertools
 import os
 import signal
 import subprocess
-import sys
 
 from support.live import LOCKOUT, OPENING, PATIENCE, PROGRAM, STRAIGHT_LINE, TOP, Broken, Case, Listed, Pipes, run_tests, script
 import camac
@@ -219,13 +218,14 @@ class Driver(Case):
 
     def test_straight_line(self):
         branch = Listed(Answer(gl=4), Answer(1, 1, 0x123FFF, 2))
-        self.assertEqual(self.drive(STRAIGHT_LINE, branch), RunEnd(Ending.ENDED, "ended events 1", 1))
+        wide = (camac.Contradiction("crate 1 station 5", "word above 12 bits", 1),)
+        self.assertEqual(self.drive(STRAIGHT_LINE, branch), RunEnd(Ending.ENDED, "ended events 1", 1, contradictions=wide))
         self.assertEqual(branch.asked, [("demand",), ("cycle", 1, 5, 0, 0, None), ("demand",)])
         self.assertEqual(self.file("run.events"), EVENT_FILE)
 
     def test_ends(self):
         end = self.drive(STRAIGHT_LINE, Listed(Answer(gl=4), Answer(wait=3)))
-        self.assertEqual(end, RunEnd(Ending.OVERRUN, "overrun 1 wait 3 events 0", 0, 1, 3))
+        self.assertEqual(end, RunEnd(Ending.OVERRUN, "overrun 1 wait 3 events 0", 0, 1, 3, ()))
         with self.assertRaises(camac.Refused) as raised:
             self.drive(STRAIGHT_LINE.replace("within 3", "within 2"), Listed())
         self.assertEqual((raised.exception.code, raised.exception.line), ("E12", 3))
@@ -312,7 +312,7 @@ class EndToEnd(Case):
 
     def test_straight_line(self):
         end, made, events = self.drive("@sample", "straight_line.script", self.sample())
-        self.assertEqual(end, RunEnd(Ending.ENDED, "ended events 20", 20))
+        self.assertEqual(end, RunEnd(Ending.ENDED, "ended events 20", 20, contradictions=()))
         reads = [it.answer for it in made if it.request == "cycle 1 5 0 0 in"]
         clears = [it.answer for it in made if it.request == "cycle 1 5 12 10 none"]
         pairs = enumerate(zip(reads, clears), 1)

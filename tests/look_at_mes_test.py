@@ -11,15 +11,10 @@ import datetime
 import os
 import pathlib
 import random
-import sys
 import tempfile
 import unittest
 
-from support.program import PROGRAM, TOP
-
-sys.path[:0] = [str(TOP / "tools"), str(TOP / "python")]
-sys.dont_write_bytecode = True
-
+from support.program import PROGRAM
 from camac.late import Watch
 from camac.printed import read_responses
 from camac.values import Harm

@@ -19,10 +19,11 @@ import unittest
 from support import of_c
 from support.live import PROGRAM, TOP, Case
 from support.lsp import SCRIPT, Client, applied, span
+from camac.language import WORDS
 from camac.layout import begins
 from camac.lsp.documents import Text
 from camac.lsp.workspace import choose, is_plan_text
-from camac.names import WORDS, Names
+from camac.names import Names
 from camac.printed import read_plan
 from camac.program import lines_of, output_of
 from camac.toml_places import declarations, place_of

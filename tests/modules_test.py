@@ -13,7 +13,7 @@ FILES = sorted((TOP / "examples/modules").glob("*.toml"))
 PAGE = (TOP / "docs/PLANS.md").read_text()
 # The functions that EUR 4100 reserves, and those of a LAM: test, clear, disable, enable.
 RESERVED, LAM = {5, 7, 13, 15, 29, 31}, (8, 10, 24, 26)
-ROW = re.compile(r"^\| \[(\w+)\]\(\.\./examples/modules/\1\.toml\) \|(?:[^|\n]*\|){2} ([\d, ]+) \| ([\d, ]+) \| ([^|\n]+) \|$", re.M)
+ROW = re.compile(r"^\| \[(\w+)\]\(\.\./examples/modules/\1\.toml\) \|(?:[^|\n]*\|){2} ([\d, ]+) \| ([^|\n]+) \|$", re.M)
 
 
 class Kind:
@@ -76,8 +76,8 @@ class Modules(unittest.TestCase):
         self.assertEqual(sorted(rows), [it.label for it in KINDS])
         for kind in KINDS:
             with self.subTest(file=kind.label):
-                widths, functions, lam = rows[kind.label]
-                self.assertEqual((numbers(widths), numbers(functions)), (kind.widths(), kind.functions))
+                widths, lam = rows[kind.label]
+                self.assertEqual(numbers(widths), kind.widths())
                 self.assertNotEqual(kind.has_lam, lam == "none")
 
     def test_all_in_one_plan(self):

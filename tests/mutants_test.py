@@ -12,9 +12,6 @@ import unittest
 from unittest import mock
 
 from support.program import TOP
-
-sys.path.insert(0, f"{TOP}/tools")
-
 from rounds import repository
 from rounds.bodies import bodies_of, packed
 from rounds.plants import plants_of

@@ -14,12 +14,8 @@ import tempfile
 import unittest
 
 from support.needs import skip
-from support.program import PROGRAM, TOP
+from support.program import PROGRAM, TOP, Room
 from support.rows import NOT_MADE, ROWS
-
-sys.path.insert(0, str(TOP / "tools"))
-sys.dont_write_bytecode = True
-
 from oracle.calls import Program
 from oracle.comparing import Comparison, keep, used
 from oracle.judges import JUDGES
@@ -29,6 +25,14 @@ from oracle.reader.refusals import LeftOut
 SEED = os.environ.get("CAMAC_SEED") or datetime.date.today().isoformat()
 # By this seed every code is reached after 1,200 cases.
 OF_CODES, CASES_OF_CODES = "camac", 1_500
+
+
+def read(command, inputs):
+    """What the reader answers."""
+    try:
+        return tell(command, inputs)
+    except LeftOut:
+        skip("Python 3.11")
 
 
 class Reader(unittest.TestCase):
@@ -44,13 +48,27 @@ class Reader(unittest.TestCase):
     def expect(self, case):
         given = case.inputs
         command, *words = case.command.split()
-        try:
-            told = tell(command, Inputs(given.get("PLAN"), given.get("SCRIPT", b""), given.get("ANSWERS", b""), words=" ".join(words).encode()))
-        except LeftOut:
-            skip("Python 3.11")
+        told = read(command, Inputs(given.get("PLAN"), given.get("SCRIPT", b""), given.get("ANSWERS", b""), words=" ".join(words).encode()))
         self.assertEqual((told.status, told.out, told.err), (case.status, case.printed, b""))
         if case.events is not None:
             self.assertEqual(NOT_MADE if told.events is None else told.events, case.events)
+
+
+class Examples(Room):
+    """The plans of the examples, and a run over the largest, which the program tells as the reader."""
+
+    def expect(self, command, inputs):
+        wanted = read(command, inputs)._replace(reached="")
+        self.assertEqual(Program(PROGRAM, self.room).call(command, inputs), wanted)
+        return wanted
+
+    def test_examples(self):
+        examples = TOP / "examples"
+        for plan in examples.rglob("*.toml"):
+            with self.subTest(plan=plan):
+                self.expect("plan", Inputs(plan.read_bytes()))
+        run = [(examples / it).read_bytes() for it in ("three_crates.toml", "three_modules.script", "three_modules.answers")]
+        self.expect("events", Inputs(file=self.expect("run", Inputs(*run)).events))
 
 
 class Judged(unittest.TestCase):

@@ -13,8 +13,6 @@ import stat
 import struct
 import subprocess
 import sys
-import tempfile
-import unittest
 from typing import NamedTuple, Tuple
 
 from support.live import PROGRAM, TOP, Case, run_tests
@@ -123,9 +121,8 @@ class Called(Case):
     @classmethod
     def setUpClass(cls):
         """Python keeps what it compiles for all calls, and not in the sources."""
-        cache = tempfile.TemporaryDirectory(prefix="camac-python-")
-        cls.addClassCleanup(cache.cleanup)
-        cls.env = {**os.environ, "CAMAC_PROGRAM": PROGRAM, "PYTHONPATH": str(TOP / "python"), "PYTHONDONTWRITEBYTECODE": "", "PYTHONPYCACHEPREFIX": cache.name}
+        how = {"PYTHONDONTWRITEBYTECODE": "", "PYTHONPYCACHEPREFIX": str(cls.shared())}
+        cls.env = {**os.environ, "CAMAC_PROGRAM": PROGRAM, "PYTHONPATH": str(TOP / "python"), **how}
 
     def ran(self, words, **more):
         """Status, standard output and standard error."""

@@ -55,7 +55,7 @@ class Numbers(laboratory.BenchCase):
         super().setUpClass()
         cls.made = report(Inputs(*cls.files))
         cls.page = laboratory.Page(cls.made.text)
-        cls.events = cls.case.room / "run.events"
+        cls.events = cls.shared_room / "run.events"
         cls.sums = laboratory.Sums(*cls.files, cls.events)
 
     def test_run(self):
@@ -495,7 +495,7 @@ def kept_pictures():
         "words": pictures.draw_groups("Words by channel", pictures.command_groups(run, plan)),
         "words-log": pictures.draw_groups("Words by channel", pictures.command_groups(run, plan, LOGARITHMIC)[:1]),
         "channels": pictures.draw_groups("Event words by their names", pictures.channel_groups(run.list_channels())),
-        "pairs": pictures.draw_pairs(*asked.pair, run.pairs),
+        "pairs": pictures.draw_pairs(run.channels),
         "rates": pictures.draw_rates([rates_at(factor) for factor in FACTORS], rates_at(1), 1.4e-6),
         "places": pictures.draw_places(run, services[0]),
     }
@@ -595,9 +595,8 @@ class InChromium(laboratory.BenchCase):
         low = int(first + 2 * width)
         name = f"{low:,}" if width == 1 else f"{low:,} to {low + int(width) - 1:,}"
         self.assertEqual(browser.ask("document.getElementById('tip').textContent"), f"{name}: {counts[2]:,}")
-        self.assertEqual(browser.ask("getComputedStyle(document.getElementById('tip')).display"), "block")
         browser.move_to(1, 1)
-        self.assertEqual(browser.ask("getComputedStyle(document.getElementById('tip')).display"), "none")
+        self.assertEqual(browser.ask("(it=>[it.textContent,it.offsetWidth,it.offsetHeight])(document.getElementById('tip'))"), ["", 0, 0])
 
     def theme(self, browser):
         """Dark where the reader wants it, and what the button says; light on paper."""
@@ -618,7 +617,7 @@ class InChromium(laboratory.BenchCase):
             browser.ask("delete document.documentElement.dataset.theme")
 
     def test_zoom(self):
-        """A drag over a spectrum draws the numbers below it, a double click or the button by the keyboard all again."""
+        """A drag over a spectrum, by the mouse or a finger, draws the numbers below it, a double click or the button by the keyboard all again."""
         values = [(at * at) % 4096 for at in range(3000)]
         events = self.room / "zoom.events"
         events.write_bytes(NEW_FILE + b"".join(record(camac.Event(at, 3, 2, 0, (it,))) for at, it in enumerate(values, 1)))
@@ -626,18 +625,12 @@ class InChromium(laboratory.BenchCase):
         made = report(Inputs("@sample", self.write("zoom.script", text), events), naming=Naming(over=events))
         with Browser() as browser:
             self.opened(browser, made.text)
-            browser.ask("window.r=document.querySelector('rect[data-fine]');r.scrollIntoView({block:'center'})")
-            left, top, wide, high = browser.ask("(b=>[b.left,b.top,b.width,b.height])(r.getBoundingClientRect())")
+            browser.ask("window.r=document.querySelector('rect[data-fine]')")
             shown = "[+r.dataset.first,+r.dataset.width,r.dataset.counts]"
             before = browser.ask(shown)
 
-            def mouse(kind, part, count=1):
-                place = {"x": left + wide * part, "y": top + high / 2}
-                browser.call("Input.dispatchMouseEvent", type=kind, button="left", buttons=1, clickCount=count, **place)
-
-            def zoomed(begin, end):
-                for kind, part in (("mousePressed", begin), ("mouseMoved", end), ("mouseReleased", end)):
-                    mouse(kind, part)
+            def zoomed(begin, end, is_touch=False):
+                browser.drag("r", begin, end, is_touch)
                 first, width, counts = browser.ask(shown)
                 wanted = [sum(first + k * width <= it < first + (k + 1) * width for it in values) for k in range(len(counts.split()))]
                 self.assertEqual([int(it) for it in counts.split()], wanted)
@@ -647,18 +640,36 @@ class InChromium(laboratory.BenchCase):
 
             first, width, end = zoomed(0.5, 0.25)
             self.assertTrue(width == 8 and abs(first - 1024) < 40 and abs(end - 2048) < 40)
-            again = zoomed(0.5, 0.55)
+            again = zoomed(0.5, 0.55, True)
             self.assertTrue(again[1] == 1 and first < again[0] and again[2] < end)
             for count in (1, 2):
-                mouse("mousePressed", 0.5, count)
-                mouse("mouseReleased", 0.5, count)
+                browser.drag("r", 0.5, 0.5, count=count)
             self.assertEqual((browser.ask(shown), browser.ask("r.ownerSVGElement.querySelectorAll('.zoomed').length")), (before, 0))
             zoomed(0.1, 0.2)
             browser.ask("document.querySelector('.whole').focus()")
-            for kind in ("keyDown", "keyUp"):
-                browser.call("Input.dispatchKeyEvent", type=kind, key="Enter", code="Enter", windowsVirtualKeyCode=13, text="\r")
+            browser.key("Enter")
             self.assertEqual((browser.ask(shown), browser.ask("document.querySelector('.whole').hidden")), (before, True))
+            self.keys(browser, [sum(it // 32 == k for it in values) for k in range(128)])
             self.assertEqual(browser.said, [])
+
+    def keys(self, browser, counts):
+        """Arrow keys read a spectrum and other pictures as the pointer does, and mark a part, which Enter shows; the reading is told."""
+        tip = "document.getElementById('tip').textContent"
+        browser.ask("r.ownerSVGElement.focus()")
+        for key, k in (("ArrowRight", 1), ("PageDown", 11), ("ArrowLeft", 10), ("End", 127), ("PageUp", 117), ("Home", 0), ("ArrowRight", 1)):
+            browser.key(key)
+            self.assertEqual(browser.ask(tip), f"{32 * k:,} to {32 * k + 31:,}: {counts[k]:,}; line {counts[k]}")
+        browser.key("PageDown", "ArrowRight", "ArrowLeft", "Enter", shift=True)
+        self.assertEqual(browser.ask("[+r.dataset.first,+r.dataset.width,r.dataset.counts.split(' ').length]"), [32, 4, 88])
+        self.assertEqual(browser.ask("document.querySelector('[aria-live=polite]').textContent.split(':')[0]"), "32 to 35")
+        browser.ask("document.querySelector('#plan ~ .figure svg').focus()")
+        its = browser.ask("Array.from(document.activeElement.querySelectorAll('rect>title')).map(it=>it.textContent)")
+        for key, at in (("ArrowRight", 1), ("End", -1), ("ArrowLeft", -2), ("Enter", -2)):
+            browser.key(key)
+            self.assertEqual(browser.ask(tip), its[at])
+        self.assertTrue(browser.ask("document.activeElement.closest('.full')!==null"))
+        browser.ask("document.activeElement.blur()")
+        self.assertEqual([browser.ask(tip), browser.ask("document.querySelectorAll('.mark').length")], ["", 0])
 
     def test_narrow_window(self):
         """Tables and pictures scroll in their places, and a picture's words are large enough to read."""

@@ -9,19 +9,15 @@ import os
 import re
 import select
 import subprocess
-import sys
 import time
 
 from support.program import ANSWERS, CLOSED, DEMAND, EVENT_FILE, EVENT_FILE_ONE, FULL, LISTING, PROGRAM, STRAIGHT_LINE, TOO_LONG, TOP, TWICE, VERDICT, Case, fault, keywords, lacks, run_tests, unwritten
-
-sys.path[:0] = [str(TOP / "python"), str(TOP / "tools")]
-import camac.layout
-import camac.names
+import camac.language
 import oracle.reader.tokens
 
 WORDS = {"plan": ["PLAN"], "check": ["PLAN", "SCRIPT"], "explain": ["PLAN|CODE", "[SCRIPT]"], "bounds": ["PLAN", "SCRIPT"], "costs": ["PLAN", "SCRIPT"], "response": ["PLAN", "SCRIPT"], "run": ["PLAN", "SCRIPT", "ANSWERS", "EVENTS"], "drive": ["PLAN", "SCRIPT", "EVENTS"], "events": ["FILE"]}
 # The options of a command but those of help, with the values that they take.
-OPTIONS = {"plan": {"commands": ""}, "explain": {"at": "LINE:COLUMN", "bounds": ""}, "response": {"every": "SERVICE=CYCLES", "within": "SERVICE=CYCLES"}}
+OPTIONS = {"plan": {"commands": ""}, "explain": {"at": "LINE:COLUMN", "turn": "N", "bounds": ""}, "response": {"every": "SERVICE=CYCLES", "within": "SERVICE=CYCLES"}}
 
 
 class WorkedRow(Case):
@@ -119,9 +115,10 @@ class Usage(Case):
         for word in ("e12", "E", "E12x", "12", "./E12"):
             self.assertEqual(self.call("explain", word), (3, b"", lacks(word)))
         self.assertEqual(self.call("explain", "E12", "@in", given=b""), (3, b"", lacks("E12")))
-        for words in ("--at 3 none none", "--at 3:0 none none", "--at 0:1 none none", "--at +3:1 none none", "--at 3:1: none none", "--at 3:4294967296 none none", "--at 3:1 none", "--at 3:1 E12", "--bounds none", "--bounds E12", "--bounds --at 3:1 none none"):
+        for words in ("--at 3 none none", "--at 3:0 none none", "--at 0:1 none none", "--at +3:1 none none", "--at 3:1: none none", "--at 3:4294967296 none none", "--at 3:1 none", "--at 3:1 E12", "--bounds none", "--bounds E12", "--bounds --at 3:1 none none", "--turn 1 none none", "--turn 1 none", "--turn 1 E12", "--turn 1 --bounds none none", "--at 3:1 --turn +1 none none", "--at 3:1 --turn x none none", "--at 3:1 --turn 4294967296 none none", "--at 3:1 --turn 1 --turn 1: none none"):
             status, out, err = self.call("explain", *words.split())
-            self.assertEqual((status, out, err.partition(b"\n")[0]), (2, b"", b"error: '--at <LINE:COLUMN>' needs two numbers from 1, a plan and a script; '--bounds' needs a plan and a script"), words)
+            self.assertEqual((status, out, err.partition(b"\n")[0]), (2, b"", b"error: '--at <LINE:COLUMN>' needs two numbers from 1, a plan and a script; '--turn <N>' needs a number and '--at'; '--bounds' needs a plan and a script"), words)
+        self.assertEqual(self.call("explain", "--at", "3:1", "--turn", "4294967295", "--turn", "0", "none", "none"), (3, b"", lacks("none")))
         self.assertEqual(self.call("explain", "--at", "3:1", "@in", "@in"), (2, b"", TWICE))
 
     def test_standard_input_once(self):
@@ -579,10 +576,10 @@ class Pages(Case):
         self.assertEqual(sorted("|".join(code).split("|")), sorted(words))
         self.assertEqual(sorted(re.findall(r'"(\w+)"', "".join(re.findall(r"'\(([^)]*)\)", emacs)))), sorted(words))
         kate = re.findall(r"<item>(\w+)</item>", (TOP / "editors/kate/camac.xml").read_text())
-        for its in (kate, camac.names.WORDS, [it.decode() for it in oracle.reader.tokens.KEYWORDS]):
+        for its in (kate, camac.language.WORDS, [it.decode() for it in oracle.reader.tokens.KEYWORDS]):
             self.assertEqual(sorted(its), sorted(words))
         code = (TOP / "crates/camac_text_cursor/src/choice.rt").read_text()
-        for its, kind in ((camac.layout.DECLARATIONS | {"table"}, "Declaration"), (camac.layout.STATEMENTS - {"lock"}, "Statement")):
+        for its, kind in ((camac.language.DECLARATIONS | {"table"}, "Declaration"), (camac.language.STATEMENTS - {"lock"}, "Statement")):
             found = re.search(rf"Choice::{kind} => matches!\((.*?)\),", code, re.S)[1]
             self.assertEqual({it.lower() for it in re.findall(r"Keyword::(\w+)", found)}, its)
         self.assertEqual(page.split(), words)

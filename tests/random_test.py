@@ -14,13 +14,13 @@ import random
 import sys
 import time
 
-from support import laboratory, two_crates
+from support import laboratory
 from support.live import PROGRAM, Case, run_tests
 from support.lsp import SCRIPT, Client
 import camac
 from camac.events import NEW_FILE, Event, record
 from camac.export import Given
-from camac.alarms import read_alarm
+from camac.follow import read_alarm
 from camac.watch import Look, Watch
 
 SEED = os.environ.get("SEED") or datetime.date.today().strftime("%Y%m%d")

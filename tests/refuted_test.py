@@ -18,9 +18,6 @@ import tempfile
 import unittest
 
 from support.program import TOP
-
-sys.path.insert(0, f"{TOP}/tools")
-
 from rounds.bodies import changed, read_edits
 
 EDITS = read_edits(TOP / "tests/refuted.edits")
@@ -66,5 +63,4 @@ class Refuted(unittest.TestCase):
 
 
 if __name__ == "__main__":
-    sys.dont_write_bytecode = True
     unittest.main()

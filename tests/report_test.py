@@ -3,21 +3,18 @@
 
 usage: tests/report_test.py [-v] [TEST ..]     from any folder; takes about a minute
 """
-import contextlib
 import io
 import os
 import re
 import subprocess
 import sys
-import tempfile
 import unittest
 import xml.etree.ElementTree as ElementTree
 from unittest import mock
 
-from support.live import TOP, run_tests
+from support.live import TOP, command as ran, run_tests
 from support import laboratory
 import camac
-from camac import __main__ as commands
 from camac import pictures
 from camac.pictures import svg
 from camac.report import report
@@ -25,21 +22,6 @@ from camac.runs import Inputs
 
 STRAIGHT = "cdlam adc 1 1 5 12\nvar v\nservice adc within 3 cycles event 1 words {\n  cdreg r 1 1 5 0\n  cfsa 0 r -> v\n  put v\n}\n"
 FIGURE = re.compile(r"<svg .*?</svg>", re.S)
-
-
-def ran(*words):
-    """Status, standard output and standard error of a command, which runs in this process."""
-    err = io.StringIO()
-    with tempfile.TemporaryFile() as out, contextlib.redirect_stderr(err):
-        before = os.dup(1)
-        os.dup2(out.fileno(), 1)
-        try:
-            status = commands.main([str(it) for it in words])
-        finally:
-            os.dup2(before, 1)
-            os.close(before)
-        out.seek(0)
-        return status, out.read().decode(), err.getvalue()
 
 
 class Ends(laboratory.BenchCase):

@@ -182,6 +182,10 @@ class Lemmas(unittest.TestCase):
         """What only proofs name stands there, and what nothing names nowhere."""
         self.assertEqual(run(TOP / "tools/believe.py", "--dead").stdout, "")
 
+    def test_definitions_under_no_law(self):
+        """Their lines may only fall: a law says in the subject's words what a definition comes to that walks as the code does."""
+        self.assertLessEqual(int(run(TOP / "tools/believe.py", "--lawless").stdout.split()[-1]), 5305)
+
 
 class Hooks(unittest.TestCase):
     def test_hooks(self):

@@ -4,15 +4,10 @@
 usage: tests/response_test.py [-v] [TEST ..]     from any folder; takes some seconds
 """
 import pathlib
-import sys
 import tempfile
 import unittest
 
-from support.program import PROGRAM, TOP, called
-
-sys.path.insert(0, str(TOP / "tools"))
-sys.dont_write_bytecode = True
-
+from support.program import PROGRAM, called
 from oracle.calls import Program
 from oracle.reader.engines import Inputs, tell
 

@@ -3,12 +3,16 @@
 
 usage: tests/rows_test.py [-v] [TEST ..]     from any folder; takes a few seconds
 """
+import re
 import struct
 import unittest
 
 from support import plans
 from support.program import Room
 from support.rows import FILE_ONE, FILE_TWO, NOT_MADE, NO_EVENTS, ROWS, SAMPLE, STRAIGHT_LINE, Wrong, event_file, read_rows
+
+ONE_SERVICE = re.compile(r"accepted\nservice (\w+ gl \d+) cycles (\d+) of \d+ words (\d+) of \d+ steps (\d+)\n")
+HEADING = re.compile(r"(service \w+ )within \d+ cycles event \d+ words")
 
 
 class Playing(Room):
@@ -58,6 +62,30 @@ class Rows(Playing):
                         if case.events not in (None, events):
                             self.fail(f"another event file: {self.call('events', 'events')[1].decode() if events != NOT_MADE else events}")
 
+    def expect_with(self, cycles, words, case, status, printed):
+        """What `check` writes of the script of a case with these numbers in its heading."""
+        heading = rf"\g<1>within {cycles} cycles event {words} words"
+        script = HEADING.sub(heading, case.inputs["SCRIPT"].decode())
+        with self.subTest(script=script):
+            self.expect("check", status, printed.encode(), **{**case.inputs, "SCRIPT": script.encode()})
+
+    def test_one_below_the_bound(self):
+        """Each accepted script of one service is accepted with the cycles and words that it needs, and refused with one less."""
+        tried = 0
+        for case in [it for rows in ROWS.values() for cases in rows.values() for it in cases if it.command == "check"]:
+            found = ONE_SERVICE.fullmatch(case.printed.decode())
+            if found:
+                tried += 1
+                name, cycles, words, steps = found[1], int(found[2]), int(found[3]), found[4]
+                line = case.inputs["SCRIPT"].partition(b"service ")[0].count(b"\n") + 1
+                bounds = f"service {name} cycles {cycles} of {cycles} words {words} of {words} steps {steps}\n"
+                self.expect_with(cycles, words, case, 0, f"accepted\n{bounds}")
+                if cycles:
+                    self.expect_with(cycles - 1, words, case, 1, f"refused E12 line {line}: more cycles than annotated\n")
+                if words:
+                    self.expect_with(cycles, words - 1, case, 1, f"refused E11 line {line}: more event words than annotated\n")
+        self.assertGreater(tried, 40)
+
     def test_form(self):
         """What is no row is not passed over."""
         self.assertEqual(len(read_rows("a.rows", "on loops\n\n== a\nof this\n-- SCRIPT\n-- check 0\naccepted\n\n== b\n-- plan 0\n")), 2)
@@ -66,6 +94,12 @@ class Rows(Playing):
             "a sentence\n",
             "-- SCRIPT\nvar v\n",
             "-- SCRIPT\n-- check 0\n-- SCRIPT\n",
+            "-- SCRIPT of a\n-- check 0\n",
+            "-- FRAME\n#\n..\n-- PART\n-- check 0\n-- PART\n",
+            "-- SCRIPT\n-- FRAME\nvar v\n-- PART\n-- check 0\n",
+            "-- PART\nvar v\n-- check 0\n",
+            "-- BODY\nput 1\n",
+            "-- BODY within 3\nput 1\n-- check 0\n",
             "-- check 0\n",
             "-- PLAN\n-- check 0\n",
             "-- SCRIPT\n-- check 2\n",
@@ -82,26 +116,6 @@ class Rows(Playing):
         for text in ("== a\n-- plan 0\n== a\n-- plan 0\n", "== \n-- plan 0\n", "== a b\n-- plan 0\n"):
             with self.subTest(text=text):
                 self.assertRaises(Wrong, read_rows, "a.rows", text)
-
-
-# The body of a service, its greatest cycles and words, and its steps.
-BODIES = {
-    "scan_by_count": ("cdreg a 1 1 5 0\ncdreg b 1 1 5 15\ncfmad 0 a b max 12 tally t", 39, 12, 16),
-    "scan_through_probes": ("cdreg a 1 1 5 0\ncdreg b 1 1 5 15\ncfmad 0 a b max 16 tally t", 48, 16, 19),
-    "scan_two_stations": ("cdreg a 1 1 5 0\ncdreg b 1 1 6 0\ncfmad 0 a b max 17 tally t", 51, 17, 20),
-    "poll_loop": ("cdreg r 1 1 6 0\nk = 10\nwhile k > 0 and not q turns 10 by k { cfsa 27 r  k = k - 1 }", 30, 0, 33),
-    "keep_range": ("k = 20\nwhile k > 0 turns 20 by k keep i in 0..11 { k = k - 1  if i < 11 { i = i + 1 } }", 0, 0, 82),
-    "lockout": ("cdreg r 1 1 5 0\nlock 1 { cfsa 0 r -> v  cfsa 0 r -> v  cfsa 0 r -> v  cfsa 0 r -> v }", 6, 0, 7),
-    "repeat_until_q": ("cdreg r 1 1 5 0\ncfubr 0 r max 2 limit 3 tally t", 9, 2, 5),
-    "table_write": ("cdreg r 1 1 6 0\ncfubc 16 r table g max 3 tally t", 9, 0, 5),
-    "loop_over_stations": ("for n = 5 to 6 { cdreg r 1 1 n 0  cfsa 0 r -> v }", 6, 0, 7),
-    "computed_sub_address": ("cdreg r 1 1 5 0\ncfsa 0 r -> v\nv = v % 12\ncdreg s 1 1 5 v\ncfsa 0 s -> k", 6, 0, 5),
-    "guarded_write": ("cdreg r 1 1 5 0\ncfsa 0 r -> v\ncdreg w 1 1 6 0\nif v < 256 { cfsa 16 w <- v }", 6, 0, 5),
-    "longest_for": ("for i = 0 to 65534 {}", 0, 0, 65536),
-    "empty_for": ("for i = 5 to 4 { i = 3 }", 0, 0, 1),
-    "scan_backwards": ("cdreg a 1 1 5 3\ncdreg b 1 1 5 1\ncfmad 0 a b max 4 tally t", 0, 0, 3),
-    "lock_empty": ("lock 1 {}", 2, 0, 2),
-}
 
 
 def service(body, cycles, words):
@@ -165,16 +179,6 @@ REPEATED = [
 
 class NoRows(Playing):
     """Texts that are made by a rule, or whose bytes are no lines."""
-
-    def test_one_below_the_bound(self):
-        for name, (body, cycles, words, steps) in BODIES.items():
-            with self.subTest(body=name):
-                bounds = f"service adc gl 3 cycles {cycles} of {cycles} words {words} of {words} steps {steps}\n"
-                self.expect("check", 0, b"accepted\n" + bounds.encode(), SCRIPT=service(body, cycles, words))
-                if cycles:
-                    self.expect("check", 1, b"refused E12 line 3: more cycles than annotated\n", SCRIPT=service(body, cycles - 1, words))
-                if words:
-                    self.expect("check", 1, b"refused E11 line 3: more event words than annotated\n", SCRIPT=service(body, cycles, words - 1))
 
     def test_the_longest_event(self):
         """4,096 words, through a run, a live run and `events`."""

@@ -14,7 +14,6 @@ import subprocess
 import sys
 import threading
 import time
-import unittest
 from unittest import mock
 
 from support import of_c

@@ -3,8 +3,6 @@
 
 usage: tests/simulate_test.py [-v] [TEST ..]     from any folder; takes some seconds
 """
-import contextlib
-import io
 import math
 import os
 import re
@@ -12,9 +10,8 @@ import unittest
 import unittest.mock
 import xml.etree.ElementTree as ElementTree
 
-from support.live import PROGRAM, Case, run_tests
+from support.live import PROGRAM, Case, command, run_tests
 import camac
-from camac import __main__ as commands
 from camac import mock
 from camac.printed import read_plan
 from camac.simulate import Setting, simulate
@@ -115,15 +112,8 @@ class Simulations(Case):
         events = list(camac.read_events(self.room / "run.events"))
         self.assertEqual([(it.gl, it.cycles, it.words) for it in events], [(1, LONG, (100,) * 12)] * 20)
 
-    def words(self, *more):
-        return ["simulate", str(self.plan), str(self.script), "--cycle-us", "1", *more]
-
     def told(self, *words):
-        out, err = io.StringIO(), io.StringIO()
-        with contextlib.redirect_stderr(err), unittest.mock.patch("camac.commands.simulate.say", out.write), contextlib.suppress(SystemExit):
-            status = commands.main(self.words(*words))
-            return status, out.getvalue(), err.getvalue()
-        return 2, out.getvalue(), err.getvalue()
+        return command("simulate", self.plan, self.script, "--cycle-us", "1", *words)
 
     def test_command(self):
         status, out, _ = self.told("--rate", "trig=50000", "--rate", "slow=2000", "--services", "300", "-o", str(self.room / "curve.svg"))

@@ -1,23 +1,26 @@
 #!/usr/bin/env python3
-"""The program that `./camac` builds without proof is as fast as the proved one: it takes at most a tenth more instructions, in comments a seventh.
+"""The program that `./camac` builds without proof is as fast as the proved one: it takes at most a tenth more instructions, in comments a seventh. And
+the corpus is judged as its shapes say.
 
 usage: tests/speed_test.py [-v] [TEST ..]     from any folder; takes about a minute on four processors that are idle
 """
 import importlib.machinery
 import importlib.util
+import statistics
 import sys
 import tempfile
 import unittest
 
 from support import needs
-from support.program import PROGRAM, TOP
+from support.program import PROGRAM, TOP, Room
 
-sys.path[:0] = [f"{TOP}/tools", f"{TOP}/benchmarks"]
+sys.path.insert(0, f"{TOP}/benchmarks")
 
+import corpus  # noqa: E402
 import sources_sum  # noqa: E402
 import speed  # noqa: E402
 
-CASES = ("start-up", "check: 4,096 short", "check: the same", "check: 1 MB of comments", "run: mixed", "run: nested", "run: scans", "run: calls")
+CASES = ("start-up", "check: 1 MB of comments", "run: mixed", "run: nested", "run: scans", "run: calls")
 # The loop over a comment has 3.4 instructions a byte in place of 2.9.
 MOST, OF_COMMENTS = 1.1, 1.15
 
@@ -39,8 +42,22 @@ class Built(unittest.TestCase):
                     words, _ = case.put(room)
                     proved, built = (speed.instructions([it, *words]) for it in (PROGRAM, f"{room}/program"))
                     self.assertLess(built, (OF_COMMENTS if "comments" in case.name else MOST) * proved)
+            counts = [[speed.of_shape(its, it, [""]) for it in (f"{room}/program", PROGRAM)] for its in corpus.shapes().values()]
+            self.assertLess(statistics.geometric_mean(built / proved for (built,), (proved,) in counts), MOST)
+
+
+class Corpus(Room):
+    def test_shapes(self):
+        """Texts of one size, accepted but for the mistakes, each of which breaks its rule."""
+        rules = []
+        for shape, texts in corpus.shapes().items():
+            for text in texts:
+                self.assertTrue(0.98 * corpus.SIZE < len(text) <= corpus.SIZE, shape)
+                status, out, _ = self.call("check", "@sample", self.write("text", text))
+                self.assertEqual(status, shape == "mistakes")
+                rules += out.decode().split()[1:2] if status else []
+        self.assertEqual(rules, [*corpus.mistakes()])
 
 
 if __name__ == "__main__":
-    sys.dont_write_bytecode = True
     unittest.main()

@@ -17,12 +17,12 @@ import camac
 from support import two_crates
 from support.rows import ROWS
 from camac import Cycle, Demand, Ending, Lock, Move, RunEnd, Unlock, bodies, printed, program
-from camac.annotate import annotate
+from camac.commands.annotate import annotate
 from camac.histograms import Bins, Pairs, Series, Spectrum
 from camac.printed import read_headings, read_plan, read_services
 from camac.program import knows_command, lines_of, version
 from camac.arrays import groups
-from camac.tables import write_listing
+from camac.commands.csv import write_listing
 from camac.transfers import transfer_commands
 from camac.values import BodyKind, Command, Cost, Declaration, Station
 
@@ -187,14 +187,14 @@ class Printed(Case):
             text, command = its.printed.decode(), its.command.partition(" ")[0]
             lines = text.splitlines()
             if printed.is_refused(text):
-                (code, line, rule), sentence, advice, column, rest, also = printed.read_explanation(text)
-                further = [f"also refused {it.code} line {it.line}: {it.rule}" for it in also]
+                (code, line, rule, _), sentence, advice, column, rest, also = printed.read_explanation(text)
+                further = [f"also refused {it.code} line {it.line} column {it.column}: {it.rule}" for it in also]
                 self.assertEqual(lines, [f"refused {code}: {rule}" if line is None else f"refused {code} line {line}: {rule}", *rest, *further])
                 told = [*[sentence] * bool(sentence), *advice]
                 shown = rest[: len(rest) - len(told)]
-                self.assertEqual((len(advice), rest), (3 if its.command in ("explain", "explain --bounds") else 0, (*shown, *told)))
-                # A line has no mark where its rule could refuse two statements of it.
-                self.assertEqual((len(shown), column is None), (0, True) if "P" in code or not told else (1, True) if code == "E17" else (2, False))
+                lines = [it.partition(": ")[0] for it in advice if not it.startswith("Turn: ")]
+                self.assertEqual((lines, rest), (["Why", "Fix", "More"] if its.command in ("explain", "explain --bounds") else [], (*shown, *told)))
+                self.assertEqual((len(shown), column is None), (0, True) if "P" in code or not told else (2, False))
                 command = "refused"
             elif command == "run":
                 self.assertEqual(len(list(camac.parse_listing(lines))), len(lines))
@@ -347,6 +347,7 @@ class Tables(Case):
                 "         no answer              unlock 1",
                 "      4  0 0 000000 0 000000  demand 000000 -",
                 "                              ended events 1",
+                "         the plan does not describe crate 1 station 5: 1 word above 12 bits",
             ],
         )
         overrun = self.write("overrun", "0 0 000000 0 000004\n0 0 000000 3 000000\n\n\n")

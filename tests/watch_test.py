@@ -21,6 +21,7 @@ import sys
 import threading
 import time
 import unittest.mock
+import urllib.parse
 
 from support.live import PROGRAM, TOP, Case, run_tests
 from support import laboratory
@@ -29,15 +30,15 @@ import camac.mock
 from support import two_crates
 from support.browser import CHROMIUM, Browser
 from support.needs import needed
-from camac.alarms import read_alarm, sounding
+from camac.follow import read_alarm, sounding
 from camac.events import NEW_FILE, Event, record
 from camac.export import Given
 from camac.follow import Counts, Follower
 from camac.printed import read_services
 from camac.record import Recording
 from camac.run_list import RunList
+from camac.runs import Asked
 from camac.watch import Server, Watch
-from camac.words import Words
 
 SERVICES = read_services(two_crates.VERDICT)
 
@@ -69,7 +70,7 @@ class Following(Case):
     def setUp(self):
         super().setUp()
         self.file, self.clock = self.room / "run.events", Clock()
-        self.follower = Follower(self.file, lambda: Counts(SERVICES, two_crates.WORDS), self.clock)
+        self.follower = Follower(self.file, lambda: Counts(SERVICES, Asked(two_crates.WORDS)), self.clock)
 
     def add(self, data):
         with open(self.file, "ab") as out:
@@ -161,7 +162,7 @@ class Following(Case):
             self.add(b"".join(map(record, its[at : at + 40])))
             self.poll(3.0)
         for mark, first in ((self.follower.before(seconds=7), 380), (self.follower.before(events=100), 380), (self.follower.before(events=9999), 100)):
-            part = self.follower.since(mark)
+            part = self.follower.since(mark, self.follower.make_counts)
             while part.poll():
                 pass
             self.assertEqual((mark.events, part.counts.events, part.counts.fit.count), (first, 500, 500 - first))
@@ -169,11 +170,13 @@ class Following(Case):
                 self.assertEqual((bit.count, bit.missed), (sum(it.gl == gl for it in its[first:]), sum(it.missed for it in its[first:] if it.gl == gl)))
 
     def test_alarms(self):
-        alarms = [*map(read_alarm, ("silence=30", "x0=4", "rate=2", "rate:tick=1", "rate:nobody=1"))]
-        sounds = lambda: [it.partition("=")[0] for it in sounding(alarms, self.follower, SERVICES)]
+        alarms = [*map(read_alarm, ("silence=30", "x0=4", "plan=3", "rate=2", "rate:tick=1", "rate:nobody=1"))]
+        sounds = lambda *its: [it.partition("=")[0] for it in sounding(alarms, self.follower, SERVICES, its)]
         self.add(NEW_FILE)
         self.poll()
         self.assertEqual(sounds(), ["rate:nobody"])
+        seen = [camac.Contradiction("GL 9", "demand", it) for it in (3, 1)]
+        self.assertEqual([sounds(*seen[:1]), sounds(*seen)], [["rate:nobody"], ["plan", "rate:nobody"]])
         self.poll(11.0)
         self.assertEqual(sounds(), ["rate", "rate:tick", "rate:nobody"])
         for at in range(11):
@@ -269,41 +272,37 @@ class Following(Case):
         for make in (os.mkdir, os.mkfifo):
             self.file = self.room / make.__name__
             make(self.file)
-            self.follower = Follower(self.file, lambda: Counts(SERVICES, two_crates.WORDS), self.clock)
+            self.follower = Follower(self.file, lambda: Counts(SERVICES, Asked(two_crates.WORDS)), self.clock)
             self.assertEqual((self.poll(), self.follower.state), (0, (f"this is no file: {self.file}", True)))
 
     def test_version_one_and_unknown_services(self):
-        self.follower = Follower(self.file, lambda: Counts((), Words()), self.clock)
+        self.follower = Follower(self.file, lambda: Counts((), Asked()), self.clock)
         self.add(b"CAMACEV1" + bytes.fromhex("ca4d0003 00000001 0002 00000fff 00ffffff"))
         self.assertEqual(self.poll(), 1)
         its = self.follower.counts.bits[3]
         self.assertEqual((its.cycles.count, its.words.total), (0, 2))
 
 
-class ServedCase(Case):
+class ServedCase(laboratory.BenchCase):
     """A server of a file of the bench."""
 
-    @classmethod
-    def setUpClass(cls):
-        super().setUpClass()
-        os.environ["CAMAC_PROGRAM"] = PROGRAM
-        cls.made = Case()
-        cls.made.setUp()
-        cls.addClassCleanup(cls.made.doCleanups)
-        laboratory.record(cls.made.room, 60)
+    triggers = 60
 
     def setUp(self):
         super().setUp()
-        shutil.copytree(self.made.room, self.room, dirs_exist_ok=True)
+        shutil.copytree(self.shared_room, self.room, dirs_exist_ok=True)
         self.file = self.room / "live.events"
 
-    def start(self, **given):
-        watch = Watch(Given(self.file, **given))
-        server = Server(watch, 0)
+    def serve(self, shown):
+        server = Server(shown, 0)
         self.addCleanup(server.server_close)
         threading.Thread(target=server.serve_forever, kwargs={"poll_interval": 0.05}, daemon=True).start()
         self.addCleanup(server.shutdown)
-        return watch, server
+        return server
+
+    def start(self, **given):
+        watch = Watch(Given(self.file, **given))
+        return watch, self.serve(watch)
 
     def ask(self, server, method="GET", path="/", host=None):
         connection = http.client.HTTPConnection("127.0.0.1", server.server_address[1], timeout=60)
@@ -317,6 +316,20 @@ class ServedCase(Case):
     def write_words(self, numbers):
         """Events of the sample's converter, one word each."""
         self.file.write_bytes(NEW_FILE + b"".join(record(Event(at, 3, 2, 0, (word,))) for at, word in enumerate(numbers, 1)))
+
+    def start_words(self, numbers):
+        """A server that has read such events."""
+        self.write_words(numbers)
+        watch, server = self.start(plan="@sample", script=TOP / "examples/straight_line.script")
+        while watch.poll():
+            pass
+        return watch, server
+
+    def append(self, watch, *its):
+        with open(self.file, "ab") as out:
+            out.write(b"".join(map(record, its)))
+        watch.poll()
+        watch.drawn.clear()
 
     def bench_files(self):
         return {"plan": self.room / "bench.toml", "script": self.room / "bench.script"}
@@ -415,10 +428,7 @@ class Served(ServedCase):
         """Two lines 17 numbers apart, 8 wide at half of their height: each is measured where it is. Spectra of the last events have these alone."""
         source = random.Random(1)
         numbers = [int(source.gauss(source.choice((1173, 1190)), 8 / 2.3548) + 0.5) for _ in range(200_000)]
-        self.write_words(numbers)
-        watch, server = self.start(plan="@sample", script=TOP / "examples/straight_line.script")
-        while watch.poll():
-            pass
+        watch, server = self.start_words(numbers)
         name = "ADC%20crate%201%20station%205%20A0"
         for low, last, centre in ((1160, 1181, 1173), (1182, 1203, 1190)):
             one = json.loads(self.ask(server, path=f"/state?of={name}&low={low}&last={last}")[1])["one"]
@@ -428,11 +438,55 @@ class Served(ServedCase):
             self.assertEqual(cells[1], f"{sum(counts):,}")
             self.assertAlmostEqual(float(cells[3].split()[0].replace(",", "")), centre, delta=0.3)
             self.assertAlmostEqual(float(cells[4].split()[0]), 8, delta=0.8)
-        self.file.write_bytes(self.file.read_bytes() + b"".join(record(Event(at, 3, 2, 0, (7,))) for at in range(200_001, 200_031)))
-        watch.poll()
+        self.append(watch, *(Event(at, 3, 2, 0, (7,)) for at in range(200_001, 200_031)))
         for window, low, count in (("events=30", 7, 30), ("since=200000", 7, 30), ("events=30", 8, 0), ("since=900000", 0, 200_030), ("seconds=600", 0, 30)):
             one = json.loads(self.ask(server, path=f"/state?{window}&of={name}&low={low}")[1])["one"]
             self.assertEqual(re.findall(r"<td[^>]*>([^<]*)</td>", one)[1], f"{count:,}", window)
+
+    def test_what_is_asked(self):
+        """Gates, regions and a pair are those by hand, also of events that come later and of the last ones; what is no name is told."""
+        source, name = random.Random(2), "ADC crate 1 station 5 A"
+        its = [tuple(int(source.gauss(1000 + 50 * at, 40)) for at in range(12)) for _ in range(3000)]
+        made = [record(Event(at, 3, 20, 0, words)) for at, words in enumerate(its, 1)]
+        self.file.write_bytes(NEW_FILE + b"".join(made[:2000]))
+        watch, server = self.start(plan="@sample", script=TOP / "examples/all_channels.script")
+        quoted = urllib.parse.quote(name)
+        asked = f"gate={quoted}1%20990..1060&gate={quoted}2%201090..1200&of={quoted}0&low=950&last=1050&up={quoted}1&region={quoted}3%201100..1200"
+        ask = lambda query: self.state(watch, server, f"?{query}")
+        windows = {"": 0, "since=2000&": 2000, "events=1000&": 2000}
+        for window in windows:
+            ask(window + asked)
+        self.file.write_bytes(NEW_FILE + b"".join(made))
+        for window, first in windows.items():
+            parts = ask(window + asked)
+            passed = [words for words in its[first:] if 990 <= words[1] <= 1060 and 1090 <= words[2] <= 1200]
+            rows = [re.findall(r"<td[^>]*>([^<]*)</td>", row)[:2] for row in re.findall("<tr>(.*?)</tr>", parts["one"])[1:]]
+            counts = [sum(low <= words[at] <= last for words in passed) for at, low, last in ((0, 950, 1050), (3, 1100, 1200))]
+            self.assertEqual(rows, [[f"{name}0 950 to 1,050", f"{counts[0]:,}"], [f"{name}3 1,100 to 1,200", f"{counts[1]:,}"]])
+            self.assertIn(f">{len(passed):,} events with both<", parts["one"])
+            self.assertIn(f"of events with {name}1 from 990 to 1,060 and {name}2 from 1,090 to 1,200", parts["channels"])
+            self.assertIn(f">{len(passed):,} words<", parts["channels"])
+        self.assertIn("no word has the name 'x'", ask("gate=x%201..2")["one"])
+        self.assertIn("a gate or a region is NAME LOW..HIGH", ask("region=x")["one"])
+
+    def test_another_run(self):
+        """Its line is multiplied for as many events, or for the same live time, and is of the same gates; what is wrong of it is told."""
+        name, made = "ADC%20crate%201%20station%205%20A0", camac.record.describe(camac.record.Played("@sample", TOP / "examples/straight_line.script", None, PROGRAM))
+        self.write_words([100] * 300 + [2000] * 100)
+        other = self.file.rename(self.room / "other.events")
+        watch, server = self.start_words([100] * 600)
+        watch.over = other
+        self.append(watch, *(Event(at, 3, 2, 0, (2000,)) for at in range(601, 801)))
+        self.write("other.json", dataclasses.replace(made, demands=2.0).text())
+        for query, live, line in (("", None, 600), ("&events=200", 8.0, 150), (f"&gate={name}%200..200", None, 600), ("", 8.0, 1200)):
+            watch.record = dataclasses.replace(made, demands=live)
+            parts = self.state(watch, server, f"?of={name}&low=100&last=103{query}")
+            self.assertIn(f'data-line="{line} 0 0 0"', parts["one"])
+            why = "the same live time (8.0 s, its own 2.0 s)" if line == 1200 else "as many events"
+            self.assertIn(f"; the line: other.events, for {why}<", parts["channels"])
+            self.assertEqual(parts["alarms"], "")
+        other.write_bytes(NEW_FILE + record(Event(1, 7, 2, 0, (1,))))
+        self.assertIn("other.events: events that this script can make, 0 of 1", self.state(watch, server)["alarms"])
 
     def test_folder(self):
         """The runs of a folder, each with its page."""
@@ -443,10 +497,7 @@ class Served(ServedCase):
         (self.room / "b 1.json").write_text(going)
         self.write("survey.json", "{}")
         runs = RunList(str(self.room), None, lambda given: Watch(given))
-        server = Server(runs, 0)
-        self.addCleanup(server.server_close)
-        threading.Thread(target=server.serve_forever, kwargs={"poll_interval": 0.05}, daemon=True).start()
-        self.addCleanup(server.shutdown)
+        server = self.serve(runs)
         self.addCleanup(runs.stop.set)
         self.assertIn('<ul id="runs">', self.ask(server)[1])
         shown = re.findall("<li>(.*?)</li>", json.loads(self.ask(server, path="/state")[1])["runs"])
@@ -461,10 +512,10 @@ class Served(ServedCase):
         for path in ("/c.json/", "/survey.json/", "/a%201.json", "/..%2Fa%201.json/", "/x/a%201.json/"):
             self.assertEqual(self.ask(server, path=path)[0], 404, path)
 
-    def state(self, watch, server):
+    def state(self, watch, server, query=""):
         watch.poll()
         watch.drawn.clear()
-        return json.loads(self.ask(server, path="/state")[1])
+        return json.loads(self.ask(server, path=f"/state{query}")[1])
 
     def change(self, **values):
         path = self.room / "run.json"
@@ -532,9 +583,7 @@ class InChromium(ServedCase):
             browser.said = []
             browser.call("Page.navigate", url=server.address())
             self.until(browser, shown, there)
-            with open(self.file, "ab") as out:
-                out.write(record(Event(there + 1, 3, 20, 1, (9,))))
-            watch.poll()
+            self.append(watch, Event(there + 1, 3, 20, 1, (9,)))
             self.until(browser, shown, there + 1)
             self.assertEqual(browser.said, [])
             self.assertEqual(set(browser.asked), {server.address(), f"{server.address()}state"})
@@ -548,33 +597,37 @@ class InChromium(ServedCase):
             self.until(browser, "document.getElementById('lost').hidden", False)
 
     def test_a_part_of_a_spectrum(self):
-        """By the mouse, and by the keyboard."""
-        self.write_words([100 + at % 9 for at in range(3000)])
-        watch, server = self.start(plan="@sample", script=TOP / "examples/straight_line.script")
-        while watch.poll():
-            pass
+        """By the mouse, by a finger, and by the keyboard."""
+        watch, server = self.start_words([100 + at % 9 for at in range(3000)])
         fields = "[look.elements.of.value,look.elements.low.value,look.elements.last.value,look.elements.window.value].join('|')"
+        rect = "document.querySelector('#{} rect[data-counts]')"
         with Browser() as browser:
             browser.said = []
             browser.call("Page.navigate", url=server.address())
             self.until(browser, "document.querySelectorAll('#channels rect[data-counts]').length>0", True)
             name = browser.ask("document.querySelector('#channels rect[data-counts]').closest('svg').getAttribute('aria-label')")
-            self.drag(browser, "#channels", 0.5, 0.5)
+            browser.drag(rect.format("channels"), 0.5, 0.5)
             self.until(browser, "document.querySelectorAll('#one rect[data-counts]').length", 1)
             self.assertEqual(browser.ask(fields), f"{name}|||")
             end = browser.ask("(d=>d.counts.split(' ').length*d.width)(document.querySelector('#one rect[data-counts]').dataset)")
-            self.drag(browser, "#one", 0.25, 0.5)
-            low, last = map(int, browser.ask(fields).split("|")[1:3])
-            self.assertTrue(abs(low - end / 4) < end / 200 and abs(last - end / 2) < end / 200, (low, last, end))
-            self.until(browser, "document.querySelector('#one rect[data-counts]').dataset.first", str(low))
-            browser.ask("document.getElementById('whole').focus()")
-            self.key(browser, "Enter")
-            self.until(browser, "document.querySelector('#one rect[data-counts]').dataset.first", "0")
-            self.assertEqual(browser.ask(fields), f"{name}|||")
+            for is_touch in (False, True):
+                browser.drag(rect.format("one"), 0.25, 0.5, is_touch)
+                low, last = map(int, browser.ask(fields).split("|")[1:3])
+                self.assertTrue(abs(low - end / 4) < end / 200 and abs(last - end / 2) < end / 200, (low, last, end))
+                self.until(browser, f"{rect.format('one')}?.dataset.first", str(low))
+                browser.ask("document.getElementById('add-gate').focus()")
+                browser.key("Enter")
+                self.until(browser, f"document.getElementById('channels').textContent.includes('of events with {name} from {low:,} to {last:,}')", True)
+                self.assertEqual(browser.ask("look.elements.gate.value"), f"{name} {low}..{last}")
+                browser.ask("look.elements.gate.value='';document.getElementById('whole').focus()")
+                browser.key("Enter")
+                self.until(browser, f"{rect.format('one')}?.dataset.first", "0")
+                self.assertEqual(browser.ask(fields), f"{name}|||")
+            self.keys(browser, watch, name, fields)
             for element, key, wanted in (("clear", " ", f"{name}|||since={watch.follower.counts.events}"), ("sound", " ", None), ("sound", " ", None)):
                 browser.ask(f"document.getElementById('{element}').focus()")
                 before = browser.ask("document.getElementById('sound').ariaPressed")
-                self.key(browser, key)
+                browser.key(key)
                 if wanted:
                     self.assertEqual(browser.ask(fields), wanted)
                 else:
@@ -582,19 +635,21 @@ class InChromium(ServedCase):
             self.until(browser, "document.getElementById('channels').textContent.startsWith('0 events')", True)
             self.assertEqual(browser.said, [])
 
-    def drag(self, browser, part, begin, end):
-        box = browser.ask(f"(it=>{{it.scrollIntoView({{block:'center'}});let b=it.getBoundingClientRect();return[b.left,b.top,b.width,b.height]}})(document.querySelector('{part} rect[data-counts]'))")
-        x, y = (box[0] + part * box[2] for part in (begin, end)), box[1] + box[3] / 2
-        for at, (kind, x) in enumerate(zip(("mousePressed", "mouseReleased"), x)):
-            if at:
-                browser.call("Input.dispatchMouseEvent", type="mouseMoved", x=x, y=y, button="left", buttons=1)
-            browser.call("Input.dispatchMouseEvent", type=kind, x=x, y=y, button="left", clickCount=1)
-
-    def key(self, browser, key):
-        code = {"Enter": 13, " ": 32}[key]
-        for kind in ("keyDown", "keyUp"):
-            text = {"text": "\r" if key == "Enter" else key} if kind == "keyDown" else {}
-            browser.call("Input.dispatchKeyEvent", type=kind, key=key, windowsVirtualKeyCode=code, **text)
+    def keys(self, browser, watch, name, fields):
+        """Arrow keys read a spectrum, also while new events come, and cut out a part of it."""
+        tip = "document.getElementById('tip').textContent"
+        browser.ask("look.elements.of.value='';ask();document.querySelector('#channels svg[tabindex]').focus()")
+        browser.key("End", "Home", *["ArrowRight"] * 3)
+        self.assertEqual(browser.ask(tip), "96 to 127: 3,000")
+        self.append(watch, Event(3001, 3, 2, 0, (96,)))
+        self.until(browser, tip, "96 to 127: 3,001")
+        browser.key("Enter")
+        self.until(browser, "document.querySelector('#one svg[tabindex]')?.focus(),look.elements.of.value+'|'+" + tip, f"{name}|0 to 7: 0")
+        browser.key("PageDown", "ArrowRight", "ArrowRight")
+        browser.key("ArrowRight", "Enter", shift=True)
+        self.assertEqual(browser.ask(fields), f"{name}|96|111|")
+        self.until(browser, tip, "96: 1")
+        browser.ask("document.getElementById('whole').click()")
 
     def test_narrow(self):
         watch, server = self.start(**self.bench_files())

@@ -6,7 +6,6 @@ usage: tests/words_test.py [-v] [TEST ..]     from any folder, over a built prog
 Tests with numpy or h5py are left out if these are not installed (Debian's packages python3-numpy and python3-h5py).
 """
 import collections
-import contextlib
 import csv
 import dataclasses
 import io
@@ -20,7 +19,7 @@ import sys
 import unittest
 import unittest.mock
 
-from support.live import PROGRAM, Case, script
+from support.live import PROGRAM, Case, command, script
 from support.needs import has, needed, skip
 
 import camac
@@ -299,22 +298,12 @@ class Export(Case):
 
     def call(self, *words, without=(), status=0):
         """What the command says. Modules may be taken away."""
-        before, errors = os.getcwd(), io.StringIO()
+        self.addCleanup(os.chdir, os.getcwd())
         os.chdir(self.room)
-        self.addCleanup(os.chdir, before)
-        with open("said", "wb") as said, contextlib.redirect_stderr(errors), unittest.mock.patch.dict(sys.modules, dict.fromkeys(without)):
-            kept = os.dup(1)
-            os.dup2(said.fileno(), 1)
-            try:
-                found = main(["export", *words])
-            except SystemExit as stop:
-                found = stop.code
-            finally:
-                os.dup2(kept, 1)
-                os.close(kept)
-        told = self.file("said").decode() + errors.getvalue()
-        self.assertEqual(found, status, told)
-        return told
+        with unittest.mock.patch.dict(sys.modules, dict.fromkeys(without)):
+            found, out, err = command("export", *words)
+        self.assertEqual(found, status, out + err)
+        return out + err
 
     def wanted(self):
         """The rows of words: event, gl, place, word, channel, charge, count, flag."""
@@ -613,7 +602,7 @@ class Spectra(Case):
         files = self.run_of([(100, 1)] * 300, *self.READ)
         os.rename(self.room / "run.events", self.room / "other.events")
         files = self.run_of([(100, 1)] * 600, *self.READ)
-        name, over = f"ADC crate 1 station 5 A0", ["--over", str(self.room / "other.events")]
+        name, over = "ADC crate 1 station 5 A0", ["--over", str(self.room / "other.events")]
         made = camac.record.describe(camac.record.Played("@sample", files[1], None, PROGRAM))
         for seconds, told, line in (((), "for as many events", 600), ((8.0, 2.0), "for the same live time (8.0 s, its own 2.0 s)", 1200)):
             for file, its in zip(("run", "other"), seconds):
@@ -623,15 +612,13 @@ class Spectra(Case):
             self.assertEqual(main(["report", *files, *over, "-o", str(page), "--overwrite"]), 0)
             panel = page.read_text()[page.read_text().index(f'aria-label="{name}"') :]
             self.assertEqual(re.search('data-over="([^"]*)"', panel)[1], f"-100 {line} -3995")
-        with contextlib.redirect_stderr(io.StringIO()):
-            self.assertEqual(main(["draw", "run", *files, *over, "-o", "x.svg"]), 2)
-            self.assertEqual(main(["draw", "words", *files, *over, "-o", over[1]]), 2)
+        self.assertEqual(command("draw", "run", *files, *over, "-o", "x.svg")[0], 2)
+        self.assertEqual(command("draw", "words", *files, *over, "-o", over[1])[0], 2)
 
     def test_words_that_are_wrong(self):
-        for words in (["--gate", "x", "9..8"], ["--region", "x", "1..5"], ["--range", "a"], ["--bins", "0"], ["--gate", "x", "0..99999999"]):
-            with contextlib.redirect_stderr(io.StringIO()) as told:
-                self.assertEqual(main(["draw", "words", "a", "b", "c", "-o", "d", *words]), 2)
-            self.assertIn(words[0], told.getvalue().splitlines()[-1])
+        for words in (["--gate", "x", "9..8"], ["--region", "x", "5..1"], ["--range", "a"], ["--bins", "0"], ["--gate", "x", "0..99999999"]):
+            status, _, told = command("draw", "words", "a", "b", "c", "-o", "d", *words)
+            self.assertEqual((status, words[0] in told.splitlines()[-1]), (2, True))
 
     def test_a_region_without_a_peak(self):
         self.assertEqual(measure(5, [4] * 12)[:2], (48, (0.0, math.sqrt(48 + 144 * 8 / 12))))

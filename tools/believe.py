@@ -1,9 +1,10 @@
 #!/usr/bin/env python3
 """The definitions on which the sentences of README rest, and those on which nothing rests.
 
-usage: tools/believe.py [--list | --dead]
+usage: tools/believe.py [--list | --dead | --lawless]
 
-Prints the page docs/inside/BELIEVE.md; with --list each definition and its lines; with --dead those on which no source rests: only proofs do, or nothing.
+Prints the page docs/inside/BELIEVE.md; with --list each definition and its lines; with --dead those on which no source rests: only proofs do, or nothing;
+with --lawless how many lines of each crate's definitions stand under no law of a file laws.rt, and their sum.
 """
 import re
 import sys
@@ -21,7 +22,8 @@ TEXT = """\
 # What has to be believed
 
 For whoever wants to know on what the sentences of [README](../../README.md#what-it-promises) rest: after this page you know which definitions to read.
-`tools/believe.py` writes it; with `--list` it names each definition.
+`tools/believe.py` writes it; with `--list` it names each definition, with `--lawless` it counts those under no law.
+camac_model/Run is the file `crates/camac_model/specs/Run.antt`.
 
 Nobody proves that a definition means what it should. Here are all on which a sentence rests, by their files in reading order, with their lines. Nothing
 else has to be believed but the toolchain, and types of sources that these name. Plans and scripts are trees here; of texts, see [PROMISES](PROMISES.md).
@@ -43,7 +45,7 @@ class File:
 
     def __init__(self, path):
         crate, self.part, *rest = path.relative_to(TOP / "crates").with_suffix("").parts
-        self.path, self.module, self.text = path, ".".join([crate, *rest]), path.read_text("utf-8")
+        self.module, self.text = ".".join([crate, *rest]), path.read_text("utf-8")
         self.imports, self.definitions, self.parts = {}, {}, {}
         for module, names, other in USE.findall(self.text):
             for it in [*names.split(", "), f"None as {other}"]:
@@ -63,7 +65,7 @@ class File:
         """Where the file is, the lines of these definitions in it, and the begin of its first sentence, without brackets."""
         said = re.sub(r"^-- | \(.*?\)", "", re.match(r"(?:--.*\n)*", self.text)[0].replace("\n-- ", " "))
         said = re.match(r"(?:.{18}.*?(?=[:;] )|.{30}.*?(?=, [a-z])|.*)", re.match(r".*?(?=\.?\s*$|\. )", said, re.S)[0])[0]
-        return f"- [{self.module.replace('.', '/')}](../../{self.path.relative_to(TOP)}), {count(it for it in names if it[0] == self.module)}: {said}."
+        return f"- {self.module.replace('.', '/')}, {count(it for it in names if it[0] == self.module)}: {said}."
 
 
 FILES = [File(it) for it in sorted(TOP.glob("crates/*/[sp]*/**/*")) if it.suffix in (".rt", ".antt")]
@@ -110,6 +112,12 @@ def main(words):
         living, proved = (under({it for file in FILES if file.part == part for it in named(file, file.lines)}) for part in ("src", "proofs"))
         for it in [(module, name) for module, file in MODULES.items() for name in file.definitions if (module, name) not in living]:
             print(f"{'only proofs rest' if it in proved else 'nothing rests'} on {'.'.join(it)}, {count([it])}")
+    elif words == ["--lawless"]:
+        lawful = {*under({it for file in FILES if file.part == "src" and file.module.endswith("laws") for it in named(file, file.lines)})}
+        crates = {it.partition(".")[0]: 0 for it in MODULES}
+        for module, name in {(module, name) for module, file in MODULES.items() for name in file.definitions} - lawful:
+            crates[module.partition(".")[0]] += count([(module, name)])
+        print("\n".join(f"{name} {lines}" for name, lines in [*crates.items(), ("all", sum(crates.values()))]))
     elif words == ["--list"]:
         print("\n".join(f"{'.'.join(it)}, {count([it])}" for it in [*first, *more]))
     elif words:

@@ -1,20 +1,16 @@
 /* camac.h: the checker and the runner of camac in your own process.
  *
  * A script is checked against the plan of a laboratory, and then played, one answer of the branch at a time. The library makes no operation
- * itself, opens no file and starts no thread. You ask what is wanted, have your branch driver make it, and hand on its answer:
+ * itself, opens no file and starts no thread. Functions of yours make each operation, and take the events:
  *
  *     camac_session s = CAMAC_NONE;
- *     camac_want want = CAMAC_WANT;
- *     camac_answer answer = CAMAC_ANSWER;
- *     camac_progress progress = CAMAC_PROGRESS;
+ *     camac_branch branch = CAMAC_BRANCH;
+ *     branch.make = make, branch.unlock = unlock, branch.event = event;
  *     code = camac_open(&s, plan, plan_size, script, script_size, text, sizeof text, &size);
- *     while (code == CAMAC_OK && (code = camac_wants(&s, &want)) == CAMAC_OK) {
- *         if (!operate(&want, &answer)) break;
- *         code = camac_next(&s, &answer, &progress);
- *         for (const uint8_t *c = progress.unlocked; *c; c++) release(*c);
- *         if (progress.event) count = camac_words(&s, words, CAMAC_EVENT_WORDS);
- *     }
+ *     if (code == CAMAC_OK) code = camac_play(&s, &branch, user);
  *     camac_close(&s);
+ *
+ * Or you ask what is wanted (camac_wants), have your branch driver make it, and hand on its answer (camac_next).
  *
  * Compile with: cc program.c $(pkg-config --cflags --libs camac). docs/C.md of the sources has the whole of a program, and so has camac(3).
  *
@@ -23,10 +19,12 @@
  *           controllers that came before an operation (IEEE 675). Costs are counted in dataway cycles, never in seconds.
  * TEXTS     are bytes with a length; no 0 ends them. A plan and a script have at most CAMAC_TEXT_BYTES bytes, an event file CAMAC_FILE_BYTES.
  *           A text that comes out is cut where your buffer ends, and *size is its whole length, as snprintf tells it. A buffer of no room may
- *           be NULL, and so may `size`. NULL with a length or a room above 0 is CAMAC_MISUSE: it is a read or a malloc that failed.
- * STRUCTS   begin with their size and end in spare words that are 0. The initializers CAMAC_NONE, CAMAC_WANT, CAMAC_ANSWER, CAMAC_PROGRESS and
- *           CAMAC_SERVICE_INFO set both; in another language you set them. A struct without its size, and an answer with a spare byte that is not 0, is
- *           CAMAC_MISUSE. So a later version can tell more, and programs of this one go on.
+ *           be NULL, and so may `size`. NULL with a length or a room above 0 is CAMAC_MISUSE: it is a read or a malloc that failed. So is a length
+ *           above PTRDIFF_MAX, as the -1 of ftell.
+ * STRUCTS   begin with their size, and their spare words are 0. The initializers CAMAC_NONE, CAMAC_WANT, CAMAC_ANSWER, CAMAC_PROGRESS,
+ *           CAMAC_SERVICE_INFO and CAMAC_BRANCH set both; in another language, in {.x = 1} and after memset you set them. A struct without its size,
+ *           or whose size is no multiple of 4, and an answer with a spare byte that is not 0, is CAMAC_MISUSE. So a later version can tell more, and
+ *           programs of this one go on.
  * CODES     CAMAC_OK is 0, and all others are greater. No code is ever given another meaning. Where the code is neither CAMAC_OK nor
  *           CAMAC_REFUSED, *size is 0 and the buffer stays as it was.
  * LIFETIME  A session is CAMAC_NONE until camac_open puts a run there, and again after camac_close, which frees all that was taken. To close
@@ -35,7 +33,7 @@
  * THREADS   Different sessions may be used by different threads at the same time. The calls on one session come one after another, each
  *           after the one before (by a lock, by a join). No call is for a signal handler, or for the child of a fork of a process with threads.
  * TIME      camac_next and camac_step go on until an operation is wanted: at most as many steps as camac_service tells of the service in progress, of
- *           7 ns to 10 us each, by the length of its expressions. Nothing interrupts them, but camac_limit_steps may set a limit for a session.
+ *           7 ns to 25 us each, by the length of its expressions. Nothing interrupts them, but camac_limit_steps may set a limit for a session.
  * YOU KEEP  what the proof takes for granted, and nothing can test:
  *           1. A session is CAMAC_NONE or what camac_open left there, and nobody else changes its bytes.
  *           2. Each pointer leads to as many bytes as its length says. What the library writes overlaps nothing else that you hand in, and
@@ -62,8 +60,11 @@ extern "C" {
 #define CAMAC_TEXT_BYTES 1048576u
 #define CAMAC_FILE_BYTES 16777216u
 #define CAMAC_EVENT_WORDS 4096u
+#define CAMAC_RECORD_BYTES (16u + 4u * CAMAC_EVENT_WORDS) /* the most of camac_record */
+#define CAMAC_LINES_BYTES 256u                            /* the most of camac_item */
 #define CAMAC_CRATES 7u
 #define CAMAC_AHEAD 64u
+#define CAMAC_AHEAD_STEPS 512u /* the most steps from the first operation of a list to its last */
 #define CAMAC_NO_LIMIT 0xffffffffu /* more steps than any service makes */
 
 enum camac_code {
@@ -71,12 +72,12 @@ enum camac_code {
     CAMAC_REFUSED = 1,   /* a plan, a script, an answer or an event file broke a rule, a wait was not permitted, or a service may end too late:
                             the text says which */
     CAMAC_MISUSE = 2,    /* the session is none, or header and library do not fit; camac_open found it open; a struct or a pointer is wrong
-                            (STRUCTS, TEXTS); what camac_response is told of services is wrong */
+                            (STRUCTS, TEXTS); what camac_response is told of services is wrong; camac_explain_at: a line or column of 0 */
     CAMAC_NO_MEMORY = 3, /* malloc or realloc refused */
     CAMAC_OVERRUN = 4,   /* a wait that the plan does not permit: the run stays where it was, for good */
     CAMAC_RANGE = 5,     /* a word or gl above 0xffffff, a wait above 15, or the number of no service */
     CAMAC_SPENT = 6,     /* the run has used 4,294,967,295 answers */
-    CAMAC_LONG = 7,      /* a text that is longer than it may be */
+    CAMAC_LONG = 7,      /* a plan, a script or an event file that is longer than it may be */
     CAMAC_BUSY = 8       /* the run pauses, after as many steps as camac_limit_steps allows at once: it wants no answer, but camac_go_on */
 };
 
@@ -84,9 +85,9 @@ enum camac_code {
 typedef struct camac_session {
     uint32_t size, version; /* of this header */
     void *camac_private[6];
-    uint32_t spare[2];
+    uint32_t camac_is_short, camac_serving;
 } camac_session;
-#define CAMAC_NONE {sizeof(camac_session), CAMAC_VERSION_NUMBER, {NULL, NULL, NULL, NULL, NULL, NULL}, {0, 0}}
+#define CAMAC_NONE {sizeof(camac_session), CAMAC_VERSION_NUMBER, {NULL, NULL, NULL, NULL, NULL, NULL}, 0, 0}
 
 enum camac_kind {
     CAMAC_DEMAND = 1, /* a graded-L operation: the answer's gl counts */
@@ -138,9 +139,10 @@ typedef struct camac_progress {
     uint32_t event_words;  /* how many words it has, at most CAMAC_EVENT_WORDS; camac_words has them until the next answer is taken */
     uint32_t event_cycles; /* the dataway cycles that it cost */
     uint32_t event_missed; /* how many of these had no X, at most 65535 */
-    uint32_t spare[3];
+    uint32_t event_service; /* which service left it, numbered as in `service` */
+    uint32_t spare[2];
 } camac_progress;
-#define CAMAC_PROGRESS {sizeof(camac_progress), 0, 0, 0, 0, 0, {0, 0, 0}, {0, 0, 0, 0, 0, 0, 0, 0}, 0, 0, 0, 0, 0, 0, 0, 0, {0, 0, 0}}
+#define CAMAC_PROGRESS {sizeof(camac_progress), 0, 0, 0, 0, 0, {0, 0, 0}, {0, 0, 0, 0, 0, 0, 0, 0}, 0, 0, 0, 0, 0, 0, 0, 0, 0, {0, 0}}
 
 /* A service of the script, with the bounds that the checker found and the numbers of its heading. */
 typedef struct camac_service_info {
@@ -193,8 +195,8 @@ CAMAC_CALL camac_response(const void *plan, size_t plan_size, const void *script
 /* What `camac events` prints of an event file in memory. */
 CAMAC_CALL camac_events(const void *file, size_t file_size, char *text, size_t room, size_t *size);
 
-/* What `camac run` does with the text of all answers: its listing, and its event file. An overrun is CAMAC_REFUSED here, as it is status 1
- * of the program. */
+/* What `camac run` does with the text of all answers, of any size: its listing, and its event file. An overrun is CAMAC_REFUSED here, as it is
+ * status 1 of the program. */
 CAMAC_CALL camac_run(const void *plan, size_t plan_size, const void *script, size_t script_size, const void *answers, size_t answers_size,
                      char *text, size_t room, size_t *size, void *file, size_t file_room, size_t *file_size);
 
@@ -213,14 +215,15 @@ CAMAC_CALL camac_wants(const camac_session *s, camac_want *want);
 CAMAC_CALL camac_next(camac_session *s, const camac_answer *answer, camac_progress *progress);
 
 /* The operations that come next, whatever is answered: a controller that makes lists of commands makes them in one transfer. Writes as many as there
- * is room for, and answers how many: one at least where the run goes on, and CAMAC_AHEAD at most. 0 where the run is over or pauses, or the session is none. The
- * first is that of camac_wants. Until the answer of the last one is taken, no lockout is to be released and no event left. A wait that is not
- * permitted ends the run before the rest. The size of want[0] counts for all, and is written into the others. */
+ * is room for, and answers how many: one at least where the run goes on, and CAMAC_AHEAD at most; one, too, while the run may make fewer steps at
+ * once than CAMAC_AHEAD_STEPS, since it could pause before the last. 0 where the run is over or pauses, or the session is none. The first is that of
+ * camac_wants. Until the answer of the last one is taken, no lockout is to be released and no event left. A wait that is not permitted ends the run
+ * before the rest. The size of want[0] counts for all, and is written into the others. */
 size_t camac_ahead(const camac_session *s, camac_want *want, size_t room);
 
-/* camac_next of one answer after the other, up to one that is not taken, whose code it gives, that leaves an event, whose words and record can be read
- * then, or after which the run pauses, at CAMAC_BUSY. *taken is how many were taken, and progress[*taken] tells of the one that was not. The size of progress[0] counts for all, and is
- * written into the others; each answer has its own. */
+/* camac_next of one answer after the other, up to one that is not taken, whose code it gives, that leaves an event, whose words and record can be
+ * read then, or after which the run pauses, at CAMAC_BUSY. *taken is how many were taken, and progress[*taken] tells of the one that was not. The
+ * size of progress[0] counts for all, and is written into the others; each answer has its own. */
 CAMAC_CALL camac_next_many(camac_session *s, const camac_answer *answer, camac_progress *progress, size_t count, size_t *taken);
 
 /* camac_next, and where that is CAMAC_OK, camac_wants after it, at one crossing. At any other code *want is zeros. */
@@ -273,6 +276,34 @@ CAMAC_CALL camac_abandon(camac_session *s, uint32_t *unlocked, size_t room, size
 /* Begins the run anew, as camac_open begins it, without judging the script: crates and variables are as at the first demand, events count from
  * 1. The lockouts that you hold are yours to release. */
 CAMAC_CALL camac_rewind(camac_session *s);
+
+/* What came of an operation that camac_play had a branch make. */
+enum camac_made {
+    CAMAC_MADE = 0, /* it was made, and has its answer */
+    CAMAC_END = 1,  /* the run ends here: no more demands are served, or the branch failed */
+    CAMAC_FAULT = 2 /* it failed: the service in progress is left as by camac_abandon, after which the next demand is wanted. What the service has
+                       changed of inhibit and demand output has to be set back already. A lockout that failed is not held */
+};
+
+/* A branch, as camac_play asks it. The first word of each call is the last one of camac_play; `event` and `pause` may be NULL. */
+typedef struct camac_branch {
+    uint32_t size, spare;
+    /* makes what is wanted, and fills in its answer, CAMAC_ANSWER before: enum camac_made */
+    int (*make)(void *user, const camac_want *want, camac_answer *answer);
+    /* releases the lockout of a crate */
+    void (*unlock)(void *user, uint32_t c);
+    /* an event is left: camac_words and camac_record have it */
+    void (*event)(void *user, const camac_session *s, const camac_progress *its);
+    /* the run pauses, as camac_limit_steps has it, and then goes on */
+    void (*pause)(void *user);
+} camac_branch;
+#define CAMAC_BRANCH {sizeof(camac_branch), 0, NULL, NULL, NULL, NULL}
+
+/* Plays a run: has the branch make all that is wanted, in order. CAMAC_OK: it said CAMAC_END. Any other code is that of the call that failed; after
+ * CAMAC_OVERRUN camac_next tells the crate and the wait once more. Of what an answer or a pause brought the event is told first, and then lockouts are
+ * released. However the run ends, all lockouts are released, the last that was taken first; a service that is still in progress can then only be left
+ * by camac_abandon, or the run begun anew. */
+CAMAC_CALL camac_play(camac_session *s, const camac_branch *branch, void *user);
 
 /* Ends the run, and frees what it has. The lockouts that you hold are yours to release. */
 void camac_close(camac_session *s);

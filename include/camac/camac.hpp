@@ -7,6 +7,7 @@
 
 #include <algorithm>
 #include <cstdlib>
+#include <optional>
 #include <stdexcept>
 #include <string>
 #include <string_view>
@@ -21,7 +22,7 @@
 
 namespace camac {
 
-// A call that failed: its code (enum camac_code), and as what() the text of a refusal, or what the code says.
+// A call that failed: its code (enum camac_code), and as what() the text of a refusal, what a misused call needs, or what the code says.
 class fault : public std::runtime_error {
     int its_code;
 
@@ -72,59 +73,45 @@ template <class Call> int fill(std::string &text, Call call) {
     return code;
 }
 
-template <class Call> verdict judged(Call call) {
+template <class Call> verdict judged(Call call, const char *needed = "") {
     std::string text;
     const int code = fill(text, call);
-    if (code > CAMAC_REFUSED) CAMAC_THROW(fault(code));
+    if (code > CAMAC_REFUSED) CAMAC_THROW(fault(code, code == CAMAC_MISUSE ? needed : ""));
     return {code == CAMAC_OK, std::move(text)};
+}
+inline verdict judged(decltype(camac_plan) *call, std::string_view its) {
+    return judged([&](char *t, std::size_t room, std::size_t *n) { return call(its.data(), its.size(), t, room, n); });
+}
+inline verdict judged(decltype(camac_check) *call, std::string_view plan, std::string_view script) {
+    return judged([&](char *t, std::size_t room, std::size_t *n) { return call(plan.data(), plan.size(), script.data(), script.size(), t, room, n); });
 }
 } // namespace detail
 
 // What the calls of camac.h with these names do. They throw fault at codes other than CAMAC_OK and CAMAC_REFUSED.
-[[nodiscard]] inline verdict plan(std::string_view plan) {
-    return detail::judged([&](char *t, std::size_t room, std::size_t *n) { return camac_plan(plan.data(), plan.size(), t, room, n); });
-}
-[[nodiscard]] inline verdict explain_plan(std::string_view plan) {
-    return detail::judged([&](char *t, std::size_t room, std::size_t *n) { return camac_explain_plan(plan.data(), plan.size(), t, room, n); });
-}
-[[nodiscard]] inline verdict check(std::string_view plan, std::string_view script) {
-    return detail::judged([&](char *t, std::size_t room, std::size_t *n) {
-        return camac_check(plan.data(), plan.size(), script.data(), script.size(), t, room, n);
-    });
-}
-[[nodiscard]] inline verdict explain(std::string_view plan, std::string_view script) {
-    return detail::judged([&](char *t, std::size_t room, std::size_t *n) {
-        return camac_explain(plan.data(), plan.size(), script.data(), script.size(), t, room, n);
-    });
-}
+[[nodiscard]] inline verdict plan(std::string_view plan) { return detail::judged(camac_plan, plan); }
+[[nodiscard]] inline verdict explain_plan(std::string_view plan) { return detail::judged(camac_explain_plan, plan); }
+[[nodiscard]] inline verdict events(std::string_view file) { return detail::judged(camac_events, file); }
+[[nodiscard]] inline verdict check(std::string_view plan, std::string_view script) { return detail::judged(camac_check, plan, script); }
+[[nodiscard]] inline verdict explain(std::string_view plan, std::string_view script) { return detail::judged(camac_explain, plan, script); }
 [[nodiscard]] inline verdict explain_bounds(std::string_view plan, std::string_view script) {
-    return detail::judged([&](char *t, std::size_t room, std::size_t *n) {
-        return camac_explain_bounds(plan.data(), plan.size(), script.data(), script.size(), t, room, n);
-    });
+    return detail::judged(camac_explain_bounds, plan, script);
 }
+[[nodiscard]] inline verdict bounds(std::string_view plan, std::string_view script) { return detail::judged(camac_bounds, plan, script); }
+[[nodiscard]] inline verdict costs(std::string_view plan, std::string_view script) { return detail::judged(camac_costs, plan, script); }
 [[nodiscard]] inline verdict explain_at(std::string_view plan, std::string_view script, std::uint32_t line, std::uint32_t column) {
-    return detail::judged([&](char *t, std::size_t room, std::size_t *n) {
-        return camac_explain_at(plan.data(), plan.size(), script.data(), script.size(), line, column, t, room, n);
-    });
-}
-[[nodiscard]] inline verdict bounds(std::string_view plan, std::string_view script) {
-    return detail::judged([&](char *t, std::size_t room, std::size_t *n) {
-        return camac_bounds(plan.data(), plan.size(), script.data(), script.size(), t, room, n);
-    });
-}
-[[nodiscard]] inline verdict costs(std::string_view plan, std::string_view script) {
-    return detail::judged([&](char *t, std::size_t room, std::size_t *n) {
-        return camac_costs(plan.data(), plan.size(), script.data(), script.size(), t, room, n);
-    });
+    return detail::judged(
+        [&](char *t, std::size_t room, std::size_t *n) {
+            return camac_explain_at(plan.data(), plan.size(), script.data(), script.size(), line, column, t, room, n);
+        },
+        "explain_at needs a line and a column from 1 on");
 }
 [[nodiscard]] inline verdict response(std::string_view plan, std::string_view script, std::string_view every = {}, std::string_view within = {}) {
-    return detail::judged([&](char *t, std::size_t room, std::size_t *n) {
-        return camac_response(plan.data(), plan.size(), script.data(), script.size(), every.data(), every.size(), within.data(), within.size(), t,
-                              room, n);
-    });
-}
-[[nodiscard]] inline verdict events(std::string_view file) {
-    return detail::judged([&](char *t, std::size_t room, std::size_t *n) { return camac_events(file.data(), file.size(), t, room, n); });
+    return detail::judged(
+        [&](char *t, std::size_t room, std::size_t *n) {
+            return camac_response(plan.data(), plan.size(), script.data(), script.size(), every.data(), every.size(), within.data(), within.size(),
+                                  t, room, n);
+        },
+        "response needs services of the script, each once at most, as adc=200");
 }
 
 // A place in a script: a service, from 1 in its order, and a line.
@@ -132,35 +119,57 @@ struct place {
     std::uint32_t service, line;
 };
 
+// What each answer of a list did, and the code at which the list ended: CAMAC_OK where all were taken, or the last of these left an event.
+struct progress_list : std::vector<camac_progress> {
+    int code = CAMAC_OK;
+};
+
 // A run of an accepted script. It can be moved, and not copied; one that was moved from is none.
 class session {
     camac_session its = CAMAC_NONE;
     camac_progress its_last = CAMAC_PROGRESS;
     std::string its_verdict;
+    bool its_pause = false;
 
-    [[noreturn]] void fail(int code) const {
+    [[noreturn]] void fail(int code, const std::string &call) const {
         if (code == CAMAC_OVERRUN) CAMAC_THROW(overrun(its_last));
-        CAMAC_THROW(fault(code));
+        if (code != CAMAC_MISUSE) CAMAC_THROW(fault(code));
+        camac_want want = CAMAC_WANT;
+        const bool is_none = camac_wants(&its, &want) == CAMAC_MISUSE;
+        CAMAC_THROW(fault(code, call + (is_none ? " needs a session that was not moved from" : " needs answers that begin as CAMAC_ANSWER")));
+    }
+
+    // Fails at a code that is not CAMAC_OK.
+    void test(int code, const char *call) const {
+        if (code != CAMAC_OK) fail(code, call);
     }
 
     // Fails unless an answer was taken.
-    void taken(int code, const camac_progress &progress) {
+    void taken(int code, const camac_progress &progress, const char *call) {
         if (code == CAMAC_OVERRUN) its_last = progress;
-        if (code != CAMAC_OK && !(code == CAMAC_BUSY && progress.kind != 0)) fail(code);
+        if (code != CAMAC_BUSY || progress.kind == 0) test(code, call);
+        its_pause = code == CAMAC_BUSY;
     }
 
     // The bytes of a call with a buffer.
-    template <class Call> std::string filled(Call call) const {
+    template <class Call> std::string filled(Call call, const char *name) const {
         std::string bytes;
-        const int code = detail::fill(bytes, call);
-        if (code != CAMAC_OK) fail(code);
+        test(detail::fill(bytes, [&](char *t, std::size_t room, std::size_t *n) { return call(&its, t, room, n); }), name);
         return bytes;
+    }
+
+    // The numbers of a call with room for them.
+    template <class Call> std::vector<std::uint32_t> counted(Call call) const {
+        std::vector<std::uint32_t> numbers(call(&its, nullptr, 0));
+        call(&its, numbers.data(), numbers.size());
+        return numbers;
     }
 
     void swap(session &other) noexcept {
         std::swap(its, other.its);
         std::swap(its_last, other.its_last);
         its_verdict.swap(other.its_verdict);
+        std::swap(its_pause, other.its_pause);
     }
 
 public:
@@ -170,6 +179,7 @@ public:
         const int code =
             camac_open(&its, plan.data(), plan.size(), script.data(), script.size(), its_verdict.data(), its_verdict.size(), &size);
         its_verdict.resize(std::min(size, its_verdict.size())); // no verdict is longer
+        if (code == CAMAC_MISUSE) its_verdict = "session needs a library that fits its header, " CAMAC_VERSION;
         if (code != CAMAC_OK) CAMAC_THROW(fault(code, its_verdict));
     }
     ~session() { camac_close(&its); }
@@ -190,8 +200,7 @@ public:
     // What the next answer is for. Throws overrun where the run is over, and fault where it pauses (CAMAC_BUSY) or the session is none (CAMAC_MISUSE).
     [[nodiscard]] camac_want wants() const {
         camac_want want = CAMAC_WANT;
-        const int code = camac_wants(&its, &want);
-        if (code != CAMAC_OK) fail(code);
+        test(camac_wants(&its, &want), "wants");
         return want;
     }
 
@@ -206,18 +215,20 @@ public:
     // the answer, is_busy tells so; an answer to a run that pauses is fault (CAMAC_BUSY).
     camac_progress next(const camac_answer &answer) {
         camac_progress progress = CAMAC_PROGRESS;
-        taken(camac_next(&its, &answer, &progress), progress);
+        taken(camac_next(&its, &answer, &progress), progress, "next");
         return progress;
     }
 
-    // The same of one answer after the other, up to one that leaves an event or makes the run pause: what each did that was taken. Throws where the first is not taken; a
-    // later one ends the list.
-    std::vector<camac_progress> next(const std::vector<camac_answer> &answers) {
-        std::vector<camac_progress> did(answers.size(), camac_progress CAMAC_PROGRESS);
+    // The same of one answer after the other, up to one that leaves an event, makes the run pause (CAMAC_BUSY) or is not taken. Throws where the
+    // first is not taken.
+    progress_list next(const std::vector<camac_answer> &answers) {
+        progress_list did;
+        did.resize(answers.size(), camac_progress CAMAC_PROGRESS);
         std::size_t taken = 0;
-        const int code = camac_next_many(&its, answers.data(), did.data(), answers.size(), &taken);
-        if (code == CAMAC_OVERRUN) its_last = did[taken];
-        if (code != CAMAC_OK && !taken) fail(code);
+        did.code = camac_next_many(&its, answers.data(), did.data(), answers.size(), &taken);
+        if (did.code == CAMAC_OVERRUN) its_last = did[taken];
+        if (!taken) test(did.code, "next");
+        its_pause = did.code == CAMAC_BUSY;
         did.resize(taken);
         return did;
     }
@@ -225,57 +236,39 @@ public:
     // Takes an answer as `next` does, and tells what the next one is for, at one crossing.
     camac_progress step(const camac_answer &answer, camac_want &want) {
         camac_progress progress = CAMAC_PROGRESS;
-        taken(camac_step(&its, &answer, &progress, &want), progress);
+        taken(camac_step(&its, &answer, &progress, &want), progress, "step");
         return progress;
     }
 
     // Sets how many steps the run makes at once, before it pauses; CAMAC_NO_LIMIT at first.
-    void limit_steps(std::uint32_t most) {
-        const int code = camac_limit_steps(&its, most);
-        if (code != CAMAC_OK) fail(code);
-    }
+    void limit_steps(std::uint32_t most) { test(camac_limit_steps(&its, most), "limit_steps"); }
 
     // Whether the run pauses: it wants no answer, but go_on.
-    [[nodiscard]] bool is_busy() const noexcept {
-        camac_want want = CAMAC_WANT;
-        return camac_wants(&its, &want) == CAMAC_BUSY;
-    }
+    [[nodiscard]] bool is_busy() const noexcept { return its_pause; }
 
     // Goes on after a pause, and tells the lockouts to release, and the event if the service ended.
     camac_progress go_on() {
         camac_progress progress = CAMAC_PROGRESS;
         const int code = camac_go_on(&its, &progress);
-        if (code != CAMAC_OK && code != CAMAC_BUSY) fail(code);
+        its_pause = code == CAMAC_BUSY;
+        if (!its_pause) test(code, "go_on");
         return progress;
     }
 
     // The words of the event that the last answer left; none where it left none.
-    [[nodiscard]] std::vector<std::uint32_t> words() const {
-        std::vector<std::uint32_t> its_words(camac_words(&its, nullptr, 0));
-        camac_words(&its, its_words.data(), its_words.size());
-        return its_words;
-    }
+    [[nodiscard]] std::vector<std::uint32_t> words() const { return counted(camac_words); }
 
     // What camac run writes for the last answer: its lines of the listing, and the record of the event that it left.
-    [[nodiscard]] std::string item() const {
-        return filled([&](char *t, std::size_t room, std::size_t *n) { return camac_item(&its, t, room, n); });
-    }
-    [[nodiscard]] std::string record() const {
-        return filled([&](char *t, std::size_t room, std::size_t *n) { return camac_record(&its, t, room, n); });
-    }
+    [[nodiscard]] std::string item() const { return filled(camac_item, "item"); }
+    [[nodiscard]] std::string record() const { return filled(camac_record, "record"); }
 
     // The crates whose lockout is held, the last that was taken first.
-    [[nodiscard]] std::vector<std::uint32_t> held() const {
-        std::vector<std::uint32_t> crates(camac_held(&its, nullptr, 0));
-        camac_held(&its, crates.data(), crates.size());
-        return crates;
-    }
+    [[nodiscard]] std::vector<std::uint32_t> held() const { return counted(camac_held); }
 
     // Where the run stands: the service in progress, from 1, and the line of its statement that wants; both are 0 at a demand.
     [[nodiscard]] place where() const {
         place its_place{};
-        const int code = camac_where(&its, &its_place.service, &its_place.line);
-        if (code != CAMAC_OK) fail(code);
+        test(camac_where(&its, &its_place.service, &its_place.line), "where");
         return its_place;
     }
 
@@ -286,10 +279,7 @@ public:
     [[nodiscard]] std::vector<camac_service_info> services() const {
         std::vector<camac_service_info> all(camac_services(&its), camac_service_info CAMAC_SERVICE_INFO);
         std::uint32_t number = 0;
-        for (camac_service_info &info : all) {
-            const int code = camac_service(&its, ++number, &info);
-            if (code != CAMAC_OK) fail(code);
-        }
+        for (camac_service_info &info : all) test(camac_service(&its, ++number, &info), "services");
         return all;
     }
 
@@ -297,18 +287,104 @@ public:
     std::vector<std::uint32_t> abandon() {
         std::vector<std::uint32_t> crates(CAMAC_CRATES);
         std::size_t count = 0;
-        const int code = camac_abandon(&its, crates.data(), crates.size(), &count);
-        if (code != CAMAC_OK) fail(code);
+        test(camac_abandon(&its, crates.data(), crates.size(), &count), "abandon");
+        its_pause = false;
         crates.resize(count);
         return crates;
     }
 
     // Begins the run anew.
     void rewind() {
-        const int code = camac_rewind(&its);
-        if (code != CAMAC_OK) fail(code);
+        test(camac_rewind(&its), "rewind");
+        its_pause = false;
     }
 };
+
+// A branch, as `play` asks it.
+class branch {
+public:
+    virtual ~branch() = default;
+    // Makes a graded-L operation; nothing where no more demands are served.
+    virtual std::optional<camac_answer> demand() = 0;
+    virtual camac_answer cycle(const camac_want &want) = 0;
+    // Takes the lockout of a crate. Where it throws, the crate is not locked.
+    virtual camac_answer lock(unsigned c) = 0;
+    virtual void unlock(unsigned c) noexcept = 0;
+    // An event is left, whose words and record the session has.
+    virtual void event(const session &, const camac_progress &) {}
+    // An operation threw this. True: the service in progress is left (`abandon`), and the run goes on at a demand. What the service has changed of
+    // inhibit and demand output has to be set back here. False: `play` throws it.
+    virtual bool fault(const std::exception &, const session &) { return false; }
+    // The run pauses, as limit_steps has it, and then goes on.
+    virtual void pause() {}
+};
+
+namespace detail {
+// A run that is played: it keeps which lockouts are held, and releases them at its end, the last that was taken first.
+class player {
+    session &run;
+    branch &its;
+    std::vector<std::uint32_t> held; // the last that was taken behind the others
+
+    void release_last() noexcept {
+        its.unlock(held.back());
+        held.pop_back();
+    }
+
+    std::optional<camac_answer> make(const camac_want &want) {
+        if (want.kind == CAMAC_DEMAND) return its.demand();
+        if (want.kind == CAMAC_CYCLE) return its.cycle(want);
+        const camac_answer answer = its.lock(want.c);
+        held.push_back(want.c);
+        return answer;
+    }
+
+    // Has an operation made, and its answer taken. False where no more demands are served.
+    bool answer(const camac_want &want) {
+#if defined(__cpp_exceptions)
+        std::optional<camac_answer> made;
+        try {
+            made = make(want);
+        } catch (const std::exception &why) {
+            if (!its.fault(why, run)) throw;
+            for (auto count = run.abandon().size(); count; count--) release_last();
+            return true;
+        }
+#else
+        const std::optional<camac_answer> made = make(want);
+#endif
+        if (made) settle(run.next(*made));
+        return made.has_value();
+    }
+
+    void settle(const camac_progress &did) {
+        if (did.event) its.event(run, did);
+        for (const auto *c = did.unlocked; *c; c++) release_last();
+    }
+
+    bool go_on() {
+        its.pause();
+        settle(run.go_on());
+        return true;
+    }
+
+public:
+    player(session &session, branch &branch) : run(session), its(branch), held(session.held()) {
+        std::reverse(held.begin(), held.end());
+        held.reserve(CAMAC_CRATES);
+    }
+    ~player() {
+        while (!held.empty()) release_last();
+    }
+    void play() {
+        while (run.is_busy() ? go_on() : answer(run.wants())) {}
+    }
+};
+} // namespace detail
+
+// Plays a run, as camac_play does: has the branch make all that is wanted, in order, until no more demands are served. Throws what the branch and
+// `next` throw.
+inline void play(session &session, branch &branch) { detail::player(session, branch).play(); }
 
 // The header of an event file, behind which the records stand.
 [[nodiscard]] inline std::string file_header() {

@@ -12,14 +12,14 @@ from camac.printed import parse_listing
 from camac.record import Record, Recording, read_record
 from camac.subcommands import bounds, check, costs, plan, response, run
 from camac.surveys import Survey, survey
-from camac.values import Body, Command, Cost, Crate, Cycle, Declaration, Demand, Ending, Harm, Heading, Lock, ModuleType, Move, Plan, Response, Row, RunEnd, Service, Station, Unkept, Unlock
+from camac.values import Body, Command, Contradiction, Cost, Crate, Cycle, Declaration, Demand, Ending, Harm, Heading, Lock, ModuleType, Move, Plan, Response, Row, RunEnd, Service, Station, Unkept, Unlock
 from camac.warn import Warned, warnings
 from camac.word_file import WordsFault, read_words
 from camac.word_sources import words_of_script
 from camac.words import Column, Field, Words
 
 __all__ = [
-    "Answer", "Body", "Branch", "Column", "Command", "Cost", "Crate", "Cycle", "Declaration", "Demand", "DriveFault", "Ending", "Event",
+    "Answer", "Body", "Branch", "Column", "Command", "Contradiction", "Cost", "Crate", "Cycle", "Declaration", "Demand", "DriveFault", "Ending", "Event",
     "EventArrays", "EventFileFault", "Field", "Harm", "Heading", "Lock", "ModuleType", "Move", "Plan", "ProgramFault", "Proposal", "Proposals",
     "ProtocolFault", "Record", "Recording", "Refused", "Response", "Row", "RunEnd", "Runs", "Service", "Station", "Survey", "TimeFault", "Unkept",
     "Unlock", "UsageFault", "Warned", "Whole", "Words", "WordsFault", "bounds", "call", "check", "costs", "drive", "driver", "event_arrays",

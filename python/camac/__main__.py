@@ -1,5 +1,6 @@
 """The commands of the package: python3 -m camac check, fmt, lsp, diff, draw, report, annotate, csv, survey, simulate, export, watch."""
 import argparse
+import functools
 import importlib
 import sys
 from typing import List, Optional
@@ -22,7 +23,8 @@ variable CAMAC_PROGRAM names."""
 def parser(words: List[str]) -> argparse.ArgumentParser:
     raw = argparse.RawDescriptionHelpFormatter
     top = argparse.ArgumentParser(prog="python3 -m camac", description=DESCRIPTION, epilog=STATUS, formatter_class=raw)
-    commands = top.add_subparsers(dest="command", metavar="COMMAND", required=True)
+    made = functools.partial(argparse.ArgumentParser, formatter_class=raw)
+    commands = top.add_subparsers(dest="command", metavar="COMMAND", required=True, parser_class=made)  # type: ignore[call-overload]
     for name in words[:1] if words[:1] and words[0] in COMMANDS else COMMANDS:
         importlib.import_module(f"camac.commands.{name}").add_to(commands)
     return top

@@ -152,5 +152,4 @@ def _over(partitions: Sequence[Partition], of: Callable[[Partition], Array], bot
 
 def _named(words: Words, name: str) -> Sequence[Union[Field, Column]]:
     """The fields of a name, else the columns of one, which has a tag behind it."""
-    fields: Sequence[Union[Field, Column]] = words.by_name().get(name, [])
-    return fields or [it for gl in range(1, GREATEST_GL + 1) for it in words.columns(gl) if it.name == name]
+    return words.by_name().get(name) or words.find(name)

@@ -45,15 +45,18 @@ class Group(NamedTuple):
 
 def groups(events: Events, number: int) -> List[Group]:
     """The groups of events, of which the first has this number in the file."""
+    found: List[Group] = []
     if not isinstance(events, EventArrays):
         alike: Dict[Tuple[int, int], List[Event]] = {}
         for it in events:
             alike.setdefault((it.gl, len(it.words)), []).append(it)
-        return [_group(gl, count, its) for (gl, count), its in alike.items()]
+        for (gl, size), some in alike.items():
+            usage = ([it.cycles for it in some], [it.missed for it in some]) if some[0].cycles is not None else ([], [])
+            found.append(Group(gl, size, [it.number for it in some], *usage, [*zip(*(it.words for it in some))]))
+        return found
     numpy = importlib.import_module("numpy")
     counts = numpy.diff(events.first)
     kinds = events.gl.astype("i8") << 32 | counts
-    found = []
     for kind in (kinds[:1] if (kinds == kinds[:1]).all() else numpy.unique(kinds)).tolist():
         its = numpy.flatnonzero(kinds == kind)
         at = events.first[its]
@@ -62,12 +65,6 @@ def groups(events: Events, number: int) -> List[Group]:
         words = [*events.words.reshape(-1, size).T.copy()] if size and len(its) == len(kinds) else [events.words[at + place] for place in range(size)]
         found.append(Group(kind >> 32, size, its + number, *usage, words))
     return found
-
-
-def _group(gl: int, count: int, its: List[Event]) -> Group:
-    has_usage = its[0].cycles is not None
-    usage = ([it.cycles for it in its], [it.missed for it in its]) if has_usage else ([], [])
-    return Group(gl, count, [it.number for it in its], *usage, [*zip(*(it.words for it in its))])
 
 
 def as_events(events: Events, number: int, most: Optional[int] = None) -> List[Event]:

@@ -1,11 +1,9 @@
 """What the bound of a body consists of: the rows of `camac costs`, and which part of them is auxiliary controllers' or not needed."""
-from typing import Dict, List, Mapping, NamedTuple, Optional, Sequence, Tuple
+from typing import Dict, List, Mapping, NamedTuple, Optional, Sequence
 
+from camac.language import CYCLES, TRANSFERS
 from camac.printed import read_bodies
 from camac.values import Body, Cost, Row, Service
-
-CYCLES = frozenset("cfsa cssa cccz cccc ctci ctcd ctgl ccci cccd cclm cclc ctlm".split())
-TRANSFERS = frozenset("cfmad cfubc cfubr".split())
 
 
 def services_of(bodies: Sequence[Body]) -> List[Service]:
@@ -45,24 +43,23 @@ def opened(body: Body, procedures: Mapping[str, Body], most: int = 2000, deepest
     """The rows of a body, with those of each called procedure below its call, as often as they are made there. The share of a call is then
     what its heading promises and its body does not need. A call stays closed that is never counted, or at which there were more than `most`
     rows, or below which a row were deeper than `deepest`."""
-    rows: List[Row] = []
-    _open(body.rows, (1, 0), procedures, (rows, most, deepest))
-    return rows
+    found: List[Row] = []
 
+    def take(rows: Sequence[Row], times: int, depth: int) -> None:
+        """Adds the rows of a body that is called so many times, below a statement of this depth."""
+        for row in rows:
+            row = _times(row, times)._replace(depth=depth + row.depth)
+            its = called(row, procedures)
+            if not its or not row.share.cycles or len(found) + len(its.rows) > most or row.depth >= deepest:
+                found.append(row)
+                continue
+            counted = _counted(row)
+            slack = counted * (row.each.cycles - its.most.cycles)
+            found.append(row._replace(share=Cost(slack, 0, 0), waits=0, slack=slack))
+            take(its.rows, counted, row.depth)
 
-def _open(rows: Sequence[Row], at: Tuple[int, int], procedures: Mapping[str, Body], into: Tuple[List[Row], int, int]) -> None:
-    """Adds the rows of a body that is called so many times, below a statement of this depth."""
-    (times, depth), (found, most, deepest) = at, into
-    for row in rows:
-        row = _times(row, times)._replace(depth=depth + row.depth)
-        body = called(row, procedures)
-        if not body or not row.share.cycles or len(found) + len(body.rows) > most or row.depth >= deepest:
-            found.append(row)
-            continue
-        counted = _counted(row)
-        slack = counted * (row.each.cycles - body.most.cycles)
-        found.append(row._replace(share=Cost(slack, 0, 0), waits=0, slack=slack))
-        _open(body.rows, (counted, row.depth), procedures, into)
+    take(body.rows, 1, 0)
+    return found
 
 
 def called(row: Row, procedures: Mapping[str, Body]) -> Optional[Body]:

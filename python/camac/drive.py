@@ -7,6 +7,7 @@ import os
 import select
 from typing import TYPE_CHECKING, List, NamedTuple, NoReturn, Optional, Protocol, Union
 
+from camac.contradictions import seen_of
 from camac.printed import REFUSAL, read_end, read_request
 from camac.signals import Signals
 from camac.values import Ending, Refusal, Request, RunEnd
@@ -53,8 +54,11 @@ class Answer(_Numbers):
         except TypeError:
             is_good = False
         self = tuple.__new__(cls, (x, q, word, wait, gl))
-        if not is_good:
-            self._look_at_each()
+        # What is wrong is looked for if something is.
+        for name, greatest in GREATEST.items() if not is_good else ():
+            number = operator.index(getattr(self, name))
+            if not 0 <= number <= greatest:
+                raise ValueError(f"{name} of an answer is 0 to {greatest}, not {number}")
         return self
 
     if not TYPE_CHECKING:
@@ -63,12 +67,6 @@ class Answer(_Numbers):
         def _make(cls, numbers):
             # `_replace` calls it.
             return cls(*numbers)
-
-    def _look_at_each(self) -> None:
-        for name, greatest in GREATEST.items():
-            number = operator.index(getattr(self, name))
-            if not 0 <= number <= greatest:
-                raise ValueError(f"{name} of an answer is 0 to {greatest}, not {number}")
 
     def line(self) -> str:
         """The answer as a line of an answer file, without its LF."""
@@ -108,7 +106,7 @@ class Refused(DriveFault):
     def __init__(self, printed: str) -> None:
         line = printed.partition("\n")[0]
         super().__init__(line)
-        self.code, self.line, self.rule = REFUSAL.read(line) or Refusal("", None, line)
+        self.code, self.line, self.rule, _ = REFUSAL.read(line) or Refusal("", None, line)
 
 
 class ProgramFault(DriveFault):
@@ -132,6 +130,11 @@ def one_line(fault: BaseException) -> str:
 
 class UsageFault(ProgramFault):
     """The program did not understand its words (status 2): @in as plan or script, or a program without `drive`."""
+
+
+def fault_of(errors: str, status: int, end: Optional[RunEnd] = None) -> ProgramFault:
+    """The fault of a program that ended with a status of faults."""
+    return UsageFault(errors, status) if status == 2 else ProgramFault(errors, status, end)
 
 
 class ProtocolFault(DriveFault):
@@ -213,7 +216,7 @@ def drive(
             run.lockouts.release()
         except BaseException as error:
             run.abandon(error)
-        return signals.heed(lambda: started.end(end))
+        return signals.heed(lambda: run.seen.told(started.end(end), plan, found))
 
 
 class Lockouts:
@@ -264,7 +267,7 @@ class _Run:
     """A run in progress: the program, the branch, and the crates whose lockout is held."""
 
     def __init__(self, program: "_Program", branch: Branch, signals: Signals) -> None:
-        self.program, self.branch, self.lockouts = program, branch, Lockouts(branch, signals)
+        self.program, self.branch, self.lockouts, self.seen = program, branch, Lockouts(branch, signals), seen_of(branch)
         self.is_open = True
 
     def serve(self) -> Optional[RunEnd]:
@@ -272,14 +275,14 @@ class _Run:
         while (line := self.program.read_line()) is not None:
             if request := read_request(line):
                 self.answer(line, request)
-            elif end := read_end(_text(line)):
+            elif end := read_end(line.decode(errors="replace")):
                 return end
             else:
                 raise ProtocolFault(f"camac wrote what is no request: {line!r}")
         return None
 
     def answer(self, line: bytes, request: Request) -> None:
-        """Has the branch answer a request. If it has no more answers to give, the input is ended."""
+        """Has the branch answer a request, and hands that on. If it has no more answers to give, the input is ended."""
         answer: Optional[Answer]
         if request.kind == "unlock":
             self.lockouts.unlock(*request.at)
@@ -294,17 +297,17 @@ class _Run:
             answer = self.branch.demand()
             if answer is None:
                 self.is_open = False
-                self.program.end_input()
+                self.program.stdin.close()
                 return
-        self.hand_on(line, answer)
-
-    def hand_on(self, request: bytes, answer: Optional[Answer]) -> None:
-        """Hands an answer on to the program. Only a demand may be without one."""
         if answer is None:
-            raise TypeError(f"the branch has to answer {request.decode()!r}: only a demand may be without an answer")
+            raise TypeError(f"the branch has to answer {line.decode()!r}: only a demand may be without an answer")
         if not isinstance(answer, Answer):
-            raise TypeError(f"the branch has to answer {request.decode()!r} with an Answer, not {answer!r}")
-        self.program.write(BYTES % answer)
+            raise TypeError(f"the branch has to answer {line.decode()!r} with an Answer, not {answer!r}")
+        self.seen.answer(request.at[:4], answer)
+        try:
+            self.program.stdin.write(BYTES % answer)
+        except BrokenPipeError:
+            pass  # a program that takes it no more says why at its end
 
     def abandon(self, error: BaseException) -> NoReturn:
         """Ends a run that failed: lockouts are released, the program comes to its end, and what failed is raised."""
@@ -348,7 +351,7 @@ class _Program:
 
     def __exit__(self, *_raised: object) -> None:
         self.kill()
-        self.end_input()
+        self.stdin.close()
         self.stdout.close()
         self.errors.close()
 
@@ -370,26 +373,16 @@ class _Program:
 
     def skip_to_end(self) -> Optional[RunEnd]:
         """Ends the input, reads all output, and returns the end by its last line. The program has some time for that."""
-        self.end_input()
+        self.stdin.close()
         self.timeout = PATIENCE if self.timeout is None else min(self.timeout, PATIENCE)
         end = None
         while (line := self.read_line()) is not None:
-            end = read_end(_text(line))
+            end = read_end(line.decode(errors="replace"))
         return end
-
-    def write(self, line: bytes) -> None:
-        """Hands on an answer. A program that takes it no more says why at its end."""
-        try:
-            self.stdin.write(line)
-        except BrokenPipeError:
-            pass
-
-    def end_input(self) -> None:
-        self.stdin.close()
 
     def end(self, end: Optional[RunEnd]) -> RunEnd:
         """Waits for the program's end. Returns the end of the run where the status and standard error agree, or raises the fault."""
-        self.end_input()
+        self.stdin.close()
         more = self.read_line()
         if more is not None:
             raise ProtocolFault(f"camac wrote a line after its last one: {more!r}")
@@ -400,31 +393,20 @@ class _Program:
         except subprocess.TimeoutExpired:
             raise TimeFault(f"camac did not end in {self.timeout} seconds") from None
         self.errors.seek(0)
-        return _judge(end, status, _text(self.errors.read()).rstrip("\n"))
+        if status not in (0, 1):
+            raise fault_of(self.errors.read().decode(errors="replace").rstrip("\n"), status, end)
+        if end is None:
+            raise ProtocolFault("camac ended without a last line")
+        if status != STATUS[end.how]:
+            raise ProtocolFault(f"camac ended with status {status} after {end.line!r}")
+        if end.is_refused_script():
+            raise Refused(end.line)
+        return end
 
     def kill(self) -> None:
         if self.process.poll() is None:
             self.process.kill()
         self.process.wait()
-
-
-def _judge(end: Optional[RunEnd], status: int, errors: str) -> RunEnd:
-    """Returns the end of a run where the program's status agrees with it, or raises the fault."""
-    if status == 2:
-        raise UsageFault(errors, status)
-    if status not in (0, 1):
-        raise ProgramFault(errors, status, end)
-    if end is None:
-        raise ProtocolFault("camac ended without a last line")
-    if status != STATUS[end.how]:
-        raise ProtocolFault(f"camac ended with status {status} after {end.line!r}")
-    if end.is_refused_script():
-        raise Refused(end.line)
-    return end
-
-
-def _text(data: bytes) -> str:
-    return data.decode(errors="replace")
 
 
 def add_note(error: BaseException, note: str) -> None:

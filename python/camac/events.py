@@ -129,13 +129,7 @@ def read_events(file: File) -> Iterator[Event]:
         form = FORMS.get(data[:HEADER])
         if form is None:
             raise EventFileFault("V1", 0)
-        yield from _read_records(source, form, data[HEADER:])
-
-
-def read_from(file: BinaryIO, form: Form, data: bytes, number: int, place: int) -> Iterator[Event]:
-    """Yields the events of an open file from that of a number on, which begins at a place; `data` are the bytes of them that were read. Raises as
-    `read_events`."""
-    return _read_records(_Source(file), form, data, number, place)
+        yield from read_from(file, form, data[HEADER:])
 
 
 def read_further(form: Form, data: bytes, number: int, place: int) -> Iterator[Event]:
@@ -144,15 +138,16 @@ def read_further(form: Form, data: bytes, number: int, place: int) -> Iterator[E
 
     Raises EventFileFault at the first wrong field."""
     try:
-        yield from _read_records(_Source(io.BytesIO()), form, data, number, place)
+        yield from read_from(io.BytesIO(), form, data, number, place)
     except EventFileFault as fault:
         if fault.code != "V7":
             raise
 
 
-def _read_records(source: _Source, form: Form, data: bytes, number: int = 1, place: int = HEADER) -> Iterator[Event]:
-    """Yields the events from that of a number on, which begins at a place; `data` are the bytes of them that were read."""
-    unpack, head = form.unpack, form.head.size
+def read_from(file: BinaryIO, form: Form, data: bytes, number: int = 1, place: int = HEADER) -> Iterator[Event]:
+    """Yields the events of an open file from that of a number on, which begins at a place; `data` are the bytes of them that were read. Raises as
+    `read_events`."""
+    source, unpack, head = _Source(file), form.unpack, form.head.size
     at = 0
     while True:
         end, there = at + head, len(data)

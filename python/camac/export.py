@@ -18,9 +18,9 @@ from camac.drive import File, ProgramFault
 from camac.events import GREATEST_COUNT, GREATEST_GL, EventFileFault
 from camac.fits import Check, Fit, refuse
 from camac.output import anything, bytes_output, nothing, Progress, refuse_loss
-from camac.record import Record, Source, beside, read_record, record_checks
+from camac.record import Record, Source, beside, read_record, record_checks, texts_of
 from camac.subcommands import check, plan as read_plan
-from camac.texts import plan_text, script_text
+from camac.texts import script_text
 from camac.values import Service
 from camac.word_file import parse_words
 from camac.word_sources import words_of_script
@@ -87,7 +87,7 @@ def learn(given: Given, program: Optional[File] = None) -> About:
     if record is not None:
         about = dataclasses.replace(about, record=record, plan=record.plan, script=record.script)
     if given.plan is not None and given.script is not None:
-        plan, script = Source(os.fsdecode(given.plan), plan_text(given.plan)), Source(os.fsdecode(given.script), script_text(given.script))
+        plan, script = texts_of(given.plan, given.script)
         for mine, its in ((plan, about.plan), (script, about.script)):
             if its is not None and mine.sha256 != its.sha256:
                 raise ValueError(f"{mine.name} is not the one of the record, {its.name}")
@@ -188,15 +188,11 @@ def _named(numpy: Any, events: EventArrays, words: Words, taken: Set[str]) -> It
         for its in fields:
             at, numbers = words.values_of(its, events)
             values[at] = numbers if is_plain else its.value(numbers.astype("f8"))
-        name = _free(title, taken)
+        # A name that may be in a path of HDF5, and that no other column has.
+        plain = "".join(it if it.isprintable() and it not in "/." else "_" for it in title)
+        name = next(it for it in itertools.chain([plain], (f"{plain}_{number}" for number in itertools.count(2))) if it not in taken)
         taken.add(name)
         yield Series("words", name, values, fields[0].unit, f"{MISSING if is_plain else 'NaN'}: the word does not have it", title)
-
-
-def _free(title: str, taken: Set[str]) -> str:
-    """A name that may be in a path of HDF5, and that no other column has."""
-    plain = "".join(it if it.isprintable() and it not in "/." else "_" for it in title)
-    return next(name for name in itertools.chain([plain], (f"{plain}_{number}" for number in itertools.count(2))) if name not in taken)
 
 
 class Reading:
@@ -298,7 +294,13 @@ def _write_h5(reading: Reading, about: About, outs: Sequence[BinaryIO]) -> None:
                 for it in series:
                     _append(file, it)
             file["sources"] = about.source_names()
-            _note(file, about)
+            for name, values in about.value().items():
+                if "sha256" in values:
+                    its = {name: values.get("text", values.get("base64")), f"{name}_name": values["name"], f"{name}_sha256": values["sha256"]}
+                else:
+                    its = {name: values if isinstance(values, str) else json.dumps(values)}
+                # A name of a file may hold bytes that are no text.
+                file.attrs.update({name: text.encode("utf-8", "replace").decode() for name, text in its.items()})
         with open(path, "rb") as made:
             shutil.copyfileobj(made, outs[0], COPIED)
 
@@ -313,16 +315,6 @@ def _append(file: Any, it: Series) -> None:
     before = len(data)
     data.resize((before + len(it.values),))
     data[before:] = it.values
-
-
-def _note(file: Any, about: About) -> None:
-    for name, values in about.value().items():
-        if "sha256" in values:
-            its = {name: values.get("text", values.get("base64")), f"{name}_name": values["name"], f"{name}_sha256": values["sha256"]}
-        else:
-            its = {name: values if isinstance(values, str) else json.dumps(values)}
-        # A name of a file may hold bytes that are no text.
-        file.attrs.update({name: text.encode("utf-8", "replace").decode() for name, text in its.items()})
 
 
 def _about(its: Series) -> Dict[str, str]:

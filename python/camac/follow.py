@@ -2,6 +2,7 @@
 import collections
 import errno
 import os
+import re
 import time
 from typing import Callable, Deque, Dict, List, NamedTuple, Optional, Sequence, Tuple
 
@@ -11,10 +12,9 @@ from camac.events import FORMS, HEADER, TWO, Event, EventFileFault, Form, read_f
 from camac.fits import Fit
 from camac.histograms import Spectrum
 from camac.numbers import is_array, sums
-from camac.regular import open_regular
-from camac.runs import Channel, Channels
-from camac.values import Service
-from camac.words import Words
+from camac.runs import Asked, Channel, Channels
+from camac.texts import open_regular
+from camac.values import Contradiction, Service
 
 # The bytes of one read, the events that are shown, and the seconds of the rate.
 MOST_BYTES, SHOWN_EVENTS, WINDOW = 8 << 20, 12, 10.0
@@ -22,6 +22,8 @@ MOST_BYTES, SHOWN_EVENTS, WINDOW = 8 << 20, 12, 10.0
 TAIL = 64
 # Moments are as far apart as this part of their age, once so many have come.
 FINE, MANY = 300, 256
+# What an alarm is, as a user sets it on a run that is followed.
+FORM = "silence=SECONDS, x0=CYCLES, plan=TIMES, rate=EVENTS or rate:SERVICE=EVENTS"
 
 
 class _Bit:
@@ -39,16 +41,16 @@ class _Bit:
 
 
 class Counts:
-    """The counts of a file since its begin. `services` are those of the script, `names` the columns of the words."""
+    """The counts of a file since its begin. `services` are those of the script, `asked` what is asked of the words."""
 
-    def __init__(self, services: Sequence[Service], names: Words) -> None:
-        self.services, self.names = services, names
+    def __init__(self, services: Sequence[Service], asked: Asked) -> None:
+        self.services = services
         self.events = 0
         self.ends: Tuple[Optional[int], Optional[int]] = (None, None)
         if services:
             self.ends = max(it.cycles for it in services) + 1, max(it.words for it in services) + 1
         self.bits: Dict[int, _Bit] = {it.gl: _Bit(self.ends) for it in services}
-        self.channels = Channels()
+        self.channels = Channels(asked)
         self.fit = Fit(services)
         self.last: Deque[Event] = collections.deque(maxlen=SHOWN_EVENTS)
 
@@ -61,10 +63,10 @@ class Counts:
                 self.bits[it.gl] = _Bit(self.ends)
             self.bits[it.gl].take(it)
         self.fit.take(its)
-        self.channels.take(self.names, its)
+        self.channels.take(its)
 
     def list_channels(self) -> List[Channel]:
-        return self.channels.listed(self.names, self.bits)
+        return self.channels.listed(self.bits)
 
 
 class State(NamedTuple):
@@ -90,7 +92,6 @@ class Follower:
 
     def __init__(self, path: File, make_counts: Callable[[], Counts], clock: Callable[[], float] = time.monotonic) -> None:
         self.path, self.make_counts, self.clock = path, make_counts, clock
-        self.counts = make_counts()
         self.state = State("waits for the file")
         self.restarts: List[str] = []
         self.form: Optional[Form] = None
@@ -190,9 +191,9 @@ class Follower:
         end = self.marks[-1]
         return next((it for it in reversed(self.marks) if it.time <= end.time - seconds and it.events <= end.events - events), self.marks[0])
 
-    def since(self, mark: Mark) -> "Follower":
+    def since(self, mark: Mark, make_counts: Callable[[], Counts]) -> "Follower":
         """Follows the same file from a moment on."""
-        its = Follower(self.path, self.make_counts, self.clock)
+        its = Follower(self.path, make_counts, self.clock)
         its.form, its.identity, its.place, its.tail, its.counts.events = self.form, self.identity, mark.place, mark.tail, mark.events
         return its
 
@@ -227,3 +228,40 @@ class Follower:
         """The same; before the first event, how long this was looked at."""
         age = self.age()
         return self.clock() - self.marks[0].time if age is None else age
+
+
+class Alarm(NamedTuple):
+    """What is asked: a text as FORM has it, its kind and its number, and of a rate the service whose events count."""
+
+    text: str
+    kind: str
+    limit: float
+    service: Optional[str] = None
+
+    def why(self, follower: Follower, services: Sequence[Service], contradictions: Sequence[Contradiction]) -> Optional[str]:
+        """Why it sounds; None if it does not. `contradictions` are those of the plan, as the record has them."""
+        begin, end = follower.before(WINDOW), follower.marks[-1]
+        if self.kind == "silence":
+            return f"no event for {self.limit:g} s" if follower.silence() >= self.limit else None
+        if self.kind == "plan":
+            return f"the plan is contradicted more than {self.limit:g} times" if sum(it.times for it in contradictions) > self.limit else None
+        if self.kind == "x0":
+            return f"more than {self.limit:g} cycles with X = 0 in {WINDOW:g} s" if end.missed - begin.missed > self.limit else None
+        gl = next((it.gl for it in services if it.name == self.service), None)
+        if self.service and gl is None:
+            return f"the script has no service {self.service}" if services else None
+        is_low = end.time - begin.time >= WINDOW and follower.rate(gl) < self.limit
+        return f"fewer than {self.limit:g} events{' of ' + self.service if self.service else ''} a second" if is_low else None
+
+
+def read_alarm(text: str) -> Alarm:
+    """Raises ValueError if it is none."""
+    found = re.fullmatch(r"(?:(silence|x0|plan|rate)|rate:(\w+))=([0-9]{1,9}(?:\.[0-9]{1,6})?)", text)
+    if not found:
+        raise ValueError(f"an alarm is {FORM}, not {text!r}")
+    return Alarm(text, found[1] or "rate", float(found[3]), found[2])
+
+
+def sounding(alarms: Sequence[Alarm], follower: Follower, services: Sequence[Service], contradictions: Sequence[Contradiction] = ()) -> List[str]:
+    """The alarms that sound, each with why."""
+    return [f"{it.text}: {why}" for it in alarms for why in [it.why(follower, services, contradictions)] if why]

@@ -21,6 +21,9 @@ NAMES = {
     27: "test status",
 }
 
+# The stations of a crate's controller.
+CONTROLLERS = (28, 30)
+
 
 def name(function: int) -> str:
     """The name of a function, 0 to 31: `non-standard` (even codes) or `reserved` (odd codes) if it has none of its own."""

@@ -3,7 +3,7 @@ import collections
 import math
 from typing import Counter, Dict, List, NamedTuple, Optional, Tuple
 
-from camac.numbers import Numbers, added, column_sums, differences, ends, listed, places, scaled, sums, sums_of
+from camac.numbers import Numbers, Sums, added, column_sums, differences, ends, listed, places, scaled, sums, sums_of
 
 
 class Bins(NamedTuple):
@@ -14,43 +14,20 @@ class Bins(NamedTuple):
     counts: List[int]
 
 
-class Totals:
-    """How many numbers came, the least, the greatest, their sum and that of their squares."""
+class Spectrum:
+    """How many numbers came, the least, the greatest, their sum and that of their squares; and counts on an axis from 0 to `end`, by the number itself,
+    or, of more than `most` numbers, in bins of one width, a power of two. Numbers from `end` on are counted as overflow. If no end is given the axis
+    doubles until it holds all numbers."""
 
-    __slots__ = ("count", "total", "squares", "least", "greatest")
-
-    def __init__(self) -> None:
-        self.count = self.total = self.squares = 0
-        self.least: Optional[int] = None
-        self.greatest: Optional[int] = None
-
-    def note(self, count: int, total: int, squares: int, least: int, greatest: int) -> None:
-        """Takes so many numbers, of which these are the sum and so on."""
-        self.count += count
-        self.total += total
-        self.squares += squares
-        self.least = least if self.least is None else min(self.least, least)
-        self.greatest = greatest if self.greatest is None else max(self.greatest, greatest)
-
-    def mean(self) -> float:
-        return self.total / self.count if self.count else 0.0
-
-    def rms(self) -> float:
-        """The standard deviation, which spectra call RMS."""
-        return math.sqrt(max(self.count * self.squares - self.total**2, 0)) / self.count if self.count else 0.0
-
-
-class Spectrum(Totals):
-    """Counts on an axis from 0 to `end`, by the number itself, or, of more than `most` numbers, in bins of one width, a power of two. Numbers
-    from `end` on are counted as overflow. If no end is given the axis doubles until it holds all numbers."""
-
-    __slots__ = ("end", "is_open", "most", "shift", "overflow", "_counts", "_recent")
+    __slots__ = ("count", "total", "squares", "least", "greatest", "end", "is_open", "most", "shift", "overflow", "_counts", "_recent")
     CHANNELS = 1 << 16
     # The end of an axis that doubles.
     LEAST = 128
 
     def __init__(self, end: Optional[int] = None, most: int = CHANNELS) -> None:
-        super().__init__()
+        self.count = self.total = self.squares = 0
+        self.least: Optional[int] = None
+        self.greatest: Optional[int] = None
         self.end, self.is_open, self.overflow, self.most = end or self.LEAST, end is None, 0, most
         self.shift = max((self.end - 1).bit_length() - most.bit_length() + 1, 0)
         self._counts: Counter[int] = collections.Counter()
@@ -71,28 +48,37 @@ class Spectrum(Totals):
             return
         counts = places(numbers)
         if counts is not None:
-            self.note(*sums_of(counts))
+            self._note(sums_of(counts))
             self.overflow += int(counts[self.end :].sum())
             self._recent = added(self._recent, counts[: self.end], self.shift)
             return
         numbers = listed(numbers)
-        self.note(*sums(numbers))
+        self._note(sums(numbers))
         inside = [it >> self.shift for it in numbers if it < self.end]
         self.overflow += len(numbers) - len(inside)
         self._counts.update(inside)
 
-    def note(self, count: int, total: int, squares: int, least: int, greatest: int) -> None:
-        super().note(count, total, squares, least, greatest)
-        while self.is_open and greatest >= self.end:
-            self._double()
+    def _note(self, its: Sums) -> None:
+        """Takes the sums of numbers. An axis without an end doubles, if it does not hold the greatest."""
+        self.count += its.entries
+        self.total += its.total
+        self.squares += its.squares
+        self.least = its.least if self.least is None else min(self.least, its.least)
+        self.greatest = its.greatest if self.greatest is None else max(self.greatest, its.greatest)
+        while self.is_open and its.greatest >= self.end:
+            self.end *= 2
+            if self.end >> self.shift > self.most:
+                self.shift += 1
+                counts, self._counts = self.counts, collections.Counter()
+                for at, count in counts.items():
+                    self._counts[at >> 1] += count
 
-    def _double(self) -> None:
-        self.end *= 2
-        if self.end >> self.shift > self.most:
-            self.shift += 1
-            counts, self._counts = self.counts, collections.Counter()
-            for at, count in counts.items():
-                self._counts[at >> 1] += count
+    def mean(self) -> float:
+        return self.total / self.count if self.count else 0.0
+
+    def rms(self) -> float:
+        """The standard deviation, which spectra call RMS."""
+        return math.sqrt(max(self.count * self.squares - self.total**2, 0)) / self.count if self.count else 0.0
 
     def integral(self) -> int:
         """How many numbers are on the axis."""
@@ -137,27 +123,21 @@ class Series:
         """Takes numbers of services, of which each has its number in the run from 1, in the order of the run."""
         if not len(numbers):
             return
-        self.widen(int(services[-1]))
+        while int(services[-1]) > self.per * self.MOST:
+            self.per *= 2
+            columns, self.columns = self.columns, {}
+            for at, its in columns.items():
+                self._add({at // 2: its})
         if self.full is not None:
-            services, numbers = self._rises(services, numbers, self.full)
+            last, self.last = self.last, int(numbers[-1])
+            numbers = differences(numbers, last, self.full)
+            services = services[len(services) - len(numbers) :]
         self._add(column_sums(scaled(services, 1, self.per), numbers))
-
-    def _rises(self, services: Numbers, numbers: Numbers, full: int) -> Tuple[Numbers, Numbers]:
-        last, self.last = self.last, int(numbers[-1])
-        found = differences(numbers, last, full)
-        return services[len(services) - len(found) :], found
 
     def _add(self, sums_of: Dict[int, Tuple[int, int]]) -> None:
         for at, (count, total) in sums_of.items():
             before = self.columns.get(at, (0, 0))
             self.columns[at] = before[0] + count, before[1] + total
-
-    def widen(self, last: int) -> None:
-        while last > self.per * self.MOST:
-            self.per *= 2
-            columns, self.columns = self.columns, {}
-            for at, its in columns.items():
-                self._add({at // 2: its})
 
     def mean(self) -> float:
         """The mean of all numbers; of a counter that of the differences."""
@@ -187,15 +167,12 @@ class Pairs:
         """Counts pairs, of which there is one at least."""
         for axis, numbers in enumerate((across, up)):
             while ends(numbers)[1] >= self.ends[axis]:
-                self._double(axis)
+                self.ends[axis] *= 2
+                self.shifts[axis] += 1
+                halved: Counter[Tuple[int, int]] = collections.Counter()
+                for (one, other), count in self.cells.items():
+                    halved[(one >> 1, other) if axis == 0 else (one, other >> 1)] += count
+                self.cells = halved
         self.count += len(across)
-        one, other = ([it >> shift for it in listed(numbers)] for numbers, shift in zip((across, up), self.shifts))
-        self.cells.update(zip(one, other))
-
-    def _double(self, axis: int) -> None:
-        self.ends[axis] *= 2
-        self.shifts[axis] += 1
-        halved: Counter[Tuple[int, int]] = collections.Counter()
-        for (across, up), count in self.cells.items():
-            halved[(across >> 1, up) if axis == 0 else (across, up >> 1)] += count
-        self.cells = halved
+        columns, rows = ([it >> shift for it in listed(numbers)] for numbers, shift in zip((across, up), self.shifts))
+        self.cells.update(zip(columns, rows))

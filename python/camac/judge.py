@@ -21,7 +21,7 @@ MESSAGE, PROPERTY = "%\r\n", "%\r\n:,"
 class Found(NamedTuple):
     """What was found in a file: `kind` is "refused", "warning", "fault", "written" (a heading or a loop that was changed), "proposed" (a change that
     helps) or "remaining" (what refuses it with all that is proposed). `line` and `code` are None if there is none. `explanation` has what `camac
-    explain` says of a refusal, by lines. `column` is that of the `^` there, in characters from 1."""
+    explain` says of a refusal, by lines. `column` is that of its first token, or of a plan's key, in characters from 1."""
 
     kind: str
     line: Optional[int]
@@ -138,10 +138,11 @@ def _faults(call: Callable[[], List[Found]], files: List[TextFile], program: Opt
     except Refused as refusal:
         its = read_explanation("\n".join(lines_of("explain", "--", *files, program=program)))
         # The headings as they are may be refused before what no heading fixes.
-        if its is None or its.refusal != (refusal.code, refusal.line, refusal.rule):
+        if its is None or its.refusal[:3] != (refusal.code, refusal.line, refusal.rule):
             return [Found("refused", refusal.line, refusal.code, refusal.rule)]
-        first = Found("refused", refusal.line, refusal.code, refusal.rule, its.lines, its.column)
-        return [first, *(Found("refused", it.line, it.code, it.rule) for it in its.also)]
+        line, column = _place_in_plan(files[0], its.sentence) if refusal.line is None else (refusal.line, its.column)
+        first = Found("refused", line, refusal.code, refusal.rule, its.lines, column)
+        return [first, *(Found("refused", it.line, it.code, it.rule, (), it.column) for it in its.also)]
     except UsageFault:
         raise
     except ProgramFault as fault:
@@ -150,6 +151,16 @@ def _faults(call: Callable[[], List[Found]], files: List[TextFile], program: Opt
         if fault.filename not in [it.file for it in files]:
             raise
         return [Found("fault", None, None, str(fault.strerror or fault))]
+
+
+def _place_in_plan(plan: TextFile, sentence: str) -> Tuple[int, int]:
+    """The line and the column, in characters from 1, of what a sentence on a plan is about."""
+    # Few calls need this module, so it is loaded here.
+    from camac.toml_places import place_of
+
+    text = plan.text().decode("utf-8", "replace")
+    start = place_of(text, sentence).start
+    return text.count("\n", 0, start) + 1, start - text.rfind("\n", 0, start)
 
 
 def text_of(judged: Sequence[Judged], form: str) -> str:

@@ -20,18 +20,14 @@ class Broken(NamedTuple):
 class Late:
     """How late the services of a bit ended. `count` of them ended while the rates of all services up to the bit were kept in the stretch;
     `most` is the greatest number of cycles from the look-at-me of one of these to its end, and `number` is that one's in the run.
-    `left_out` ended later in a stretch in which a rate was broken: of these it is not known. `broken` is the first call that broke one."""
+    `left_out` ended later in a stretch in which a rate was broken: of these it is not known. `broken` is the first call that broke one. `sooner` calls of
+    the bit came sooner than the rate that was told of it."""
 
-    __slots__ = ("count", "most", "number", "left_out", "broken")
+    __slots__ = ("count", "most", "number", "left_out", "broken", "sooner")
 
     def __init__(self) -> None:
-        self.count = self.most = self.number = self.left_out = 0
+        self.count = self.most = self.number = self.left_out = self.sooner = 0
         self.broken: Optional[Broken] = None
-
-    def add(self, cycles: int, number: int) -> None:
-        self.count += 1
-        if self.count == 1 or cycles > self.most:
-            self.most, self.number = cycles, number
 
 
 class _Stretch:
@@ -48,21 +44,26 @@ class _Stretch:
         self.began, self.is_kept = cycles, True
         self.calls: Dict[int, int] = {}
 
-    def call(self, called: Response, cycles: int, number: int) -> None:
-        """An operation called this service, whose bit is not above that of the stretch."""
+    def call(self, called: Response, cycles: int, number: int) -> bool:
+        """An operation called this service, whose bit is not above that of the stretch. Returns whether that broke its rate."""
         call, elapsed = self.calls.get(called.gl, 0) + 1, cycles - self.began
         self.calls[called.gl] = call
-        if call > called.calls(elapsed):
+        is_broken = call > called.calls(elapsed)
+        if is_broken:
             self.is_kept = False
             self.late.broken = self.late.broken or Broken(called.name, call, elapsed, number)
+        return is_broken
 
     def end(self, cycles: int, number: int) -> None:
         """A service of the bit came to its end."""
-        if self.is_kept:
-            periods = (self.calls[self.of.gl] - 1) * (self.of.every or 0)
-            self.late.add(cycles - self.began - periods, number)
-        else:
-            self.late.left_out += 1
+        late = self.late
+        if not self.is_kept:
+            late.left_out += 1
+            return
+        since = cycles - self.began - (self.calls[self.of.gl] - 1) * (self.of.every or 0)
+        late.count += 1
+        if late.count == 1 or since > late.most:
+            late.most, late.number = since, number
 
 
 class Watch:
@@ -79,8 +80,9 @@ class Watch:
         place = self.places.get(gl, len(self.stretches))
         for it in self.stretches[:place]:
             it.begin(self.cycles)
-        for it in self.stretches[place:]:
-            it.call(self.stretches[place].of, self.cycles, number)
+        for its in self.stretches[place : place + 1]:
+            is_broken = any([it.call(its.of, self.cycles, number) for it in self.stretches[place:]])
+            its.late.sooner += is_broken and its.of.every is not None
 
     def end(self, gl: int, cycles: int, number: int) -> None:
         """The service of this bit came to its end, after so many cycles of its own."""

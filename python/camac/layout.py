@@ -3,14 +3,11 @@ import re
 from itertools import chain
 from typing import Iterator, List, NamedTuple, Optional, Sequence, Tuple
 
-from camac.reader import CRATE_CALLS, LAM_CALLS
+from camac.language import DECLARATIONS, NO_ASSIGNMENT, STATEMENTS
 from camac.texts import GREATEST_DEPTH, GREATEST_TEXT
 from camac.tokens import Row, is_token, rows_of
 
 STEP, WIDTH = 2, 120
-# Words that begin a declaration or a statement; `table` does where it names one.
-DECLARATIONS = frozenset(("cdlam", "var", "proc", "service"))
-STATEMENTS = frozenset(("cdreg", "cfsa", "cssa", "cfmad", "cfubc", "cfubr", "put", "if", "for", "while", "lock", "call")) | CRATE_CALLS | LAM_CALLS
 # Signs without a blank on one side.
 TIGHT = frozenset(("(", ")", ",", "..", "{", "}"))
 # A procedure's name is before its bracket without a blank.
@@ -20,8 +17,6 @@ BEGIN = DECLARATIONS | STATEMENTS | {"}"}
 BREAKS = BEGIN | {"table", "=", "{"}
 SHORT = 80
 ENDS = (["}"], ["}", "else", "{"])
-# A name and `=` after one of these are no assignment.
-NO_ASSIGNMENT = frozenset(("for", "table", "if", "while", "and", "not"))
 
 
 class LayoutFault(Exception):
@@ -66,12 +61,8 @@ def formatted(text: bytes) -> bytes:
     return made
 
 
-def kept_by(text: bytes) -> Tuple[List[str], List[str]]:
-    """What the layout of a text keeps: its tokens, and its comments without the blanks at their ends."""
-    return _kept(rows_of(text))
-
-
 def _kept(rows: List[Row]) -> Tuple[List[str], List[str]]:
+    """What the layout of a text keeps: its tokens, and its comments without the blanks at their ends."""
     return list(chain.from_iterable(words for words, _ in rows)), [comment for _, comment in rows if comment]
 
 
@@ -81,7 +72,9 @@ def _pieces(rows: List[Row], tokens: List[str]) -> Iterator[Piece]:
     at, ended, is_next = 0, 1, True
     for line, (words, comment) in enumerate(rows, 1):
         if bad and not bad.isdisjoint(words):
-            raise LayoutFault(line, f"the byte `{_shown(next(it for it in words if it in bad))}` begins no token")
+            sign = next(it for it in words if it in bad)
+            shown = sign if sign.isascii() and sign.isprintable() else f"0x{ord(sign):02x}"
+            raise LayoutFault(line, f"the byte `{shown}` begins no token")
         if words:
             end = at + len(words)
             is_this, is_next = is_next, end == len(tokens) or is_first(tokens, end)
@@ -127,11 +120,6 @@ def _parts_of_row(tokens: List[str], start: int, end: int) -> Iterator[Tuple[str
         if place < end:
             yield tokens[place], is_first(tokens, place)
         start = place + 1
-
-
-def _shown(sign: str) -> str:
-    """A byte as a fault names it."""
-    return sign if sign.isascii() and sign.isprintable() else f"0x{ord(sign):02x}"
 
 
 def begins(tokens: Sequence[str]) -> Iterator[bool]:
@@ -238,7 +226,8 @@ class _Layout:
             if it.begins and place > at:
                 return self.without_comments(place)
             if it.text == "{":
-                return place + 2 if self.pieces[place + 1].text == "}" and not self.has_else(place + 1) else place + 1
+                has_else = [one.text for one in self.pieces[place + 2 : place + 3]] == ["else"]
+                return place + 2 if self.pieces[place + 1].text == "}" and not has_else else place + 1
             place += 1
         return self.without_comments(place)
 
@@ -247,9 +236,6 @@ class _Layout:
         while self.pieces[end - 1].is_comment:
             end -= 1
         return end
-
-    def has_else(self, at: int) -> bool:
-        return at + 1 < len(self.pieces) and self.pieces[at + 1].text == "else"
 
     def short_end(self, at: int) -> Optional[int]:
         """Where a statement ends whose blocks have at most one statement each, are on its line in the text, and have the room there."""

@@ -12,32 +12,14 @@ from io import FileIO
 from typing import TYPE_CHECKING, Any, Callable, Iterable, Iterator, List, Mapping, NamedTuple, Optional, Tuple, Union
 
 from camac import native
+from camac.contradictions import seen_of
 from camac.drive import Answer, Branch, File, Lockouts, ProgramFault, Refused, UsageFault, file_fault
 from camac.events import FORMS, HEADER, NEW_FILE
 from camac.signals import Signals
 from camac.values import Ending, RunEnd
-from camac.native import (
-    BUSY,
-    CYCLE as CYCLE,
-    DEMAND as DEMAND,
-    EVENT_WORDS,
-    LOCK as LOCK,
-    LONG,
-    MISUSE,
-    NO_DATA as NO_DATA,
-    NO_LIMIT as NO_LIMIT,
-    NO_MEMORY,
-    OK,
-    OVERRUN,
-    READ as READ,
-    REFUSED,
-    SPENT,
-    STOPPED as STOPPED,
-    WRITE,
-    Progress,
-    Want,
-    is_there as is_there,
-)
+from camac.native import BUSY, EVENT_WORDS, LONG, MISUSE, NO_MEMORY, OK, OVERRUN, REFUSED, SPENT, WRITE, Progress, Want
+from camac.native import CYCLE as CYCLE, DEMAND as DEMAND, LOCK as LOCK, NO_DATA as NO_DATA, NO_LIMIT as NO_LIMIT, READ as READ, STOPPED as STOPPED
+from camac.native import is_there as is_there
 from camac.output import holds_bytes
 from camac.texts import plan_text, script_text
 
@@ -54,10 +36,12 @@ FAULTS = {NO_MEMORY: ("fault memory", 3), LONG: ("fault input too long", 3)}
 IN_PROCESS = "@library"
 COMMANDS = frozenset(("plan", "check", "explain", "bounds", "costs", "response", "run"))
 SPENT_LINE = "refused A4 line 4294967296: too many answers"
-MISUSED = "a number is out of range, or a word names no service"
-CLOSED = "the session is closed"
-PAUSED = "the run pauses, and wants no answer"
-LIMIT_RANGE = "a limit of steps is out of range"
+MISUSED = "{} needs each service of the script once at most, as adc=200, with a number from 0, or from 1 of `every`, to 4294967295"
+CLOSED = "{} needs an open session: this one is closed"
+PAUSED = "{} needs a run that does not pause: go_on comes first"
+LIMIT_RANGE = "limit_steps needs a number from 0 to 4294967295"
+# A session makes no more steps at once. They take a tenth of a second at worst; between them other threads run, and signals come.
+STEPS = 5_000
 
 
 class ServiceInfo(NamedTuple):
@@ -84,6 +68,9 @@ class Place(NamedTuple):
     line: int
 
 
+OnFault = Callable[[Exception, Optional[Place]], bool]
+
+
 class Verdict(NamedTuple):
     """Whether the texts were accepted, and what the program would print."""
 
@@ -96,14 +83,17 @@ def version() -> str:
     return native.version_text(native.load().texts.camac_version())
 
 
-def _fault(code: int) -> Exception:
+def _test(call: str, code: int, *others: int) -> None:
+    """Raises the fault of a call, unless it went well, or its code is one of the others."""
+    if code == OK or code in others:
+        return
     if code in FAULTS:
-        return ProgramFault(*FAULTS[code])
-    if code == MISUSE:
-        return UsageFault(CLOSED, 2)
-    if code == BUSY:
-        return UsageFault(PAUSED, 2)
-    return RuntimeError(f"the library answers the code {code}")
+        raise ProgramFault(*FAULTS[code])
+    if code == SPENT:
+        raise OverflowError(SPENT_LINE)
+    if code in (MISUSE, BUSY):
+        raise UsageFault((CLOSED if code == MISUSE else PAUSED).format(call), 2)
+    raise RuntimeError(f"the library answers {call} with the code {code}")
 
 
 def _given(*texts: Text) -> List[Any]:
@@ -135,11 +125,10 @@ def _filled(call: Any, *given: Any, buffers: int = 1) -> Tuple[int, List[bytes]]
     """Calls with buffers, and once more with greater ones if one was too small. Returns the code and what was written."""
     its = [_Buffer() for _ in range(buffers)]
     while True:
-        code = call(*given, *(word for it in its for word in it.words()))
+        code, name = call(*given, *(word for it in its for word in it.words())), call.__name__.replace("camac_", "")
         if code == MISUSE:
-            raise UsageFault(MISUSED, 2)
-        if code not in (OK, REFUSED):
-            raise _fault(code)
+            raise UsageFault(MISUSED.format(name), 2)
+        _test(name, code, REFUSED)
         if all(it.is_whole() for it in its):
             return code, [it.text() for it in its]
         its = [_Buffer(max(it.room, it.size.value)) for it in its]
@@ -213,7 +202,7 @@ def explain_at(plan: Text, script: Text, line: int, column: int) -> Verdict:
     """What `camac explain --at LINE:COLUMN` prints: what the checker knows before the statement there. Both are from 1, the column in bytes. If no
     statement is there, it is not accepted. Raises UsageFault if one of them is not from 1 to 4,294,967,295."""
     if not (1 <= line < 1 << 32 and 1 <= column < 1 << 32):
-        raise UsageFault("a line or a column is out of range", 2)
+        raise UsageFault("explain_at needs a line and a column from 1 to 4294967295", 2)
     code, (text,) = _filled(native.load().texts.camac_explain_at, *_given(plan, script), line, column)
     return Verdict(code == OK, text.decode("utf-8", "replace"))
 
@@ -243,7 +232,7 @@ def settings(numbers: Optional[Mapping[str, int]]) -> List[str]:
 def _settings(words: Iterable[str]) -> str:
     words = list(words)
     if any(it.split() != [it] for it in words):
-        raise UsageFault(MISUSED, 2)
+        raise UsageFault(MISUSED.format("response"), 2)
     return " ".join(words)
 
 
@@ -258,21 +247,14 @@ def run(plan: Text, script: Text, answers: Text) -> Tuple[Verdict, bytes]:
     return Verdict(code == OK, listing.decode("utf-8", "replace")), file
 
 
-def _check_taken(code: int, progress: Progress) -> None:
-    """Raises the fault of an answer that was not taken, by its code and what it did."""
-    if code == SPENT:
-        raise OverflowError(SPENT_LINE)
-    if code not in (OK, OVERRUN) and not (code == BUSY and progress.kind):
-        raise _fault(code)
-
-
 class Session:
     """A run of an accepted script, an answer at a time. It is closed by `close`, at the end of a `with`, or when nothing refers to it.
 
     Raises Refused if plan or script is refused, and ProgramFault as `check` does. After `close`, a call raises UsageFault.
 
     Each thread may have sessions of its own. A session may be closed by any thread at any time; its other calls have to come one after another,
-    since what they return is filled again by the next one."""
+    since what they return is filled again by the next one. While a long answer is worked at, other threads run, and signals come: after an exception
+    of one (KeyboardInterrupt) `is_busy`, and `go_on` does the rest."""
 
     def __init__(self, plan: Text, script: Text) -> None:
         calls = native.load()
@@ -283,22 +265,21 @@ class Session:
         self._to_answer, self._to_progress = byref(self._answer), byref(self._progress)
         self._room, self._longest, self._size = ctypes.create_string_buffer(LONGEST), c_size_t(LONGEST), c_size_t()
         self._to_size, self._written = byref(self._size), memoryview(self._room).cast("B")
+        # The lines of what the last answer did before its last pause.
+        self._lines = b""
         buffer = _Buffer()
         code = calls.texts.camac_open(self._at, *_given(plan, script), *buffer.words())
         if code == REFUSED:
             raise Refused(buffer.text().decode())
-        if code != OK:
-            raise _fault(code)
+        _test("Session", code)
+        self.limit_steps()
 
     def wants(self) -> Optional[Want]:
         """What the next answer is for; None if the run is over, by an overrun. The next call fills the same object again. Raises UsageFault while
         the run pauses."""
         code = self._calls.camac_wants(self._at, self._to_want)
-        if code == OVERRUN:
-            return None
-        if code != OK:
-            raise _fault(code)
-        return self._want
+        _test("wants", code, OVERRUN)
+        return self._want if code == OK else None
 
     def ahead(self, room: int = native.AHEAD) -> List[Want]:
         """The operations that come next, whatever is answered, as many as `room` at most: what a controller that makes lists of commands makes in one
@@ -311,40 +292,66 @@ class Session:
     def next_many(self, answers: Iterable[Answer]) -> List[Progress]:
         """`next` of one answer after the other, up to one that leaves an event, ends the run by an overrun, makes it pause or is not taken. Returns what each did, the
         overrun too. Raises what `next` raises if the first is not taken."""
-        given = list(answers)
-        size, taken = ctypes.sizeof(native.AnswerStruct), c_size_t()
-        its, did = (native.AnswerStruct * len(given))(), (Progress * max(len(given), 1))()
-        did[0].size = ctypes.sizeof(Progress)
+        given, at, taken = list(answers), 0, c_size_t()
+        its, did = (native.AnswerStruct * (len(given) + 1))(), (Progress * (len(given) + 1))()
         for i, (x, q, word, wait, gl) in enumerate(given):
-            its[i].size = size
-            native.write_answer(its, i * size + native.BEHIND_SIZE, word, gl, x, q, wait)
-        code = self._calls.camac_next_many(self._at, its, did, len(given), byref(taken))
-        if not taken.value:
-            _check_taken(code, did[0])
-        return list(did[: taken.value + (code == OVERRUN)])
+            its[i].size = native.ANSWER_SIZE
+            native.write_answer(its, i * native.ANSWER_SIZE + native.BEHIND_SIZE, word, gl, x, q, wait)
+        while True:
+            self._lines = b""
+            did[at].size = ctypes.sizeof(Progress)
+            code = self._calls.camac_next_many(self._at, byref(its[at]), byref(did[at]), len(given) - at, byref(taken))
+            at += taken.value
+            if taken.value and code == BUSY:
+                code = self._go_through(did[at - 1])
+            if code != OK or at == len(given) or did[at - 1].event:
+                break
+        if not at:
+            _test("next_many", code, OVERRUN)
+        return list(did[: at + (code == OVERRUN)])
 
     def next(self, answer: Answer) -> Progress:
         """Takes an answer, and returns what it did. The next call fills the same object again. Raises OverflowError if the run has used
         4,294,967,295 answers, and UsageFault while it pauses."""
         self._give(answer)
-        _check_taken(self._calls.camac_next(self._at, self._to_answer, self._to_progress), self._progress)
+        self._heed("next", self._calls.camac_next(self._at, self._to_answer, self._to_progress))
         return self._progress
 
     def step(self, answer: Answer) -> Tuple[Progress, Optional[Want]]:
         """`next`, and then `wants`, in one call of the library. Nothing is wanted if the run is over, or pauses."""
         self._give(answer)
         code = self._calls.camac_step(self._at, self._to_answer, self._to_progress, self._to_want)
-        _check_taken(code, self._progress)
-        return self._progress, self._want if code == OK else None
+        if code == OK:
+            return self._progress, self._want
+        return self._progress, self.wants() if self._heed("step", code) == OK else None
+
+    def _heed(self, call: str, code: int) -> int:
+        """Goes through the pauses of an answer. Returns the code behind them. Raises the fault of an answer that was not taken."""
+        if code == BUSY and self._progress.kind:
+            return self._go_through(self._progress)
+        _test(call, code, OVERRUN)
+        return code
+
+    def _go_through(self, its: Progress) -> int:
+        """Goes on after each pause, unless the caller has set a limit, and adds what the run did. Returns the code behind them."""
+        code, more, last = BUSY, Progress(), its
+        to_more = byref(more)
+        while code == BUSY and self._is_whole:
+            if last.kind or last.first_unlocked:
+                self._lines += self._bytes(self._calls.camac_item)
+            code, last = self._calls.camac_go_on(self._at, to_more), more
+            if more.first_unlocked or more.event:
+                its.add(more)
+        _test("go_on", code, BUSY)
+        return code
 
     def limit_steps(self, most: int = NO_LIMIT) -> None:
         """Sets how many steps the run makes at once: in an answer or a `go_on`, after more, it pauses. Raises UsageFault if the number is not from 0 to
         4,294,967,295, which is no limit."""
         if not 0 <= most <= NO_LIMIT:
             raise UsageFault(LIMIT_RANGE, 2)
-        code = self._calls.camac_limit_steps(self._at, most)
-        if code != OK:
-            raise _fault(code)
+        self._is_whole = most == NO_LIMIT
+        _test("limit_steps", self._calls.camac_limit_steps(self._at, STEPS if self._is_whole else most))
 
     def is_busy(self) -> bool:
         """Whether the run pauses: it wants no answer, but `go_on`."""
@@ -353,14 +360,17 @@ class Session:
     def go_on(self) -> Progress:
         """Goes on after a pause, and returns what the run did: the crates to release, and the event if the service ended. It may pause again. The next
         call fills the same object again."""
+        self._lines = b""
         code = self._calls.camac_go_on(self._at, self._to_progress)
-        if code not in (OK, BUSY, OVERRUN):
-            raise _fault(code)
+        _test("go_on", code, BUSY, OVERRUN)
+        if code == BUSY:
+            self._go_through(self._progress)
         return self._progress
 
     def _give(self, answer: Answer) -> None:
         x, q, word, wait, gl = answer
         native.write_answer(self._answer, native.BEHIND_SIZE, word, gl, x, q, wait)
+        self._lines = b""
 
     def words(self) -> Tuple[int, ...]:
         """The words of the event that the last answer left; none if it left none."""
@@ -369,16 +379,14 @@ class Session:
 
     def item(self) -> str:
         """The lines of the listing for the last answer, as `camac run` writes them."""
-        return self._bytes(self._calls.camac_item).decode()
+        return (self._lines + self._bytes(self._calls.camac_item)).decode()
 
     def record(self) -> bytes:
         """The record of the event that the last answer left, as `camac run` writes it behind the header; nothing if it left none."""
         return self._bytes(self._calls.camac_record)
 
     def _bytes(self, call: Any) -> bytes:
-        code = call(self._at, self._room, self._longest, self._to_size)
-        if code != OK:
-            raise _fault(code)
+        _test(call.__name__.replace("camac_", ""), call(self._at, self._room, self._longest, self._to_size))
         return self._written[: self._size.value].tobytes()
 
     def held(self) -> Tuple[int, ...]:
@@ -390,9 +398,7 @@ class Session:
         """The service in progress, and the line of its statement that wants the next answer, or whose wait ended the run; None at a demand, and while
         the run pauses."""
         service, line = c_uint32(), c_uint32()
-        code = self._calls.camac_where(self._at, byref(service), byref(line))
-        if code != OK:
-            raise _fault(code)
+        _test("where", self._calls.camac_where(self._at, byref(service), byref(line)))
         return Place(service.value, line.value) if service.value else None
 
     def answers_left(self) -> int:
@@ -401,14 +407,12 @@ class Session:
 
     def services(self) -> List[ServiceInfo]:
         """The services of the script, in its order."""
-        return [self._service(number + 1) for number in range(self._calls.camac_services(self._at))]
-
-    def _service(self, number: int) -> ServiceInfo:
-        its = native.ServiceStruct()
-        code = self._calls.camac_service(self._at, number, byref(its))
-        if code != OK:
-            raise _fault(code)
-        return ServiceInfo(its.name.decode(), *(getattr(its, name) for name in ServiceInfo._fields[1:]))
+        found = []
+        for number in range(self._calls.camac_services(self._at)):
+            its = native.ServiceStruct()
+            _test("services", self._calls.camac_service(self._at, number + 1, byref(its)))
+            found.append(ServiceInfo(its.name.decode(), *(getattr(its, name) for name in ServiceInfo._fields[1:])))
+        return found
 
     def abandon(self) -> Tuple[int, ...]:
         """Leaves the service in progress, as after a fault of the crates, without an event. The run goes on at a demand, with the crates as they were
@@ -416,16 +420,13 @@ class Session:
         by an overrun."""
         code = self._calls.camac_abandon(self._at, self._words, EVENT_WORDS, self._to_size)
         if code == OVERRUN:
-            raise UsageFault("the run is over", 2)
-        if code != OK:
-            raise _fault(code)
+            raise UsageFault("abandon needs a run that goes on: this one is over", 2)
+        _test("abandon", code)
         return tuple(self._words[: self._size.value])
 
     def rewind(self) -> None:
         """Begins the run anew, without judging the script."""
-        code = self._calls.camac_rewind(self._at)
-        if code != OK:
-            raise _fault(code)
+        _test("rewind", self._calls.camac_rewind(self._at))
 
     def close(self) -> None:
         """Frees the run. To close twice is harmless."""
@@ -451,10 +452,15 @@ def play(
     program: Optional[File] = None,
     timeout: Optional[float] = None,
     record: "Union[File, Recording, None]" = None,
+    on_fault: Optional[OnFault] = None,
 ) -> RunEnd:
     """Plays a script against a branch, as `camac.drive` does, but in this process. `plan` may be "@sample". The event file is `events`, which
     must not hold bytes; without it none is written. Each event is there before the next operation is made. `record` is that of
-    `camac.drive`. `program` and `timeout` are taken as `camac.drive` takes them, and have nothing to do here.
+    `camac.drive`. `program` and `timeout` are taken as `camac.drive` takes them; here the program has no part in the run, but lists the plan's widths.
+
+    If an operation raises an exception, `on_fault` is called with it and the place of the operation (None at a demand). If it returns True, the
+    service is left without an event, its lockouts are released, and the run goes on at a demand. What the service has changed of inhibit and demand
+    output has to be set back by then, as `Session.abandon` says. Else the exception ends the run, as without `on_fault`.
 
     Returns how the run ended, and raises what `camac.drive` raises, with the texts of the program: what the branch raises, Refused,
     ProgramFault. The lockouts that are held then are released by `branch.unlock`, however the run ends, by a signal too, as `camac.drive` says."""
@@ -466,30 +472,36 @@ def play(
     if record is not None:
         from camac.record import Played, recorded
 
-        return recorded(record, Played(plan, script, events, IN_PROCESS), branch, lambda watched: play(plan, script, watched, events))
+        played = Played(plan, script, events, IN_PROCESS)
+        return recorded(record, played, branch, lambda watched: play(plan, script, watched, events, program=program, on_fault=on_fault))
     with Signals() as signals, Session(plan_text(plan), script_text(script)) as session, _event_file(events) as write:
-        game = _Game(session, Lockouts(branch, signals), write)
+        game = _Game(session, Lockouts(branch, signals), write, on_fault)
         try:
             end = signals.heed(game.serve)
             game.lockouts.release()
         except BaseException as error:
             game.lockouts.release_after(error)
             raise
-        return end
+        return signals.heed(lambda: game.seen.told(end, plan, program or IN_PROCESS))
 
 
 class _Game:
     """A run in progress: the session, the branch, the crates whose lockout is held, and what writes into the event file."""
 
-    def __init__(self, session: Session, lockouts: Lockouts, write: Optional[Callable[[bytes], None]]) -> None:
-        self.session, self.branch, self.write, self.lockouts = session, lockouts.branch, write, lockouts
+    def __init__(self, session: Session, lockouts: Lockouts, write: Optional[Callable[[bytes], None]], on_fault: Optional[OnFault]) -> None:
+        self.session, self.branch, self.write, self.lockouts, self.on_fault = session, lockouts.branch, write, lockouts, on_fault
+        self.seen = seen_of(lockouts.branch)
         self.events = 0
 
     def serve(self) -> RunEnd:
         """Has the branch make all that is wanted, and returns the end of the run."""
         progress, want = Progress(), self.session.wants()
         while want is not None:
-            answer = self.make(want)
+            try:
+                answer = self.make(want)
+            except Exception as error:
+                want = self.leave(error)
+                continue
             if answer is None:
                 return RunEnd(Ending.ENDED, f"ended events {self.events}", self.events)
             try:
@@ -511,9 +523,20 @@ class _Game:
             answer = self.branch.demand()
         else:
             answer = self.lockouts.lock(c)
-        if isinstance(answer, Answer) or (answer is None and kind == DEMAND):
+        if isinstance(answer, Answer):
+            self.seen.answer((c, n, a, f) if kind == CYCLE else () if kind == DEMAND else (c,), answer)
+            return answer
+        if answer is None and kind == DEMAND:
             return answer
         raise TypeError(f"the branch has to answer an operation with an Answer, not {answer!r}")
+
+    def leave(self, error: Exception) -> Optional[Want]:
+        """Leaves the service in which an operation failed, if `on_fault` says so, and returns the demand that is wanted then."""
+        if not (self.on_fault and self.on_fault(error, self.session.where())):
+            raise error
+        for crate in self.session.abandon():
+            self.lockouts.unlock(crate)
+        return self.session.wants()
 
     def settle(self, progress: Progress) -> None:
         """Does what an answer calls for: an event is written, so that it is there whatever comes, and lockouts are released."""

@@ -7,8 +7,8 @@ import time
 from typing import Any, FrozenSet, Optional, Set
 
 from camac.drive import Answer
-from camac.functions import reads, writes
-from camac.mock import CLEAR, CONTROLLER, DEMANDS_OFF, DEMANDS_ON, INHIBIT_OFF, INHIBIT_ON, INITIALISE
+from camac.functions import CONTROLLERS, reads, writes
+from camac.mock import CLEAR, DEMANDS_OFF, DEMANDS_ON, INHIBIT_OFF, INHIBIT_ON, INITIALISE
 from camac.values import Plan
 
 # What cam_init answers if it could: SUCCESS of MIDAS.
@@ -72,7 +72,7 @@ class Mcstd:
             time.sleep(POLL)
 
     def cycle(self, c: int, n: int, a: int, f: int, data: Optional[int]) -> Answer:
-        if n in CONTROLLER:
+        if n in CONTROLLERS:
             return self.control(c, n, a, f)
         self.data.value, self.x.value, self.q.value = 0, 1, 0
         if reads(f) or (not writes(f) and self.tells_x):
@@ -81,16 +81,12 @@ class Mcstd:
             self.calls["cam24o_q"](c, n, a, f, ctypes.c_ulong(data or 0), self.to_x, self.to_q)
         else:
             self.calls["camc_q"](c, n, a, f, self.to_q)
-        if not self.x.value:
-            self._look_at(c)
+        # Where the library can tell it, a crate that does not answer is a fault.
+        if not self.x.value and hasattr(self.library, "camc_chk") and self.library.camc_chk(c) < 0:
+            raise OSError(f"crate {c} does not answer (camc_chk)")
         if f == CLEAR_LAM and "lam" in self.options and n in self.gl[c]:
             self._find("cam_lam_clear")(c, n)
         return Answer(bool(self.x.value), bool(self.q.value), self.data.value & 0xFF_FFFF if reads(f) else 0)
-
-    def _look_at(self, c: int) -> None:
-        """Raises OSError if the library can tell that a crate does not answer."""
-        if hasattr(self.library, "camc_chk") and self.library.camc_chk(c) < 0:
-            raise OSError(f"crate {c} does not answer (camc_chk)")
 
     def control(self, c: int, n: int, a: int, f: int) -> Answer:
         """A command of the controller; the demand output, which mcstd does not know, is kept here."""

@@ -23,6 +23,7 @@ import re
 from typing import Dict, Iterable, Iterator, List, Mapping, NamedTuple, Optional, Set, TextIO, Tuple, Union
 
 from camac.drive import Answer, Branch, File
+from camac.functions import CONTROLLERS
 from camac.printed import shown
 from camac.subcommands import plan as read_plan
 from camac.values import Declaration, Plan
@@ -30,7 +31,6 @@ from camac.values import Declaration, Plan
 Place = Tuple[int, int]
 GREATEST_WORD = 0xFF_FFFF
 ANSWER = re.compile(rb"([01]) ([01]) ([0-9a-fA-F]{6}) ([0-9a-fA-F]) ([0-9a-fA-F]{6})\n?")
-CONTROLLER = (28, 30)
 INITIALISE, CLEAR = (28, 8, 26), (28, 9, 26)
 INHIBIT_OFF, INHIBIT_ON = (30, 9, 24), (30, 9, 26)
 DEMANDS_OFF, DEMANDS_ON = (30, 10, 24), (30, 10, 26)
@@ -86,10 +86,36 @@ class Module:
         self.lam_enabled = False
 
 
-class Adc(Module):
+class _Channels(Module):
+    """Words by sub-address: F0 reads one, F9 clears all. Sub-addresses that have no channel answer Q = 0, which ends a scan."""
+
+    def __init__(self, channels: int, lam_at: Optional[int]) -> None:
+        super().__init__(lam_at)
+        self.words = [0] * channels
+
+    def clear(self) -> None:
+        super().clear()
+        self.words = [0] * len(self.words)
+
+    def read_and_clear(self, a: int) -> None:
+        """What F2 clears once it has read a channel."""
+        self.words[a] = 0
+
+    def cycle(self, a: int, f: int, data: Optional[int]) -> Reply:
+        if f in (0, 2):
+            reply = Reply(word=self.words[a]) if a < len(self.words) else Reply(q=0)
+            if f == 2 and a < len(self.words):
+                self.read_and_clear(a)
+            return reply
+        if f == 9:
+            self.clear()
+            return Reply()
+        return super().cycle(a, f, data)
+
+
+class Adc(_Channels):
     """A converter. A trigger converts all channels anew: a channel that was hit has a word about its peak, any other one about its
-    pedestal. F0 reads a channel; F2 reads the last one and clears the module, as F9 does. Sub-addresses that have no channel answer
-    Q = 0, which ends a scan.
+    pedestal. F0 reads a channel; F2 reads the last one and clears the module, as F9 does.
 
     `hits` is the share of channels that are hit, from 0 to 1; `spread` is the standard deviation of pedestal and peak."""
 
@@ -104,11 +130,10 @@ class Adc(Module):
         seed: int = 1,
         lam_at: Optional[int] = 12,
     ) -> None:
-        super().__init__(lam_at)
+        super().__init__(channels, lam_at)
         self.greatest = (1 << width) - 1
         self.pedestal, self.peak, self.spread, self.hits = pedestal, peak, spread, hits
         self.random = random.Random(seed)
-        self.words = [0] * channels
 
     def convert(self) -> int:
         middle = self.peak if self.random.random() < self.hits else self.pedestal
@@ -118,59 +143,39 @@ class Adc(Module):
         super().trigger()
         self.words = [self.convert() for _ in self.words]
 
-    def clear(self) -> None:
-        super().clear()
-        self.words = [0] * len(self.words)
-
-    def cycle(self, a: int, f: int, data: Optional[int]) -> Reply:
-        if f in (0, 2):
-            if a >= len(self.words):
-                return Reply(q=0)
-            reply = Reply(word=self.words[a])
-            if f == 2 and a == len(self.words) - 1:
-                self.clear()
-            return reply
-        if f == 9:
+    def read_and_clear(self, a: int) -> None:
+        if a == len(self.words) - 1:
             self.clear()
-            return Reply()
-        return super().cycle(a, f, data)
 
 
-class Scaler(Module):
+class Scaler(_Channels):
     """A scaler. A trigger adds up to `rate` counts to each channel of 24 bits. F0 reads a channel, F2 reads and clears it, F9 clears all,
     F25 counts all up by one."""
 
     def __init__(self, channels: int = 12, rate: int = 1000, seed: int = 1, lam_at: Optional[int] = 0) -> None:
-        super().__init__(lam_at)
+        super().__init__(channels, lam_at)
         self.random = random.Random(seed)
         self.rate = rate
-        self.counts = [0] * channels
+
+    @property
+    def counts(self) -> List[int]:
+        return self.words
+
+    @counts.setter
+    def counts(self, counts: List[int]) -> None:
+        self.words = counts
 
     def count(self, channel: int, more: int) -> None:
-        self.counts[channel] = (self.counts[channel] + more) & GREATEST_WORD
+        self.words[channel] = (self.words[channel] + more) & GREATEST_WORD
 
     def trigger(self) -> None:
         super().trigger()
-        for channel in range(len(self.counts)):
+        for channel in range(len(self.words)):
             self.count(channel, self.random.randint(0, self.rate))
 
-    def clear(self) -> None:
-        super().clear()
-        self.counts = [0] * len(self.counts)
-
     def cycle(self, a: int, f: int, data: Optional[int]) -> Reply:
-        if f in (0, 2):
-            if a >= len(self.counts):
-                return Reply(q=0)
-            reply = Reply(word=self.counts[a])
-            if f == 2:
-                self.counts[a] = 0
-            return reply
-        if f == 9:
-            self.clear()
-            return Reply()
         if f == 25:
-            for channel in range(len(self.counts)):
+            for channel in range(len(self.words)):
                 self.count(channel, 1)
             return Reply()
         return super().cycle(a, f, data)
@@ -334,7 +339,7 @@ class MockBranch:
 
     def cycle(self, c: int, n: int, a: int, f: int, data: Optional[int]) -> Answer:
         wait = self.wait(c)
-        if n in CONTROLLER:
+        if n in CONTROLLERS:
             return self.control(c, (n, a, f), wait)
         module = self.modules.get((c, n))
         reply = module.cycle(a, f, data) if module else NOT_ACCEPTED
@@ -348,9 +353,9 @@ class MockBranch:
             for module in self.modules_of(c):
                 module.clear()
         elif command in (INHIBIT_OFF, INHIBIT_ON):
-            _put(c, self.inhibited, command == INHIBIT_ON)
+            (self.inhibited.add if command == INHIBIT_ON else self.inhibited.discard)(c)
         elif command in (DEMANDS_OFF, DEMANDS_ON):
-            _put(c, self.silent, command == DEMANDS_OFF)
+            (self.silent.add if command == DEMANDS_OFF else self.silent.discard)(c)
         return Answer(wait=wait, gl=self.pattern())
 
     def modules_of(self, c: int) -> List[Module]:
@@ -369,14 +374,6 @@ class MockBranch:
 
     def unlock(self, c: int) -> None:
         self.locked.remove(c)
-
-
-def _put(crate: int, crates: Set[int], is_in: bool) -> None:
-    """Puts a crate into a set, or takes it out."""
-    if is_in:
-        crates.add(crate)
-    else:
-        crates.discard(crate)
 
 
 class Faulty:
@@ -434,7 +431,7 @@ class Faulty:
         its = self.branch.cycle(c, n, a, f, data)
         if self.comes("long_wait"):
             its = its._replace(wait=15)
-        if n in CONTROLLER:
+        if n in CONTROLLERS:
             return its
         if self.comes("no_x"):
             return its._replace(x=0, q=0, word=0)

@@ -1,35 +1,14 @@
 """The names of a script: where each is declared and used. The text may have faults; what is before a name says what it is."""
-import enum
 import re
 from bisect import bisect_right
 from dataclasses import dataclass, field
 from typing import Dict, Iterator, List, NamedTuple, Optional, Set, Tuple
 
-from camac.layout import DECLARATIONS, STATEMENTS
-from camac.reader import LAM_CALLS
-from camac.tokens import EACH, NAME, NAMES, TOKEN
+from camac.language import AFTER, BODIES, DECLARATIONS, EACH, LAM, PARAMETER, PROCEDURE, REGISTER, TABLE, VARIABLE, WORDS, Kind
+from camac.tokens import NAME, NAMES, TOKEN
 
-# The words of the language besides those that begin a declaration or a statement.
-OTHERS = "table within cycles event words steps max limit tally on off else to turns by keep in and not q x"
-WORDS = DECLARATIONS | STATEMENTS | frozenset(OTHERS.split())
 LONGEST = 32
 SCRIPT = -1
-
-
-class Kind(enum.Enum):
-    """What a name stands for. A service has the name of its LAM."""
-
-    LAM = "LAM"
-    TABLE = "table"
-    VARIABLE = "variable"
-    PARAMETER = "parameter"
-    REGISTER = "register"
-    PROCEDURE = "procedure"
-
-
-# A lookup in the class takes as long as the rest that is done at a name.
-LAM, TABLE, VARIABLE = Kind.LAM, Kind.TABLE, Kind.VARIABLE
-PARAMETER, REGISTER, PROCEDURE = Kind.PARAMETER, Kind.REGISTER, Kind.PROCEDURE
 
 
 class Symbol(NamedTuple):
@@ -61,19 +40,6 @@ class Block:
     parameters: Set[str] = field(default_factory=set)
 
 
-# What the next names are after a word, and whether they are declared there.
-AFTER: Dict[str, Tuple[Tuple[Kind, bool], ...]] = {
-    "cdlam": ((LAM, True),),
-    "table": ((TABLE, False),),
-    "proc": ((PROCEDURE, True),),
-    "service": ((LAM, False),),
-    "cdreg": ((REGISTER, True),),
-    "cfmad": ((REGISTER, False), (REGISTER, False)),
-    "call": ((PROCEDURE, False),),
-    **{it: ((REGISTER, False),) for it in ("cfsa", "cssa", "cfubc", "cfubr")},
-    **{it: ((LAM, False),) for it in LAM_CALLS},
-}
-_BEGIN = frozenset(("service", "proc", "cdlam", "var"))
 NO_NAMES: Tuple[Tuple[Kind, bool], ...] = ()
 
 
@@ -104,9 +70,9 @@ class Names:
         self.starts = [it[0] for it in self.mentions]
 
     def word(self, word: str, at: int) -> None:
-        if word in _BEGIN:
+        if word in DECLARATIONS:
             self.end_block(at)
-            if word in ("service", "proc"):
+            if word in BODIES:
                 self.blocks.append(Block("", word == "service", at, at, self.size))
                 self.is_inside = True
         self.is_declaration = word == "var"

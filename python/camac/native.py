@@ -36,7 +36,7 @@ def _fields(kind: Any, names: str) -> List[Tuple[str, Any]]:
 class SessionStruct(_Sized):
     """A session: none, until it is opened."""
 
-    _fields_ = [("size", c_uint32), ("version", c_uint32), ("private", c_void_p * 6), ("spare", c_uint32 * 2)]
+    _fields_ = [("size", c_uint32), ("version", c_uint32), ("private", c_void_p * 6), ("state", c_uint32 * 2)]
 
     def __init__(self) -> None:
         super().__init__(version=VERSION)
@@ -58,6 +58,7 @@ class AnswerStruct(_Sized):
 read_want = struct.Struct("=6B").unpack_from
 write_answer = struct.Struct("=IIBBB").pack_into
 BEHIND_SIZE = 4
+ANSWER_SIZE = ctypes.sizeof(AnswerStruct)
 
 
 class Progress(_Sized):
@@ -68,14 +69,21 @@ class Progress(_Sized):
         *_fields(c_uint8, "kind c wait x q"),
         ("unused", c_uint8 * 3),
         # Python reads one number faster than four
-        *_fields(c_uint32, "first_unlocked more_unlocked word pattern service event event_gl event_words event_cycles event_missed"),
-        ("spare", c_uint32 * 3),
+        *_fields(c_uint32, "first_unlocked more_unlocked word pattern service event event_gl event_words event_cycles event_missed event_service"),
+        ("spare", c_uint32 * 2),
     ]
 
     @property
     def unlocked(self) -> Tuple[int, ...]:
         """The crates whose lockout is to be released now, in this order."""
         return tuple(it for it in (self.first_unlocked | self.more_unlocked << 32).to_bytes(8, "little") if it)
+
+    def add(self, more: "Progress") -> None:
+        """Adds what the run did after a pause."""
+        crates = int.from_bytes((*self.unlocked, *more.unlocked), "little")
+        self.first_unlocked, self.more_unlocked = crates & 0xFFFF_FFFF, crates >> 32
+        for name in "event event_gl event_words event_cycles event_missed event_service".split():
+            setattr(self, name, getattr(more, name))
 
 
 class ServiceStruct(_Sized):
@@ -107,6 +115,9 @@ _OF_TEXTS: Dict[str, List[Any]] = {
     "open": [_SESSION, *_TEXT, *_TEXT, *_BUFFER],
 }
 _OF_SESSIONS: Dict[str, List[Any]] = {
+    **{name: [_SESSION] for name in ("answers_left", "services", "rewind", "close")},
+    **{name: [_SESSION, *_BUFFER] for name in ("item", "record")},
+    **{name: [_SESSION, POINTER(c_uint32), c_size_t] for name in ("words", "held")},
     "wants": [_SESSION, POINTER(Want)],
     "ahead": [_SESSION, POINTER(Want), c_size_t],
     "next": [_SESSION, POINTER(AnswerStruct), POINTER(Progress)],
@@ -114,18 +125,10 @@ _OF_SESSIONS: Dict[str, List[Any]] = {
     "step": [_SESSION, POINTER(AnswerStruct), POINTER(Progress), POINTER(Want)],
     "limit_steps": [_SESSION, c_uint32],
     "go_on": [_SESSION, POINTER(Progress)],
-    "words": [_SESSION, POINTER(c_uint32), c_size_t],
-    "held": [_SESSION, POINTER(c_uint32), c_size_t],
-    "item": [_SESSION, *_BUFFER],
-    "record": [_SESSION, *_BUFFER],
     "file_header": [c_char_p, c_size_t],
     "where": [_SESSION, POINTER(c_uint32), POINTER(c_uint32)],
-    "answers_left": [_SESSION],
-    "services": [_SESSION],
     "service": [_SESSION, c_uint32, POINTER(ServiceStruct)],
     "abandon": [_SESSION, POINTER(c_uint32), c_size_t, POINTER(c_size_t)],
-    "rewind": [_SESSION],
-    "close": [_SESSION],
 }
 # What is called at each answer. Their arguments are made once, as C has them, and ctypes takes half of the time where it need not look at them.
 _OFTEN = frozenset(("wants", "next", "step", "item", "record"))

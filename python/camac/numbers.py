@@ -120,19 +120,25 @@ def order(places: Numbers, numbers: Numbers) -> Tuple[Numbers, Numbers]:
 
 def chosen(numbers: Numbers, its: Numbers, parts: Sequence[Numbers]) -> List[Numbers]:
     """Of each part what stands where a number is one of these."""
-    if is_array(numbers):
-        where = importlib.import_module("numpy").isin(numbers, its)
-        return [part[where] if len(part) else part for part in parts]
-    wanted = {*its}
-    where = [number in wanted for number in numbers]
-    return [[*itertools.compress(part, where)] for part in parts]
+    wanted = its if is_array(numbers) else {*its}
+    return _where(importlib.import_module("numpy").isin(numbers, its) if is_array(numbers) else [it in wanted for it in numbers], parts)
 
 
 def within(numbers: Numbers, low: int, last: int, part: Numbers) -> Numbers:
     """Of a part what stands where a number is from the first to the last one."""
-    if is_array(numbers):
-        return part[(low <= numbers) & (numbers <= last)]
-    return [it for it, number in zip(part, numbers) if low <= number <= last]
+    return _where((low <= numbers) & (numbers <= last) if is_array(numbers) else [low <= it <= last for it in numbers], [part])[0]
+
+
+def above(places: Numbers, numbers: Numbers, limit: int) -> List[Numbers]:
+    """The numbers that are more than a limit, behind their places."""
+    return _where(numbers > limit if is_array(numbers) else [it > limit for it in numbers], [places, numbers])
+
+
+def _where(are_there: Numbers, parts: Sequence[Numbers]) -> List[Numbers]:
+    """Of each part what stands where something is so; nothing of an empty part."""
+    if is_array(are_there):
+        return [part[are_there] if len(part) else part for part in parts]
+    return [[*itertools.compress(part, are_there)] for part in parts]
 
 
 def met(*sides: Tuple[Numbers, Numbers]) -> Tuple[Numbers, Numbers]:
@@ -190,12 +196,3 @@ def differences(numbers: Numbers, last: Optional[int], full: int) -> Numbers:
         return numpy.diff(whole) % full
     whole = numbers if last is None else [last, *numbers]
     return [(it - before) % full for before, it in zip(whole, whole[1:])]
-
-
-def above(places: Numbers, numbers: Numbers, limit: int) -> Tuple[Numbers, Numbers]:
-    """The numbers that are more than a limit, and their places."""
-    if is_array(numbers):
-        is_above = numbers > limit
-        return places[is_above], numbers[is_above]
-    its = [(at, it) for at, it in zip(places, numbers) if it > limit]
-    return [at for at, _ in its], [it for _, it in its]

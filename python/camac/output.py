@@ -34,7 +34,9 @@ def bytes_output(path: Optional[str], rule: Rule) -> Iterator[BinaryIO]:
     Raises OSError with the name if it cannot be written, what the rule raises, and BrokenPipeError if the reader of a pipe closed it."""
     its: ContextManager[BinaryIO]
     if path is None:
-        its = _buffered(_standard_output(), STANDARD_OUTPUT)
+        if sys.stdout is None:
+            raise OSError(errno.EBADF, os.strerror(errno.EBADF), STANDARD_OUTPUT)
+        its = _buffered(os.dup(1), STANDARD_OUTPUT)
     elif (there := _open_as_it_is(path)) is None:
         its = _replacement(path, rule)
     else:
@@ -101,11 +103,8 @@ def read_original(file: str) -> Original:
 
 def holds_bytes(path: Any) -> bool:
     """Whether a regular file is there that is not empty: what would be lost, were it written over. Raises OSError if that cannot be known."""
-    try:
-        its = os.stat(path)
-    except FileNotFoundError:
-        return False
-    return stat.S_ISREG(its.st_mode) and its.st_size > 0
+    its = _stat(path)
+    return its is not None and stat.S_ISREG(its.st_mode) and its.st_size > 0
 
 
 def is_one_of(out: str, inputs: Sequence[str]) -> bool:
@@ -145,12 +144,6 @@ def _look(path: str, rule: Rule) -> None:
             raise OSError(errno.EINVAL, "it is no regular file", path)
         os.close(os.open(path, os.O_WRONLY))
     rule(path)
-
-
-def _standard_output() -> int:
-    if sys.stdout is None:
-        raise OSError(errno.EBADF, os.strerror(errno.EBADF), STANDARD_OUTPUT)
-    return os.dup(1)
 
 
 def _open_as_it_is(path: str) -> Optional[int]:

@@ -116,7 +116,7 @@ REQUESTS = (
     Form(lambda crate: Request("unlock", (crate,)), "unlock {crate:crate}"),
 )
 REFUSAL = Form(Refusal, "refused {code:code}(?: line {line})?: {rule:rest}")
-ALSO = Form(Refusal, "also refused {code:code} line {line}: {rule:rest}")
+ALSO = Form(Refusal, "also refused {code:code} line {line} column {column}: {rule:rest}")
 SOURCE, MARK = re.compile(r" *\d+ \|.*"), re.compile(r" *\| (\s*\^)")
 # The part of a line that is not shown.
 CUT = ".."
@@ -250,9 +250,7 @@ def _read_command(text: str) -> Optional[Tuple[Command, Move]]:
     return its if its[1] is (Move.IN if reads(f) else Move.OUT if writes(f) else Move.NONE) else None
 
 
-@functools.lru_cache(maxsize=4096)
-def _read_reply(text: str) -> Optional[Tuple[int, int, int]]:
-    return REPLY.read(text)
+_read_reply = functools.lru_cache(maxsize=4096)(REPLY.read)
 
 
 @functools.lru_cache(maxsize=4096)

@@ -8,7 +8,7 @@ import os
 from typing import Iterator, Optional, Tuple
 
 from camac import library
-from camac.drive import File, ProgramFault, Refused, UsageFault, find_program
+from camac.drive import File, Refused, UsageFault, fault_of, find_program
 from camac.library import IN_PROCESS as IN_PROCESS
 from camac.printed import is_known, is_refused
 from camac.texts import plan_text
@@ -57,8 +57,8 @@ def output_of(*words: File, program: Optional[File] = None) -> str:
     import subprocess
 
     done = subprocess.run([found, *words], stdin=subprocess.DEVNULL, stdout=subprocess.PIPE, stderr=subprocess.PIPE, check=False)
-    printed = _text(done.stdout)
-    _judge(done.returncode, printed, _text(done.stderr))
+    printed = done.stdout.decode(errors="replace")
+    _judge(done.returncode, printed, done.stderr.decode(errors="replace"))
     return printed
 
 
@@ -86,11 +86,7 @@ def lines_of(*words: File, program: Optional[File] = None) -> Iterator[str]:
             status = started.wait()
         errors.seek(0)
         if status not in (0, REFUSED):
-            _judge(status, "", _text(errors.read()))
-
-
-def _text(data: bytes) -> str:
-    return data.decode("utf-8", "replace")
+            _judge(status, "", errors.read().decode(errors="replace"))
 
 
 def _judge(status: int, printed: str, errors: str) -> None:
@@ -99,10 +95,8 @@ def _judge(status: int, printed: str, errors: str) -> None:
         return
     if status == REFUSED and printed:
         raise Refused(printed)
-    if status == USAGE:
-        raise UsageFault(errors.rstrip("\n"), status)
     if status:
-        raise ProgramFault(errors.rstrip("\n"), status)
+        raise fault_of(errors.rstrip("\n"), status)
 
 
 def version(program: Optional[File] = None) -> str:

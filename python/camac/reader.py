@@ -1,16 +1,14 @@
 """Reads a script that is no refused text into a tree."""
 from typing import Callable, Dict, List, Tuple
 
-from camac.tokens import EACH, NAMES, Token, tokens_of
+from camac.language import BODIES, CRATE_CALLS, DECLARATIONS, EACH, LAM_CALLS, SINGLE, SWITCHED, TRANSFERS
+from camac.tokens import NAMES, Token, tokens_of
 from camac.tree import (
     Assign, Body, Cycle, Expression, For, If, Keep, Lock, Loop, Name, Number, Operation, Part, Plain, Range, Script, SetRegister, Statement, Transfer, While,
     all_in, written_by,
 )
 
 OPPOSITE = {"<": ">=", ">=": "<", "<=": ">", ">": "<=", "==": "!=", "!=": "=="}
-CRATE_CALLS = frozenset(("cccz", "cccc", "ctci", "ctcd", "ctgl", "ccci", "cccd"))
-LAM_CALLS = frozenset(("cclm", "cclc", "ctlm"))
-SWITCHED = frozenset(("ccci", "cccd", "cclm"))
 END = Token("", 0, 0, 0)
 
 
@@ -23,7 +21,7 @@ def read_headings(text: bytes) -> List[Body]:
     found: List[Body] = []
     start = -1
     for it in NAMES.finditer(text.decode("latin-1")):
-        if it[1] in ("service", "proc"):
+        if it[1] in BODIES:
             start = it.start()
         elif it[1] == "{" and start >= 0:
             found.append(_Reader(tokens_of(text, start, it.end())).heading())
@@ -69,11 +67,11 @@ class _Reader:
     def script(self) -> Script:
         script = Script()
         while self.word():
-            if self.word() in ("service", "proc"):
+            if self.word() in BODIES:
                 script.bodies.append(self.body())
             elif self.takes("var"):
                 # The next declaration begins with a word of the language.
-                while self.word() not in ("", "table", "cdlam", "var", "proc", "service"):
+                while self.word() not in ("", "table") and self.word() not in DECLARATIONS:
                     self.variables[self.next().text] = (0, 0)
             else:
                 self.next()
@@ -127,9 +125,9 @@ class _Reader:
             register = self.next().text
             self.next()
             return SetRegister(*at, register, (self.expression(), self.expression(), self.expression()))
-        if word in ("cfsa", "cssa"):
+        if word in SINGLE:
             return self.cycle(first)
-        if word in ("cfmad", "cfubc", "cfubr"):
+        if word in TRANSFERS:
             return self.transfer(first)
         if word == "put":
             return Plain(*at, word, values=(self.expression(),))

@@ -4,8 +4,8 @@ Times are the computer's clock, and seconds are measured in this process: from t
 demand is asked for, the modules wait for the service (dead time); the rest is spent in demands (live time). No proof says anything of them."""
 import base64
 import collections
+import contextlib
 import dataclasses
-import datetime
 import hashlib
 import json
 import operator
@@ -13,23 +13,24 @@ import os
 import platform
 import time
 from dataclasses import dataclass
-from typing import Any, Callable, Dict, List, NamedTuple, Optional, Set, Tuple, Union
+from typing import Any, Callable, Dict, List, Mapping, NamedTuple, Optional, Tuple, Union
 
 from camac import native
+from camac.contradictions import Contradictions, plan_of
 from camac.drive import Answer, Branch, File, ProgramFault, UsageFault, add_note, file_fault, one_line
 from camac.events import EventFileFault, read_events
 from camac.fits import Check
 from camac.output import Rule, anything, holds_bytes, output
-from camac.printed import read_services
+from camac.printed import read_responses, read_services
 from camac.program import output_of
 from camac.proof import told
-from camac.regular import read_regular
 from camac.runs import Inputs, collect, is_event_file
 from camac.signals import Signals, signal_of
-from camac.subcommands import plan
+from camac.subcommands import plan, rates
+from camac.surveys import now
 from camac.surveys.summary import Summary, parse_summary, read_summary
-from camac.texts import plan_text, script_text
-from camac.values import RunEnd, Service
+from camac.texts import plan_text, read_regular, script_text
+from camac.values import Contradiction, RunEnd, Service
 
 FORM = "camac record 1"
 # A longer file is no record: plan, script and verdict are some megabytes at most.
@@ -42,13 +43,14 @@ OWN_FILE = "it holds bytes; a run needs a record of its own"
 
 @dataclass(frozen=True)
 class Recording:
-    """Where the record of a run is to be written, and what its caller says of the run; `survey` is a file that camac-survey made. Raises TypeError
-    if the number is no whole one, or the title no text."""
+    """Where the record of a run is to be written, and what its caller says of the run; `survey` is a file that camac-survey made, and `every` has the rates
+    of modules, as `camac.response` takes them. Raises TypeError if the number is no whole one, or the title no text."""
 
     file: File
     number: Optional[int] = None
     title: str = ""
     survey: Optional[File] = None
+    every: Optional[Mapping[str, int]] = None
 
     def __post_init__(self) -> None:
         if not isinstance(self.title, str):
@@ -109,7 +111,8 @@ class Record:
     events, size        the name of the event file, and its bytes at the end
     counts              of each service by its name how many events there are; None while the run goes on, and where the file cannot be read again
     demands, services   the seconds measured in demands and in services: live and dead time; None of a run that was not measured
-    survey              what the last survey of the crates had found; None if no survey was named"""
+    survey              what the last survey of the crates had found; None if no survey was named
+    contradictions      what contradicted the plan, and the rates in `response`; None if that is not known"""
 
     plan: Source
     script: Source
@@ -129,6 +132,7 @@ class Record:
     demands: Optional[float] = None
     services: Optional[float] = None
     survey: Optional[Summary] = None
+    contradictions: Optional[Tuple[Contradiction, ...]] = None
 
     def list_services(self) -> List[Service]:
         """The services of the script with their bounds."""
@@ -146,6 +150,7 @@ class Record:
             **{name: getattr(self, name) for name in ("number", "title", "begin", "end", "told", "how", "line")},
             "events": {"name": self.events, "bytes": self.size, "counts": self.counts},
             "measured_seconds": measured,
+            "contradictions": None if self.contradictions is None else [it._asdict() for it in self.contradictions],
             "verdict": self.verdict,
             "response": self.response,
             "plan": self.plan.value(),
@@ -170,7 +175,7 @@ def parse_record(data: bytes) -> Record:
     fields = json.loads(data)
     if not isinstance(fields, dict) or fields.get("form") != FORM:
         raise ValueError(f"its `form` is not {FORM!r}")
-    events, measured = fields["events"], fields["measured_seconds"] or {}
+    events, measured, its = fields["events"], fields["measured_seconds"] or {}, fields.get("contradictions")
     if not all(isinstance(it, str) for it in (fields["title"], *fields["verdict"], *fields["response"], *fields["versions"].values())):
         raise TypeError
     return Record(
@@ -186,27 +191,33 @@ def parse_record(data: bytes) -> Record:
         services=measured.get("services"),
         versions=fields["versions"],
         survey=parse_summary(fields["survey"]) if fields.get("survey") else None,
+        contradictions=None if its is None else tuple(Contradiction(str(it["place"]), str(it["what"]), operator.index(it["times"])) for it in its),
     )
 
 
-def describe(of: Played, number: Optional[int] = None, title: str = "", survey: Optional[File] = None) -> Record:
+def texts_of(plan: File, script: File) -> Tuple[Source, Source]:
+    """The texts of a plan and of a script. Raises ProgramFault if one cannot be read."""
+    return Source(os.fsdecode(plan), plan_text(plan)), Source(os.fsdecode(script), script_text(script))
+
+
+def describe(
+    of: Played, number: Optional[int] = None, title: str = "", survey: Optional[File] = None, every: Optional[Mapping[str, int]] = None
+) -> Record:
     """The record of a run that has not begun.
 
     Raises Refused if plan or script is refused, ProgramFault and OSError as `camac.check`, and what `read_summary` raises."""
     surveyed = None if survey is None else read_summary(survey)
-    texts = Source(os.fsdecode(of.plan), plan_text(of.plan)), Source(os.fsdecode(of.script), script_text(of.script))
+    texts = texts_of(of.plan, of.script)
     verdict = output_of("check", "--", of.plan, of.script, program=of.program).splitlines()
     try:
-        response = output_of("response", "--", of.plan, of.script, program=of.program).splitlines()
+        response = output_of("response", *rates(every), "--", of.plan, of.script, program=of.program).splitlines()
     except UsageFault:
+        if every:
+            raise
         response = []
     versions = {"package": native.version_text(native.VERSION), "program": told(of.program), "python": platform.python_version()}
     events = None if of.events is None else os.fsdecode(of.events)
     return Record(*texts, tuple(verdict), tuple(response), versions, number, title, events=events, survey=surveyed)
-
-
-def now() -> str:
-    return datetime.datetime.now(datetime.timezone.utc).isoformat(timespec="milliseconds").replace("+00:00", "Z")
 
 
 def beside(events: File) -> Optional[Record]:
@@ -230,32 +241,23 @@ def record_checks(events: File, plan_of: Optional[Source], script: Optional[Sour
     return [Check(f"plan and script are those of the record beside the events{''.join(f'; {it}' for it in wrong)}", not wrong)]
 
 
-def count_events(events: File, services: List[Service]) -> Dict[str, int]:
-    """How many events of each service are in an event file, up to its first fault."""
-    counts: "collections.Counter[int]" = collections.Counter()
-    try:
-        for event in read_events(events):
-            counts[event.gl] += 1
-    except EventFileFault:
-        pass
-    return {it.name: counts[it.gl] for it in services}
-
-
 def recorded(asked: Union[File, Recording], of: Played, branch: Branch, play: Callable[[Branch], RunEnd]) -> RunEnd:
     """Plays a run, and writes its record: before it begins, while it goes on, and at its end.
 
     Raises what `describe` and the run raise, and ProgramFault if the record cannot be written; a file that holds bytes is none."""
     its = asked if isinstance(asked, Recording) else Recording(asked)
-    record = dataclasses.replace(describe(of, None if its.number is None else operator.index(its.number), its.title, its.survey), begin=now())
+    record = dataclasses.replace(describe(of, None if its.number is None else operator.index(its.number), its.title, its.survey, its.every), begin=now())
     writer = _Writer(its.file, record, of)
-    watched = _Watched(branch, {it.gl for it in record.list_services()}, writer)
+    watched = _Watched(branch, record, writer)
     with Signals() as signals:
         writer.write()
         try:
             end = signals.heed(lambda: play(watched))
         except BaseException as error:
             try:
-                writer.finish(watched, FAILED, _why(error))
+                number = signal_of(error)
+                why = f"ended by {number.name}" if number else f"{type(error).__name__}: {one_line(error)}"
+                writer.finish(watched, FAILED, why)
             except ProgramFault as fault:
                 add_note(error, f"and the record: {one_line(fault)}")
             raise
@@ -264,12 +266,6 @@ def recorded(asked: Union[File, Recording], of: Played, branch: Branch, play: Ca
         except ProgramFault as fault:
             raise ProgramFault(fault.text, fault.status, end) from None
         return end
-
-
-def _why(error: BaseException) -> str:
-    """What a record says of a run that failed."""
-    number = signal_of(error)
-    return f"ended by {number.name}" if number else f"{type(error).__name__}: {one_line(error)}"
 
 
 def refuse_foreign(file: File) -> None:
@@ -294,7 +290,8 @@ def write_played(file: File, inputs: Inputs, may_replace: bool = False, survey: 
     how = run.end.how.value if run.end else None
     of_services = {it.name: counts[it.gl] for it in record.list_services()}
     rule = anything if may_replace else refuse_foreign
-    _write(file, dataclasses.replace(record, told=now(), how=how, line=run.last_line(), size=size, counts=of_services).text(), rule)
+    record = dataclasses.replace(record, told=now(), how=how, line=run.last_line(), size=size, counts=of_services, contradictions=run.contradictions)
+    _write(file, record.text(), rule)
 
 
 def _write(file: File, text: str, rule: Rule) -> None:
@@ -309,7 +306,7 @@ class _Writer:
     """Writes a record, and keeps when that was."""
 
     def __init__(self, file: File, record: Record, of: Played) -> None:
-        self.file, self.record, self.of, self.at, self.text = file, record, of, 0.0, ""
+        self.file, self.record, self.of, self.at, self.text, self.plan = file, record, of, 0.0, "", plan_of(of.plan, of.program)
 
     def write(self) -> None:
         self.at = time.monotonic()
@@ -329,13 +326,12 @@ class _Writer:
         """Writes how far the run is, if that is some seconds old. If it cannot be written the run goes on."""
         if time.monotonic() - self.at >= REFRESH:
             self.measured(watched)
-            try:
+            with contextlib.suppress(ProgramFault):
                 self.write()
-            except ProgramFault:
-                pass
 
     def measured(self, watched: "_Watched") -> None:
-        self.record = dataclasses.replace(self.record, demands=watched.demands, services=watched.services)
+        contradictions = watched.seen.found(self.plan)
+        self.record = dataclasses.replace(self.record, demands=watched.demands, services=watched.services, contradictions=contradictions)
 
     def finish(self, watched: "_Watched", how: str, line: str) -> None:
         """Writes the last record of a run."""
@@ -343,18 +339,22 @@ class _Writer:
         self.measured(watched)
         self.record = dataclasses.replace(self.record, end=now(), how=how, line=line)
         if self.of.events is not None and os.path.isfile(self.of.events):
-            counts = count_events(self.of.events, self.record.list_services())
+            found: "collections.Counter[int]" = collections.Counter()
+            # They are counted up to the first fault of the file.
+            with contextlib.suppress(EventFileFault):
+                found.update(it.gl for it in read_events(self.of.events))
+            counts = {it.name: found[it.gl] for it in self.record.list_services()}
             self.record = dataclasses.replace(self.record, counts=counts, size=os.path.getsize(self.of.events))
         self.write()
 
 
 class _Watched:
-    """Hands all on to a branch, and measures the seconds in demands and in services."""
+    """Hands all on to a branch, and measures the seconds in demands and in services. `seen` is what counts the run."""
 
-    def __init__(self, branch: Branch, bits: Set[int], writer: _Writer) -> None:
+    def __init__(self, branch: Branch, record: Record, writer: _Writer) -> None:
         self.cycle, self.lock, self.unlock = branch.cycle, branch.lock, branch.unlock
-        self.branch, self.writer = branch, writer
-        self.pattern = sum(1 << (bit - 1) for bit in bits)
+        self.branch, self.writer, self.seen = branch, writer, Contradictions(read_responses("\n".join(record.response)))
+        self.pattern = sum(1 << (it.gl - 1) for it in record.list_services())
         self.demands = self.services = 0.0
         self.since, self.is_serving = time.perf_counter(), False
 
@@ -366,7 +366,9 @@ class _Watched:
         try:
             answer = self.branch.demand()
         finally:
-            self.count(isinstance(answer, Answer) and bool(answer.gl & self.pattern))
+            called = answer.gl & self.pattern if isinstance(answer, Answer) else 0
+            self.count(bool(called))
+        self.seen.call((called & -called).bit_length())
         return answer
 
     def count(self, is_serving: bool = False) -> None:

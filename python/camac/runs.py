@@ -6,25 +6,26 @@ from array import array
 from typing import Dict, FrozenSet, Iterable, Iterator, List, NamedTuple, Optional, Sequence, Tuple, Union
 
 from camac.arrays import BATCH, EventArrays, Events, Group, batches, event_pieces, groups
+from camac.contradictions import NO_X, Contradictions
 from camac.drive import File
-from camac.events import Event, EventFileFault, read_events
+from camac.events import EventFileFault, read_events
 from camac.fits import Check, Fit
+from camac.functions import CONTROLLERS
 from camac.histograms import Pairs, Series, Spectrum
 from camac.numbers import Numbers, chosen, ends, join, kinds, met, order, scaled, total, whole, within
-from camac.late import Late, Watch
+from camac.late import Late
 from camac.output import Progress
 from camac.program import knows_command
 from camac.subcommands import costs, run
 from camac.texts import script_text
 from camac.transfers import transfer_commands
-from camac.values import Command, Cycle, Demand, Ending, Item, Lock, Move, Plan, Response, RunEnd, Service, Unlock
+from camac.values import Command, Contradiction, Cycle, Demand, Ending, Item, Lock, Move, Plan, Response, RunEnd, Service, Unlock
 from camac.words import COUNTER, SPECTRUM, Column, Words
 
 Operation = Union[Cycle, Lock, Unlock]
 # The operations that are kept of a service that is shown cycle by cycle.
 KEPT_OPERATIONS = 150
 GREATEST_MISSED = 65_535
-CONTROLLER_STATIONS = (28, 30)
 # The bins of the words at a place: enough for a map.
 PLACE_BINS = 128
 # What a word of all its bits holds at most.
@@ -84,9 +85,10 @@ class Sent:
     """What was sent of one command: dataway cycles of ours, of them with Q = 0 and with X = 0, cycles of auxiliary controllers before
     them, and the words: of a read those with Q = 1, cut to the register's width."""
 
-    __slots__ = ("count", "no_q", "no_x", "waits", "words", "series", "mask", "recent", "numbers")
+    __slots__ = ("count", "no_q", "no_x", "waits", "words", "series", "mask", "recent", "numbers", "replies")
 
-    def __init__(self, width: int) -> None:
+    def __init__(self, width: int, replies: List[int]) -> None:
+        self.replies = replies
         self.count = self.no_q = self.no_x = self.waits = 0
         self.words = Spectrum(1 << width)
         self.mask = (1 << width) - 1
@@ -119,6 +121,11 @@ class Asked:
     bins: Optional[int] = None
     gates: Tuple["Cut", ...] = ()
     regions: Tuple["Cut", ...] = ()
+
+    def gated(self) -> str:
+        """Of which events the words are, as the end of a title."""
+        its = " and ".join(f"{it.column.name} from {it.low:,} to {it.last:,}" for it in self.gates)
+        return its and f", of events with {its}"
 
 
 class Cut(NamedTuple):
@@ -157,14 +164,21 @@ class Channel:
 
 
 class Channels(Dict[Column, Channel]):
-    """The channels of a run, by their columns. `regions` have the numbers of each region, from its first one on."""
+    """The channels of a run, by their columns. `regions` have the numbers of each region, from its first one on, `pairs` those of two columns that are in
+    one event."""
 
-    def __init__(self, regions: Sequence[Cut] = ()) -> None:
+    def __init__(self, asked: Asked) -> None:
         super().__init__()
-        self.regions = {it: Spectrum(it.last - it.low + 1) for it in regions}
+        self.asked = asked
+        self.regions = {it: Spectrum(it.last - it.low + 1) for it in asked.regions}
+        of_pair = [None if it.greatest == FULL_WORD else it.greatest + 1 for it in asked.pair or ()]
+        self.pairs = Pairs(*of_pair, most=asked.bins or Pairs.USUAL) if of_pair else None
 
-    def take(self, names: Words, of: Sequence[Group], pair: Sequence[Column] = ()) -> Tuple[Numbers, Numbers]:
-        """Takes the words of events. Returns of each event that has both columns of a pair the first number of both."""
+    def take(self, of: Sequence[Group]) -> None:
+        """Takes the words of the events that pass the gates; of a pair, of each event that has both columns, the first number of both."""
+        names, pair = self.asked.names, self.asked.pair or ()
+        for gate in self.asked.gates:
+            of = gate.select(names, of)
         sides: Dict[Column, Tuple[Numbers, Numbers]] = {}
         for column, events, numbers in names.numbers(of, {it.field for it in pair}):
             if column not in self:
@@ -175,11 +189,13 @@ class Channels(Dict[Column, Channel]):
                     spectrum.add_all(scaled(within(numbers, its.low, its.last, numbers), its.low, 1))
             if column in pair:
                 sides[column] = events, numbers
-        return met(*(sides[it] for it in pair)) if pair and len(sides) == len({*pair}) else ([], [])
+        across, up = met(*(sides[it] for it in pair)) if pair and len(sides) == len({*pair}) else ([], [])
+        if len(across) and self.pairs:
+            self.pairs.add_all(across, up)
 
-    def listed(self, names: Words, bits: Iterable[int]) -> List[Channel]:
+    def listed(self, bits: Iterable[int]) -> List[Channel]:
         """Those that have a number, in the order of the columns of these bits."""
-        return [self[it] for gl in sorted(bits) for it in names.columns(gl) if it in self]
+        return [self[it] for gl in sorted(bits) for it in self.asked.names.columns(gl) if it in self]
 
 
 class Over(NamedTuple):
@@ -213,9 +229,9 @@ class Run:
 
     `has_listing` is False of an event file alone, which has no waits, no Q, no commands and no locks; `has_cycles` is False of one of
     version one. `end` is the end of a run, `fault` the fault of an event file. `kept` are services to be shown cycle by cycle.
-    `by_place` has the words by the bit and by their place in the event, `channels` those of a column, `over` those of another run, `pairs` those of two
-    columns that are in one event, `seen` what was seen of the services of each bit, and `late` how late they ended, where a listing and `camac
-    response` show that."""
+    `by_place` has the words by the bit and by their place in the event, `channels` those of a column, `over` those of another run, `seen` what was seen of
+    the services of each bit, and `late` how late they ended, where a listing and `camac response` show that. `contradictions` are those of the plan; None
+    of an event file, which has no address, and words that are cut."""
 
     def __init__(self, has_listing: bool, asked: Optional[Asked] = None) -> None:
         self.has_listing, self.has_cycles = has_listing, True
@@ -228,12 +244,11 @@ class Run:
         self.kept: Dict[Tuple[Why, int], Kept] = {}
         self.by_place: Dict[Tuple[int, int], Spectrum] = {}
         self.asked = asked or Asked()
-        of_pair = [None if it.greatest == FULL_WORD else it.greatest + 1 for it in self.asked.pair or ()]
-        self.pairs = Pairs(*of_pair, most=self.asked.bins or Pairs.USUAL) if of_pair else None
-        self.channels = Channels(self.asked.regions)
+        self.channels = Channels(self.asked)
         self.over: Optional[Over] = None
         self.seen: Dict[int, SeenOfBit] = {}
         self.late: Dict[int, Late] = {}
+        self.contradictions: Optional[Tuple[Contradiction, ...]] = None
         self.checks: List[Check] = []
 
     def last_line(self) -> str:
@@ -269,14 +284,10 @@ class Run:
                 by_place.setdefault((it.gl, at), []).append(words)
         for key, parts in by_place.items():
             self.by_place.setdefault(key, Spectrum(None, PLACE_BINS)).add_all(join(parts))
-        for gate in self.asked.gates:
-            of = gate.select(self.asked.names, of)
-        across, up = self.channels.take(self.asked.names, of, self.asked.pair or ())
-        if len(across) and self.pairs:
-            self.pairs.add_all(across, up)
+        self.channels.take(of)
 
     def list_channels(self) -> List[Channel]:
-        return self.channels.listed(self.asked.names, kinds(whole(self.gl)))
+        return self.channels.listed(kinds(whole(self.gl)))
 
 
 def is_event_file(file: File) -> bool:
@@ -298,17 +309,23 @@ def collect(
 
     Raises OSError if a file cannot be read, and Refused and ProgramFault as `camac.run`."""
     if is_event_file(inputs.source):
-        collected = _read_event_file(inputs.source, services, asked)
+        made = _read_event_file(inputs.source, services, asked)
     else:
-        with tempfile.NamedTemporaryFile(suffix=".events") as events:
+        with tempfile.NamedTemporaryFile(suffix=".events") as events, open(inputs.source, "rb") as answers:
             meant = transfer_commands(costs(inputs.plan, inputs.script, program), script_text(inputs.script)) if knows_command("costs", program) else frozenset()
-            collector = _Collector(plan, {it.name: it.gl for it in services}, Watch(responses), meant, asked)
-            collector.take(run(*inputs, events.name, program=program))
-            collected = _compare(collector, events.name, services)
+            collector = _Collector(plan, {it.name: it.gl for it in services}, Contradictions(responses), meant, asked)
+            collector.take(run(*inputs, events.name, program=program), answers)
+            made = _compare(collector, events.name, services)
+            made.contradictions = collector.seen.found(plan)
             if responses:
-                _tell_late(collected, collector.watch.seen(), responses)
-    collected.seen = _seen(collected)
-    return collected
+                late = made.late = collector.seen.watch.seen()
+                kept = sum(it.count for it in late.values())
+                is_within = all(it.end is None or late[it.gl].most <= it.end for it in responses)
+                text = f"no service ended later after its look-at-me than its bound, of {kept:,} in whose stretch the rates were kept"
+                made.checks.append(Check(text, is_within))
+    its_columns = (getattr(made, name) for name in ("gl", "cycles", "words", "waits", "no_q", "of_transfers", "no_x"))
+    made.seen = {gl: SeenOfBit(_seen_of(its[0]), _seen_of(its[1]), *map(total, its[2:])) for gl, its in by_bit(*its_columns)}
+    return made
 
 
 def by_bit(bits: Numbers, *columns: Numbers) -> Iterator[Tuple[int, List[Numbers]]]:
@@ -319,12 +336,6 @@ def by_bit(bits: Numbers, *columns: Numbers) -> Iterator[Tuple[int, List[Numbers
         yield gl, its if len(found) == 1 else chosen(bits, [gl], its)
 
 
-def _seen(run: Run) -> Dict[int, SeenOfBit]:
-    """By bit, the counts of its services."""
-    columns = by_bit(run.gl, run.cycles, run.words, run.waits, run.no_q, run.of_transfers, run.no_x)
-    return {gl: SeenOfBit(_seen_of(its[0]), _seen_of(its[1]), *map(total, its[2:])) for gl, its in columns}
-
-
 def _seen_of(numbers: Sequence[int]) -> Seen:
     least, most = ends(numbers)
     return Seen(len(numbers), least, total(numbers) / len(numbers), most)
@@ -333,20 +344,22 @@ def _seen_of(numbers: Sequence[int]) -> Seen:
 class _Collector:
     """Gathers a run from the items of its listing. The last service is left open: the listing alone does not show whether it ended."""
 
-    def __init__(self, plan: Plan, bits: Dict[str, int], watch: Watch, meant: FrozenSet[Command], asked: Optional[Asked]) -> None:
-        self.plan, self.bits, self.watch, self.meant = plan, bits, watch, meant
+    def __init__(self, plan: Plan, bits: Dict[str, int], seen: Contradictions, meant: FrozenSet[Command], asked: Optional[Asked]) -> None:
+        self.plan, self.bits, self.seen, self.meant = plan, bits, seen, meant
         self.run = Run(True, asked)
         self.longest: Dict[int, int] = {}
         self.open: Optional[InProgress] = None
 
-    def take(self, items: Iterable[Item]) -> None:
+    def take(self, items: Iterable[Item], answers: Iterable[bytes]) -> None:
         service = InProgress(0)
         commands = self.run.commands
+        lines = iter(answers)
         for item in items:
+            line = b"" if isinstance(item, Unlock) else next(lines, b"")
             if isinstance(item, Cycle):
                 sent = commands.get(item.command)
                 if sent is None:
-                    sent = commands[item.command] = Sent(self.plan.width(*item.command))
+                    sent = commands[item.command] = Sent(self.plan.width(*item.command), self.seen.counts_of(item.command))
                 self.take_cycle(service, sent, item)
             elif isinstance(item, Lock):
                 service.cycles += item.wait
@@ -356,10 +369,10 @@ class _Collector:
                 service.locks -= 1
             elif isinstance(item, Demand):
                 self.close()
+                self.seen.take(item, line)
                 service = InProgress(self.bits.get(item.service or "", 0))
                 self.open = service if item.service else None
                 self.run.idle += item.service is None
-                self.watch.call(service.gl, len(self.run.gl) + 1)
                 continue
             else:
                 self.run.end = item
@@ -374,27 +387,20 @@ class _Collector:
         self.open = None
         if it is None:
             return
-        run.gl.append(it.gl)
-        for numbers, number in (
-            (run.cycles, it.cycles),
-            (run.waits, it.waits),
-            (run.no_q, it.no_q),
-            (run.of_transfers, it.of_transfers),
-            (run.no_x, it.no_x),
-            (run.locked, it.locked),
-        ):
-            numbers.append(number)
+        self.seen.cycles = it.cycles
+        for name in ("gl", "cycles", "waits", "no_q", "of_transfers", "no_x", "locked"):
+            getattr(run, name).append(getattr(it, name))
         if it.cycles > self.longest.get(it.gl, -1):
             self.longest[it.gl] = it.cycles
             run.kept[Why.LONGEST, it.gl] = it.kept(len(run.gl))
         if it.no_x and (Why.MISSED, 0) not in run.kept:
             run.kept[Why.MISSED, 0] = it.kept(len(run.gl))
-        self.watch.end(it.gl, it.cycles, len(run.gl))
 
     def take_cycle(self, service: InProgress, sent: Sent, item: Cycle) -> None:
         command, move, word, x, q, wait = item
         service.cycles += 1 + wait
         sent.count += 1
+        sent.replies[word.bit_length() if x else NO_X] += 1
         if wait:
             service.waits += wait
             sent.waits += wait
@@ -402,7 +408,7 @@ class _Collector:
             sent.no_q += 1
             if command in self.meant:
                 service.of_transfers += 1
-            elif command.station not in CONTROLLER_STATIONS:
+            elif command.station not in CONTROLLERS:
                 service.no_q += 1
         if not x:
             service.no_x += 1
@@ -428,6 +434,7 @@ def _compare(collector: _Collector, path: File, services: List[Service]) -> Run:
             count += 1
             if at == len(run.gl):
                 collector.close()
+                collector.seen.end()
             if at < len(run.gl):
                 alike += event.gl == run.gl[at] and event.cycles == run.cycles[at]
                 missed += event.missed == min(run.no_x[at], GREATEST_MISSED)
@@ -446,15 +453,6 @@ def _compare(collector: _Collector, path: File, services: List[Service]) -> Run:
         Check(fit.text(), fit.is_good()),
     ]
     return run
-
-
-def _tell_late(run: Run, late: Dict[int, Late], responses: Sequence[Response]) -> None:
-    """How late services ended, beside their bounds."""
-    run.late = late
-    total = sum(it.count for it in late.values())
-    is_within = all(it.end is None or late[it.gl].most <= it.end for it in responses)
-    text = f"no service ended later after its look-at-me than its bound, of {total:,} in whose stretch the rates were kept"
-    run.checks.append(Check(text, is_within))
 
 
 def _read_event_file(path: File, services: List[Service], asked: Optional[Asked]) -> Run:

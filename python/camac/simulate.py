@@ -140,11 +140,6 @@ class _Clocked(MockBranch):
         while self.order[0][0] <= self.now:
             self.take_next()
 
-    def begin(self, it: _Source) -> None:
-        self.called, self.began, self.left = it, self.now, self.left - 1
-        self.rise = None if it.answered == it.raised else it.raised
-        it.answered = it.raised
-
     def close(self) -> None:
         """The service in progress, if there is one, has ended."""
         it, self.called = self.called, None
@@ -164,7 +159,9 @@ class _Clocked(MockBranch):
             pattern = self.demanded()
             called = next((it for gl, it in sorted(self.sources.items()) if pattern >> (gl - 1) & 1), None)
             if called:
-                self.begin(called)
+                self.called, self.began, self.left = called, self.now, self.left - 1
+                self.rise = None if called.answered == called.raised else called.raised
+                called.answered = called.raised
                 return Answer(gl=pattern)
             self.now = max(self.now, self.order[0][0])
             self.take_next()
@@ -195,7 +192,9 @@ def simulate(
 
     Raises UsageFault if a rate is none of a service of the script, and what `camac.check`, `camac.drive` and `MockBranch.of_plan` raise."""
     its = read_plan(plan)
-    every = {name: _period(rate, setting) for name, rate in setting.rates.items()} if setting.is_regular else {}
+    # The whole cycles between two triggers that come regularly; what is lacking by less than a millionth counts.
+    periods = {name: min(max(int(1 / rate / setting.cycle + 1e-6), 1), 4_294_967_295) for name, rate in setting.rates.items()}
+    every = periods if setting.is_regular else {}
     responses = response(plan, script, {**every, **setting.every})
     by_name = {it.name: it for it in responses}
     for name in setting.rates:
@@ -213,11 +212,6 @@ def simulate(
         it.of.waiting = (branch.now - it.raised) / setting.cycle if it.is_waiting(branch) else None
         it.of.lost = it.of.came - len(it.of.waits) - it.is_waiting(branch)
     return Simulation(simulated, branch.now, branch.busy / branch.now if branch.now else 0.0, end)
-
-
-def _period(rate: float, setting: Setting) -> int:
-    """The whole cycles between two triggers that come regularly; what is lacking by less than a millionth counts."""
-    return min(max(int(1 / rate / setting.cycle + 1e-6), 1), 4_294_967_295)
 
 
 def _run(plan: File, script: File, branch: MockBranch, events: Optional[File]) -> RunEnd:

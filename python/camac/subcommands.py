@@ -40,8 +40,12 @@ def response(plan: File, script: File, every: Optional[Mapping[str, int]] = None
     name, how many cycles pass at least until its module raises its look-at-me again (1 to 4,294,967,295).
 
     Raises as `check`, and UsageFault if the program has no `response`, or a rate is none of a service of the script."""
-    rates = [f"{EVERY}{it}" for it in settings(every)]
-    return read_responses(output_of("response", *rates, "--", plan, script, program=program))
+    return read_responses(output_of("response", *rates(every), "--", plan, script, program=program))
+
+
+def rates(every: Optional[Mapping[str, int]]) -> List[str]:
+    """The options of `camac response` for such rates."""
+    return [f"{EVERY}{it}" for it in settings(every)]
 
 
 def run(plan: File, script: File, answers: File, events: File, program: Optional[File] = None) -> Iterator[Item]:

@@ -1,6 +1,9 @@
-"""Plans and scripts by the names that the program knows: files, and `@sample`, the built-in plan. `@in`, standard input, is none here."""
+"""Plans and scripts by the names that the program knows: files, and `@sample`, the built-in plan. `@in`, standard input, is none here. And regular files
+by names that come from somewhere else: from a client, or of a file that others write; nothing is waited for, whatever is there."""
+import errno
 import os
-from typing import List, Optional, Sequence
+import stat
+from typing import BinaryIO, List, Optional, Sequence
 
 from camac.drive import File, ProgramFault, UsageFault, file_fault
 
@@ -8,10 +11,6 @@ SAMPLE = "@sample"
 # The greatest plan or script, in bytes; and how many blocks may be open at once.
 GREATEST_TEXT = 1_048_576
 GREATEST_DEPTH = 16
-
-
-def is_sample(plan: File) -> bool:
-    return os.fsdecode(plan) == SAMPLE
 
 
 def is_standard_input(names: Sequence[File]) -> bool:
@@ -52,7 +51,7 @@ def script_text(script: File) -> bytes:
 
 
 def _place(plan: File) -> File:
-    return os.path.join(os.path.dirname(__file__), "sample_plan.toml") if is_sample(plan) else plan
+    return os.path.join(os.path.dirname(__file__), "sample_plan.toml") if os.fsdecode(plan) == SAMPLE else plan
 
 
 def _read(file: File) -> bytes:
@@ -71,3 +70,24 @@ def source_lines(script: File) -> List[str]:
     Raises OSError if it cannot be read."""
     with open(script, "rb") as file:
         return [line.decode("utf-8", "replace").rstrip("\r") for line in file.read().split(b"\n")]
+
+
+def open_regular(path: File) -> BinaryIO:
+    """Opens a regular file for reading. Raises OSError, with the name, for what is none, as a folder, a pipe or a device, and leaves it untouched."""
+    try:
+        is_file = stat.S_ISREG(os.stat(path).st_mode)
+    except ValueError:
+        is_file = False  # no file can have this name
+    if is_file:
+        # Another file may have taken its place.
+        file = open(os.open(path, os.O_RDONLY | os.O_NONBLOCK | os.O_NOCTTY | os.O_CLOEXEC), "rb")
+        if stat.S_ISREG(os.fstat(file.fileno()).st_mode):
+            return file
+        file.close()
+    raise OSError(errno.EINVAL, "this is no file", path)
+
+
+def read_regular(path: File, most: int) -> bytes:
+    """The first bytes of a regular file, `most` of them at most. Raises as `open_regular`."""
+    with open_regular(path) as file:
+        return file.read(most)

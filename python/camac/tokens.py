@@ -8,8 +8,6 @@ WORD = rf"{NAME}|[0-9]+|->|<-|\.\.|<=|>=|==|!=|[-{{}}()+*/%=,<>]"
 TOKEN = re.compile(rf"\n|#[^\n]*|({WORD})")
 # A token, or a byte that begins none, in a line without its comment.
 PIECE = re.compile(rf"{WORD}|[^ \t\r]")
-# A word of the language behind the last number of a `for` alone, and a name elsewhere.
-EACH = "each"
 # The names, words of the language and braces of a text.
 NAMES = re.compile(rf"#[^\n]*|({NAME}|[{{}}])")
 # What bytes are blanks at the end of a comment.

@@ -1,7 +1,8 @@
 """Where the keys and values of a plan are in its text. The text may have faults: what is before the first one is found."""
+import functools
 import re
 from dataclasses import dataclass
-from typing import Any, Dict, Iterator, List, NamedTuple, Optional, Tuple, Union
+from typing import Any, Callable, Dict, Iterator, List, NamedTuple, Optional, Tuple, Union
 
 from camac.printed import read_place
 from camac.values import Declaration, Plan, Step
@@ -70,13 +71,10 @@ class _Reader:
         self.at += 1
         return self.tokens[self.at - 1]
 
-    def is_sign(self, *signs: str) -> bool:
-        """Whether these signs come next."""
-        its = self.tokens[self.at : self.at + len(signs)]
-        return [(it.kind, it.text) for it in its] == [("sign", sign) for sign in signs]
-
     def takes(self, *signs: str) -> bool:
-        is_there = self.is_sign(*signs)
+        """Takes these signs if they come next."""
+        its = self.tokens[self.at : self.at + len(signs)]
+        is_there = [(it.kind, it.text) for it in its] == [("sign", sign) for sign in signs]
         self.at += len(signs) if is_there else 0
         return is_there
 
@@ -95,18 +93,15 @@ class _Reader:
                 self.pair(self.table)
             self.pass_lines()
 
-    def names(self) -> List[_Token]:
-        found = [self.next()]
+    def key(self, table: Table) -> Tuple[Table, _Token]:
+        """Reads a key: the table that its first parts lead to, and its last part."""
+        its = [self.next()]
         while self.takes("."):
-            found.append(self.next())
-        return found
+            its.append(self.next())
+        return functools.reduce(_below, its[:-1], table), its[-1]
 
     def header(self, is_array: bool) -> None:
-        its = self.names()
-        table = self.root
-        for it in its[:-1]:
-            table = _below(table, it)
-        last = its[-1]
+        table, last = self.key(self.root)
         if is_array:
             array = table.value.setdefault(last.text, Key(last.place, Value([], last.place))).value
             if not isinstance(array.value, list):
@@ -119,12 +114,10 @@ class _Reader:
             pass
 
     def pair(self, table: Table) -> None:
-        its = self.names()
-        for it in its[:-1]:
-            table = _below(table, it)
+        table, last = self.key(table)
         if not self.takes("="):
             raise _End
-        table.value[its[-1].text] = Key(its[-1].place, self.value())
+        table.value[last.text] = Key(last.place, self.value())
 
     def value(self) -> Value:
         it = self.next()
@@ -137,25 +130,23 @@ class _Reader:
         return Value(_scalar(it.text), it.place)
 
     def array(self, start: int) -> Value:
-        values = []
-        self.pass_lines()
-        while not self.takes("]"):
-            values.append(self.value())
-            self.pass_lines()
-            self.takes(",")
-            self.pass_lines()
-        return Value(values, Place(start, self.tokens[self.at - 1].place.end))
+        values: List[Value] = []
+        return Value(values, self.items(start, "]", lambda: values.append(self.value())))
 
     def inline(self, start: int) -> Table:
         table = Table(Place(start, start + 1))
+        table.place = self.items(start, "}", lambda: self.pair(table))
+        return table
+
+    def items(self, start: int, sign: str, read: Callable[[], None]) -> Place:
+        """Reads what is in brackets, up to the sign that ends it; returns the place of all of it."""
         self.pass_lines()
-        while not self.takes("}"):
-            self.pair(table)
+        while not self.takes(sign):
+            read()
             self.pass_lines()
             self.takes(",")
             self.pass_lines()
-        table.place = Place(start, self.tokens[self.at - 1].place.end)
-        return table
+        return Place(start, self.tokens[self.at - 1].place.end)
 
 
 def _scalar(word: str) -> Union[int, bool, str]:

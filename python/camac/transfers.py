@@ -2,34 +2,27 @@
 import itertools
 from typing import Dict, FrozenSet, Iterator, List, Sequence, Set, Tuple
 
-from camac.bodies import TRANSFERS
+from camac.language import OF_FUNCTIONS, TRANSFERS
 from camac.reader import read_script
 from camac.tree import Cycle, Transfer, all_in
 from camac.values import Body, Command, Row
 
-SINGLE = ("cfsa", "cssa")
 SUB_ADDRESSES = 16
 
 
 def transfer_commands(bodies: Sequence[Body], script: bytes) -> FrozenSet[Command]:
     """The commands that only transfers of an accepted script send. `bodies` are what `camac.costs` gives."""
-    functions = _functions(script)
+    # The functions of transfers and of single cycles, by line.
+    functions: Dict[Tuple[int, bool], Set[int]] = {}
+    for it in (one for body in read_script(script).bodies for one in all_in(body.statements)):
+        if isinstance(it, (Cycle, Transfer)):
+            functions.setdefault((it.line, isinstance(it, Transfer)), set()).add(it.function)
     sent: Dict[bool, Set[Command]] = {True: set(), False: set()}
     for row in (row for body in bodies for row in body.rows):
-        if row.word in TRANSFERS or row.word in SINGLE:
+        if row.word in OF_FUNCTIONS:
             places = list(_places(row))
             sent[row.word in TRANSFERS].update(Command(*at, f) for at in places for f in functions.get((row.line, row.word in TRANSFERS), ()))
     return frozenset(sent[True] - sent[False])
-
-
-def _functions(script: bytes) -> Dict[Tuple[int, bool], Set[int]]:
-    """The functions of transfers and of single cycles, by line."""
-    found: Dict[Tuple[int, bool], Set[int]] = {}
-    for body in read_script(script).bodies:
-        for it in all_in(body.statements):
-            if isinstance(it, (Cycle, Transfer)):
-                found.setdefault((it.line, isinstance(it, Transfer)), set()).add(it.function)
-    return found
 
 
 def _places(row: Row) -> Iterator[Tuple[int, int, int]]:

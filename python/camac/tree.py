@@ -52,15 +52,16 @@ class Keep(NamedTuple):
 
 
 class Statement:
-    """A statement: the line and the place of its first token, and where its last one ends."""
+    """A statement: the line and the place of its first token, where its last one ends, and its expressions, without those of its blocks."""
 
-    def __init__(self, line: int, start: int) -> None:
+    def __init__(self, line: int, start: int, *expressions: Optional[Expression]) -> None:
         self.line, self.start, self.end = line, start, 0
+        self.expressions = [it for it in expressions if it]
 
 
 class Assign(Statement):
     def __init__(self, line: int, start: int, name: str, value: Expression) -> None:
-        super().__init__(line, start)
+        super().__init__(line, start, value)
         self.name, self.value = name, value
 
 
@@ -68,7 +69,7 @@ class SetRegister(Statement):
     """`cdreg`: crate, station and sub-address."""
 
     def __init__(self, line: int, start: int, register: str, address: Tuple[Expression, ...]) -> None:
-        super().__init__(line, start)
+        super().__init__(line, start, *address)
         self.register, self.address = register, address
 
 
@@ -78,7 +79,7 @@ class Cycle(Statement):
     def __init__(
         self, line: int, start: int, is_short: bool, function: int, registers: Tuple[str, ...], into: Optional[str], value: Optional[Expression]
     ) -> None:
-        super().__init__(line, start)
+        super().__init__(line, start, value)
         self.is_short, self.function, self.registers, self.into, self.value = is_short, function, registers, into, value
 
 
@@ -88,7 +89,7 @@ class Transfer(Statement):
     def __init__(
         self, line: int, start: int, function: int, registers: Tuple[str, ...], most: Expression, limit: Optional[Expression], tally: str
     ) -> None:
-        super().__init__(line, start)
+        super().__init__(line, start, most, limit)
         self.function, self.registers, self.most, self.limit, self.tally = function, registers, most, limit, tally
 
 
@@ -97,19 +98,19 @@ class Plain(Statement):
     procedure, `switch` "on", "off" or nothing."""
 
     def __init__(self, line: int, start: int, word: str, name: str = "", values: Tuple[Expression, ...] = (), switch: str = "") -> None:
-        super().__init__(line, start)
+        super().__init__(line, start, *values)
         self.word, self.name, self.switch, self.values = word, name, switch, values
 
 
 class If(Statement):
     def __init__(self, line: int, start: int, parts: Tuple[Part, ...], body: List[Statement], other: List[Statement]) -> None:
-        super().__init__(line, start)
+        super().__init__(line, start, *_sides(parts))
         self.parts, self.body, self.other = parts, body, other
 
 
 class Lock(Statement):
     def __init__(self, line: int, start: int, crate: Expression, body: List[Statement]) -> None:
-        super().__init__(line, start)
+        super().__init__(line, start, crate)
         self.crate, self.body = crate, body
 
 
@@ -117,8 +118,8 @@ class Loop(Statement):
     """A loop: its own variable (that of a `for`, the measure of a `while`), where the word `keep` is and what is kept, where its block begins,
     and the other variables that its block writes, with the registers that it sets."""
 
-    def __init__(self, line: int, start: int, name: str) -> None:
-        super().__init__(line, start)
+    def __init__(self, line: int, start: int, name: str, *expressions: Expression) -> None:
+        super().__init__(line, start, *expressions)
         self.name = name
         self.keep = self.block = 0
         self.keeps: List[Keep] = []
@@ -131,13 +132,13 @@ class For(Loop):
     """A `for`, and its turns if both ends are single numbers. With `each` they are, and it keeps nothing."""
 
     def __init__(self, line: int, start: int, name: str, first: Expression, last: Expression, turns: Optional[int], is_each: bool) -> None:
-        super().__init__(line, start, name)
+        super().__init__(line, start, name, first, last)
         self.first, self.last, self.turns, self.is_each = first, last, turns, is_each
 
 
 class While(Loop):
     def __init__(self, line: int, start: int, name: str, parts: Tuple[Part, ...], turns: int) -> None:
-        super().__init__(line, start, name)
+        super().__init__(line, start, name, *_sides(parts))
         self.parts, self.turns = parts, turns
 
 
@@ -183,23 +184,8 @@ def written_by(it: Statement) -> Optional[str]:
     return it.tally if isinstance(it, Transfer) else None
 
 
-def expressions_of(it: Statement) -> List[Expression]:
-    """The expressions of a statement, without those of its blocks."""
-    if isinstance(it, Assign):
-        return [it.value]
-    if isinstance(it, SetRegister):
-        return list(it.address)
-    if isinstance(it, Cycle):
-        return [it.value] if it.value else []
-    if isinstance(it, Transfer):
-        return [it.most] + ([it.limit] if it.limit else [])
-    if isinstance(it, Plain):
-        return list(it.values)
-    if isinstance(it, For):
-        return [it.first, it.last]
-    if isinstance(it, (If, While)):
-        return [side for part in it.parts if part.sides for side in part.sides]
-    return [it.crate] if isinstance(it, Lock) else []
+def _sides(parts: Tuple[Part, ...]) -> List[Expression]:
+    return [side for part in parts if part.sides for side in part.sides]
 
 
 def parts_of(it: Expression) -> Iterator[Expression]:

@@ -2,7 +2,9 @@
 those of its kinds by the names here."""
 import enum
 import re
-from typing import Any, Dict, List, NamedTuple, Optional, Tuple, Union
+from typing import Any, Dict, Iterable, List, NamedTuple, Optional, Tuple, Union
+
+from camac.language import BLOCKS
 
 # The numbers from the first to the second one.
 Range = Tuple[int, int]
@@ -114,15 +116,28 @@ def range_of(text: str) -> Range:
     return int(low), int(high or low)
 
 
+def range_text(its: Range) -> str:
+    """The same the other way."""
+    return str(its[0]) if its[0] == its[1] else f"{its[0]}..{its[1]}"
+
+
+def ranges(numbers: Iterable[int]) -> List[Range]:
+    """Numbers as ranges, in order."""
+    found: List[Range] = []
+    for it in sorted(numbers):
+        if found and found[-1][1] == it - 1:
+            found[-1] = found[-1][0], it
+        else:
+            found.append((it, it))
+    return found
+
+
 class Address(NamedTuple):
     """Where a cycle may go: ranges of crates, stations and sub-addresses."""
 
     crate: Range
     station: Range
     sub_address: Range
-
-
-BLOCKS = frozenset(("if", "else", "for", "while", "lock"))
 
 
 class Row(NamedTuple):
@@ -204,6 +219,10 @@ class ModuleType(NamedTuple):
     probes: int
     declarations: Tuple[Declaration, ...] = ()
 
+    def declared(self) -> Dict[Tuple[int, int], Declaration]:
+        """What is declared, by function and sub-address."""
+        return {(it.function, a): it for it in self.declarations for a in range(it.first, it.last + 1)}
+
 
 class Station(NamedTuple):
     """A station with a module: its number from 1 to 23, its type, and its bit of the graded-L pattern from 1 to 24, if it has one."""
@@ -233,13 +252,16 @@ class Plan(NamedTuple):
         names = (it.type for c in self.crates if c.number == crate for it in c.stations if it.number == station)
         return next((self.types[name] for name in names), None)
 
+    def declaration(self, crate: int, station: int, sub_address: int, function: int) -> Optional[Declaration]:
+        """What is declared of a command; None if nothing is."""
+        there = self.type_at(crate, station)
+        its = there.declarations if there else ()
+        return next((it for it in its if it.function == function and it.first <= sub_address <= it.last), None)
+
     def width(self, crate: int, station: int, sub_address: int, function: int) -> int:
         """How many bits the register there has: 24 if it is not known."""
-        there = self.type_at(crate, station)
-        for it in there.declarations if there else ():
-            if it.function == function and it.first <= sub_address <= it.last:
-                return it.width or 24
-        return 24
+        its = self.declaration(crate, station, sub_address, function)
+        return its.width or 24 if its else 24
 
     def demands(self) -> List[Tuple[int, Crate, Station]]:
         """The stations that have a bit of the graded-L pattern, by bit."""
@@ -287,6 +309,21 @@ class Unlock(NamedTuple):
     crate: int
 
 
+class Contradiction(NamedTuple):
+    """What a plan, or the rate that was told of a service, does not describe: the place ("crate 1 station 5", "GL 9", or the service), what came ("word above
+    12 bits"), and how often."""
+
+    place: str
+    what: str
+    times: int
+
+    def text(self) -> str:
+        """ "the plan does not describe crate 1 station 5: 10 words above 12 bits" """
+        one, space, rest = self.what.partition(" ")
+        of = "told rate" if one == "call" else "plan"
+        return f"the {of} does not describe {self.place}: {self.times:,} {one}{'' if self.times == 1 else 's'}{space}{rest}"
+
+
 class RunEnd(NamedTuple):
     """The end of a run.
 
@@ -294,13 +331,15 @@ class RunEnd(NamedTuple):
                   answer that the program could not take
     line          the program's last line
     events        how many events were written; None if the program does not say it (REFUSED)
-    crate, wait   of an OVERRUN, else None"""
+    crate, wait   of an OVERRUN, else None
+    contradictions  what in a live run contradicted the plan; None where that is not known"""
 
     how: Ending
     line: str
     events: Optional[int] = None
     crate: Optional[int] = None
     wait: Optional[int] = None
+    contradictions: Optional[Tuple[Contradiction, ...]] = None
 
     def is_refused_script(self) -> bool:
         """Whether the plan or the script is refused, and not an answer: then nothing was run."""
@@ -319,11 +358,12 @@ class Request(NamedTuple):
 
 
 class Refusal(NamedTuple):
-    """A line that refuses: the code of the rule, the line (None for a plan), and the rule in words."""
+    """A line that refuses: the code of the rule, the line (None for a plan), the rule in words, and the column from 1 where the line tells it."""
 
     code: str
     line: Optional[int]
     rule: str
+    column: Optional[int] = None
 
 
 class Explanation(NamedTuple):

@@ -5,7 +5,7 @@ from typing import Iterator, List, NamedTuple, Optional, Sequence, Set, Tuple
 from camac.bodies import services_of
 from camac.drive import File
 from camac.edits import Edit
-from camac.loops.loose import Dear, dear_loops, wide_keeps
+from camac.loops.loose import dear_loops, wide_keeps
 from camac.program import knows_command
 from camac.reader import read_script
 from camac.subcommands import check, costs, response
@@ -132,11 +132,7 @@ def _loose(plan: File, text: bytes, script: Script, program: Optional[File]) -> 
             said = f"this kept bound of `{wide.name}` is wider than it has to be: `{wide.name} in {its}` is accepted, too"
             yield Warned(wide.line, Code.WIDE_KEEP, said, wide.edits)
     for dear in dear_loops(plan, text, script.bodies, program):
-        said = f"judged turn by turn (`each`), this loop has a lower bound: `{dear.name}` then takes {_less(dear)}"
+        its_bounds = zip(dear.after, dear.before, ("cycles", "words"))
+        less = " and ".join(f"{after} {word} in place of {before}" for after, before, word in its_bounds if after != before)
+        said = f"judged turn by turn (`each`), this loop has a lower bound: `{dear.name}` then takes {less}"
         yield Warned(dear.line, Code.EACH, said, (dear.edit,))
-
-
-def _less(dear: Dear) -> str:
-    """The cycles or words that are fewer turn by turn, and those as it is."""
-    pairs = [(after, before, word) for after, before, word in zip(dear.after, dear.before, ("cycles", "words")) if after != before]
-    return " and ".join(f"{after} {word} in place of {before}" for after, before, word in pairs)

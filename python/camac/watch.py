@@ -1,5 +1,6 @@
 """A page that follows an event file while a run goes on. The server of the standard library gives it, to this computer alone: it writes nothing,
 and answers GET and HEAD of its own addresses."""
+import dataclasses
 import http.server
 import json
 import os
@@ -7,32 +8,31 @@ import sys
 import threading
 import time
 import urllib.parse
-from typing import Any, Dict, List, NamedTuple, Optional, Sequence, Tuple, Union
+from typing import Any, Callable, Dict, List, NamedTuple, Optional, Sequence, Tuple, Union
 
-from camac.alarms import Alarm, sounding
-from camac.drive import File, one_line
-from camac.events import Event
+from camac.columns import Naming, asked_of, lay_over, read_cut
+from camac.drive import File, UsageFault, one_line
 from camac.export import About, Given, checks_of, learn
-from camac.follow import Counts, Follower, State
-from camac.pictures.regions import measured_text
+from camac.follow import Alarm, Counts, Follower, Mark, State, sounding
+from camac.pictures.maps import draw_pairs
+from camac.pictures.regions import row_of
 from camac.pictures.spectra import BOTH, View, channel_groups, draw_panel, of_channel, seen_groups
-from camac.pictures.svg import Canvas, escape, number, share, ticks
+from camac.pictures.svg import Canvas, escape, share, ticks
 from camac.printed import read_responses
 from camac.program import knows_command
-from camac.record import read_record
-from camac.regions import LEAST, measure
-from camac.report.page import Column, Row, figure, header, page, panels, table
+from camac.record import beside, read_record
+from camac.report.page import Column, Row, figure, header, page, panels, region_table, table
 from camac.run_list import RunList, stamp
-from camac.runs import Channel
+from camac.runs import Asked, Channel, Channels, Cut, Over
 from camac.subcommands import response
-from camac.values import Response
+from camac.values import Contradiction, Response
 from camac.watch_page import FORM, LOST, MORE, NOTES, SCRIPT, STYLE
 
 HOST = "127.0.0.1"
 # The seconds between two looks at the file.
 POLL = 1.0
-# Spectra are drawn again after this multiple of the time that drawing them takes; of so many looks they are kept.
-PAUSE, LOOKS = 250, 16
+# Spectra are drawn again after this multiple of the time that drawing them takes; of so many looks they are kept, and so many parts of a run are counted.
+PAUSE, LOOKS, KEPT = 250, 16, 8
 SHOWN_WORDS = 16
 # The width and the most bins of a spectrum by itself, and the most numbers of a region that is measured.
 WIDE, MOST_BINS, MOST_REGION = 640, 588, 512
@@ -42,8 +42,8 @@ PARTS = {"services": "Services", "rate": "Rate", "channels": "Event words by the
 
 
 class Look(NamedTuple):
-    """What of a run is asked for: spectra of all its events, of those behind an event, or of the last seconds or events; and a column by itself, from a
-    first to a last number."""
+    """What of a run is asked for: spectra of all its events, of those behind an event, or of the last seconds or events; of those that pass gates; and a
+    column by itself, from a first to a last number, and `up` against another; and regions."""
 
     since: int = 0
     seconds: int = 0
@@ -51,28 +51,39 @@ class Look(NamedTuple):
     of: str = ""
     low: int = 0
     last: Optional[int] = None
+    up: str = ""
+    gate: Tuple[str, ...] = ()
+    region: Tuple[str, ...] = ()
 
 
 def read_look(query: str) -> Look:
     """Reads the query of an address. Raises ValueError if it is none."""
-    its = {name: value for name, value in urllib.parse.parse_qsl(query, keep_blank_values=True, strict_parsing=bool(query)) if value or name == "of"}
-    if not {*its} <= {*Look._fields} or not all(value.isdecimal() and len(value) < 16 for name, value in its.items() if name != "of"):
-        raise ValueError(query)
-    return Look(of=its.pop("of", ""), **{name: int(value) for name, value in its.items()})
+    its: Dict[str, Any] = {}
+    for name, value in urllib.parse.parse_qsl(query, keep_blank_values=True, strict_parsing=bool(query)):
+        if name in ("gate", "region"):
+            its[name] = (*its.get(name, ()), value)
+        elif name in ("of", "up"):
+            its[name] = value
+        elif name in Look._fields and value.isdecimal() and len(value) < 16:
+            its[name] = int(value)
+        elif value or name not in Look._fields:
+            raise ValueError(query)
+    return Look(**its)
 
 
 class Watch:
-    """A file that is followed, and the parts of its page. `given` are the files that were named; the record may come later."""
+    """A file that is followed, and the parts of its page. `given` are the files that were named, the record may come later; `over` is another run."""
 
-    def __init__(self, given: Given, alarms: Sequence[Alarm] = ()) -> None:
-        self.given, self.asked_alarms = given, alarms
+    def __init__(self, given: Given, alarms: Sequence[Alarm] = (), over: Optional[File] = None) -> None:
+        self.given, self.asked_alarms, self.over = given, alarms, over
         self.lock = threading.Lock()
         self.drawn: Dict[Look, Tuple[float, Dict[str, str]]] = {}
-        self.cleared: Dict[int, Follower] = {}
+        self.kept: Dict[Tuple[object, ...], Follower] = {}
         self.record_at = stamp(given.record)
         self.about, self.responses = self.learn()
         self.record, self.refused = self.about.record, ""
-        self.follower = Follower(given.events, lambda: Counts(self.about.services, self.about.names()))
+        self.misfits: List[str] = []
+        self.follower = Follower(given.events, lambda: Counts(self.about.services, Asked(self.about.names())))
 
     def learn(self) -> Tuple[About, Sequence[Response]]:
         """Raises as `camac.export.learn`. A record that is not there yet is none; without plan and script the words have no names until then."""
@@ -96,7 +107,7 @@ class Watch:
             except Exception as why:
                 self.refused = f"the record: {one_line(why) or why!r}"
             try:
-                return self.follower.poll()
+                return any([it.poll() for it in (self.follower, *self.kept.values())])
             except Exception as why:
                 self.follower.state = State(f"the events: {one_line(why) or why!r}", True)
                 return False
@@ -112,7 +123,7 @@ class Watch:
         if before is None or (before.plan.sha256, before.script.sha256) != (record.plan.sha256, record.script.sha256):
             self.about, self.responses = self.learn()
             self.follower.restart("the record is that of another run")
-            self.cleared.clear()
+            self.kept.clear()
         self.record = record
 
     def follow(self, stop: threading.Event) -> None:
@@ -128,7 +139,8 @@ class Watch:
                 drawn = self.draw(look)
                 if len(self.drawn) >= LOOKS:
                     self.drawn.clear()
-                self.drawn[look] = time.monotonic() + PAUSE * (time.thread_time() - begin), drawn
+                pause = PAUSE if all(it.is_there_yet for it in self.kept.values()) else 0
+                self.drawn[look] = time.monotonic() + pause * (time.thread_time() - begin), drawn
             return {
                 "alarms": "".join(f'<p class="bad">{escape(it)}</p>' for it in self.alarms()),
                 "notes": self.notes(),
@@ -139,39 +151,66 @@ class Watch:
                 "last": self.last(),
             }
 
-    def counts_of(self, look: Look) -> Counts:
-        """The counts of the events that are asked for, which may begin a little before."""
+    def follow_asked(self, look: Look, asked: Asked) -> Follower:
+        """What counts the events that are asked for, which may begin a little before. Those of whole runs take their time."""
         its, there = self.follower, self.follower.counts.events
+        make = lambda: Counts(self.about.services, dataclasses.replace(asked, regions=()))
         if look.seconds or look.events:
-            its = its.since(its.before(look.seconds, look.events))
-        elif 0 < look.since <= there:
-            if look.since not in self.cleared:
-                self.cleared = dict([*self.cleared.items()][1 - LOOKS :])
-                self.cleared[look.since] = its.since(its.before(events=there - look.since))
-            its = self.cleared[look.since]
-        while its is not self.follower and its.poll():
-            pass
-        return its.counts
+            its = its.since(its.before(look.seconds, look.events), make)
+            while its.poll():
+                pass
+            return its
+        key = look.since if look.since <= there else 0, asked.gates, asked.pair
+        return self.keep(key, lambda: its.since(its.before(events=there - look.since) if key[0] else Mark(0.0), make)) if any(key) else its
+
+    def keep(self, key: Tuple[object, ...], make: Callable[[], Follower]) -> Follower:
+        """What follows events under a key, made if it is not there."""
+        if key not in self.kept:
+            self.kept = dict([*self.kept.items()][1 - KEPT :])
+            self.kept[key] = make()
+            self.kept[key].poll()
+        return self.kept[key]
+
+    def lay_over(self, look: Look, asked: Asked, counts: Counts) -> Optional[Over]:
+        """The other run, of which the same gates are asked."""
+        if self.over is None:
+            return None
+        file, about = self.over, dataclasses.replace(self.about, events_file=os.fsdecode(self.over))
+        other = self.keep((file, asked.gates), lambda: Follower(file, lambda: Counts(about.services, Asked(asked.names, gates=asked.gates))))
+        wrong = [other.state.text] if other.state.is_bad else [it.text for it in checks_of(other.counts.fit, about) if not it.agrees]
+        self.misfits = [f"{os.path.basename(about.events_file)}: {it}" for it in wrong]
+        live = [its.demands if its and not (look.since or look.seconds or look.events) else None for its in (self.record, beside(file))]
+        return lay_over(file, other.counts.channels, live, *({gl: it.count for gl, it in one.bits.items()} for one in (counts, other.counts)))
 
     def draw(self, look: Look) -> Dict[str, str]:
-        counts, services = self.counts_of(look), self.about.services
+        try:
+            naming = Naming(None, (look.of, look.up) if look.up else None, tuple(map(read_cut, look.gate)), tuple(map(read_cut, look.region)))
+            asked = asked_of(naming, self.about.names())
+        except UsageFault as why:
+            return {"one": f'<p class="bad">{escape(why)}</p>'}
+        its, services = self.follow_asked(look, asked), self.about.services
+        counts, taken = its.counts, its.counts.fit.count
         spectra = {gl: it.cycles for gl, it in counts.bits.items()}, {gl: it.words for gl, it in counts.bits.items()}
-        channels = counts.list_channels()
-        taken = counts.fit.count
-        of = "" if taken == counts.events else f'<p class="mute">{taken:,} events, from event {counts.events - taken + 1:,} on</p>'
+        channels, over = counts.list_channels(), self.lay_over(look, asked, counts)
+        of = f"{taken:,} events" + (f", from event {counts.events - taken + 1:,} on" if taken != counts.events else "")
+        of += "" if its.is_there_yet else f" ({its.state.text})"
+        cycles, words = ("" if its is self.follower else f'<p class="mute">{escape(of + it)}</p>' for it in ("", asked.gated()))
         return {
-            "cycles": of + (panels(seen_groups(*spectra, services, BOTH)) if services else ""),
-            "channels": of + panels(channel_groups(channels, BOTH)),
-            "names": "".join(f'<option value="{escape(it.column.name)}">' for it in channels),
-            "one": next((_draw_one(it, look) for it in channels if it.column.name == look.of), ""),
+            "cycles": cycles + (panels(seen_groups(*spectra, services, BOTH)) if services else ""),
+            "channels": words + panels(channel_groups(channels, BOTH, over=over)),
+            "names": "".join(f'<option value="{escape(it.column.name)}">' for it in self.follower.counts.list_channels()),
+            "one": _draw_one(counts.channels, next((it for it in channels if it.column.name == look.of), None), look, asked, over),
         }
 
     def alarms(self) -> List[str]:
         """What is wrong now: with the files, with the script of the events, and what the user asked for, until the run is over."""
         follower, is_over = self.follower, self.record is not None and self.record.end is not None
-        its = [follower.state.text if follower.state.is_bad else "", self.refused]
+        its = [follower.state.text if follower.state.is_bad else "", self.refused, *self.misfits]
         its += [it.text for it in checks_of(follower.counts.fit, self.about) if not it.agrees]
-        return [*filter(None, its), *sounding([] if is_over else self.asked_alarms, follower, self.about.services)]
+        return [*filter(None, its), *sounding([] if is_over else self.asked_alarms, follower, self.about.services, self.contradictions())]
+
+    def contradictions(self) -> Sequence[Contradiction]:
+        return self.record and self.record.contradictions or ()
 
     def notes(self) -> str:
         state = self.follower.state
@@ -182,6 +221,7 @@ class Watch:
             lines.append(f'The record: <b class="{"good" if its.how == "ended" else "bad"}">{escape(its.line)}</b>, {escape(its.end or "")}')
         elif its:
             lines.append(f"The record: run in progress since {escape(its.begin or '')}, told {escape(its.told or '')}")
+        lines += [f'<b class="bad">{escape(it.text())}</b>' for it in self.contradictions()]
         return "".join(f"<p>{it}</p>" for it in lines)
 
     def tiles(self) -> str:
@@ -218,7 +258,11 @@ class Watch:
 
     def last(self) -> str:
         names = {it.gl: it.name for it in self.about.services}
-        rows = [(it.number, names.get(it.gl, f"GL {it.gl}"), *("" if its is None else its for its in it[2:4]), _shown(it)) for it in reversed(self.follower.counts.last)]
+        rows = []
+        for it in reversed(self.follower.counts.last):
+            more = len(it.words) - SHOWN_WORDS
+            words = " ".join(map(str, it.words[:SHOWN_WORDS])) + (f" … and {more:,} more" if more > 0 else "")
+            rows.append((it.number, names.get(it.gl, f"GL {it.gl}"), *("" if its is None else its for its in it[2:4]), words))
         return table([Column("event"), Column("service", True), Column("cycles"), Column("X = 0"), Column("words", True)], rows, False)
 
     def page(self) -> str:
@@ -237,23 +281,16 @@ def _duration(seconds: float) -> str:
     return f"{seconds / 60:.0f} min" if seconds < 3600 else f"{seconds / 3600:.1f} h"
 
 
-def _shown(it: Event) -> str:
-    more = len(it.words) - SHOWN_WORDS
-    return " ".join(map(str, it.words[:SHOWN_WORDS])) + (f" … and {more:,} more" if more > 0 else "")
-
-
-def _draw_one(it: Channel, look: Look) -> str:
-    """A spectrum by itself, and what is in its range."""
-    its = it.spectrum
-    low = min(look.low, its.end - 1)
-    last = its.end - 1 if look.last is None else max(low, min(look.last, its.end - 1))
-    counts = its.bins(low, last + 1)
-    row: List[object] = [f"{look.of}, {low:,} to {last:,}", sum(counts.counts)]
-    if counts.width == 1 and LEAST <= last - low + 1 <= MOST_REGION:
-        found = measure(low, counts.counts)
-        row += [measured_text(found.net, 0), measured_text(found.centroid, 2), measured_text(found.width, 2)]
-    titles = ("counts", "above the line", "centroid", "FWHM")
-    return figure(draw_panel(of_channel(it), BOTH, View(low, last, MOST_BINS), WIDE)) + table([Column("region", True), *map(Column, titles)], [row], False)
+def _draw_one(channels: Channels, it: Optional[Channel], look: Look, asked: Asked, over: Optional[Over]) -> str:
+    """A spectrum by itself, what is in its range and in regions, and a pair."""
+    drawn, cuts = "", [*asked.regions]
+    if it is not None:
+        its = it.spectrum
+        low = min(look.low, its.end - 1)
+        last = its.end - 1 if look.last is None else max(low, min(look.last, its.end - 1))
+        drawn, cuts = figure(draw_panel(of_channel(it, over), BOTH, View(low, last, MOST_BINS), WIDE)), [Cut(it.column, low, last), *cuts]
+    rows = [row_of(cut, channels[cut.column].spectrum.bins(cut.low, cut.last + 1, MOST_REGION)) for cut in cuts if cut.column in channels]
+    return drawn + (region_table(rows) if rows else "") + (figure(draw_pairs(channels)) if asked.pair else "")
 
 
 def _draw_rate(rates: Sequence[Tuple[float, float]], span: float) -> Canvas:
@@ -266,9 +303,8 @@ def _draw_rate(rates: Sequence[Tuple[float, float]], span: float) -> Canvas:
         y = 10 + high * (1 - value / top)
         canvas.text(left - 6, y + 4, f"{value:,}", "mute s10 r")
         canvas.line((left, y), (left + wide, y), "l-grid thin")
-    places = [f"{number(left + wide * (1 - age / span))} {number(10 + high * (1 - it / top))}" for age, it in rates]
-    if places:
-        canvas.path("M" + "L".join(places), "l-ours")
+    if rates:
+        canvas.lines([(left + wide * (1 - age / span), 10 + high * (1 - it / top)) for age, it in rates], "l-ours")
     for part in (0, 0.5, 1):
         text = f"{_duration(part * span)} ago" if part else "now"
         canvas.text(left + wide * (1 - part), 24 + high, text, "mute s10" + (" m" if part else " r"))

@@ -56,19 +56,16 @@ def read_words(file: File, services: Sequence[Service] = (), sources: Words = Wo
 def parse_words(text: bytes, file: File, services: Sequence[Service] = (), sources: Words = Words()) -> Words:
     """Reads the text of a file of words; `file` is its name in a fault. Raises WordsFault as `read_words`."""
     reader = _Fields(file, services, sources)
-    for table in _tables(text, file):
+    try:
+        tables = _by_lines(text, file)
+    except WordsFault:
+        others = _by_tomllib(text)
+        if others is None:
+            raise
+        tables = others
+    for table in tables:
         reader.take(table)
     return reader.words()
-
-
-def _tables(text: bytes, file: File) -> List[_Table]:
-    try:
-        return _by_lines(text, file)
-    except WordsFault:
-        tables = _by_tomllib(text)
-        if tables is None:
-            raise
-        return tables
 
 
 def _by_tomllib(text: bytes) -> Optional[List[_Table]]:
@@ -200,8 +197,15 @@ class _Fields:
         places = self.range("place", 1, self.most.get(gl, GREATEST_COUNT) or GREATEST_COUNT, ANYWHERE)
         widest = self.widest(gl, places)
         its = Field(name, gl, unit, self.range("bits", *WHOLE, widest or WHOLE), places, line=table.line)
-        its = replace(its, kind=self.kind(VALUE if widest == its.bits == WHOLE else SPECTRUM))
-        self.test_name(its)
+        if "as" in table.keys and self.text("as") not in KINDS:
+            self.fail("as", f"`as` is {', '.join(KINDS[:-1])} or {KINDS[-1]}")
+        its = replace(its, kind=self.text("as") or (VALUE if widest == its.bits == WHOLE else SPECTRUM))
+        if name == PLACE:
+            self.fail("name", "`place` is what each word has; choose another name")
+        # A name has one unit in all of the file.
+        for it in self.fields:
+            if it.name == name and it.unit != unit:
+                self.fail("unit", f"`{name}` has another unit in line {it.line}")
         its = replace(its, scale=self.amount("scale", 1), offset=self.amount("offset", 0))
         self.fields.append(self.tagged(its))
         if sum(it.tags[1] - it.tags[0] + 1 for it in self.fields if it.gl == gl) > GREATEST_COLUMNS:
@@ -213,11 +217,6 @@ class _Fields:
         its = [it for it in self.sources if it.gl == gl and not it.is_expression and _meet(it.places, places)]
         known = {at for it in its for at in range(max(it.places[0], places[0]), min(it.places[1], places[1]) + 1)}
         return max(it.bits for it in its) if known and len(known) == places[1] - places[0] + 1 else None
-
-    def kind(self, default: str) -> str:
-        if "as" in self.table.keys and self.text("as") not in KINDS:
-            self.fail("as", f"`as` is {', '.join(KINDS[:-1])} or {KINDS[-1]}")
-        return self.text("as") or default
 
     def tagged(self, its: Field) -> Field:
         """The field with what chooses its column."""
@@ -241,14 +240,6 @@ class _Fields:
         if not _lies_in(its.places, tag.places):
             self.fail("place", f"at some of these places `{of}` does not stand")
         return replace(its, of=of, tags=self.range("tag", 0, tag.greatest, (0, tag.greatest)))
-
-    def test_name(self, its: Field) -> None:
-        """A name has one unit in all of the file. In a service it may be twice at different places, or for different tags."""
-        if its.name == PLACE:
-            self.fail("name", "`place` is what each word has; choose another name")
-        for it in self.fields:
-            if it.name == its.name and it.unit != its.unit:
-                self.fail("unit", f"`{its.name}` has another unit in line {it.line}")
 
     def words(self) -> Words:
         """All fields. Two of one name in one service may have no word in common."""

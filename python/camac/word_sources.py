@@ -187,14 +187,12 @@ class _Walk:
         for station in range(begin.station, end.station + 1):
             low = begin.sub_address if station == begin.station else 0
             high = end.sub_address if station == end.station else SUB_ADDRESSES - 1
-            found += [self.origin(it.function, (begin.crate, station, at)) for at in range(low, high + 1) if self.is_register(begin.crate, station, at, it.function)]
+            for at in range(low, high + 1):
+                its = self.plan.declaration(begin.crate, station, at, it.function)
+                # A scan gets no word from a probe, which answers Q = 0.
+                if its and not its.is_probe:
+                    found.append(self.origin(it.function, (begin.crate, station, at)))
         return found[:most] if len(found) <= most or begin.station == end.station else [None] * most
-
-    def is_register(self, crate: int, station: int, sub_address: int, function: int) -> bool:
-        """Whether a scan gets a word there: no probe, which answers Q = 0."""
-        there = self.plan.type_at(crate, station)
-        its = [it for it in there.declarations if it.function == function and it.first <= sub_address <= it.last] if there else []
-        return bool(its) and not its[0].is_probe
 
     def fields(self, gl: int) -> List[Field]:
         """What is known of the words of a service that was gone through. Neighbours of one origin, as a block of words has them, are one
@@ -220,25 +218,24 @@ class _Walk:
         return f"{there.name if there else 'module'} crate {it.origin.crate} station {it.origin.station} A{it.origin.sub_address}"
 
 
-def _fields_of(body: Body, script: Script, text: bytes, plan: Plan, gl: int) -> List[Field]:
-    walk = _Walk(script, text, plan)
-    try:
-        walk.block(body.statements, _State({name: 0 for name in body.variables}, {}))
-    except _Lost:
-        # How many words an event has at most is not known.
-        walk.puts = [it for it in walk.puts if not it.is_behind]
-    return walk.fields(gl)
-
-
 def words_of_script(plan: Plan, script: File, services: Sequence[Service]) -> Words:
     """The columns of an accepted script, of which `services` are what `camac.check` gives. A column is a word whose place is fixed. It has the
     name of its module and its address, or the line and the text of the expression that is put.
 
     Raises ProgramFault if the script cannot be read."""
-    text = script_text(script)
+    text, found = script_text(script), []
     its = read_script(text)
     bits = {it.name: it.gl for it in services}
-    return Words([it for body in its.bodies if body.name in bits and body.is_service for it in _fields_of(body, its, text, plan, bits[body.name])])
+    for body in its.bodies:
+        if body.name in bits and body.is_service:
+            walk = _Walk(its, text, plan)
+            try:
+                walk.block(body.statements, _State({name: 0 for name in body.variables}, {}))
+            except _Lost:
+                # How many words an event has at most is not known.
+                walk.puts = [it for it in walk.puts if not it.is_behind]
+            found += walk.fields(bits[body.name])
+    return Words(found)
 
 
 def _known(it: Expression, state: _State) -> Known:

@@ -144,10 +144,6 @@ class _Reader:
             if tag in self.columns:
                 yield Gathered(self.columns[tag], parts[1] if len(events) else [], each(parts[0], low, mask))
 
-    def stands_at(self, count: int, place: int) -> bool:
-        """Whether the word at a place of an event of so many words has this field."""
-        return self.field.places[0] <= place <= self.field.places[1] and self.field.count in (None, count)
-
 
 class Words:
     """The columns of words, by the bit of their service. Fields are in the order of the file."""
@@ -178,6 +174,10 @@ class Words:
             found.setdefault(it.name, []).append(it)
         return found
 
+    def find(self, name: str) -> List[Column]:
+        """The columns of a name, in the order of the bits of their services."""
+        return [it for gl in sorted(self._readers) for it in self.columns(gl) if it.name == name]
+
     def values(self, event: Event) -> Iterator[Value]:
         """The numbers in an event, by place. A word without a column has none."""
         layout = self._layout(event.gl, len(event.words))
@@ -205,9 +205,9 @@ class Words:
         """What reads the word at each place of an event of so many words. It is kept, since it is asked for each event."""
         key = gl, count if (gl, count) in self._counts else 0
         if key not in self._layouts:
-            its = self._readers.get(gl, [])
+            its = [it for it in self._readers.get(gl, []) if it.field.count in (None, count)]
             last = max((it.field.places[1] for it in its), default=0)
-            self._layouts[key] = [tuple(it for it in its if it.stands_at(count, place)) for place in range(1, last + 1)]
+            self._layouts[key] = [tuple(it for it in its if it.field.places[0] <= place <= it.field.places[1]) for place in range(1, last + 1)]
         return self._layouts[key]
 
     def values_of(self, its: Union[Field, Column], events: EventArrays) -> Values:

@@ -10,19 +10,6 @@
 #define MOST_BYTES 4096u /* of a struct, in any version */
 
 static text plan, script;
-static const camac_want no_want = CAMAC_WANT;
-static const camac_progress no_progress = CAMAC_PROGRESS;
-static const camac_answer no_answer = CAMAC_ANSWER;
-
-static void expect_zeros(const void *found, const void *zeros, size_t size, int line) {
-    if (memcmp(found, zeros, size)) fail("line %d: what is no result is not zeros", line);
-}
-
-/* Fills a struct with what is no result, but for its size. */
-static void spoil(void *its, uint32_t size) {
-    memset(its, 9, size);
-    memcpy(its, &size, sizeof size);
-}
 
 /* A none: every call of a session is misuse, but close, which is harmless. */
 static void none(void) {
@@ -57,6 +44,7 @@ static void handed_in(void) {
     IS_MISUSE(camac_plan(plan.bytes, plan.size, NULL, 1, &size));
     IS_MISUSE(camac_explain_plan(NULL, 1, out, sizeof out, &size));
     IS_MISUSE(camac_events(NULL, 1, out, sizeof out, &size));
+    IS_MISUSE(camac_events("CAMACEV2", (size_t)-1, out, sizeof out, &size));
     IS_MISUSE(camac_check(NO_PLAN, out, sizeof out, &size));
     IS_MISUSE(camac_check(NO_SCRIPT, out, sizeof out, &size));
     IS_MISUSE(camac_check(TEXTS, NULL, 1, &size));
@@ -71,6 +59,7 @@ static void handed_in(void) {
     IS_MISUSE(camac_response(TEXTS, NULL, 0, NULL, 1, out, sizeof out, &size));
     IS_MISUSE(camac_run(TEXTS, NULL, 1, out, sizeof out, &size, file, sizeof file, &file_size));
     IS_MISUSE(camac_run(TEXTS, NULL, 0, out, sizeof out, &size, NULL, 1, &file_size));
+    IS_MISUSE(camac_run(TEXTS, "", (size_t)-1, out, sizeof out, &size, file, sizeof file, &file_size));
     IS_MISUSE(camac_open(&s, NO_PLAN, out, sizeof out, &size));
     IS_MISUSE(camac_open(NULL, TEXTS, out, sizeof out, &size));
     older.version = CAMAC_VERSION_NUMBER - 100;
@@ -93,7 +82,10 @@ static void handed_in(void) {
     want.size--, did.size = MOST_BYTES + 1;
     EXPECT(CAMAC_MISUSE, camac_wants(&older, &want));
     EXPECT(CAMAC_MISUSE, camac_next(&older, &answer, &did));
-    want.size++, did.size = sizeof did, answer.size = 0;
+    want.size += 2, did.size = sizeof did + 2;
+    EXPECT(CAMAC_MISUSE, camac_wants(&older, &want));
+    EXPECT(CAMAC_MISUSE, camac_next(&older, &answer, &did));
+    want.size--, did.size = sizeof did, answer.size = 0;
     EXPECT(CAMAC_MISUSE, camac_next(&older, &answer, &did));
     answer.size = sizeof answer, answer.spare[3] = 1;
     EXPECT(CAMAC_MISUSE, camac_next(&older, &answer, &did));

@@ -23,6 +23,20 @@ static inline void expect(int code, int found, const char *what, int line) {
     if (code != found) fail("line %d: %s is %d, not %d", line, what, found, code);
 }
 
+static const camac_want no_want = CAMAC_WANT;
+static const camac_progress no_progress = CAMAC_PROGRESS;
+static const camac_answer no_answer = CAMAC_ANSWER;
+
+static inline void expect_zeros(const void *found, const void *zeros, size_t size, int line) {
+    if (memcmp(found, zeros, size)) fail("line %d: what is no result is not zeros", line);
+}
+
+/* Fills a struct with what is no result, but for its size. */
+static inline void spoil(void *its, uint32_t size) {
+    memset(its, 9, size);
+    memcpy(its, &size, sizeof size);
+}
+
 typedef struct text {
     char *bytes;
     size_t size;

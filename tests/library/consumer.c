@@ -1,7 +1,7 @@
 /* consumer.c: what a data acquisition program makes of a run: the listing and the event file of `camac run`. The run is begun again before it is
  * played. Now and then a service is abandoned: what was written since its demand is taken back, and the rest is that of a run without it. Where it
  * stands, each time something is wanted, is a line of the script that can want it. A second session takes the same answers in lists, as long as what
- * it tells ahead, and does the same.
+ * it tells ahead, and does the same. So does camac_run with all of them.
  *
  *     consumer FOLDER COUNT     of FOLDER/K.plan and FOLDER/K.script, K below COUNT, it makes K.answers at random, K.listing and K.events, and prints
  *                               how many lists there were, and how many answers in them */
@@ -25,17 +25,36 @@ static text of_file(const char *folder, long k, const char *kind) {
     return read_file(path);
 }
 
+static int item(const camac_session *s, void *bytes, size_t room, size_t *size) { return camac_item(s, bytes, room, size); }
+
 /* Writes what a call tells, which has to be what it tells of its size alone. */
 static void put(FILE *to, int (*call)(const camac_session *, void *, size_t, size_t *), const camac_session *s) {
-    static char bytes[1 << 15];
+    static char bytes[CAMAC_RECORD_BYTES];
     size_t size, alone;
     EXPECT(CAMAC_OK, call(s, bytes, sizeof bytes, &size));
     EXPECT(CAMAC_OK, call(s, NULL, 0, &alone));
-    if (size != alone || size > sizeof bytes) fail("%zu bytes are told, or %zu", size, alone);
+    if (size != alone || size > (call == item ? CAMAC_LINES_BYTES : sizeof bytes)) fail("%zu bytes are told, or %zu", size, alone);
     if (fwrite(bytes, 1, size, to) != size) fail("a file cannot be written");
 }
 
-static int item(const camac_session *s, void *bytes, size_t room, size_t *size) { return camac_item(s, bytes, room, size); }
+static size_t number(uint8_t *to, uint64_t its, unsigned bytes) {
+    for (unsigned i = 0; i < bytes; i++) to[i] = (uint8_t)(its >> (8 * (bytes - 1 - i)));
+    return bytes;
+}
+
+/* The record of the event has what is told of it, and so has the answer, of this service. */
+static void is_told(const camac_session *s, const camac_progress *did, uint32_t service) {
+    static uint32_t words[CAMAC_EVENT_WORDS];
+    static uint8_t told[CAMAC_RECORD_BYTES], found[CAMAC_RECORD_BYTES];
+    const size_t count = camac_words(s, words, CAMAC_EVENT_WORDS);
+    size_t at = 0, size;
+    at += number(told + at, 0xca4d, 2), at += number(told + at, did->event_gl, 2), at += number(told + at, did->event, 4);
+    at += number(told + at, did->event_cycles, 4), at += number(told + at, did->event_missed, 2), at += number(told + at, count, 2);
+    for (size_t i = 0; i < count; i++) at += number(told + at, words[i], 4);
+    EXPECT(CAMAC_OK, camac_record(s, found, sizeof found, &size));
+    if (did->event ? size != at || memcmp(found, told, size) || count != did->event_words : size || count) fail("a record tells something else");
+    if (did->event_service != (did->event ? service : 0)) fail("the event is of service %u", (unsigned)did->event_service);
+}
 
 /* A pattern that calls one of the services, or any. */
 static uint32_t any_pattern(const camac_session *s, uint32_t *seed) {
@@ -80,7 +99,7 @@ static void abandon(camac_session *s, camac_want *want, uint32_t room) {
 }
 
 /* Goes on while both runs pause, and puts what it tells. */
-static int go_on(camac_session *s, camac_session *lists, int code, camac_want *want, FILE *listing, FILE *events, uint32_t *count) {
+static int go_on(camac_session *s, camac_session *lists, int code, camac_want *want, FILE *listing, FILE *events, uint32_t *count, uint32_t service) {
     const camac_answer answer = CAMAC_ANSWER;
     camac_progress did = CAMAC_PROGRESS;
     if (code != CAMAC_BUSY) return code;
@@ -88,6 +107,7 @@ static int go_on(camac_session *s, camac_session *lists, int code, camac_want *w
         EXPECT(CAMAC_BUSY, camac_wants(s, want));
         EXPECT(CAMAC_BUSY, camac_step(s, &answer, &did, want));
         code = camac_go_on(s, &did);
+        is_told(s, &did, service);
         put(listing, item, s);
         put(events, camac_record, s);
         if (did.event) *count = did.event;
@@ -150,7 +170,7 @@ static void play(camac_session *s, const char *folder, long k, const text *scrip
     FILE *const files[3] = {answers, listing, events};
     long at[3] = {0, 0, 0};
     uint32_t seed = (uint32_t)k, count = 0, service = 0;
-    const uint32_t most = chance(&seed, ANSWERS), before = camac_answers_left(s);
+    const uint32_t most = chance(&seed, ANSWERS), all = camac_answers_left(s);
     int code = camac_wants(s, &want);
     if (camac_file_header(header, sizeof header) != 8 || fwrite(header, 1, 8, events) != 8) fail("a header cannot be written");
     for (uint32_t i = 0; i < most && code == CAMAC_OK; i++) {
@@ -159,16 +179,19 @@ static void play(camac_session *s, const char *folder, long k, const text *scrip
         for (int n = 0; n < 3 && want.kind == CAMAC_DEMAND; n++) at[n] = ftell(files[n]);
         if (want.kind == CAMAC_DEMAND) answer.gl = any_pattern(s, &seed);
         fprintf(answers, "%d %d %06x %x %06x\n", answer.x, answer.q, (unsigned)answer.word, answer.wait, (unsigned)answer.gl);
+        const uint8_t before = want.kind;
         gather(&want, &answer, 1 + chance(&seed, CAMAC_AHEAD));
         code = camac_step(s, &answer, &did, &want);
         list.did[list.used++] = did;
         if (list.used == list.count || code != CAMAC_OK) hand_in(code, s);
         put(listing, item, s);
         put(events, camac_record, s);
-        if ((code == CAMAC_OK || code == CAMAC_BUSY) && camac_answers_left(s) != before - i - 1) fail("%u answers are left", (unsigned)camac_answers_left(s));
+        if ((code == CAMAC_OK || code == CAMAC_BUSY) && camac_answers_left(s) != all - i - 1) fail("%u answers are left", (unsigned)camac_answers_left(s));
         if (did.event) count = did.event;
         if (did.kind == CAMAC_DEMAND) service = did.service;
-        code = go_on(s, &list.s, code, &want, listing, events, &count);
+        is_told(s, &did, service);
+        if (did.kind != (code == CAMAC_OVERRUN ? CAMAC_STOPPED : before)) fail("an answer was for kind %u, not %u", did.kind, before);
+        code = go_on(s, &list.s, code, &want, listing, events, &count, service);
         if (code != CAMAC_OK || want.kind == CAMAC_DEMAND || chance(&seed, 20)) continue;
         if (list.used) hand_in(CAMAC_OK, s);
         EXPECT(CAMAC_OK, camac_abandon(&list.s, NULL, 0, NULL));
@@ -179,6 +202,18 @@ static void play(camac_session *s, const char *folder, long k, const text *scrip
     if (code == CAMAC_OVERRUN) fprintf(listing, "overrun %d wait %d events %u\n", did.c, did.wait, (unsigned)count);
     else fprintf(listing, "%s events %u\n", want.kind == CAMAC_DEMAND ? "ended" : "short", (unsigned)count);
     if (fclose(answers) || fclose(listing) || fclose(events)) fail("a file cannot be written");
+}
+
+/* camac_run of these answers tells the same. */
+static void run(const char *folder, long k, const text *plan, const text *script) {
+    static char listing[1 << 20], file[1 << 20];
+    size_t size, file_size;
+    const text answers = of_file(folder, k, "answers"), its = of_file(folder, k, "listing"), events = of_file(folder, k, "events");
+    const int code = camac_run(plan->bytes, plan->size, script->bytes, script->size, answers.bytes, answers.size, listing, sizeof listing, &size, file,
+                               sizeof file, &file_size);
+    if (code > CAMAC_REFUSED || size != its.size || memcmp(listing, its.bytes, size) || file_size != events.size || memcmp(file, events.bytes, file_size))
+        fail("camac_run tells something else of %ld", k);
+    free(answers.bytes), free(its.bytes), free(events.bytes);
 }
 
 int main(int words_count, char **words) {
@@ -202,6 +237,7 @@ int main(int words_count, char **words) {
         EXPECT(CAMAC_OK, camac_limit_steps(&s, most));
         EXPECT(CAMAC_OK, camac_limit_steps(&list.s, most));
         play(&s, words[1], k, &script);
+        run(words[1], k, &plan, &script);
         camac_close(&s);
         camac_close(&list.s);
         free(plan.bytes), free(script.bytes);

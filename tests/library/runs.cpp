@@ -16,17 +16,8 @@ static int counted_run(const void *plan, std::size_t plan_size, const void *scri
     return camac_run(plan, plan_size, script, script_size, answers, answers_size, text, room, size, file, file_room, file_size);
 }
 #define camac_run counted_run
-#include <camac/camac.hpp>
-
-#include <fstream>
-#include <iostream>
-#include <iterator>
+#include "common.hpp"
 #include <sstream>
-
-static std::string read(const char *path) {
-    std::ifstream file(path, std::ios::binary);
-    return {std::istreambuf_iterator<char>(file), std::istreambuf_iterator<char>()};
-}
 
 // Plays the answers, to their end, and tells the listing up to its last line and the event file.
 static std::string played(camac::session &session, const std::string &answers) {
@@ -36,12 +27,7 @@ static std::string played(camac::session &session, const std::string &answers) {
     const std::uint32_t before = session.answers_left();
     std::uint32_t count = 0, left = 0;
     for (; std::getline(lines, line); count++) {
-        camac_answer answer = CAMAC_ANSWER;
-        unsigned x, q, word, wait, gl;
-        if (std::sscanf(line.c_str(), "%u %u %x %x %x", &x, &q, &word, &wait, &gl) != 5) throw std::runtime_error(line);
-        answer.x = static_cast<std::uint8_t>(x), answer.q = static_cast<std::uint8_t>(q), answer.wait = static_cast<std::uint8_t>(wait);
-        answer.word = word, answer.gl = gl;
-        session.step(answer, want);
+        session.step(answer_of(line.c_str()), want);
         listing += session.item();
         events += session.record();
         left += !session.record().empty();

@@ -6,20 +6,7 @@
 #define ANSWERS 3000
 
 static text plan, script;
-static const camac_want no_want = CAMAC_WANT;
-static const camac_progress no_progress = CAMAC_PROGRESS;
 static const camac_service_info no_service = CAMAC_SERVICE_INFO;
-static const camac_answer no_answer = CAMAC_ANSWER;
-
-static void expect_zeros(const void *found, const void *zeros, size_t size, int line) {
-    if (memcmp(found, zeros, size)) fail("line %d: what is no result is not zeros", line);
-}
-
-/* Fills a struct with what is no result, but for its size. */
-static void spoil(void *its, uint32_t size) {
-    memset(its, 9, size);
-    memcpy(its, &size, sizeof size);
-}
 
 /* Of a none nothing is told. */
 static void none(void) {
@@ -44,6 +31,7 @@ static void none(void) {
     if (service || line) fail("a none stands somewhere");
     EXPECT(CAMAC_MISUSE, camac_abandon(&s, NULL, 0, &size));
     EXPECT(CAMAC_MISUSE, camac_limit_steps(&s, 1));
+    EXPECT(CAMAC_MISUSE, camac_next_many(&s, &no_answer, NULL, 0, NULL));
     spoil(&did, sizeof did);
     EXPECT(CAMAC_MISUSE, camac_go_on(&s, &did));
     expect_zeros(&did, &no_progress, sizeof did, __LINE__);
@@ -139,22 +127,6 @@ static void services(const camac_session *s, const char *verdict) {
     }
 }
 
-/* The crates that are held, as the driver was told of locks and releases. */
-static void held(const camac_session *s, const camac_want *want, const camac_progress *did) {
-    static uint32_t mine[8], found[8];
-    static size_t count;
-    if (want->kind == CAMAC_LOCK) {
-        memmove(mine + 1, mine, count++ * sizeof *mine);
-        mine[0] = want->c;
-    }
-    for (const uint8_t *c = did->unlocked; *c; c++) {
-        if (!count || mine[0] != *c) fail("the crate that is released is not the last");
-        memmove(mine, mine + 1, --count * sizeof *mine);
-    }
-    if (camac_held(s, found, 8) != count || memcmp(found, mine, count * sizeof *mine)) fail("other crates are held");
-    if (camac_held(s, NULL, 8) != count) fail("the count without room differs");
-}
-
 /* Each cut of what is told of the last answer. */
 static void cut(const camac_session *s) {
     char whole[300], part[301];
@@ -184,7 +156,6 @@ static void stepped(camac_session *s) {
         EXPECT(CAMAC_OK, camac_wants(s, &want));
         for (uint32_t i = 0; i < ANSWERS; i++) {
             camac_answer answer = any_answer(&chances);
-            const camac_want before = want;
             if (want.kind == CAMAC_DEMAND) answer.gl = 4;
             const int code = camac_step(s, &answer, &did, &want);
             EXPECT(code, camac_next(&other, &answer, &its_did));
@@ -198,7 +169,6 @@ static void stepped(camac_session *s) {
             }
             if (camac_answers_left(s) != 4294967294u - i) fail("so many answers are not left");
             if (i < 40) cut(s);
-            if (seed == 1) held(s, &before, &did);
         }
     }
     camac_close(&other);

@@ -110,6 +110,26 @@ class Browser:
         """Moves the pointer to a place of the window."""
         self.call("Input.dispatchMouseEvent", type="mouseMoved", x=x, y=y)
 
+    def key(self, *keys, shift=False):
+        """Presses keys, one after another, with Shift or without."""
+        codes, texts = {"Enter": 13, " ": 32, "PageUp": 33, "PageDown": 34, "End": 35, "Home": 36, "ArrowLeft": 37, "ArrowRight": 39}, {"Enter": "\r", " ": " "}
+        for key in keys:
+            for kind, text in (("keyDown", texts.get(key, "")), ("keyUp", "")):
+                self.call("Input.dispatchKeyEvent", type=kind, key=key, code=key, windowsVirtualKeyCode=codes[key], modifiers=8 * shift, text=text)
+
+    def drag(self, element, begin, end, is_touch=False, count=1):
+        """Drags over an element, from a part of its width to another, by the mouse or by a finger."""
+        its = f"(it=>{{it.scrollIntoView({{block:'center'}});let b=it.getBoundingClientRect();return[b.left,b.top,b.width,b.height]}})({element})"
+        left, top, wide, high = self.ask(its)
+        self.call("Emulation.setTouchEmulationEnabled", enabled=is_touch)
+        kinds = ("touchStart", "touchMove", "touchMove", "touchEnd") if is_touch else ("mousePressed", "mouseMoved", "mouseMoved", "mouseReleased")
+        for kind, part in zip(kinds, (begin, (begin + end) / 2, end, end)):
+            place = {"x": left + wide * part, "y": top + high / 2}
+            if is_touch:
+                self.call("Input.dispatchTouchEvent", type=kind, touchPoints=[place] if kind != "touchEnd" else [])
+            else:
+                self.call("Input.dispatchMouseEvent", type=kind, button="left", buttons=1, clickCount=count, **place)
+
     def picture(self, path, height=None):
         """Keeps a picture of the page, or of its upper part."""
         size = self.call("Page.getLayoutMetrics")["cssContentSize"]

@@ -294,11 +294,9 @@ class BenchCase(Case):
     def setUpClass(cls):
         super().setUpClass()
         os.environ["CAMAC_PROGRAM"] = PROGRAM
-        cls.case = Case()
-        cls.case.setUp()
-        cls.addClassCleanup(cls.case.doCleanups)
-        record(cls.case.room, cls.triggers)
-        cls.files = [cls.case.room / f"bench.{end}" for end in ("toml", "script", "answers")]
+        cls.shared_room = cls.shared()
+        record(cls.shared_room, cls.triggers)
+        cls.files = [cls.shared_room / f"bench.{end}" for end in ("toml", "script", "answers")]
 
     def setUp(self):
         super().setUp()

@@ -1,13 +1,13 @@
 """Shared by tests of live runs: a folder for each test, a branch that answers from a list, and the program's Python package."""
+import contextlib
+import io
+import os
 import select
 import subprocess
-import sys
+import tempfile
 
 from support import program
 from support.program import PROGRAM as PROGRAM, TOP as TOP, Room as Case, run_tests as run_tests
-
-sys.path.insert(0, str(TOP / "python"))
-sys.dont_write_bytecode = True
 
 OPENING = "cdlam adc 1 1 5 12\nvar v k i t\nservice adc within {} cycles event {} words {{\n"
 PATIENCE = 60
@@ -20,6 +20,24 @@ REQUESTS = (b"demand", b"cycle", b"lock")
 def script(body, cycles=100, words=100):
     """A script of the standard opening with this body, each statement on a line."""
     return OPENING.format(cycles, words) + "".join(f"{line}\n" for line in body) + "}\n"
+
+
+def command(*words):
+    """Status, standard output and standard error of a command of the package, which runs in this process."""
+    from camac.__main__ import main
+
+    err, before = io.StringIO(), os.dup(1)
+    with tempfile.TemporaryFile() as out, contextlib.redirect_stderr(err):
+        os.dup2(out.fileno(), 1)
+        try:
+            status = main([str(it) for it in words])
+        except SystemExit as stop:
+            status = stop.code
+        finally:
+            os.dup2(before, 1)
+            os.close(before)
+        out.seek(0)
+        return status, out.read().decode(), err.getvalue()
 
 
 class Listed:

@@ -11,6 +11,9 @@ import tempfile
 import unittest
 
 TOP = pathlib.Path(__file__).resolve().parent.parent.parent
+# Tests import what they try: `camac`, `oracle` and `rounds`.
+sys.path[:0] = [str(TOP / "python"), str(TOP / "tools")]
+sys.dont_write_bytecode = True
 PROGRAM = os.path.abspath(os.environ.get("CAMAC_PROGRAM") or TOP / "crates/camac/out/camac")
 STRAIGHT_LINE = b"""cdlam adc 1 1 5 12
 var v
@@ -71,6 +74,13 @@ class Room(unittest.TestCase):
         room = tempfile.TemporaryDirectory(prefix="camac-test-")
         self.addCleanup(room.cleanup)
         self.room = pathlib.Path(room.name)
+
+    @classmethod
+    def shared(cls):
+        """A folder for all tests of the class."""
+        room = tempfile.TemporaryDirectory(prefix="camac-test-")
+        cls.addClassCleanup(room.cleanup)
+        return pathlib.Path(room.name)
 
     def write(self, name, text):
         (self.room / name).write_text(text)

@@ -1,5 +1,6 @@
 """The output of the program for the bench of two crates, for tests of pictures that need no program."""
 import contextlib
+import os
 from unittest import mock
 
 import camac
@@ -206,4 +207,4 @@ def collected(plan, verdict, lines, events, responses=(), asked=None, meant=froz
     with contextlib.ExitStack() as patched:
         for name, instead in written.items():
             patched.enter_context(mock.patch(f"camac.runs.{name}", instead))
-        return runs.collect(runs.Inputs("plan", "script", "answers"), read_plan(plan), services, None, responses, asked)
+        return runs.collect(runs.Inputs("plan", "script", os.devnull), read_plan(plan), services, None, responses, asked)

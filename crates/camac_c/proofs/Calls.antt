@@ -11,8 +11,8 @@ use Rattle.camac_c.specs.Place.{numbers_of_place}
 use Rattle.camac_c.specs.Plain.{only_code}
 use Rattle.camac_c.specs.Service.{name_at, numbers_at}
 use Rattle.camac_c.specs.Talk.{AnswersBytes, AnswersCode, AnswersCount, AnswersGoOn, AnswersNext, AnswersStep, AnswersText, AnswersWants, Lists, Talks, TellsIf, TellsWords}
-use Rattle.camac_c.specs.declared.plain.Ask.{Ask}
-use Rattle.camac_c.specs.declared.plain.Ask.TheVariants as ask
+use Rattle.camac_c.specs.declared.plain.SessionAsk.{SessionAsk}
+use Rattle.camac_c.specs.declared.plain.SessionAsk.TheVariants as ask
 use Rattle.camac_c.specs.declared.plain.CamacAnswer.{CamacAnswer}
 use Rattle.camac_c.specs.declared.plain.Told.{Told}
 use Rattle.camac_c.specs.declared.session.Session.{Session}
@@ -39,7 +39,7 @@ abandoned_none : (o : Option Overrun) (s after : Session) (ws : List ℕ) (told 
 abandoned_none None s after ws told h = h.written ∙ filled_words_none h.unlocks
 abandoned_none (Some o) s after ws told h = h.1
 
-written : (v after : Option Session) (a : Ask) (none told : Told) (ws : List ℕ) → Talks v a none after [] ws told → ws ≡ []
+written : (v after : Option Session) (a : SessionAsk) (none told : Told) (ws : List ℕ) → Talks v a none after [] ws told → ws ≡ []
 written None after a none told ws h = h.1
 written (Some s) None a none told ws h = absurd h
 written (Some s) (Some after) ask.Wants none told ws h = h.0
@@ -60,7 +60,7 @@ written (Some s) (Some after) ask.GoOn none told ws h = h.0
 written (Some s) (Some after) ask.Abandon none told ws h = abandoned_none s.runner.overrun s after ws told h
 written (Some s) (Some after) ask.Rewind none told ws h = h.0
 
-asked : (v after : Option Session) (a : Ask) (told : Told) (ws : List ℕ) → Talks v a (only_code 2) after [] ws told → Talks v a (only_code 2) after [] [] told
+asked : (v after : Option Session) (a : SessionAsk) (told : Told) (ws : List ℕ) → Talks v a (only_code 2) after [] ws told → Talks v a (only_code 2) after [] [] told
 asked v after a told ws h = subst (λ (l : List ℕ). Talks v a (only_code 2) after [] l told) (written v after a (only_code 2) told ws h) h
 
 pub wants_answers : (v after : Option Session) (ws : List ℕ) (told : Told) → Talks v ask.Wants (only_code 2) after [] ws told → AnswersWants v after told.code told.want
@@ -76,15 +76,15 @@ step_answers v after a ws told h = (told, asked v after (ask.Step a) told ws h, 
 pub go_on_answers : (v after : Option Session) (ws : List ℕ) (told : Told) → Talks v ask.GoOn (only_code 2) after [] ws told → AnswersGoOn v after told.code told.progress
 go_on_answers v after ws told h = (told, asked v after ask.GoOn told ws h, refl, refl)
 
-pub count_answers : (v after : Option Session) (a : Ask) (ws : List ℕ) (told : Told) → Talks v a (only_code 2) after [] ws told → AnswersCount v a after told.count
+pub count_answers : (v after : Option Session) (a : SessionAsk) (ws : List ℕ) (told : Told) → Talks v a (only_code 2) after [] ws told → AnswersCount v a after told.count
 count_answers v after a ws told h = (told, asked v after a told ws h, refl)
 
-pub code_answers : (v after : Option Session) (a : Ask) (ws : List ℕ) (told : Told) → Talks v a (only_code 2) after [] ws told → AnswersCode v a after told.code
+pub code_answers : (v after : Option Session) (a : SessionAsk) (ws : List ℕ) (told : Told) → Talks v a (only_code 2) after [] ws told → AnswersCode v a after told.code
 code_answers v after a ws told h = (told, asked v after a told ws h, refl)
 
-pub bytes_answer : (v after : Option Session) (a : Ask) (old new : List ℕ) (told : Told) → Talks v a (only_code 2) after old new told → AnswersBytes v a after old new told.count
+pub bytes_answer : (v after : Option Session) (a : SessionAsk) (old new : List ℕ) (told : Told) → Talks v a (only_code 2) after old new told → AnswersBytes v a after old new told.count
 bytes_answer v after a old new told h = (told, h, refl)
 
-pub text_answers : (v after : Option Session) (a : Ask) (old new : List ℕ) (told : Told) → Talks v a (only_code 2) after old new told
+pub text_answers : (v after : Option Session) (a : SessionAsk) (old new : List ℕ) (told : Told) → Talks v a (only_code 2) after old new told
     → AnswersText v a after told.code old new told.count
 text_answers v after a old new told h = (told, h, refl, refl)

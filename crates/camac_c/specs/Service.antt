@@ -20,7 +20,7 @@ with_address (Some l) numbers = l.crate_no ∷ l.station ∷ l.sub_address ∷ n
 
 -- the line of its heading, its bounds, and what the heading allows
 abbrev pub of_heading : Bounds → Service → List ℕ
-of_heading k v = v.line ∷ k.cycles ∷ k.words ∷ k.steps ∷ v.cycles ∷ v.words ∷ []
+of_heading k v = v.spot.line ∷ k.cycles ∷ k.words ∷ k.steps ∷ v.cycles ∷ v.words ∷ []
 
 -- the service of this number, from 0, with its bit of the graded-L pattern
 abbrev pub numbers_in : CheckedScript → ℕ → Service → List ℕ

@@ -25,8 +25,8 @@ use Rattle.camac_c.specs.Service.{name_at, numbers_at}
 use Rattle.camac_c.specs.Told.{InRange, answer_in, asked, counted, did, while_paused}
 use Rattle.camac_c.specs.declared.last.Last.{Last}
 use Rattle.camac_c.specs.declared.last.Last.TheVariants.{Nothing, Answer, Pause}
-use Rattle.camac_c.specs.declared.plain.Ask.{Ask}
-use Rattle.camac_c.specs.declared.plain.Ask.TheVariants as ask
+use Rattle.camac_c.specs.declared.plain.SessionAsk.{SessionAsk}
+use Rattle.camac_c.specs.declared.plain.SessionAsk.TheVariants as ask
 use Rattle.camac_c.specs.declared.plain.CamacAnswer.{CamacAnswer}
 use Rattle.camac_c.specs.declared.plain.CamacProgress.{CamacProgress}
 use Rattle.camac_c.specs.declared.plain.CamacWant.{CamacWant}
@@ -125,7 +125,7 @@ abbrev pub answers_left : RunnerState → ℕ
 answers_left h = left_from h.overrun h.fed
 
 -- where bytes are asked for, they are written, and nothing changes
-abbrev pub Steps : Session → Ask → Session → (old new : List ℕ) → Told → Type 0
+abbrev pub Steps : Session → SessionAsk → Session → (old new : List ℕ) → Told → Type 0
 Steps s ask.Wants after old new told = (new ≡ old) × TellsWant s after told
 Steps s ask.Ahead after old new told = (after ≡ s) × TellsAhead s.runner old new told
 Steps s (ask.Next a) after old new told = (new ≡ old) × TellsNext a s after told
@@ -144,13 +144,13 @@ Steps s ask.GoOn after old new told = (new ≡ old) × GoesOnIf (is_paused s.run
 Steps s ask.Abandon after old new told = LeavesUnless s.runner.overrun s after old new told
 Steps s ask.Rewind after old new told = (new ≡ old) × Begins s.checked.now after × (after.runner.limit ≡ s.runner.limit) × (told ≡ only_code 0)
 
-abbrev pub Talks : Option Session → Ask → Told → Option Session → (old new : List ℕ) → Told → Type 0
+abbrev pub Talks : Option Session → SessionAsk → Told → Option Session → (old new : List ℕ) → Told → Type 0
 Talks None ask none after old new told = (after ≡ None) × (new ≡ old) × (told ≡ none)
 Talks (Some s) ask none (Some after) old new told = Steps s ask after old new told
 Talks (Some s) ask none None old new told = ⊥
 
 -- what each call of C answers; of none it is told 2 and zeros
-abbrev pub Asks : Option Session → Ask → Option Session → (old new : List ℕ) → Told → Type 0
+abbrev pub Asks : Option Session → SessionAsk → Option Session → (old new : List ℕ) → Told → Type 0
 Asks v ask after old new told = Talks v ask (only_code 2) after old new told
 
 abbrev pub AnswersWants : Option Session → Option Session → ℕ → CamacWant → Type 0
@@ -167,17 +167,17 @@ abbrev pub AnswersGoOn : Option Session → Option Session → ℕ → CamacProg
 AnswersGoOn v after code progress = (told : Told) × Asks v ask.GoOn after [] [] told × (code ≡ told.code) × (progress ≡ told.progress)
 
 -- what is only counted, or only done
-abbrev pub AnswersCount : Option Session → Ask → Option Session → ℕ → Type 0
+abbrev pub AnswersCount : Option Session → SessionAsk → Option Session → ℕ → Type 0
 AnswersCount v ask after n = (told : Told) × Asks v ask after [] [] told × (n ≡ told.count)
 
-abbrev pub AnswersCode : Option Session → Ask → Option Session → ℕ → Type 0
+abbrev pub AnswersCode : Option Session → SessionAsk → Option Session → ℕ → Type 0
 AnswersCode v ask after code = (told : Told) × Asks v ask after [] [] told × (code ≡ told.code)
 
 -- what goes out into a buffer, without a code and with one
-abbrev pub AnswersBytes : Option Session → Ask → Option Session → (old new : List ℕ) → ℕ → Type 0
+abbrev pub AnswersBytes : Option Session → SessionAsk → Option Session → (old new : List ℕ) → ℕ → Type 0
 AnswersBytes v ask after old new n = (told : Told) × Asks v ask after old new told × (n ≡ told.count)
 
-abbrev pub AnswersText : Option Session → Ask → Option Session → ℕ → (old new : List ℕ) (size : ℕ) → Type 0
+abbrev pub AnswersText : Option Session → SessionAsk → Option Session → ℕ → (old new : List ℕ) (size : ℕ) → Type 0
 AnswersText v ask after code old new size = (told : Told) × Asks v ask after old new told × (code ≡ told.code) × (size ≡ told.count)
 
 -- there is a session, and it is so

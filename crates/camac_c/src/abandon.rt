@@ -3,10 +3,10 @@
 ghost use Rattle.std.specs.Prelude.{◌≡◌, length};
 ghost use Rattle.camac_c.specs.Filled.{filled_words};
 ghost use Rattle.camac_c.specs.Talk.{AnswersText};
-ghost use Rattle.camac_c.specs.declared.plain.Ask.TheVariants as ask;
+ghost use Rattle.camac_c.specs.declared.plain.SessionAsk.TheVariants as ask;
 
 use crate::handle::Handle;
-use crate::plain::Ask;
+use crate::plain::SessionAsk;
 use byteorder::{ByteOrder, LittleEndian};
 use camac_word::CrateNo;
 use std::alloc::Global;
@@ -23,7 +23,7 @@ pub extern "C" fn camac_raw_abandon(
 ) -> u32
     ensures { AnswersText handle.old.value ask.Abandon handle.new.value result bytes.old bytes.new size.new }
 {
-    let told = handle.ask(alloc, Ask::Abandon, bytes);
+    let told = handle.ask(alloc, SessionAsk::Abandon, bytes);
     *size = told.count;
     told.code
 }

@@ -3,10 +3,10 @@
 ghost use Rattle.std.specs.Prelude.{◌≡◌, ◌≤◌, length};
 ghost use Rattle.camac_c.specs.Ahead.{fields_of, numbers_ahead};
 ghost use Rattle.camac_c.specs.Talk.{AnswersBytes};
-ghost use Rattle.camac_c.specs.declared.plain.Ask.TheVariants as ask;
+ghost use Rattle.camac_c.specs.declared.plain.SessionAsk.TheVariants as ask;
 
 use crate::handle::Handle;
-use crate::plain::{Ask, CamacWant, NO_WANT};
+use crate::plain::{CamacWant, NO_WANT, SessionAsk};
 use crate::session::tell_operation;
 use arrayvec::ArrayVec;
 use camac_run::Wanted;
@@ -25,7 +25,7 @@ const NUMBERS: usize = 448;
 pub extern "C" fn camac_raw_ahead(alloc: Global, handle: &mut Handle, bytes: &mut [u8]) -> usize
     ensures { AnswersBytes handle.old.value ask.Ahead handle.new.value bytes.old bytes.new result }
 {
-    handle.ask(alloc, Ask::Ahead, bytes).count
+    handle.ask(alloc, SessionAsk::Ahead, bytes).count
 }
 
 /// The numbers of operations, one after another.

@@ -6,7 +6,7 @@ ghost use Rattle.camac_c.specs.declared.session.Session.{Session};
 ghost use Rattle.camac_c.specs.Talk.{Asks, StartsOn, Talks, Holds};
 
 use crate::loose::Loose;
-use crate::plain::{Ask, MISUSE, Told, only_code};
+use crate::plain::{MISUSE, SessionAsk, Told, only_code};
 use crate::session::{Session, finish, start, step};
 use camac_checked::Checked;
 use std::alloc::Global;
@@ -65,7 +65,7 @@ impl Handle {
 
     /// Asks the run, which tells it, and writes to `bytes` where it is asked for that. Where there is none, `told` stays.
     #[inline(always)]
-    pub fn talk(self, ask: Ask, told: &mut Told, bytes: &mut [u8]) -> Handle
+    pub fn talk(self, ask: SessionAsk, told: &mut Told, bytes: &mut [u8]) -> Handle
         ensures { Talks self.value ask told.old result.value bytes.old bytes.new told.new }
     {
         let Handle { run, script, alloc } = self;
@@ -91,7 +91,7 @@ impl Handle {
 
     /// Asks the run. Where there is none, `told` stays.
     #[inline(always)]
-    pub fn tell(&mut self, alloc: Global, ask: Ask, told: &mut Told, bytes: &mut [u8])
+    pub fn tell(&mut self, alloc: Global, ask: SessionAsk, told: &mut Told, bytes: &mut [u8])
         ensures { Talks self.old.value ask told.old self.new.value bytes.old bytes.new told.new }
     {
         let held = std::mem::replace(self, Handle::none(alloc));
@@ -100,7 +100,7 @@ impl Handle {
 
     /// Asks the run, where there is one, else tells `MISUSE`.
     #[inline(always)]
-    pub fn ask(&mut self, alloc: Global, ask: Ask, bytes: &mut [u8]) -> Told
+    pub fn ask(&mut self, alloc: Global, ask: SessionAsk, bytes: &mut [u8]) -> Told
         ensures { Asks self.old.value ask self.new.value bytes.old bytes.new result }
     {
         let mut told = only_code(MISUSE);

@@ -7,7 +7,7 @@ ghost use Rattle.camac_event.specs.declared.event.Version.TheVariants.{Two};
 ghost use Rattle.camac_c.specs.Filled.{Gives};
 ghost use Rattle.camac_c.specs.Open.{Opens};
 ghost use Rattle.camac_c.specs.Talk.{AnswersBytes, AnswersCode, AnswersCount, AnswersNext, AnswersStep, AnswersText, AnswersWants};
-ghost use Rattle.camac_c.specs.declared.plain.Ask.TheVariants as ask;
+ghost use Rattle.camac_c.specs.declared.plain.SessionAsk.TheVariants as ask;
 
 mod abandon;
 mod ahead;
@@ -29,7 +29,7 @@ use camac_word::Watched;
 use filling::{fault_code, give, give_nothing};
 use handle::Handle;
 use opening::{is_open, open};
-use plain::{Ask, CamacAnswer, CamacProgress, CamacWant, MISUSE, OK, REFUSED, only_code};
+use plain::{CamacAnswer, CamacProgress, CamacWant, MISUSE, OK, REFUSED, SessionAsk, only_code};
 use std::alloc::Global;
 
 /// 10,000 times the first number of the version, 100 times the second, and the third.
@@ -92,7 +92,7 @@ pub extern "C" fn camac_raw_open(
 pub extern "C" fn camac_raw_wants(alloc: Global, handle: &mut Handle, want: &mut CamacWant) -> u32
     ensures { AnswersWants handle.old.value handle.new.value result want.new }
 {
-    let told = handle.ask(alloc, Ask::Wants, &mut []);
+    let told = handle.ask(alloc, SessionAsk::Wants, &mut []);
     *want = told.want;
     told.code
 }
@@ -109,7 +109,7 @@ pub extern "C" fn camac_raw_next(
     ensures { AnswersNext handle.old.value answer.now handle.new.value result progress.new }
 {
     let mut told = only_code(MISUSE);
-    handle.tell(alloc, Ask::Next(*answer), &mut told, &mut []);
+    handle.tell(alloc, SessionAsk::Next(*answer), &mut told, &mut []);
     *progress = told.progress;
     told.code
 }
@@ -127,7 +127,7 @@ pub extern "C" fn camac_raw_step(
     ensures { AnswersStep handle.old.value answer.now handle.new.value result progress.new want.new }
 {
     let mut told = only_code(MISUSE);
-    handle.tell(alloc, Ask::Step(*answer), &mut told, &mut []);
+    handle.tell(alloc, SessionAsk::Step(*answer), &mut told, &mut []);
     *progress = told.progress;
     *want = told.want;
     told.code
@@ -140,7 +140,7 @@ pub extern "C" fn camac_raw_step(
 pub extern "C" fn camac_raw_words(alloc: Global, handle: &mut Handle, bytes: &mut [u8]) -> usize
     ensures { AnswersBytes handle.old.value ask.Words handle.new.value bytes.old bytes.new result }
 {
-    handle.ask(alloc, Ask::Words, bytes).count
+    handle.ask(alloc, SessionAsk::Words, bytes).count
 }
 
 /// The record of that event in an event file.
@@ -154,7 +154,7 @@ pub extern "C" fn camac_raw_record(
 ) -> u32
     ensures { AnswersText handle.old.value ask.Record handle.new.value result bytes.old bytes.new size.new }
 {
-    let told = handle.ask(alloc, Ask::Record, bytes);
+    let told = handle.ask(alloc, SessionAsk::Record, bytes);
     *size = told.count;
     told.code
 }
@@ -170,7 +170,7 @@ pub extern "C" fn camac_raw_item(
 ) -> u32
     ensures { AnswersText handle.old.value ask.Item handle.new.value result text.old text.new size.new }
 {
-    let told = handle.ask(alloc, Ask::Item, text);
+    let told = handle.ask(alloc, SessionAsk::Item, text);
     *size = told.count;
     told.code
 }
@@ -181,7 +181,7 @@ pub extern "C" fn camac_raw_item(
 pub extern "C" fn camac_raw_held(alloc: Global, handle: &mut Handle, bytes: &mut [u8]) -> usize
     ensures { AnswersBytes handle.old.value ask.Held handle.new.value bytes.old bytes.new result }
 {
-    handle.ask(alloc, Ask::Held, bytes).count
+    handle.ask(alloc, SessionAsk::Held, bytes).count
 }
 
 /// How many answers may still come.
@@ -190,7 +190,7 @@ pub extern "C" fn camac_raw_held(alloc: Global, handle: &mut Handle, bytes: &mut
 pub extern "C" fn camac_raw_answers_left(alloc: Global, handle: &mut Handle) -> usize
     ensures { AnswersCount handle.old.value ask.Left handle.new.value result }
 {
-    handle.ask(alloc, Ask::Left, &mut []).count
+    handle.ask(alloc, SessionAsk::Left, &mut []).count
 }
 
 /// How many services the script has.
@@ -199,7 +199,7 @@ pub extern "C" fn camac_raw_answers_left(alloc: Global, handle: &mut Handle) -> 
 pub extern "C" fn camac_raw_services(alloc: Global, handle: &mut Handle) -> usize
     ensures { AnswersCount handle.old.value ask.Services handle.new.value result }
 {
-    handle.ask(alloc, Ask::Services, &mut []).count
+    handle.ask(alloc, SessionAsk::Services, &mut []).count
 }
 
 /// The name of one of them, by its number from 1 on. `RANGE`: there is none.
@@ -214,7 +214,7 @@ pub extern "C" fn camac_raw_service_name(
 ) -> u32
     ensures { AnswersText handle.old.value (ask.Name number) handle.new.value result text.old text.new size.new }
 {
-    let told = handle.ask(alloc, Ask::Name(number), text);
+    let told = handle.ask(alloc, SessionAsk::Name(number), text);
     *size = told.count;
     told.code
 }
@@ -232,7 +232,7 @@ pub extern "C" fn camac_raw_service_numbers(
 ) -> u32
     ensures { AnswersText handle.old.value (ask.Numbers number) handle.new.value result bytes.old bytes.new size.new }
 {
-    let told = handle.ask(alloc, Ask::Numbers(number), bytes);
+    let told = handle.ask(alloc, SessionAsk::Numbers(number), bytes);
     *size = told.count;
     told.code
 }
@@ -243,7 +243,7 @@ pub extern "C" fn camac_raw_service_numbers(
 pub extern "C" fn camac_raw_rewind(alloc: Global, handle: &mut Handle) -> u32
     ensures { AnswersCode handle.old.value ask.Rewind handle.new.value result }
 {
-    handle.ask(alloc, Ask::Rewind, &mut []).code
+    handle.ask(alloc, SessionAsk::Rewind, &mut []).code
 }
 
 /// Ends the run, and frees what it has.

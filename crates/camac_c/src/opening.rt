@@ -8,7 +8,7 @@ ghost use Rattle.camac_c.specs.Talk.{Holds, StartsOn};
 
 use crate::handle::Handle;
 use crate::loose::Loose;
-use crate::plain::{Ask, MISUSE};
+use crate::plain::{MISUSE, SessionAsk};
 use camac_checked::Checked;
 use camac_engines::{Judged, PlanSource, ToolFault, read_judged, refuse};
 use camac_lines::write_verdict;
@@ -20,7 +20,7 @@ pub fn is_open(alloc: Global, handle: &mut Handle) -> bool
     ensures same { handle.new.value ≡ handle.old.value }
     ensures open { result ≡ is_some handle.old.value }
 {
-    handle.ask(alloc, Ask::Wants, &mut []).code != MISUSE
+    handle.ask(alloc, SessionAsk::Wants, &mut []).code != MISUSE
 }
 
 /// Judges the two texts, writes what `check` prints to `out`, and begins a run of an accepted script. None where it is refused.

@@ -2,10 +2,10 @@
 
 ghost use Rattle.std.specs.Prelude.{◌≡◌};
 ghost use Rattle.camac_c.specs.Talk.{AnswersCode, AnswersGoOn};
-ghost use Rattle.camac_c.specs.declared.plain.Ask.TheVariants as ask;
+ghost use Rattle.camac_c.specs.declared.plain.SessionAsk.TheVariants as ask;
 
 use crate::handle::Handle;
-use crate::plain::{Ask, CamacProgress};
+use crate::plain::{CamacProgress, SessionAsk};
 use std::alloc::Global;
 
 /// Sets how many steps the run makes at once: after more it pauses, and a call answers `BUSY`.
@@ -14,7 +14,7 @@ use std::alloc::Global;
 pub extern "C" fn camac_raw_limit_steps(alloc: Global, handle: &mut Handle, most: u32) -> u32
     ensures { AnswersCode handle.old.value (ask.Limit most) handle.new.value result }
 {
-    handle.ask(alloc, Ask::Limit(most), &mut []).code
+    handle.ask(alloc, SessionAsk::Limit(most), &mut []).code
 }
 
 /// Goes on after a pause, and tells what the run did. `BUSY`: it pauses again.
@@ -27,7 +27,7 @@ pub extern "C" fn camac_raw_go_on(
 ) -> u32
     ensures { AnswersGoOn handle.old.value handle.new.value result progress.new }
 {
-    let told = handle.ask(alloc, Ask::GoOn, &mut []);
+    let told = handle.ask(alloc, SessionAsk::GoOn, &mut []);
     *progress = told.progress;
     told.code
 }

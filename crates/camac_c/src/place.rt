@@ -3,10 +3,10 @@
 ghost use Rattle.std.specs.Prelude.{◌≡◌};
 ghost use Rattle.camac_c.specs.Place.{numbers_of_place};
 ghost use Rattle.camac_c.specs.Talk.{AnswersText};
-ghost use Rattle.camac_c.specs.declared.plain.Ask.TheVariants as ask;
+ghost use Rattle.camac_c.specs.declared.plain.SessionAsk.TheVariants as ask;
 
 use crate::handle::Handle;
-use crate::plain::Ask;
+use crate::plain::SessionAsk;
 use crate::session::service_of;
 use camac_run::Place;
 use std::alloc::Global;
@@ -22,7 +22,7 @@ pub extern "C" fn camac_raw_where(
 ) -> u32
     ensures { AnswersText handle.old.value ask.Where handle.new.value result bytes.old bytes.new size.new }
 {
-    let told = handle.ask(alloc, Ask::Where, bytes);
+    let told = handle.ask(alloc, SessionAsk::Where, bytes);
     *size = told.count;
     told.code
 }

@@ -53,7 +53,7 @@ pub struct CamacProgress {
 
 /// What a call asks of a run.
 #[derive(Clone, Copy)]
-pub enum Ask {
+pub enum SessionAsk {
     /// What the next answer is for.
     Wants,
     /// The operations that come next, whatever is answered.

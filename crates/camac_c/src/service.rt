@@ -60,7 +60,7 @@ fn numbers_in(checked: &Checked, i: usize, service: &Service) -> [u32; 10]
         n,
         a,
         gl,
-        service.line,
+        service.spot.line,
         bounds.cycles,
         bounds.words,
         bounds.steps,

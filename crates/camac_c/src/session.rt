@@ -20,8 +20,8 @@ use crate::last::{Last, give_lines, give_record};
 use crate::loose::Loose;
 use crate::place::numbers_of_place;
 use crate::plain::{
-    Ask, BUSY, CYCLE, CamacAnswer, CamacProgress, CamacWant, DEMAND, LOCK, NO_PROGRESS, NO_WANT,
-    OK, OVERRUN, RANGE, SPENT, STOPPED, Told, only_code,
+    BUSY, CYCLE, CamacAnswer, CamacProgress, CamacWant, DEMAND, LOCK, NO_PROGRESS, NO_WANT, OK,
+    OVERRUN, RANGE, SPENT, STOPPED, SessionAsk, Told, only_code,
 };
 use crate::service::{name_of, numbers_of, write_numbers};
 use byteorder::{ByteOrder, LittleEndian};
@@ -70,7 +70,7 @@ pub fn start<'a>(alloc: Global, checked: &'a Checked) -> Result<Loose<Session<'a
 #[inline(always)]
 pub fn step<'a>(
     run: Loose<Session<'a>, Global>,
-    ask: Ask,
+    ask: SessionAsk,
     told: &mut Told,
     bytes: &mut [u8],
 ) -> Loose<Session<'a>, Global>
@@ -78,23 +78,23 @@ pub fn step<'a>(
 {
     let mut session = run.into_box();
     match ask {
-        Ask::Wants => wants(&session, told),
-        Ask::Ahead => *told = ahead(&session, bytes),
-        Ask::Next(answer) => next(&mut session, answer, told),
-        Ask::Step(answer) => next_and_wants(&mut session, answer, told),
-        Ask::Words => *told = counted(write_words(session.runner.last_words(), bytes)),
-        Ask::Record => *told = record(&session, bytes),
-        Ask::Item => *told = item(&session, bytes),
-        Ask::Held => *told = counted(write_held(session.held.as_slice(), bytes)),
-        Ask::Where => *told = place(&session, bytes),
-        Ask::Left => *told = counted(left(&session) as usize),
-        Ask::Services => *told = counted(session.checked.services()),
-        Ask::Name(number) => *told = name(&session, number, bytes),
-        Ask::Numbers(number) => *told = numbers(&session, number, bytes),
-        Ask::Limit(most) => *told = limit(&mut session, most),
-        Ask::GoOn => *told = go_on(&mut session),
-        Ask::Abandon => *told = abandon(&mut session, bytes),
-        Ask::Rewind => *told = rewind(&mut session),
+        SessionAsk::Wants => wants(&session, told),
+        SessionAsk::Ahead => *told = ahead(&session, bytes),
+        SessionAsk::Next(answer) => next(&mut session, answer, told),
+        SessionAsk::Step(answer) => next_and_wants(&mut session, answer, told),
+        SessionAsk::Words => *told = counted(write_words(session.runner.last_words(), bytes)),
+        SessionAsk::Record => *told = record(&session, bytes),
+        SessionAsk::Item => *told = item(&session, bytes),
+        SessionAsk::Held => *told = counted(write_held(session.held.as_slice(), bytes)),
+        SessionAsk::Where => *told = place(&session, bytes),
+        SessionAsk::Left => *told = counted(left(&session) as usize),
+        SessionAsk::Services => *told = counted(session.checked.services()),
+        SessionAsk::Name(number) => *told = name(&session, number, bytes),
+        SessionAsk::Numbers(number) => *told = numbers(&session, number, bytes),
+        SessionAsk::Limit(most) => *told = limit(&mut session, most),
+        SessionAsk::GoOn => *told = go_on(&mut session),
+        SessionAsk::Abandon => *told = abandon(&mut session, bytes),
+        SessionAsk::Rewind => *told = rewind(&mut session),
     }
     Loose::of(session)
 }

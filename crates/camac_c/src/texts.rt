@@ -1,13 +1,13 @@
 // The calls on texts: what the program's subcommands print, for bytes in memory.
 
-ghost use Rattle.std.specs.Prelude.{◌≡◌};
+ghost use Rattle.std.specs.Prelude.{◌≡◌, []};
 ghost use Rattle.camac_engines.specs.declared.ask.Ask.TheVariants as ask;
 ghost use Rattle.camac_engines.specs.declared.ask.PlanAsk.TheVariants as plan_ask;
 ghost use Rattle.camac_c.specs.Run.{AnswersRun};
 ghost use Rattle.camac_c.specs.Texts.{AnswersEvents, AnswersPlan, AnswersTexts};
 
 use crate::filling::{code_of, give_answer};
-use camac_tool::{Ask, PlanAsk, PlanSource, answer, answer_plan, engine_events, engine_run};
+use camac_tool::{Ask, PlanAsk, PlanSource, Turns, answer, answer_plan, engine_events, engine_run};
 use camac_word::Watched;
 use std::alloc::Global;
 
@@ -25,13 +25,13 @@ fn tell_plan(alloc: Global, ask: PlanAsk, plan: &[u8], text: &mut [u8], size: &m
 // What is asked of a plan and a script.
 fn tell(
     alloc: Global,
-    ask: Ask,
+    ask: Ask<'_>,
     plan: &[u8],
     script: &[u8],
     text: &mut [u8],
     size: &mut usize,
 ) -> u32
-    ensures { AnswersTexts ask plan.now script.now result text.old text.new size.new }
+    ensures { AnswersTexts ask.entry plan.now script.now result text.old text.new size.new }
 {
     let mut plan = PlanSource::Text(Watched::new(plan));
     let mut script = Watched::new(script);
@@ -120,9 +120,14 @@ pub extern "C" fn camac_raw_explain_at(
     text: &mut [u8],
     size: &mut usize,
 ) -> u32
-    ensures { AnswersTexts (ask.ExplainAt line column) plan.now script.now result text.old text.new size.new }
+    ensures { AnswersTexts (ask.ExplainAt line column []) plan.now script.now result text.old text.new size.new }
 {
-    let ask = Ask::ExplainAt { line, column };
+    let turns = Turns::of(&[]);
+    let ask = Ask::ExplainAt {
+        line,
+        column,
+        turns,
+    };
     tell(alloc, ask, plan, script, text, size)
 }
 

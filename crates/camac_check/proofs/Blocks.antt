@@ -106,4 +106,4 @@ block_refused context around (Some k) c s rest f e = block_fails context around 
 
 pub block_stops : (context : code.Context) (around : Around) (known : Option Facts) (c : Bounds) (s : Statement) (rest : Block) (e : CheckFault) → Fails e (if_reached unreached known (accept_statement (by_code context) around s)) → Fails e (rest_rule context around (verdict known c) (next s rest))
 block_stops context around known c s rest OutOfMemory h = tt
-block_stops context around known c s rest (Broken rule line case) h = block_refused context around known c s rest (broken rule line case) h
+block_stops context around known c s rest (Broken rule spot case) h = block_refused context around known c s rest (broken rule spot case) h

@@ -8,15 +8,16 @@ use Rattle.camac_rules.specs.declared.case.Case.{Case}
 use Rattle.camac_rules.specs.declared.rule.CheckRule.{CheckRule}
 use Rattle.camac_rules.specs.Fault.{broken}
 use Rattle.camac_rules.specs.Refusal.{given}
+use Rattle.camac_lang.specs.declared.spot.Spot.{Spot}
 
-pub procedure_there : (ps : List Procedure) (i : ℕ) (p : Procedure) (rule : CheckRule) (line : ℕ) (case : Case) → i < length ps → p ≡ get_or ps i p → given (slice_get (map procedure_of ps) i) rule line case ≡ Ok (procedure_of p)
+pub procedure_there : (ps : List Procedure) (i : ℕ) (p : Procedure) (rule : CheckRule) (spot : Spot) (case : Case) → i < length ps → p ≡ get_or ps i p → given (slice_get (map procedure_of ps) i) rule spot case ≡ Ok (procedure_of p)
 unfolding given
-procedure_there ps i p rule line case lt is =
-    ap (λ o. given o rule line case) (slice_get-map procedure_of ps i ∙ ap (option_map procedure_of) (slice_get-get_or ps i p lt ∙ ap (λ x. Some x) (sym is)))
+procedure_there ps i p rule spot case lt is =
+    ap (λ o. given o rule spot case) (slice_get-map procedure_of ps i ∙ ap (option_map procedure_of) (slice_get-get_or ps i p lt ∙ ap (λ x. Some x) (sym is)))
 
-pub no_procedure : (ps : List Procedure) (i : ℕ) (rule : CheckRule) (line : ℕ) (case : Case) → length ps ≤ i → given (slice_get (map procedure_of ps) i) rule line case ≡ Err (broken rule line case)
+pub no_procedure : (ps : List Procedure) (i : ℕ) (rule : CheckRule) (spot : Spot) (case : Case) → length ps ≤ i → given (slice_get (map procedure_of ps) i) rule spot case ≡ Err (broken rule spot case)
 unfolding given
-no_procedure ps i rule line case le =
-    ap (λ o. given o rule line case) (slice_get-map procedure_of ps i ∙ ap (option_map procedure_of) (slice_get_past ps i le))
+no_procedure ps i rule spot case le =
+    ap (λ o. given o rule spot case) (slice_get-map procedure_of ps i ∙ ap (option_map procedure_of) (slice_get_past ps i le))
 
 pub ruleset procedures_by_number = (procedure_there, no_procedure)

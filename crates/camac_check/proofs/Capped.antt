@@ -42,6 +42,7 @@ pub use Rattle.camac_rules.proofs.EachCosts.{cut, cut_all}
 use Rattle.camac_rules.proofs.EachCosts.{each_cut}
 use Rattle.camac_check_simple.specs.declared.context.Context as code
 use Rattle.camac_check_simple.specs.Gives.{by_code, by_rules}
+use Rattle.camac_lang.specs.declared.spot.Spot.{Spot}
 
 -- these costs stay at the greatest number of 64 bits
 abbrev pub in_code : Context → Context
@@ -107,33 +108,33 @@ loop_cut t a = same_costs _ _ _ _ _ _ (scaled t a.cycles (2 ^ 64 - 1)) (scaled t
         let c = ap (λ m. min (t * m) k) inner in
         omega arith
 
-single_cut : (context : Context) (around : Around) (line : ℕ) (size : WordSize) (f r : ℕ) (m : Move) (k : Facts) → single_rule (in_code context) around line size f r m k ≡ cut_all (single_rule (in_rules context) around line size f r m k)
-single_cut context around line size f r no_data k =
-    go_same (given (region_at k.registers r) RegisterUnset line _) _ _ (λ g.
-    go_same (command_widths context.plan line f g) _ _ (λ w.
-    go_same (required (same_class Control (class_of f)) WrongDirection line _) _ _ (λ _. refl)))
-single_cut context around line size f r (into x) k =
-    go_same (required (may_write around x) LoopVariableAssigned line _) _ _ (λ _.
-    go_same (given (region_at k.registers r) RegisterUnset line _) _ _ (λ g.
-    go_same (command_widths context.plan line f g) _ _ (λ w.
-    go_same (required (same_class Read (class_of f)) WrongDirection line _) _ _ (λ _. refl))))
-single_cut context around line size f r (from e) k =
-    go_same (range_of line e k.ranges) _ _ (λ v.
-    go_same (given (region_at k.registers r) RegisterUnset line _) _ _ (λ g.
-    go_same (command_widths context.plan line f g) _ _ (λ w.
-    go_same (required (same_class Write (class_of f)) WrongDirection line _) _ _ (λ _.
-    go_same (required (nat_lt v.hi (2 ^ w.lo) && fits_size size v.hi) ValueTooWide line _) _ _ (λ _. refl)))))
+single_cut : (context : Context) (around : Around) (spot : Spot) (size : WordSize) (f r : ℕ) (m : Move) (k : Facts) → single_rule (in_code context) around spot size f r m k ≡ cut_all (single_rule (in_rules context) around spot size f r m k)
+single_cut context around spot size f r no_data k =
+    go_same (given (region_at k.registers r) RegisterUnset spot _) _ _ (λ g.
+    go_same (command_widths context.plan spot f g) _ _ (λ w.
+    go_same (required (same_class Control (class_of f)) WrongDirection spot _) _ _ (λ _. refl)))
+single_cut context around spot size f r (into x) k =
+    go_same (required (may_write around x) LoopVariableAssigned spot _) _ _ (λ _.
+    go_same (given (region_at k.registers r) RegisterUnset spot _) _ _ (λ g.
+    go_same (command_widths context.plan spot f g) _ _ (λ w.
+    go_same (required (same_class Read (class_of f)) WrongDirection spot _) _ _ (λ _. refl))))
+single_cut context around spot size f r (from e) k =
+    go_same (range_of spot e k.ranges) _ _ (λ v.
+    go_same (given (region_at k.registers r) RegisterUnset spot _) _ _ (λ g.
+    go_same (command_widths context.plan spot f g) _ _ (λ w.
+    go_same (required (same_class Write (class_of f)) WrongDirection spot _) _ _ (λ _.
+    go_same (required (nat_lt v.hi (2 ^ w.lo) && fits_size size v.hi) ValueTooWide spot _) _ _ (λ _. refl)))))
 
-scan_cut : (context : Context) (around : Around) (line f r1 r2 : ℕ) (e : Expression) (x : ℕ) (k : Facts) → scan_rule (in_code context) around line f r1 r2 e x k ≡ cut_all (scan_rule (in_rules context) around line f r1 r2 e x k)
-scan_cut context around line f r1 r2 e x k =
-    go_same (range_of line e k.ranges) _ _ (λ most.
-    go_same (required (may_write around x) LoopVariableAssigned line _) _ _ (λ _.
-    go_same (given (region_at k.registers r1) RegisterUnset line _) _ _ (λ g.
-    go_same (given (region_at k.registers r2) RegisterUnset line _) _ _ (λ h.
-    go_same (required (is_one_crate g h) ScanCratesDiffer line _) _ _ (λ _.
-    go_same (required (is_installed context.plan (window_of g h)) StationNotInstalled line _) _ _ (λ _.
-    go_same (required (has_sub_addresses g && (has_sub_addresses h && is_declared context.plan f (window_of g h))) CommandNotDeclared line _) _ _ (λ _.
-    go_same (required (same_class Read (class_of f)) WrongDirection line _) _ _ (λ _. refl))))))))
+scan_cut : (context : Context) (around : Around) (spot : Spot) (f r1 r2 : ℕ) (e : Expression) (x : ℕ) (k : Facts) → scan_rule (in_code context) around spot f r1 r2 e x k ≡ cut_all (scan_rule (in_rules context) around spot f r1 r2 e x k)
+scan_cut context around spot f r1 r2 e x k =
+    go_same (range_of spot e k.ranges) _ _ (λ most.
+    go_same (required (may_write around x) LoopVariableAssigned spot _) _ _ (λ _.
+    go_same (given (region_at k.registers r1) RegisterUnset spot _) _ _ (λ g.
+    go_same (given (region_at k.registers r2) RegisterUnset spot _) _ _ (λ h.
+    go_same (required (is_one_crate g h) ScanCratesDiffer spot _) _ _ (λ _.
+    go_same (required (is_installed context.plan (window_of g h)) StationNotInstalled spot _) _ _ (λ _.
+    go_same (required (has_sub_addresses g && (has_sub_addresses h && is_declared context.plan f (window_of g h))) CommandNotDeclared spot _) _ _ (λ _.
+    go_same (required (same_class Read (class_of f)) WrongDirection spot _) _ _ (λ _. refl))))))))
 
 step_cut : (a : Bounds) → capped (plus (costs 0 0 1) (capped a)) ≡ capped (plus (costs 0 0 1) a)
 step_cut a = same_costs _ _ _ _ _ _ (omega arith) (omega arith) (omega arith)
@@ -144,65 +145,65 @@ from_cut (suc n) x v last check rule k h = each_cut (suc n) x v last check rule 
 
 mutual
   pub statement_cut : (context : Context) (around : Around) (s : Statement) (k : Facts) → accept_statement (in_code context) around s k ≡ cut_all (accept_statement (in_rules context) around s k)
-  statement_cut context around (assign line x e) k =
-      go_same (range_of line e k.ranges) _ _ (λ r. go_same (required (may_write around x) LoopVariableAssigned line _) _ _ (λ _. refl))
-  statement_cut context around (set_register line r e1 e2 e3) k =
-      go_same (range_of line e1 k.ranges) _ _ (λ c. go_same (range_of line e2 k.ranges) _ _ (λ n. go_same (range_of line e3 k.ranges) _ _ (λ a. refl)))
-  statement_cut context around (single line size f r m) k = single_cut context around line size f r m k
-  statement_cut context around (put line e) k =
-      go_same (range_of line e k.ranges) _ _ (λ r. go_same (required (nat_le r.hi greatest_word) WordTooWide line _) _ _ (λ _. refl))
-  statement_cut context around (crate_call line which e) k =
-      go_same (range_of line e k.ranges) _ _ (λ r. go_same (required (is_crate context.plan r) CrateUnfit line _) _ _ (λ _. refl))
-  statement_cut context around (address_scan line f r1 r2 max x) k = scan_cut context around line f r1 r2 max x k
-  statement_cut context around (q_stop line f r t max x) k =
-      go_same (range_of line max k.ranges) _ _ (λ most. go_same (block_region (in_rules context) around line f r t most.hi x k) _ _ (λ g. refl))
-  statement_cut context around (q_repeat line f r t max limit x) k =
-      go_same (range_of line max k.ranges) _ _ (λ most.
-      go_same (range_of line limit k.ranges) _ _ (λ cycles. go_same (block_region (in_rules context) around line f r t most.hi x k) _ _ (λ g. refl)))
-  statement_cut context around (lam_call line which l) k =
-      go_same (given (lam_region (in_rules context) l) StationNotInstalled line _) _ _ (λ g.
-      go_same (command_widths context.plan line (lam_function which) g) _ _ (λ w. refl))
-  statement_cut context around (choose line test a) k =
-      go_same (split line test k) _ _ (λ ways.
+  statement_cut context around (assign spot x e) k =
+      go_same (range_of spot e k.ranges) _ _ (λ r. go_same (required (may_write around x) LoopVariableAssigned spot _) _ _ (λ _. refl))
+  statement_cut context around (set_register spot r e1 e2 e3) k =
+      go_same (range_of spot e1 k.ranges) _ _ (λ c. go_same (range_of spot e2 k.ranges) _ _ (λ n. go_same (range_of spot e3 k.ranges) _ _ (λ a. refl)))
+  statement_cut context around (single spot size f r m) k = single_cut context around spot size f r m k
+  statement_cut context around (put spot e) k =
+      go_same (range_of spot e k.ranges) _ _ (λ r. go_same (required (nat_le r.hi greatest_word) WordTooWide spot _) _ _ (λ _. refl))
+  statement_cut context around (crate_call spot which e) k =
+      go_same (range_of spot e k.ranges) _ _ (λ r. go_same (required (is_crate context.plan r) CrateUnfit spot _) _ _ (λ _. refl))
+  statement_cut context around (address_scan spot f r1 r2 max x) k = scan_cut context around spot f r1 r2 max x k
+  statement_cut context around (q_stop spot f r t max x) k =
+      go_same (range_of spot max k.ranges) _ _ (λ most. go_same (block_region (in_rules context) around spot f r t most.hi x k) _ _ (λ g. refl))
+  statement_cut context around (q_repeat spot f r t max limit x) k =
+      go_same (range_of spot max k.ranges) _ _ (λ most.
+      go_same (range_of spot limit k.ranges) _ _ (λ cycles. go_same (block_region (in_rules context) around spot f r t most.hi x k) _ _ (λ g. refl)))
+  statement_cut context around (lam_call spot which l) k =
+      go_same (given (lam_region (in_rules context) l) StationNotInstalled spot _) _ _ (λ g.
+      go_same (command_widths context.plan spot (lam_function which) g) _ _ (λ w. refl))
+  statement_cut context around (choose spot test a) k =
+      go_same (split spot test k) _ _ (λ ways.
       go_cut (if_reached unreached ways.holds (accept_block (in_code context) around a)) (if_reached unreached ways.holds (accept_block (in_rules context) around a)) _ _
       (if_reached_cut ways.holds (accept_block (in_code context) around a) (accept_block (in_rules context) around a) (λ q. block_cut context around a q))
       (λ first. ap (λ c. Ok (verdict (join first.after ways.fails) c)) (choice_cut first.costs no_costs)))
-  statement_cut context around (choose_else line test a b) k =
-      go_same (split line test k) _ _ (λ ways.
+  statement_cut context around (choose_else spot test a b) k =
+      go_same (split spot test k) _ _ (λ ways.
       go_cut (if_reached unreached ways.holds (accept_block (in_code context) around a)) (if_reached unreached ways.holds (accept_block (in_rules context) around a)) _ _
       (if_reached_cut ways.holds (accept_block (in_code context) around a) (accept_block (in_rules context) around a) (λ q. block_cut context around a q))
       (λ first.
       go_cut (if_reached unreached ways.fails (accept_block (in_code context) around b)) (if_reached unreached ways.fails (accept_block (in_rules context) around b)) _ _
       (if_reached_cut ways.fails (accept_block (in_code context) around b) (accept_block (in_rules context) around b) (λ q. block_cut context around b q))
       (λ second. ap (λ c. Ok (verdict (join first.after second.after) c)) (choice_cut first.costs second.costs))))
-  statement_cut context around (for_ line x e1 e2 keeps body) k =
-      go_same (for_limits around line x e1 e2 keeps k) _ _ (λ l.
+  statement_cut context around (for_ spot x e1 e2 keeps body) k =
+      go_same (for_limits around spot x e1 e2 keeps k) _ _ (λ l.
       go_cut (if_reached unreached (for_head x l keeps body k) (accept_block (in_code context) (with_fixed x around) body)) (if_reached unreached (for_head x l keeps body k) (accept_block (in_rules context) (with_fixed x around) body)) _ _
       (if_reached_cut (for_head x l keeps body k) (accept_block (in_code context) (with_fixed x around) body) (accept_block (in_rules context) (with_fixed x around) body) (λ q. block_cut context (with_fixed x around) body q))
       (λ turn.
-      go_same (required (keeps_hold_after keeps turn.after) KeepFailsAfterTurn line _) _ _ (λ _.
+      go_same (required (keeps_hold_after keeps turn.after) KeepFailsAfterTurn spot _) _ _ (λ _.
       ap (λ c. Ok (verdict (for_after x l keeps body k) c)) (loop_cut (turns_between l) turn.costs))))
-  statement_cut context around (for_each line x v last body) k =
-      go_same (each_begins around line x v last) _ _ (λ n.
+  statement_cut context around (for_each spot x v last body) k =
+      go_same (each_begins around spot x v last) _ _ (λ n.
       go_cut (each_from capped n x v last (accept_block (in_code context) (with_fixed x around) body) k) (each_from (λ c. c) n x v last (accept_block (in_rules context) (with_fixed x around) body) k) _ _
       (from_cut n x v last (accept_block (in_code context) (with_fixed x around) body) (accept_block (in_rules context) (with_fixed x around) body) k (λ q. block_cut context (with_fixed x around) body q))
       (λ turns. ap (λ c. Ok (verdict turns.after c)) (step_cut turns.costs)))
-  statement_cut context around (while_ line test most m keeps body) k =
-      go_same (while_head around.body line most m keeps body k) _ _ (λ top.
-      go_same (split line test top) _ _ (λ arms.
+  statement_cut context around (while_ spot test most m keeps body) k =
+      go_same (while_head around.body spot most m keeps body k) _ _ (λ top.
+      go_same (split spot test top) _ _ (λ arms.
       go_cut (if_reached unreached arms.holds (accept_block (in_code context) around body)) (if_reached unreached arms.holds (accept_block (in_rules context) around body)) _ _
       (if_reached_cut arms.holds (accept_block (in_code context) around body) (accept_block (in_rules context) around body) (λ q. block_cut context around body q))
       (λ turn.
-      go_same (required (keeps_hold_after keeps turn.after) KeepFailsAfterTurn line _) _ _ (λ _.
+      go_same (required (keeps_hold_after keeps turn.after) KeepFailsAfterTurn spot _) _ _ (λ _.
       ap (λ c. Ok (verdict arms.fails c)) (loop_cut (turn_bound arms.holds most) turn.costs)))))
-  statement_cut context around (locked line e body) k =
-      go_same (lock_rule (in_rules context) around line e k) _ _ (λ c.
+  statement_cut context around (locked spot e body) k =
+      go_same (lock_rule (in_rules context) around spot e k) _ _ (λ c.
       go_cut (accept_block (in_code context) (with_locked c around) body k) (accept_block (in_rules context) (with_locked c around) body k) _ _ (block_cut context (with_locked c around) body k)
       (λ inner. ap (λ d. Ok (verdict inner.after d)) (lock_cut (unwrap_or (crate_waits context.plan c) 0) inner.costs)))
-  statement_cut context around (call line p es) k =
-      go_same (ranges_of line es k.ranges) _ _ (λ rs.
-      go_same (given (slice_get (in_rules context).procedures p) ArgumentOutOfRange line _) _ _ (λ procedure.
-      go_same (required (arguments_fit rs procedure.parameters) ArgumentOutOfRange line _) _ _ (λ _. refl)))
+  statement_cut context around (call spot p es) k =
+      go_same (ranges_of spot es k.ranges) _ _ (λ rs.
+      go_same (given (slice_get (in_rules context).procedures p) ArgumentOutOfRange spot _) _ _ (λ procedure.
+      go_same (required (arguments_fit rs procedure.parameters) ArgumentOutOfRange spot _) _ _ (λ _. refl)))
 
   pub block_cut : (context : Context) (around : Around) (b : Block) (k : Facts) → accept_block (in_code context) around b k ≡ cut_all (accept_block (in_rules context) around b k)
   block_cut context around done k = refl
@@ -219,10 +220,10 @@ leb_cut n w k h =
     (λ le. le-leb (min n k) w (omega arith) ∙ sym (le-leb n w le))
     (cases_lt w n)
 
-guard_same : {B : Type 0} (b c : Bool) (rule : CheckRule) (line : ℕ) (d e : Case) (r q : Result B Fault) → b ≡ c → d ≡ e → (c ≡ true → r ≡ q) → go_on (required b rule line d) (λ _. r) ≡ go_on (required c rule line e) (λ _. q)
+guard_same : {B : Type 0} (b c : Bool) (rule : CheckRule) (spot : Spot) (d e : Case) (r q : Result B Fault) → b ≡ c → d ≡ e → (c ≡ true → r ≡ q) → go_on (required b rule spot d) (λ _. r) ≡ go_on (required c rule spot e) (λ _. q)
 unfolding go_on required
-guard_same b true rule line d e r q is same h = ap (λ x. go_on (required x rule line d) (λ _. r)) is ∙ h refl
-guard_same b false rule line d e r q is same h = ap (λ x. go_on (required x rule line d) (λ _. r)) is ∙ ap (λ c. Err (broken rule line c)) same
+guard_same b true rule spot d e r q is same h = ap (λ x. go_on (required x rule spot d) (λ _. r)) is ∙ h refl
+guard_same b false rule spot d e r q is same h = ap (λ x. go_on (required x rule spot d) (λ _. r)) is ∙ ap (λ c. Err (broken rule spot c)) same
 
 -- a cost that is cut is the cost
 pub told_cut : (place : Body) (n allowed : ℕ) → budget place (min n (2 ^ 64 - 1)) allowed ≡ budget place n allowed
@@ -234,24 +235,24 @@ told_cut place n allowed =
 uncut : (n w k : ℕ) → w < k → nat_le n w ≡ true → min n k ≡ n
 uncut n w k h e = let le : n ≤ w = leb-true n w e in omega arith
 
-pub within_cut : (place : Body) (most found : Bounds) (line : ℕ) → most.cycles < 2 ^ 64 - 1 → most.words < 2 ^ 64 - 1 → most.steps < 2 ^ 64 - 1 → within place most (capped found) line ≡ within place most found line
-within_cut place most found line hc hw hs =
+pub within_cut : (place : Body) (most found : Bounds) (spot : Spot) → most.cycles < 2 ^ 64 - 1 → most.words < 2 ^ 64 - 1 → most.steps < 2 ^ 64 - 1 → within place most (capped found) spot ≡ within place most found spot
+within_cut place most found spot hc hw hs =
     let k = 2 ^ 64 - 1 in
-    guard_same (nat_le (min found.words k) most.words) (nat_le found.words most.words) TooManyWords line _ _ _ _ (leb_cut found.words most.words k hw) (told_cut place found.words most.words) (λ w.
-    guard_same (nat_le (min found.cycles k) most.cycles) (nat_le found.cycles most.cycles) TooManyCycles line _ _ _ _ (leb_cut found.cycles most.cycles k hc) (told_cut place found.cycles most.cycles) (λ c.
-    guard_same (nat_le (min found.steps k) most.steps) (nat_le found.steps most.steps) TooManySteps line _ _ _ _ (leb_cut found.steps most.steps k hs) (told_cut place found.steps most.steps) (λ s.
+    guard_same (nat_le (min found.words k) most.words) (nat_le found.words most.words) TooManyWords spot _ _ _ _ (leb_cut found.words most.words k hw) (told_cut place found.words most.words) (λ w.
+    guard_same (nat_le (min found.cycles k) most.cycles) (nat_le found.cycles most.cycles) TooManyCycles spot _ _ _ _ (leb_cut found.cycles most.cycles k hc) (told_cut place found.cycles most.cycles) (λ c.
+    guard_same (nat_le (min found.steps k) most.steps) (nat_le found.steps most.steps) TooManySteps spot _ _ _ _ (leb_cut found.steps most.steps k hs) (told_cut place found.steps most.steps) (λ s.
     ap (λ x. Ok x) (same_costs _ _ _ _ _ _ (uncut found.cycles most.cycles k hc c) (uncut found.words most.words k hw w) (uncut found.steps most.steps k hs s)))))
 
-finish_all : (place : Body) (most : Bounds) (line : ℕ) → most.cycles < 2 ^ 64 - 1 → most.words < 2 ^ 64 - 1 → most.steps < 2 ^ 64 - 1 → (q r : Result Verdict Fault) → q ≡ cut_all r → go_on q (λ v. within place most v.costs line) ≡ go_on r (λ v. within place most v.costs line)
+finish_all : (place : Body) (most : Bounds) (spot : Spot) → most.cycles < 2 ^ 64 - 1 → most.words < 2 ^ 64 - 1 → most.steps < 2 ^ 64 - 1 → (q r : Result Verdict Fault) → q ≡ cut_all r → go_on q (λ v. within place most v.costs spot) ≡ go_on r (λ v. within place most v.costs spot)
 unfolding go_on
-finish_all place most line hc hw hs q (Ok v) e = ap (λ x. go_on x (λ v. within place most v.costs line)) e ∙ within_cut place most v.costs line hc hw hs
-finish_all place most line hc hw hs q (Err f) e = ap (λ x. go_on x (λ v. within place most v.costs line)) e
+finish_all place most spot hc hw hs q (Ok v) e = ap (λ x. go_on x (λ v. within place most v.costs spot)) e ∙ within_cut place most v.costs spot hc hw hs
+finish_all place most spot hc hw hs q (Err f) e = ap (λ x. go_on x (λ v. within place most v.costs spot)) e
 
 pub service_cut : (context : code.Context) (v : Service) → v.cycles < 2 ^ 64 - 1 → v.words < 2 ^ 64 - 1 → accept_service (by_code context) v ≡ accept_service (by_rules context) v
 service_cut context v hc hw =
     let around : Around = alone_in (body.Service v.lam) in
     ap (λ x. go_on (count_block (body.Service v.lam) v.body 0) (λ _. x))
-    (finish_all (body.Service v.lam) (costs v.cycles v.words greatest) v.line hc hw (lit< tt) (accept_block (by_code context) around v.body at_start) (accept_block (by_rules context) around v.body at_start)
+    (finish_all (body.Service v.lam) (costs v.cycles v.words greatest) v.spot hc hw (lit< tt) (accept_block (by_code context) around v.body at_start) (accept_block (by_rules context) around v.body at_start)
     (block_cut (by_rules context) around v.body at_start))
 
 pub procedure_cut : (context : code.Context) (p : Procedure) → p.cycles < 2 ^ 64 - 1 → p.words < 2 ^ 64 - 1 → p.steps < 2 ^ 64 - 1 → accept_procedure (by_code context) p ≡ accept_procedure (by_rules context) p
@@ -259,7 +260,7 @@ procedure_cut context p hc hw hs =
     let place : Body = own_body (by_rules context) in
     let around : Around = alone_in place in
     ap (λ x. go_on (count_block place p.body 0) (λ _. x))
-    (finish_all place (annotated p) p.line hc hw hs
+    (finish_all place (annotated p) p.spot hc hw hs
     (if_reached unreached (at_entry p.parameters) (accept_block (by_code context) around p.body))
     (if_reached unreached (at_entry p.parameters) (accept_block (by_rules context) around p.body))
     (if_reached_cut (at_entry p.parameters) (accept_block (by_code context) around p.body) (accept_block (by_rules context) around p.body) (block_cut (by_rules context) around p.body)))

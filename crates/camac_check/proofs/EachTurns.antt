@@ -74,7 +74,7 @@ turn_refused n x v last check (Some k) c f e = go (check (with_range x (only v) 
 
 pub turn_stops : (n x v last : ℕ) (check : Facts → Result Verdict Fault) (known : Option Facts) (c : Bounds) (e : CheckFault) → Fails e (if_reached unreached known (turn_rule x v check)) → Fails e (rest_turns (suc n) x v last check (verdict known c))
 turn_stops n x v last check known c OutOfMemory h = tt
-turn_stops n x v last check known c (Broken rule line case) h = turn_refused n x v last check known c (broken rule line case) h
+turn_stops n x v last check known c (Broken rule spot case) h = turn_refused n x v last check known c (broken rule spot case) h
 
 -- no turn is left
 pub turns_end : (x v last : ℕ) (check : Facts → Result Verdict Fault) (known : Option Facts) (c : Bounds) → capped c ≡ c → rest_turns zero x v last check (verdict known c) ≡ Ok (verdict (option_map (with_range x (only last)) known) c)

@@ -32,7 +32,7 @@ same_items c [] ps vs h e =
     subst (λ (g : Headed). Same g.procedures ps g.services vs) same (record { procedures = refl; services = refl })
 same_items c (next_table ∷ rest) ps vs h e = same_items c rest ps vs h e
 same_items c (next_lam ∷ rest) ps vs h e = same_items c rest ps vs h e
-same_items c (next_variables line n ∷ rest) ps vs h e = same_items c rest ps vs h e
+same_items c (next_variables spot n ∷ rest) ps vs h e = same_items c rest ps vs h e
 same_items c (next_procedure ∷ rest) [] vs h e = same_items c rest [] vs h e
 same_items c (next_procedure ∷ rest) (p ∷ ps) vs h e =
     let x = then_ok (procedure_needs c p) _ h e in
@@ -74,7 +74,7 @@ link_refuses plan script fs f e law is first told =
   where
     finds : (f : LinkFault) → Finds {X = Unit {0}} {Y = Unit {0}} (λ u. u) (Err (of_link f)) (linked (Some f))
     finds link.OutOfMemory = tt
-    finds (link.Broken rule line case) = refl
+    finds (link.Broken rule spot case) = refl
 
 pub link_accepts : (plan : Layout) (script : Script) (fs : List LinkFault) → FirstIsLinkFault → fs ≡ link_faults plan script → None ≡ slice_get fs 0 → linked (link_fault plan script) ≡ Ok tt
 link_accepts plan script fs law is first = ap linked (first_told plan script fs None law is first)
@@ -83,10 +83,10 @@ pub unlinked : {X : Type 0} (view : X → Script) (plan : Layout) (script s0 : S
     → Finds (λ u. u) (Err f) (linked (link_fault plan s0)) → Finds view (Err f) (least plan script)
 unfolding and_then
 unlinked view plan script s0 fault.OutOfMemory is h = tt
-unlinked view plan script s0 (fault.Link rule line case) is h =
+unlinked view plan script s0 (fault.Link rule spot case) is h =
     ap (λ r. and_then r (λ _. and_then (least_from plan (unannotated script) 0 0 0) (λ h. Ok (record (unannotated script) { procedures = h.procedures; services = h.services }))))
     (ap (λ s. linked (link_fault plan s)) (sym is) ∙ h)
-unlinked view plan script s0 (fault.Check rule line case) is h =
+unlinked view plan script s0 (fault.Check rule spot case) is h =
     ap (λ r. and_then r (λ _. and_then (least_from plan (unannotated script) 0 0 0) (λ h. Ok (record (unannotated script) { procedures = h.procedures; services = h.services }))))
     (ap (λ s. linked (link_fault plan s)) (sym is) ∙ h)
 
@@ -106,10 +106,10 @@ pub not_headed : {X : Type 0} (view : X → Script) (plan : Layout) (script s0 n
     → Heads (least_from plan s0 0 0 0) s0 new 0 0 (Err f) → Finds view (Err f) (least plan script)
 unfolding and_then
 not_headed view plan script s0 new u fault.OutOfMemory is e h = tt
-not_headed view plan script s0 new u (fault.Link rule line case) is e h =
+not_headed view plan script s0 new u (fault.Link rule spot case) is e h =
     whole plan script s0 u is e
     ∙ ap (λ r. and_then r (λ h. Ok (record (unannotated script) { procedures = h.procedures; services = h.services }))) (ap (λ s. least_from plan s 0 0 0) (sym is) ∙ h)
-not_headed view plan script s0 new u (fault.Check rule line case) is e h =
+not_headed view plan script s0 new u (fault.Check rule spot case) is e h =
     whole plan script s0 u is e
     ∙ ap (λ r. and_then r (λ h. Ok (record (unannotated script) { procedures = h.procedures; services = h.services }))) (ap (λ s. least_from plan s 0 0 0) (sym is) ∙ h)
 
@@ -153,12 +153,12 @@ is_headed plan script s0 new u v is e heads = go (subst (λ s. Heads (least_from
 
 pub never_unlinked : {X : Type 0} (view : X → Script) (r : Result Script LeastFault) (o : Option LinkFault) (f : LinkFault) → o ≡ None → (f ≢ link.OutOfMemory → o ≡ Some f) → Finds view (Err (of_link f)) r
 never_unlinked view r o link.OutOfMemory e h = tt
-never_unlinked view r o (link.Broken rule line case) e h = let bad : o ≡ Some (link.Broken rule line case) = h (λ same. cc) in absurd (cc)
+never_unlinked view r o (link.Broken rule spot case) e h = let bad : o ≡ Some (link.Broken rule spot case) = h (λ same. cc) in absurd (cc)
 
 pub never_refused : {X : Type 0} (view : X → Script) (r : Result Script LeastFault) (plan : Layout) (s : Script) (l : LinkedScript) (f : CheckFault) (ks : List Bounds) → l ≡ record { plan = plan; script = s }
     → accept plan s ≡ Ok ks → Judges l (Err f) → Finds view (Err (of_check f)) r
 never_refused view r plan s l check.OutOfMemory ks is e h = tt
-never_refused view r plan s l (check.Broken rule line case) ks is e h =
+never_refused view r plan s l (check.Broken rule spot case) ks is e h =
     let there : accept l.plan l.script ≡ Ok ks = ap (λ (x : LinkedScript). accept x.plan x.script) is ∙ e in
     absurd (cc)
 

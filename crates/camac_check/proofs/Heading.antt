@@ -13,6 +13,7 @@ use Rattle.camac_check_simple.specs.Gives.{by_rules, rules_before, whole_of}
 use Rattle.camac_check.specs.declared.fault.LeastFault.{LeastFault}
 use Rattle.camac_check.specs.declared.fault.LeastFault.TheVariants as fault
 use Rattle.camac_check.specs.Least.{Finds, Heads, Headed, after_procedures, and_then, least_from, least_items, needing, procedure_first, procedure_needs, service_first, service_needing, service_needs}
+use Rattle.camac_lang.specs.declared.spot.Spot.{Spot}
 
 -- ---- lists
 
@@ -80,8 +81,8 @@ table_item plan s k done served e = at_item plan s k done served next_table e
 pub lam_item : (plan : Layout) (s : Script) (k done served : ℕ) → slice_get s.order k ≡ Some next_lam → least_from plan s k done served ≡ least_from plan s (k + 1) done served
 lam_item plan s k done served e = at_item plan s k done served next_lam e
 
-pub variables_item : (plan : Layout) (s : Script) (k done served line n : ℕ) → slice_get s.order k ≡ Some (next_variables line n) → least_from plan s k done served ≡ least_from plan s (k + 1) done served
-variables_item plan s k done served line n e = at_item plan s k done served (next_variables line n) e
+pub variables_item : (plan : Layout) (s : Script) (k done served : ℕ) (spot : Spot) (n : ℕ) → slice_get s.order k ≡ Some (next_variables spot n) → least_from plan s k done served ≡ least_from plan s (k + 1) done served
+variables_item plan s k done served spot n e = at_item plan s k done served (next_variables spot n) e
 
 pub no_procedure : (plan : Layout) (s : Script) (k done served : ℕ) → slice_get s.order k ≡ Some next_procedure → length s.procedures ≤ done → least_from plan s k done served ≡ least_from plan s (k + 1) done served
 no_procedure plan s k done served e le =
@@ -165,10 +166,10 @@ pub heads_procedure_fault : (plan : Layout) (s t : Script) (k done served : ℕ)
     → Finds {X = Bounds} (λ b. b) (Err f) (procedure_needs (after_procedures plan s done) p) → Heads (least_from plan s k done served) s t done served (Err f)
 unfolding and_then
 heads_procedure_fault plan s t k done served p fault.OutOfMemory e at h = tt
-heads_procedure_fault plan s t k done served p (fault.Link rule line case) e at h =
+heads_procedure_fault plan s t k done served p (fault.Link rule spot case) e at h =
     procedure_item plan s k done served p e at
     ∙ ap (λ r. and_then r (λ b. and_then (least_from plan (with_procedure_needing done b s) (k + 1) (done + 1) served) (λ h. Ok (procedure_first (needing b p) h)))) h
-heads_procedure_fault plan s t k done served p (fault.Check rule line case) e at h =
+heads_procedure_fault plan s t k done served p (fault.Check rule spot case) e at h =
     procedure_item plan s k done served p e at
     ∙ ap (λ r. and_then r (λ b. and_then (least_from plan (with_procedure_needing done b s) (k + 1) (done + 1) served) (λ h. Ok (procedure_first (needing b p) h)))) h
 
@@ -176,10 +177,10 @@ pub heads_service_fault : (plan : Layout) (s t : Script) (k done served : ℕ) (
     → Finds {X = Bounds} (λ b. b) (Err f) (service_needs (after_procedures plan s done) v) → Heads (least_from plan s k done served) s t done served (Err f)
 unfolding and_then
 heads_service_fault plan s t k done served v fault.OutOfMemory e at h = tt
-heads_service_fault plan s t k done served v (fault.Link rule line case) e at h =
+heads_service_fault plan s t k done served v (fault.Link rule spot case) e at h =
     service_item plan s k done served v e at
     ∙ ap (λ r. and_then r (λ b. and_then (least_from plan (with_service_needing served b s) (k + 1) done (served + 1)) (λ h. Ok (service_first (service_needing b v) h)))) h
-heads_service_fault plan s t k done served v (fault.Check rule line case) e at h =
+heads_service_fault plan s t k done served v (fault.Check rule spot case) e at h =
     service_item plan s k done served v e at
     ∙ ap (λ r. and_then r (λ b. and_then (least_from plan (with_service_needing served b s) (k + 1) done (served + 1)) (λ h. Ok (service_first (service_needing b v) h)))) h
 
@@ -211,8 +212,8 @@ heads_procedure plan s m t k done served p b r e at needs is h = rest r (subst (
       new ∙ ap (λ ps. record s { procedures = ps; services = take served s.services ++ h.services }) (parts h.procedures),
     )
     rest (Err fault.OutOfMemory) h = tt
-    rest (Err (fault.Link rule line case)) h = whole ∙ ap (λ r. and_then r (λ h. Ok (procedure_first (needing b p) h))) h
-    rest (Err (fault.Check rule line case)) h = whole ∙ ap (λ r. and_then r (λ h. Ok (procedure_first (needing b p) h))) h
+    rest (Err (fault.Link rule spot case)) h = whole ∙ ap (λ r. and_then r (λ h. Ok (procedure_first (needing b p) h))) h
+    rest (Err (fault.Check rule spot case)) h = whole ∙ ap (λ r. and_then r (λ h. Ok (procedure_first (needing b p) h))) h
 
 pub heads_service : (plan : Layout) (s m t : Script) (k done served : ℕ) (v : Service) (b : Bounds) (r : Result (Unit {0}) LeastFault) → slice_get s.order k ≡ Some next_service → slice_get s.services served ≡ Some v
     → service_needs (after_procedures plan s done) v ≡ Ok b → m ≡ with_service_needing served b s
@@ -241,5 +242,5 @@ heads_service plan s m t k done served v b r e at needs is h = rest r (subst (λ
       new ∙ ap (λ vs. record s { procedures = take done s.procedures ++ h.procedures; services = vs }) (parts h.services),
     )
     rest (Err fault.OutOfMemory) h = tt
-    rest (Err (fault.Link rule line case)) h = whole ∙ ap (λ r. and_then r (λ h. Ok (service_first (service_needing b v) h))) h
-    rest (Err (fault.Check rule line case)) h = whole ∙ ap (λ r. and_then r (λ h. Ok (service_first (service_needing b v) h))) h
+    rest (Err (fault.Link rule spot case)) h = whole ∙ ap (λ r. and_then r (λ h. Ok (service_first (service_needing b v) h))) h
+    rest (Err (fault.Check rule spot case)) h = whole ∙ ap (λ r. and_then r (λ h. Ok (service_first (service_needing b v) h))) h

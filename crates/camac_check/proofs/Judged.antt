@@ -16,23 +16,24 @@ use Rattle.camac_rules.specs.Accept.{accept}
 use Rattle.camac_rules.specs.Laws.{EventsFit}
 use Rattle.camac_rules.proofs.Accepted.{accepted_fine, accepted_procedures_fine, accepted_within}
 use Rattle.camac_checked.specs.Checked.{CheckedScript, IsChecked}
+use Rattle.camac_lang.specs.declared.spot.Spot.{Spot}
 
 pub or_else_parts : (o p : Option LinkFault) → or_else o p ≡ None → (o ≡ None) × (p ≡ None)
 or_else_parts None p e = (refl, e)
 or_else_parts (Some x) p e = cc
 
-pub unless_parts : (test : Bool) (rule : LinkRule) (line : ℕ) (case : LinkCase) (p : Option LinkFault) → unless test rule line case p ≡ None → (test ≡ true) × (p ≡ None)
-unless_parts true rule line case p e = (refl, e)
-unless_parts false rule line case p e = cc
+pub unless_parts : (test : Bool) (rule : LinkRule) (spot : Spot) (case : LinkCase) (p : Option LinkFault) → unless test rule spot case p ≡ None → (test ≡ true) × (p ≡ None)
+unless_parts true rule spot case p e = (refl, e)
+unless_parts false rule spot case p e = cc
 
 served_fits : (plan : Layout) (lams : List Lam) (earlier : List Service) (v : Service) (o : Option Lam) → served_fault plan lams earlier v o ≡ None → v.words ≤ plan.buffer
 served_fits plan lams earlier v None e = cc
 served_fits plan lams earlier v (Some l) e =
-    let third : Option LinkFault = unless (nat_le v.words plan.buffer) EventAboveBuffer v.line (Words v.words plan.buffer) None in
-    let second : Option LinkFault = unless (not (is_served lams l earlier)) StationServedTwice v.line (served_by lams l earlier) third in
-    let a = unless_parts (is_some (lam_bit plan l)) StationWithoutBit v.line (place_of l) second e in
-    let b = unless_parts (not (is_served lams l earlier)) StationServedTwice v.line (served_by lams l earlier) third a.1 in
-    let c = unless_parts (nat_le v.words plan.buffer) EventAboveBuffer v.line (Words v.words plan.buffer) None b.1 in
+    let third : Option LinkFault = unless (nat_le v.words plan.buffer) EventAboveBuffer v.spot (Words v.words plan.buffer) None in
+    let second : Option LinkFault = unless (not (is_served lams l earlier)) StationServedTwice v.spot (served_by lams l earlier) third in
+    let a = unless_parts (is_some (lam_bit plan l)) StationWithoutBit v.spot (place_of l) second e in
+    let b = unless_parts (not (is_served lams l earlier)) StationServedTwice v.spot (served_by lams l earlier) third a.1 in
+    let c = unless_parts (nat_le v.words plan.buffer) EventAboveBuffer v.spot (Words v.words plan.buffer) None b.1 in
     leb-true v.words plan.buffer c.0
 
 events_fit : (plan : Layout) (lams : List Lam) (earlier vs : List Service) → services_fault plan lams earlier vs ≡ None → EventsFit plan vs

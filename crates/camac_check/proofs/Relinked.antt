@@ -32,6 +32,7 @@ use Rattle.camac_check.specs.declared.fault.LeastFault.{LeastFault}
 use Rattle.camac_check.specs.declared.fault.LeastFault.TheVariants as fault
 use Rattle.camac_check.specs.Least.{AreHeadings, Headed, and_then, checked, event_fits, least_items, most, needing, procedure_first, procedure_needs, service_first, service_needing, service_needs}
 use Rattle.camac_check.proofs.Judged.{or_else_parts, unless_parts}
+use Rattle.camac_lang.specs.declared.spot.Spot.{Spot}
 
 -- ---- steps that were allowed
 
@@ -42,7 +43,7 @@ then_ok (Err g) f y e = absurd (cc)
 
 checked_ok : {A : Type 0} (r : Result A Fault) (x : A) → checked r ≡ Ok x → r ≡ Ok x
 checked_ok (Ok y) x e = let same : y ≡ x = cc in ap (λ z. Ok z) same
-checked_ok (Err (broken rule line case)) x e = absurd (cc)
+checked_ok (Err (broken rule spot case)) x e = absurd (cc)
 
 go_ok : {A B : Type 0} (r : Result A Fault) (f : A → Result B Fault) (y : B) → go_on r f ≡ Ok y → (x : A) × (r ≡ Ok x) × (f x ≡ Ok y)
 unfolding go_on
@@ -53,14 +54,14 @@ go_is : {A B : Type 0} (r : Result A Fault) (x : A) (f : A → Result B Fault) �
 unfolding go_on
 go_is r x f e = ap (λ q. go_on q f) e
 
-required_ok : (b : Bool) (rule : CheckRule) (line : ℕ) (case : Case) (u : Unit {0}) → required b rule line case ≡ Ok u → b ≡ true
+required_ok : (b : Bool) (rule : CheckRule) (spot : Spot) (case : Case) (u : Unit {0}) → required b rule spot case ≡ Ok u → b ≡ true
 unfolding required
-required_ok true rule line case u e = refl
-required_ok false rule line case u e = absurd (cc)
+required_ok true rule spot case u e = refl
+required_ok false rule spot case u e = absurd (cc)
 
-required_is : (b : Bool) (rule : CheckRule) (line : ℕ) (case : Case) → b ≡ true → required b rule line case ≡ Ok tt
+required_is : (b : Bool) (rule : CheckRule) (spot : Spot) (case : Case) → b ≡ true → required b rule spot case ≡ Ok tt
 unfolding required
-required_is b rule line case e = ap (λ x. required x rule line case) e
+required_is b rule spot case e = ap (λ x. required x rule spot case) e
 
 -- ---- bounds that are the costs
 
@@ -70,47 +71,47 @@ record Within (m found k : Bounds) : Type 0 where
   words : found.words ≤ m.words
   steps : found.steps ≤ m.steps
 
-within_ok : (place : Body) (m found k : Bounds) (line : ℕ) → within place m found line ≡ Ok k → Within m found k
-within_ok place m found k line e =
-    let a = go_ok (required (nat_le found.words m.words) TooManyWords line _) _ k e in
-    let b = go_ok (required (nat_le found.cycles m.cycles) TooManyCycles line _) _ k a.2 in
-    let c = go_ok (required (nat_le found.steps m.steps) TooManySteps line _) _ k b.2 in
+within_ok : (place : Body) (m found k : Bounds) (spot : Spot) → within place m found spot ≡ Ok k → Within m found k
+within_ok place m found k spot e =
+    let a = go_ok (required (nat_le found.words m.words) TooManyWords spot _) _ k e in
+    let b = go_ok (required (nat_le found.cycles m.cycles) TooManyCycles spot _) _ k a.2 in
+    let c = go_ok (required (nat_le found.steps m.steps) TooManySteps spot _) _ k b.2 in
     let last : Ok found ≡ Ok k = c.2 in
     record {
       same = sym (cc);
-      cycles = leb-true found.cycles m.cycles (required_ok (nat_le found.cycles m.cycles) TooManyCycles line _ b.0 b.1);
-      words = leb-true found.words m.words (required_ok (nat_le found.words m.words) TooManyWords line _ a.0 a.1);
-      steps = leb-true found.steps m.steps (required_ok (nat_le found.steps m.steps) TooManySteps line _ c.0 c.1);
+      cycles = leb-true found.cycles m.cycles (required_ok (nat_le found.cycles m.cycles) TooManyCycles spot _ b.0 b.1);
+      words = leb-true found.words m.words (required_ok (nat_le found.words m.words) TooManyWords spot _ a.0 a.1);
+      steps = leb-true found.steps m.steps (required_ok (nat_le found.steps m.steps) TooManySteps spot _ c.0 c.1);
     }
 
-within_is : (place : Body) (m found : Bounds) (line : ℕ) → found.cycles ≤ m.cycles → found.words ≤ m.words → found.steps ≤ m.steps → within place m found line ≡ Ok found
-within_is place m found line hc hw hs =
-    go_is (required (nat_le found.words m.words) TooManyWords line _) tt _ (required_is (nat_le found.words m.words) TooManyWords line _ (le-leb found.words m.words hw))
-    ∙ go_is (required (nat_le found.cycles m.cycles) TooManyCycles line _) tt _ (required_is (nat_le found.cycles m.cycles) TooManyCycles line _ (le-leb found.cycles m.cycles hc))
-    ∙ go_is (required (nat_le found.steps m.steps) TooManySteps line _) tt _ (required_is (nat_le found.steps m.steps) TooManySteps line _ (le-leb found.steps m.steps hs))
+within_is : (place : Body) (m found : Bounds) (spot : Spot) → found.cycles ≤ m.cycles → found.words ≤ m.words → found.steps ≤ m.steps → within place m found spot ≡ Ok found
+within_is place m found spot hc hw hs =
+    go_is (required (nat_le found.words m.words) TooManyWords spot _) tt _ (required_is (nat_le found.words m.words) TooManyWords spot _ (le-leb found.words m.words hw))
+    ∙ go_is (required (nat_le found.cycles m.cycles) TooManyCycles spot _) tt _ (required_is (nat_le found.cycles m.cycles) TooManyCycles spot _ (le-leb found.cycles m.cycles hc))
+    ∙ go_is (required (nat_le found.steps m.steps) TooManySteps spot _) tt _ (required_is (nat_le found.steps m.steps) TooManySteps spot _ (le-leb found.steps m.steps hs))
 
 procedure_accepted : (c : Context) (p : Procedure) (k : Bounds) → procedure_needs c p ≡ Ok k → accept_procedure c (needing k p) ≡ Ok k
 procedure_accepted c p k e =
     let place : Body = own_body c in
     let judged : Result Verdict Fault = if_reached unreached (at_entry p.parameters) (accept_block c (alone_in place) p.body) in
-    let n = go_ok (count_block place p.body 0) (λ _. go_on judged (λ v. within place most v.costs p.line)) k (checked_ok (accept_procedure c (needing most p)) k e) in
-    let v = go_ok judged (λ v. within place most v.costs p.line) k n.2 in
-    let is = within_ok place most v.0.costs k p.line v.2 in
-    go_is (count_block place p.body 0) n.0 (λ _. go_on judged (λ v. within place k v.costs p.line)) n.1
-    ∙ go_is judged v.0 (λ v. within place k v.costs p.line) v.1
-    ∙ ap (λ b. within place k b p.line) (sym is.same)
-    ∙ within_is place k k p.line (omega arith) (omega arith) (omega arith)
+    let n = go_ok (count_block place p.body 0) (λ _. go_on judged (λ v. within place most v.costs p.spot)) k (checked_ok (accept_procedure c (needing most p)) k e) in
+    let v = go_ok judged (λ v. within place most v.costs p.spot) k n.2 in
+    let is = within_ok place most v.0.costs k p.spot v.2 in
+    go_is (count_block place p.body 0) n.0 (λ _. go_on judged (λ v. within place k v.costs p.spot)) n.1
+    ∙ go_is judged v.0 (λ v. within place k v.costs p.spot) v.1
+    ∙ ap (λ b. within place k b p.spot) (sym is.same)
+    ∙ within_is place k k p.spot (omega arith) (omega arith) (omega arith)
 
 -- what a service needs, and what that says of its event
 record Served (c : Context) (v : Service) (k : Bounds) : Type 0 where
   accepted : accept_service c (service_needing k v) ≡ Ok k
   words : k.words ≤ c.plan.buffer
 
-event_ok : (place : Body) (plan : Layout) (words line : ℕ) (u : Unit {0}) → event_fits place plan words line ≡ Ok u → words ≤ plan.buffer
-event_ok place plan words line u e = go (nat_le words greatest) (nat_le words plan.buffer) refl e
+event_ok : (place : Body) (plan : Layout) (words : ℕ) (spot : Spot) (u : Unit {0}) → event_fits place plan words spot ≡ Ok u → words ≤ plan.buffer
+event_ok place plan words spot u e = go (nat_le words greatest) (nat_le words plan.buffer) refl e
   where
     go : (a b : Bool) → nat_le words plan.buffer ≡ b
-        → (if a then if b then Ok tt else Err (fault.Link EventAboveBuffer line (Words words plan.buffer)) else Err (fault.Check TooManyWords line (budget place words greatest))) ≡ Ok u → words ≤ plan.buffer
+        → (if a then if b then Ok tt else Err (fault.Link EventAboveBuffer spot (Words words plan.buffer)) else Err (fault.Check TooManyWords spot (budget place words greatest))) ≡ Ok u → words ≤ plan.buffer
     go true true is e = leb-true words plan.buffer is
     go true false is e = absurd (cc)
     go false b is e = absurd (cc)
@@ -123,18 +124,18 @@ service_served c v k e =
     let counted = checked_ok (count_block place v.body 0) n.0 n.1 in
     let x = then_ok (checked judged) _ k n.2 in
     let found = checked_ok judged x.0 x.1 in
-    let y = then_ok (event_fits place c.plan x.0.costs.words v.line) _ k x.2 in
-    let is = within_ok place most x.0.costs k v.line (checked_ok (within place most x.0.costs v.line) k y.2) in
-    let small : x.0.costs.words ≤ c.plan.buffer = event_ok place c.plan x.0.costs.words v.line y.0 y.1 in
+    let y = then_ok (event_fits place c.plan x.0.costs.words v.spot) _ k x.2 in
+    let is = within_ok place most x.0.costs k v.spot (checked_ok (within place most x.0.costs v.spot) k y.2) in
+    let small : x.0.costs.words ≤ c.plan.buffer = event_ok place c.plan x.0.costs.words v.spot y.0 y.1 in
     let words : k.words ≡ x.0.costs.words = ap (λ b. b.words) is.same in
     let steps : k.steps ≡ x.0.costs.steps = ap (λ b. b.steps) is.same in
     let below : x.0.costs.steps ≤ greatest = is.steps in
     record {
       accepted =
-          go_is (count_block place v.body 0) n.0 (λ _. go_on judged (λ v'. within place (costs k.cycles k.words greatest) v'.costs v.line)) counted
-          ∙ go_is judged x.0 (λ v'. within place (costs k.cycles k.words greatest) v'.costs v.line) found
-          ∙ ap (λ b. within place (costs k.cycles k.words greatest) b v.line) (sym is.same)
-          ∙ within_is place (costs k.cycles k.words greatest) k v.line (omega arith) (omega arith) (omega (arith, steps, below));
+          go_is (count_block place v.body 0) n.0 (λ _. go_on judged (λ v'. within place (costs k.cycles k.words greatest) v'.costs v.spot)) counted
+          ∙ go_is judged x.0 (λ v'. within place (costs k.cycles k.words greatest) v'.costs v.spot) found
+          ∙ ap (λ b. within place (costs k.cycles k.words greatest) b v.spot) (sym is.same)
+          ∙ within_is place (costs k.cycles k.words greatest) k v.spot (omega arith) (omega arith) (omega (arith, steps, below));
       words = omega (arith, words, small);
     }
 
@@ -145,7 +146,7 @@ pub accepted_items : (c : Context) (items : List Item) (ps : List Procedure) (vs
 accepted_items c [] ps vs h e = ([], refl, tt)
 accepted_items c (next_table ∷ rest) ps vs h e = accepted_items c rest ps vs h e
 accepted_items c (next_lam ∷ rest) ps vs h e = accepted_items c rest ps vs h e
-accepted_items c (next_variables line n ∷ rest) ps vs h e = accepted_items c rest ps vs h e
+accepted_items c (next_variables spot n ∷ rest) ps vs h e = accepted_items c rest ps vs h e
 accepted_items c (next_procedure ∷ rest) [] vs h e =
     let none : h.procedures ≡ [] = none_left c rest vs h e in
     let inner = accepted_items c rest [] vs h e in (
@@ -158,7 +159,7 @@ accepted_items c (next_procedure ∷ rest) [] vs h e =
     none_left c [] vs h e = let same : record { procedures = []; services = vs } ≡ h = cc in sym (ap (λ (g : Headed). g.procedures) same)
     none_left c (next_table ∷ rest) vs h e = none_left c rest vs h e
     none_left c (next_lam ∷ rest) vs h e = none_left c rest vs h e
-    none_left c (next_variables line n ∷ rest) vs h e = none_left c rest vs h e
+    none_left c (next_variables spot n ∷ rest) vs h e = none_left c rest vs h e
     none_left c (next_procedure ∷ rest) vs h e = none_left c rest vs h e
     none_left c (next_service ∷ rest) [] h e = none_left c rest [] h e
     none_left c (next_service ∷ rest) (v ∷ vs) h e =
@@ -191,7 +192,7 @@ accepted_items c (next_service ∷ rest) ps [] h e =
     none_left c [] ps h e = let same : record { procedures = ps; services = [] } ≡ h = cc in sym (ap (λ (g : Headed). g.services) same)
     none_left c (next_table ∷ rest) ps h e = none_left c rest ps h e
     none_left c (next_lam ∷ rest) ps h e = none_left c rest ps h e
-    none_left c (next_variables line n ∷ rest) ps h e = none_left c rest ps h e
+    none_left c (next_variables spot n ∷ rest) ps h e = none_left c rest ps h e
     none_left c (next_service ∷ rest) ps h e = none_left c rest ps h e
     none_left c (next_procedure ∷ rest) [] h e = none_left c rest [] h e
     none_left c (next_procedure ∷ rest) (p ∷ ps) h e =
@@ -244,20 +245,20 @@ lams_more (x ∷ vs) (y ∷ ws) v w e h =
     let others : lams_of ws ≡ lams_of vs = cc in
     ap (λ n. n ∷ lams_of (ws ++ w ∷ [])) first ∙ ap (λ ns. x.lam ∷ ns) (lams_more vs ws v w others h)
 
-unless_none : (test : Bool) (rule : LinkRule) (line : ℕ) (case : LinkCase) (next : Option LinkFault) → test ≡ true → next ≡ None → unless test rule line case next ≡ None
-unless_none test rule line case next e n = ap (λ b. unless b rule line case next) e ∙ n
+unless_none : (test : Bool) (rule : LinkRule) (spot : Spot) (case : LinkCase) (next : Option LinkFault) → test ≡ true → next ≡ None → unless test rule spot case next ≡ None
+unless_none test rule spot case next e n = ap (λ b. unless b rule spot case next) e ∙ n
 
 relinked_service : (plan : Layout) (lams : List Lam) (earlier earlier' : List Service) (v w : Service) (o : Option Lam) → lams_of earlier' ≡ lams_of earlier → w.words ≤ plan.buffer
     → served_fault plan lams earlier v o ≡ None → served_fault plan lams earlier' w o ≡ None
 relinked_service plan lams earlier earlier' v w None same fits e = absurd (cc)
 relinked_service plan lams earlier earlier' v w (Some l) same fits e =
-    let third : Option LinkFault = unless (nat_le v.words plan.buffer) EventAboveBuffer v.line (Words v.words plan.buffer) None in
-    let second : Option LinkFault = unless (not (is_served lams l earlier)) StationServedTwice v.line (served_by lams l earlier) third in
-    let a = unless_parts (is_some (lam_bit plan l)) StationWithoutBit v.line (place_of l) second e in
-    let b = unless_parts (not (is_served lams l earlier)) StationServedTwice v.line (served_by lams l earlier) third a.1 in
-    unless_none (is_some (lam_bit plan l)) StationWithoutBit w.line _ _ a.0
-    (unless_none (not (is_served lams l earlier')) StationServedTwice w.line _ _ (ap not (same_served lams l earlier earlier' same) ∙ b.0)
-    (unless_none (nat_le w.words plan.buffer) EventAboveBuffer w.line _ None (le-leb w.words plan.buffer fits) refl))
+    let third : Option LinkFault = unless (nat_le v.words plan.buffer) EventAboveBuffer v.spot (Words v.words plan.buffer) None in
+    let second : Option LinkFault = unless (not (is_served lams l earlier)) StationServedTwice v.spot (served_by lams l earlier) third in
+    let a = unless_parts (is_some (lam_bit plan l)) StationWithoutBit v.spot (place_of l) second e in
+    let b = unless_parts (not (is_served lams l earlier)) StationServedTwice v.spot (served_by lams l earlier) third a.1 in
+    unless_none (is_some (lam_bit plan l)) StationWithoutBit w.spot _ _ a.0
+    (unless_none (not (is_served lams l earlier')) StationServedTwice w.spot _ _ (ap not (same_served lams l earlier earlier' same) ∙ b.0)
+    (unless_none (nat_le w.words plan.buffer) EventAboveBuffer w.spot _ None (le-leb w.words plan.buffer fits) refl))
 
 or_else_none : (o p : Option LinkFault) → o ≡ None → p ≡ None → or_else o p ≡ None
 or_else_none o p e n = ap (λ x. or_else x p) e ∙ n
@@ -292,7 +293,7 @@ relinks_items c [] ps vs h none e =
     subst (λ (g : Headed). Relinks c.plan vs g.services) same (relinks_itself c.plan vs none)
 relinks_items c (next_table ∷ rest) ps vs h none e = relinks_items c rest ps vs h none e
 relinks_items c (next_lam ∷ rest) ps vs h none e = relinks_items c rest ps vs h none e
-relinks_items c (next_variables line n ∷ rest) ps vs h none e = relinks_items c rest ps vs h none e
+relinks_items c (next_variables spot n ∷ rest) ps vs h none e = relinks_items c rest ps vs h none e
 relinks_items c (next_procedure ∷ rest) [] vs h none e = relinks_items c rest [] vs h none e
 relinks_items c (next_procedure ∷ rest) (p ∷ ps) vs h none e =
     let x = then_ok (procedure_needs c p) _ h e in

@@ -1,7 +1,7 @@
 -- The rows of each statement, from what the steps of its rule found.
 use Rattle.std.proofs.Common.{◌≡◌, ℕ, ◌+◌, List, [], ◌∷◌, ◌++◌, map, Option, Some, None, Result, Ok, false, refl, sym, ap, ap₂, ◌∙◌}
 use Rattle.std.specs.Prelude.{IsTrue, is_some, unwrap_or}
-use Rattle.camac_lang.specs.Tree.{Expression, Condition, Keep, Statement, assign, set_register, single, address_scan, q_stop, q_repeat, put, crate_call, lam_call, choose, choose_else, for_, for_each, while_, locked, call, Block, next, line_of}
+use Rattle.camac_lang.specs.Tree.{Expression, Condition, Keep, Statement, assign, set_register, single, address_scan, q_stop, q_repeat, put, crate_call, lam_call, choose, choose_else, for_, for_each, while_, locked, call, Block, next, spot_of}
 use Rattle.camac_range.specs.Interval.{only}
 use Rattle.camac_branch.specs.Plan.{crate_waits}
 use Rattle.camac_model.specs.Fine.{Bounds}
@@ -29,114 +29,115 @@ use Rattle.camac_check_rows.specs.declared.inside.Weight.{Weight}
 use Rattle.camac_check_rows.specs.Statements.{is_simple, kind_of, detail_of, first_row}
 use Rattle.camac_check_rows.specs.Weights.{once, turning, first_arm, second_arm, inside_row}
 use Rattle.camac_check_rows.specs.Rows.{found, Turning, turning_from, loop_detail, loop_share, lock_share, lock_detail, lock_inside, lock_head, statement_verdict, block_verdict, simple_row, else_row, times_at, inside, statement_rows, block_rows, with_rows}
+use Rattle.camac_lang.specs.declared.spot.Spot.{Spot}
 
 -- what was found is the verdict
 pub verdict_is : (c : Context) (around : Around) (s : Statement) (k : Known) (v : Verdict) → if_reached unreached k (accept_statement c around s) ≡ Ok v → statement_verdict c around s k ≡ v
 verdict_is c around s k v e = ap (λ q. found unreached q) e
 
 pub simple_is : (c : Context) (around : Around) (s : Statement) (k : Facts) (v : Verdict) → if_reached unreached (Some k) (accept_statement c around s) ≡ Ok v
-    → simple_row c around s (Some k) ≡ first_row (line_of s) (kind_of s) 1 v.costs v.costs (detail_of c s (Some k))
-simple_is c around s k v e = ap (λ w. first_row (line_of s) (kind_of s) 1 w.costs w.costs (detail_of c s (Some k))) (verdict_is c around s (Some k) v e)
+    → simple_row c around s (Some k) ≡ first_row (spot_of s) (kind_of s) 1 v.costs v.costs (detail_of c s (Some k))
+simple_is c around s k v e = ap (λ w. first_row (spot_of s) (kind_of s) 1 w.costs w.costs (detail_of c s (Some k))) (verdict_is c around s (Some k) v e)
 
 pub simple_rows : (c : Context) (around : Around) (s : Statement) (k : Known) → IsTrue (is_simple s) → statement_rows c around s k ≡ simple_row c around s k ∷ []
-simple_rows c around (assign line x e) k h = refl
-simple_rows c around (set_register line r e1 e2 e3) k h = refl
-simple_rows c around (single line size f r move) k h = refl
-simple_rows c around (address_scan line f r1 r2 max x) k h = refl
-simple_rows c around (q_stop line f r t max x) k h = refl
-simple_rows c around (q_repeat line f r t max limit x) k h = refl
-simple_rows c around (put line e) k h = refl
-simple_rows c around (crate_call line which e) k h = refl
-simple_rows c around (lam_call line which l) k h = refl
-simple_rows c around (call line p es) k h = refl
-simple_rows c around (choose line test a) k h = absurd (cc)
-simple_rows c around (choose_else line test a b) k h = absurd (cc)
-simple_rows c around (for_ line x e1 e2 keeps body) k h = absurd (cc)
-simple_rows c around (for_each line x v last body) k h = absurd (cc)
-simple_rows c around (while_ line test most m keeps body) k h = absurd (cc)
-simple_rows c around (locked line e body) k h = absurd (cc)
+simple_rows c around (assign spot x e) k h = refl
+simple_rows c around (set_register spot r e1 e2 e3) k h = refl
+simple_rows c around (single spot size f r move) k h = refl
+simple_rows c around (address_scan spot f r1 r2 max x) k h = refl
+simple_rows c around (q_stop spot f r t max x) k h = refl
+simple_rows c around (q_repeat spot f r t max limit x) k h = refl
+simple_rows c around (put spot e) k h = refl
+simple_rows c around (crate_call spot which e) k h = refl
+simple_rows c around (lam_call spot which l) k h = refl
+simple_rows c around (call spot p es) k h = refl
+simple_rows c around (choose spot test a) k h = absurd (cc)
+simple_rows c around (choose_else spot test a b) k h = absurd (cc)
+simple_rows c around (for_ spot x e1 e2 keeps body) k h = absurd (cc)
+simple_rows c around (for_each spot x v last body) k h = absurd (cc)
+simple_rows c around (while_ spot test most m keeps body) k h = absurd (cc)
+simple_rows c around (locked spot e body) k h = absurd (cc)
 
 -- the one row of a statement that holds no others
 pub simple_found : (c : Context) (around : Around) (s : Statement) (k : Facts) (v : Verdict) (told : Detail) (rows : List Row)
     → IsTrue (is_simple s) → if_reached unreached (Some k) (accept_statement c around s) ≡ Ok v → told ≡ detail_of c s (Some k)
-    → rows ≡ first_row (line_of s) (kind_of s) 1 v.costs v.costs told ∷ [] → rows ≡ statement_rows c around s (Some k)
+    → rows ≡ first_row (spot_of s) (kind_of s) 1 v.costs v.costs told ∷ [] → rows ≡ statement_rows c around s (Some k)
 simple_found c around s k v told rows h e d r =
     r
-    ∙ ap (λ x. first_row (line_of s) (kind_of s) 1 v.costs v.costs x ∷ []) d
+    ∙ ap (λ x. first_row (spot_of s) (kind_of s) 1 v.costs v.costs x ∷ []) d
     ∙ ap (λ x. x ∷ []) (sym (simple_is c around s k v e))
     ∙ sym (simple_rows c around s (Some k) h)
 
-pub if_rows : (c : Context) (around : Around) (line : ℕ) (test : Condition) (a : Block) (k : Facts) (arms : Branches) (first : Verdict)
-    → split line test k ≡ Ok arms → if_reached unreached arms.holds (accept_block c around a) ≡ Ok first
-    → statement_rows c around (choose line test a) (Some k) ≡ first_row line kind.If 1 (c.limit (choice_costs first.costs no_costs)) (costs 0 0 1) detail.Nothing ∷ inside c once (block_rows c around a arms.holds)
+pub if_rows : (c : Context) (around : Around) (spot : Spot) (test : Condition) (a : Block) (k : Facts) (arms : Branches) (first : Verdict)
+    → split spot test k ≡ Ok arms → if_reached unreached arms.holds (accept_block c around a) ≡ Ok first
+    → statement_rows c around (choose spot test a) (Some k) ≡ first_row spot kind.If 1 (c.limit (choice_costs first.costs no_costs)) (costs 0 0 1) detail.Nothing ∷ inside c once (block_rows c around a arms.holds)
 unfolding go_on if_reached
-if_rows c around line test a k arms first is one =
-    ap₂ (λ q w. first_row line kind.If 1 (found unreached q).costs (costs 0 0 1) detail.Nothing ∷ inside c once (block_rows c around a (found (branches None None) w).holds))
+if_rows c around spot test a k arms first is one =
+    ap₂ (λ q w. first_row spot kind.If 1 (found unreached q).costs (costs 0 0 1) detail.Nothing ∷ inside c once (block_rows c around a (found (branches None None) w).holds))
     (ap (λ q. go_on q (λ b. go_on (if_reached unreached b.holds (accept_block c around a)) (λ v. Ok (verdict (join v.after b.fails) (c.limit (choice_costs v.costs no_costs)))))) is
     ∙ ap (λ q. go_on q (λ v. Ok (verdict (join v.after arms.fails) (c.limit (choice_costs v.costs no_costs))))) one)
     is
 
-pub choice_rows : (c : Context) (around : Around) (line : ℕ) (test : Condition) (a b : Block) (k : Facts) (arms : Branches) (first second : Verdict)
-    → split line test k ≡ Ok arms → if_reached unreached arms.holds (accept_block c around a) ≡ Ok first → if_reached unreached arms.fails (accept_block c around b) ≡ Ok second
-    → statement_rows c around (choose_else line test a b) (Some k) ≡ first_row line kind.If 1 (c.limit (choice_costs first.costs second.costs)) (costs 0 0 1) detail.Nothing
+pub choice_rows : (c : Context) (around : Around) (spot : Spot) (test : Condition) (a b : Block) (k : Facts) (arms : Branches) (first second : Verdict)
+    → split spot test k ≡ Ok arms → if_reached unreached arms.holds (accept_block c around a) ≡ Ok first → if_reached unreached arms.fails (accept_block c around b) ≡ Ok second
+    → statement_rows c around (choose_else spot test a b) (Some k) ≡ first_row spot kind.If 1 (c.limit (choice_costs first.costs second.costs)) (costs 0 0 1) detail.Nothing
     ∷ inside c (first_arm first.costs second.costs) (block_rows c around a arms.holds)
-    ++ first_row line kind.Else (times_at arms.fails) second.costs no_costs detail.Nothing
+    ++ first_row spot kind.Else (times_at arms.fails) second.costs no_costs detail.Nothing
     ∷ inside c (second_arm first.costs second.costs) (block_rows c around b arms.fails)
 unfolding go_on if_reached
-choice_rows c around line test a b k arms first second is one two =
+choice_rows c around spot test a b k arms first second is one two =
     let each = ap (λ q. go_on q (λ w. go_on (if_reached unreached w.holds (accept_block c around a)) (λ v. go_on (if_reached unreached w.fails (accept_block c around b)) (λ u. Ok (verdict (join v.after u.after) (c.limit (choice_costs v.costs u.costs))))))) is
     ∙ ap (λ q. go_on q (λ v. go_on (if_reached unreached arms.fails (accept_block c around b)) (λ u. Ok (verdict (join v.after u.after) (c.limit (choice_costs v.costs u.costs)))))) one
     ∙ ap (λ q. go_on q (λ u. Ok (verdict (join first.after u.after) (c.limit (choice_costs first.costs u.costs))))) two in
     ap₂
-    (λ q w. first_row line kind.If 1 (found unreached q).costs (costs 0 0 1) detail.Nothing
+    (λ q w. first_row spot kind.If 1 (found unreached q).costs (costs 0 0 1) detail.Nothing
     ∷ inside c (first_arm (block_verdict c around a (found (branches None None) w).holds).costs (block_verdict c around b (found (branches None None) w).fails).costs) (block_rows c around a (found (branches None None) w).holds)
-    ++ else_row c around line b (found (branches None None) w).fails
+    ++ else_row c around spot b (found (branches None None) w).fails
     ∷ inside c (second_arm (block_verdict c around a (found (branches None None) w).holds).costs (block_verdict c around b (found (branches None None) w).fails).costs) (block_rows c around b (found (branches None None) w).fails))
     each is
     ∙ ap₂
-    (λ p q. first_row line kind.If 1 (c.limit (choice_costs first.costs second.costs)) (costs 0 0 1) detail.Nothing
+    (λ p q. first_row spot kind.If 1 (c.limit (choice_costs first.costs second.costs)) (costs 0 0 1) detail.Nothing
     ∷ inside c (first_arm (found unreached p).costs (found unreached q).costs) (block_rows c around a arms.holds)
-    ++ first_row line kind.Else (times_at arms.fails) (found unreached q).costs no_costs detail.Nothing
+    ++ first_row spot kind.Else (times_at arms.fails) (found unreached q).costs no_costs detail.Nothing
     ∷ inside c (second_arm (found unreached p).costs (found unreached q).costs) (block_rows c around b arms.fails))
     one two
 
-pub lock_rows : (c : Context) (around : Around) (line : ℕ) (e : Expression) (body : Block) (k : Facts) (n : ℕ) (inner : Verdict)
-    → lock_rule c around line e k ≡ Ok n → accept_block c (with_locked n around) body k ≡ Ok inner
-    → statement_rows c around (locked line e body) (Some k)
-    ≡ first_row line kind.Lock 1 (c.limit (lock_costs (unwrap_or (crate_waits c.plan n) 0) inner.costs)) (costs (unwrap_or (crate_waits c.plan n) 0) 0 2) (detail.Crates (only n))
+pub lock_rows : (c : Context) (around : Around) (spot : Spot) (e : Expression) (body : Block) (k : Facts) (n : ℕ) (inner : Verdict)
+    → lock_rule c around spot e k ≡ Ok n → accept_block c (with_locked n around) body k ≡ Ok inner
+    → statement_rows c around (locked spot e body) (Some k)
+    ≡ first_row spot kind.Lock 1 (c.limit (lock_costs (unwrap_or (crate_waits c.plan n) 0) inner.costs)) (costs (unwrap_or (crate_waits c.plan n) 0) 0 2) (detail.Crates (only n))
     ∷ inside c once (block_rows c (with_locked n around) body (Some k))
 unfolding go_on if_reached
-lock_rows c around line e body k n inner is one =
+lock_rows c around spot e body k n inner is one =
     let each = ap (λ q. go_on q (λ m. go_on (accept_block c (with_locked m around) body k) (λ v. Ok (verdict v.after (c.limit (lock_costs (unwrap_or (crate_waits c.plan m) 0) v.costs)))))) is
     ∙ ap (λ q. go_on q (λ v. Ok (verdict v.after (c.limit (lock_costs (unwrap_or (crate_waits c.plan n) 0) v.costs))))) one in
     ap₂
-    (λ q o. first_row line kind.Lock 1 (found unreached q).costs (lock_share c o) (lock_detail o) ∷ inside c once (block_rows c (lock_inside o around) body (lock_head o (Some k))))
+    (λ q o. first_row spot kind.Lock 1 (found unreached q).costs (lock_share c o) (lock_detail o) ∷ inside c once (block_rows c (lock_inside o around) body (lock_head o (Some k))))
     each (ap (λ q. found None (go_on q (λ m. Ok (Some m)))) is)
 
-pub for_rows : (c : Context) (around : Around) (line x : ℕ) (e1 e2 : Expression) (keeps : List Keep) (body : Block) (k : Facts) (l : Limits) (v : Verdict)
-    → for_limits around line x e1 e2 keeps k ≡ Ok l → accept_statement c around (for_ line x e1 e2 keeps body) k ≡ Ok v
-    → statement_rows c around (for_ line x e1 e2 keeps body) (Some k)
-    ≡ first_row line kind.For 1 v.costs (costs 0 0 (turns_between l + 1)) (detail.Turns (turns_between l))
+pub for_rows : (c : Context) (around : Around) (spot : Spot) (x : ℕ) (e1 e2 : Expression) (keeps : List Keep) (body : Block) (k : Facts) (l : Limits) (v : Verdict)
+    → for_limits around spot x e1 e2 keeps k ≡ Ok l → accept_statement c around (for_ spot x e1 e2 keeps body) k ≡ Ok v
+    → statement_rows c around (for_ spot x e1 e2 keeps body) (Some k)
+    ≡ first_row spot kind.For 1 v.costs (costs 0 0 (turns_between l + 1)) (detail.Turns (turns_between l))
     ∷ inside c (turning (turns_between l)) (block_rows c (with_fixed x around) body (for_head x l keeps body k))
 unfolding go_on if_reached
-for_rows c around line x e1 e2 keeps body k l v is all =
+for_rows c around spot x e1 e2 keeps body k l v is all =
     ap₂
-    (λ q (t : Turning). first_row line kind.For 1 (found unreached q).costs (loop_share (Some k) t.turns) (loop_detail (Some k) t.turns)
+    (λ q (t : Turning). first_row spot kind.For 1 (found unreached q).costs (loop_share (Some k) t.turns) (loop_detail (Some k) t.turns)
     ∷ inside c (turning t.turns) (block_rows c (with_fixed x around) body t.head))
     all (ap (λ q. found (turning_from 0 None) (go_on q (λ m. Ok (turning_from (turns_between m) (for_head x m keeps body k))))) is)
 
-pub while_rows : (c : Context) (around : Around) (line : ℕ) (test : Condition) (most m : ℕ) (keeps : List Keep) (body : Block) (k top : Facts) (arms : Branches) (v : Verdict)
-    → while_head around.body line most m keeps body k ≡ Ok top → split line test top ≡ Ok arms → accept_statement c around (while_ line test most m keeps body) k ≡ Ok v
-    → statement_rows c around (while_ line test most m keeps body) (Some k)
-    ≡ first_row line kind.While 1 v.costs (costs 0 0 (turn_bound arms.holds most + 1)) (detail.Turns (turn_bound arms.holds most))
+pub while_rows : (c : Context) (around : Around) (spot : Spot) (test : Condition) (most m : ℕ) (keeps : List Keep) (body : Block) (k top : Facts) (arms : Branches) (v : Verdict)
+    → while_head around.body spot most m keeps body k ≡ Ok top → split spot test top ≡ Ok arms → accept_statement c around (while_ spot test most m keeps body) k ≡ Ok v
+    → statement_rows c around (while_ spot test most m keeps body) (Some k)
+    ≡ first_row spot kind.While 1 v.costs (costs 0 0 (turn_bound arms.holds most + 1)) (detail.Turns (turn_bound arms.holds most))
     ∷ inside c (turning (turn_bound arms.holds most)) (block_rows c around body arms.holds)
 unfolding go_on if_reached
-while_rows c around line test most m keeps body k top arms v is split_is all =
+while_rows c around spot test most m keeps body k top arms v is split_is all =
     ap₂
-    (λ q (t : Turning). first_row line kind.While 1 (found unreached q).costs (loop_share (Some k) t.turns) (loop_detail (Some k) t.turns)
+    (λ q (t : Turning). first_row spot kind.While 1 (found unreached q).costs (loop_share (Some k) t.turns) (loop_detail (Some k) t.turns)
     ∷ inside c (turning t.turns) (block_rows c around body t.head))
     all
-    (ap (λ q. found (turning_from 0 None) (go_on q (λ h. go_on (split line test h) (λ w. Ok (turning_from (turn_bound w.holds most) w.holds))))) is
+    (ap (λ q. found (turning_from 0 None) (go_on q (λ h. go_on (split spot test h) (λ w. Ok (turning_from (turn_bound w.holds most) w.holds))))) is
     ∙ ap (λ q. found (turning_from 0 None) (go_on q (λ w. Ok (turning_from (turn_bound w.holds most) w.holds)))) split_is)
 
 -- a block, one statement on
@@ -150,43 +151,43 @@ off None xs h = refl
 off (Some rows) xs h = absurd (cc)
 
 -- the row of a statement, in its parts
-pub own_row_is : (line : ℕ) (word : Kind) (each share a b : Bounds) (told : Detail) (row : Row) (xs : List Row) (v w : Weight)
-    → row ≡ first_row line word 1 a b told → a ≡ each → b ≡ share → v ≡ w
-    → first_row line word 1 each share told ∷ map (inside_row capped w) xs ≡ row ∷ map (inside_row capped v) xs
-own_row_is line word each share a b told row xs v w er ea eb ew =
-    ap₂ (λ r u. r ∷ map (inside_row capped u) xs) (sym (er ∙ ap₂ (λ x y. first_row line word 1 x y told) ea eb)) (sym ew)
+pub own_row_is : (spot : Spot) (word : Kind) (each share a b : Bounds) (told : Detail) (row : Row) (xs : List Row) (v w : Weight)
+    → row ≡ first_row spot word 1 a b told → a ≡ each → b ≡ share → v ≡ w
+    → first_row spot word 1 each share told ∷ map (inside_row capped w) xs ≡ row ∷ map (inside_row capped v) xs
+own_row_is spot word each share a b told row xs v w er ea eb ew =
+    ap₂ (λ r u. r ∷ map (inside_row capped u) xs) (sym (er ∙ ap₂ (λ x y. first_row spot word 1 x y told) ea eb)) (sym ew)
 
 -- a `for` by what its turn and its end give, where costs are those of the code
-pub for_is : (context : code.Context) (around : Around) (line x : ℕ) (e1 e2 : Expression) (keeps : List Keep) (body : Block) (k : Facts) (l : Limits) (turn v : Verdict)
-    → for_limits around line x e1 e2 keeps k ≡ Ok l → if_reached unreached (for_head x l keeps body k) (accept_block (by_code context) (with_fixed x around) body) ≡ Ok turn
-    → loop_end around.body line keeps (for_after x l keeps body k) (turns_between l) turn ≡ Ok v → accept_statement (by_code context) around (for_ line x e1 e2 keeps body) k ≡ Ok v
+pub for_is : (context : code.Context) (around : Around) (spot : Spot) (x : ℕ) (e1 e2 : Expression) (keeps : List Keep) (body : Block) (k : Facts) (l : Limits) (turn v : Verdict)
+    → for_limits around spot x e1 e2 keeps k ≡ Ok l → if_reached unreached (for_head x l keeps body k) (accept_block (by_code context) (with_fixed x around) body) ≡ Ok turn
+    → loop_end around.body spot keeps (for_after x l keeps body k) (turns_between l) turn ≡ Ok v → accept_statement (by_code context) around (for_ spot x e1 e2 keeps body) k ≡ Ok v
 unfolding go_on if_reached
-for_is context around line x e1 e2 keeps body k l turn v is one last =
-    ap (λ q. go_on q (λ m. go_on (if_reached unreached (for_head x m keeps body k) (accept_block (by_code context) (with_fixed x around) body)) (λ t. loop_end around.body line keeps (for_after x m keeps body k) (turns_between m) t))) is
-    ∙ ap (λ q. go_on q (λ t. loop_end around.body line keeps (for_after x l keeps body k) (turns_between l) t)) one
+for_is context around spot x e1 e2 keeps body k l turn v is one last =
+    ap (λ q. go_on q (λ m. go_on (if_reached unreached (for_head x m keeps body k) (accept_block (by_code context) (with_fixed x around) body)) (λ t. loop_end around.body spot keeps (for_after x m keeps body k) (turns_between m) t))) is
+    ∙ ap (λ q. go_on q (λ t. loop_end around.body spot keeps (for_after x l keeps body k) (turns_between l) t)) one
     ∙ last
 
 -- so is a `while`
-pub while_is : (context : code.Context) (around : Around) (line : ℕ) (test : Condition) (most m : ℕ) (keeps : List Keep) (body : Block) (k top : Facts) (arms : Branches) (turn v : Verdict)
-    → while_head around.body line most m keeps body k ≡ Ok top → split line test top ≡ Ok arms → if_reached unreached arms.holds (accept_block (by_code context) around body) ≡ Ok turn
-    → loop_end around.body line keeps arms.fails (turn_bound arms.holds most) turn ≡ Ok v → accept_statement (by_code context) around (while_ line test most m keeps body) k ≡ Ok v
+pub while_is : (context : code.Context) (around : Around) (spot : Spot) (test : Condition) (most m : ℕ) (keeps : List Keep) (body : Block) (k top : Facts) (arms : Branches) (turn v : Verdict)
+    → while_head around.body spot most m keeps body k ≡ Ok top → split spot test top ≡ Ok arms → if_reached unreached arms.holds (accept_block (by_code context) around body) ≡ Ok turn
+    → loop_end around.body spot keeps arms.fails (turn_bound arms.holds most) turn ≡ Ok v → accept_statement (by_code context) around (while_ spot test most m keeps body) k ≡ Ok v
 unfolding go_on if_reached
-while_is context around line test most m keeps body k top arms turn v is split_is one last =
-    ap (λ q. go_on q (λ h. go_on (split line test h) (λ w. go_on (if_reached unreached w.holds (accept_block (by_code context) around body)) (λ t. loop_end around.body line keeps w.fails (turn_bound w.holds most) t)))) is
-    ∙ ap (λ q. go_on q (λ w. go_on (if_reached unreached w.holds (accept_block (by_code context) around body)) (λ t. loop_end around.body line keeps w.fails (turn_bound w.holds most) t))) split_is
-    ∙ ap (λ q. go_on q (λ t. loop_end around.body line keeps arms.fails (turn_bound arms.holds most) t)) one
+while_is context around spot test most m keeps body k top arms turn v is split_is one last =
+    ap (λ q. go_on q (λ h. go_on (split spot test h) (λ w. go_on (if_reached unreached w.holds (accept_block (by_code context) around body)) (λ t. loop_end around.body spot keeps w.fails (turn_bound w.holds most) t)))) is
+    ∙ ap (λ q. go_on q (λ w. go_on (if_reached unreached w.holds (accept_block (by_code context) around body)) (λ t. loop_end around.body spot keeps w.fails (turn_bound w.holds most) t))) split_is
+    ∙ ap (λ q. go_on q (λ t. loop_end around.body spot keeps arms.fails (turn_bound arms.holds most) t)) one
     ∙ last
 
 -- the end of a loop, as code finds its parts
-pub end_is : (a b : Body) (line : ℕ) (keeps : List Keep) (p q : Known) (m n : ℕ) (turn : Verdict) (r : Result Verdict Fault)
-    → a ≡ b → p ≡ q → m ≡ n → loop_end a line keeps p m turn ≡ r → loop_end b line keeps q n turn ≡ r
-end_is a b line keeps p q m n turn r ea ep em h =
-    sym (ap (λ x. loop_end x line keeps p m turn) ea ∙ ap (λ x. loop_end b line keeps x m turn) ep ∙ ap (λ x. loop_end b line keeps q x turn) em) ∙ h
+pub end_is : (a b : Body) (spot : Spot) (keeps : List Keep) (p q : Known) (m n : ℕ) (turn : Verdict) (r : Result Verdict Fault)
+    → a ≡ b → p ≡ q → m ≡ n → loop_end a spot keeps p m turn ≡ r → loop_end b spot keeps q n turn ≡ r
+end_is a b spot keeps p q m n turn r ea ep em h =
+    sym (ap (λ x. loop_end x spot keeps p m turn) ea ∙ ap (λ x. loop_end b spot keeps x m turn) ep ∙ ap (λ x. loop_end b spot keeps q x turn) em) ∙ h
 
 -- the row of a loop, in its parts
-pub loop_row_is : (line : ℕ) (word : Kind) (each : Bounds) (m n : ℕ) (row : Row) (xs : List Row) (w : Weight)
-    → row ≡ first_row line word 1 each (costs 0 0 (m + 1)) (detail.Turns m) → m ≡ n → w ≡ turning m
-    → first_row line word 1 each (costs 0 0 (n + 1)) (detail.Turns n) ∷ map (inside_row capped (turning n)) xs ≡ row ∷ map (inside_row capped w) xs
-loop_row_is line word each m n row xs w er em ew =
-    ap (λ i. first_row line word 1 each (costs 0 0 (i + 1)) (detail.Turns i) ∷ map (inside_row capped (turning i)) xs) (sym em)
+pub loop_row_is : (spot : Spot) (word : Kind) (each : Bounds) (m n : ℕ) (row : Row) (xs : List Row) (w : Weight)
+    → row ≡ first_row spot word 1 each (costs 0 0 (m + 1)) (detail.Turns m) → m ≡ n → w ≡ turning m
+    → first_row spot word 1 each (costs 0 0 (n + 1)) (detail.Turns n) ∷ map (inside_row capped (turning n)) xs ≡ row ∷ map (inside_row capped w) xs
+loop_row_is spot word each m n row xs w er em ew =
+    ap (λ i. first_row spot word 1 each (costs 0 0 (i + 1)) (detail.Turns i) ∷ map (inside_row capped (turning i)) xs) (sym em)
     ∙ ap₂ (λ r u. r ∷ map (inside_row capped u) xs) (sym er) (sym ew)

@@ -29,6 +29,7 @@ use Rattle.camac_check_rows.specs.Rows.{found, times_at, block_verdict, block_ro
 use Rattle.camac_check_rows.proofs.Merged.{none_turned}
 use Rattle.camac_check.specs.Ends.{each_judged, turn_rule, with_turn}
 use Rattle.camac_check.proofs.Rows.{verdict_is}
+use Rattle.camac_lang.specs.declared.spot.Spot.{Spot}
 
 -- what a turn leaves
 abbrev pub next_known : (Known → Verdict) → (variable value : ℕ) → Known → Known
@@ -70,18 +71,18 @@ pub turned_at : (n m x v w : ℕ) (judge : Known → Verdict) (rows : Known → 
 turned_at n m x v w judge rows known t kept p q = ap₂ (λ a b. option_map (λ xs. turns_over capped a x b judge rows known (turned t xs)) kept) p q
 
 -- an `each` by what its turns give, where costs are those of the code
-pub each_is : (context : code.Context) (around : Around) (line x v last : ℕ) (body : Block) (k : Facts) (n : ℕ) (w : Verdict)
-    → each_begins around line x v last ≡ Ok n → each_judged n x v last (accept_block (by_code context) (with_fixed x around) body) k ≡ Ok w
-    → accept_statement (by_code context) around (for_each line x v last body) k ≡ Ok w
+pub each_is : (context : code.Context) (around : Around) (spot : Spot) (x v last : ℕ) (body : Block) (k : Facts) (n : ℕ) (w : Verdict)
+    → each_begins around spot x v last ≡ Ok n → each_judged n x v last (accept_block (by_code context) (with_fixed x around) body) k ≡ Ok w
+    → accept_statement (by_code context) around (for_each spot x v last body) k ≡ Ok w
 unfolding go_on
-each_is context around line x v last body k n w is judged = ap (λ q. go_on q (λ m. each_judged m x v last (accept_block (by_code context) (with_fixed x around) body) k)) is ∙ judged
+each_is context around spot x v last body k n w is judged = ap (λ q. go_on q (λ m. each_judged m x v last (accept_block (by_code context) (with_fixed x around) body) k)) is ∙ judged
 
-pub each_stops : (context : code.Context) (around inside : Around) (line x v last : ℕ) (body : Block) (k : Facts) (n : ℕ) (e : CheckFault)
-    → each_begins around line x v last ≡ Ok n → inside ≡ with_fixed x around → Fails e (each_judged n x v last (accept_block (by_code context) inside body) k)
-    → Fails e (accept_statement (by_code context) around (for_each line x v last body) k)
+pub each_stops : (context : code.Context) (around inside : Around) (spot : Spot) (x v last : ℕ) (body : Block) (k : Facts) (n : ℕ) (e : CheckFault)
+    → each_begins around spot x v last ≡ Ok n → inside ≡ with_fixed x around → Fails e (each_judged n x v last (accept_block (by_code context) inside body) k)
+    → Fails e (accept_statement (by_code context) around (for_each spot x v last body) k)
 unfolding go_on
-each_stops context around inside line x v last body k n OutOfMemory is same h = tt
-each_stops context around inside line x v last body k n (Broken rule line' case) is same h =
+each_stops context around inside spot x v last body k n OutOfMemory is same h = tt
+each_stops context around inside spot x v last body k n (Broken rule spot' case) is same h =
     ap (λ q. go_on q (λ m. each_judged m x v last (accept_block (by_code context) (with_fixed x around) body) k)) is
     ∙ ap (λ r. each_judged n x v last (accept_block (by_code context) r body) k) (sym same) ∙ h
 
@@ -99,24 +100,24 @@ each_put k before after new none over t own a b e = e ∙ go k after (b ∙ ap (
         let same : turned t xs ≡ over none = cc in
         ap (λ (all : Turned). Some (rows ++ own all.turns ∷ map (inside_row capped once) all.rows)) same
 
-pub each_rows : (context : code.Context) (around : Around) (line x v last : ℕ) (body : Block) (k : Facts) (n t : ℕ) (w : Verdict) (kept before after new : Option (List Row)) (own : Row) (weight : Weight)
-    → accept_statement (by_code context) around (for_each line x v last body) k ≡ Ok w → n ≡ last + 1 - v
+pub each_rows : (context : code.Context) (around : Around) (spot : Spot) (x v last : ℕ) (body : Block) (k : Facts) (n t : ℕ) (w : Verdict) (kept before after new : Option (List Row)) (own : Row) (weight : Weight)
+    → accept_statement (by_code context) around (for_each spot x v last body) k ≡ Ok w → n ≡ last + 1 - v
     → before ≡ option_map (λ rows. block_rows (by_code context) (with_fixed x around) body None) kept
     → option_map (turned t) after ≡ option_map (λ xs. turns_over capped n x v (block_verdict (by_code context) (with_fixed x around) body) (block_rows (by_code context) (with_fixed x around) body) (Some k) (turned 0 xs)) before
-    → own ≡ first_row line kind.For 1 w.costs (costs 0 0 (t + 1)) (detail.Turns t) → weight ≡ once
+    → own ≡ first_row spot kind.For 1 w.costs (costs 0 0 (t + 1)) (detail.Turns t) → weight ≡ once
     → new ≡ with_rows kept (own ∷ map (inside_row capped weight) (unwrap_or after []))
-    → new ≡ with_rows kept (statement_rows (by_code context) around (for_each line x v last body) (Some k))
+    → new ≡ with_rows kept (statement_rows (by_code context) around (for_each spot x v last body) (Some k))
 unfolding if_reached
-each_rows context around line x v last body k n t w kept before after new own weight is numbers a b o ew e =
+each_rows context around spot x v last body k n t w kept before after new own weight is numbers a b o ew e =
     let c = by_code context in
     let judge = block_verdict c (with_fixed x around) body in
     let rows = block_rows c (with_fixed x around) body in
-    let row : Bounds → ℕ → Row = λ each m. first_row line kind.For 1 each (costs 0 0 (m + 1)) (detail.Turns m) in
+    let row : Bounds → ℕ → Row = λ each m. first_row spot kind.For 1 each (costs 0 0 (m + 1)) (detail.Turns m) in
     each_put kept before after new (rows None) (λ xs. turns_over capped n x v judge rows (Some k) (turned 0 xs)) t (row w.costs) a b
     (e ∙ ap₂ (λ r u. with_rows kept (r ∷ map (inside_row capped u) (unwrap_or after []))) o ew)
     ∙ ap (λ m. with_rows kept (row w.costs (turns_over capped m x v judge rows (Some k) (turned 0 (rows None))).turns ∷ map (inside_row capped once) (turns_over capped m x v judge rows (Some k) (turned 0 (rows None))).rows)) numbers
     ∙ ap (λ (u : Verdict). with_rows kept (row u.costs (each_turned capped x v last judge rows (Some k)).turns ∷ inside c once (each_turned capped x v last judge rows (Some k)).rows))
-    (sym (verdict_is c around (for_each line x v last body) (Some k) w is))
+    (sym (verdict_is c around (for_each spot x v last body) (Some k) w is))
 
 pub times_few : (known : Known) → times_at known ≤ 1
 times_few None = omega arith

@@ -13,10 +13,11 @@ use Rattle.camac_rules.specs.Loops.{keeps_hold_after, unkept_after}
 use Rattle.camac_rules.specs.Refusal.{◌>>=◌, ◌>>◌, required}
 use Rattle.camac_check_rows.specs.declared.row.Row.{Row}
 use Rattle.camac_check_rows.specs.Turns.{merge}
+use Rattle.camac_lang.specs.declared.spot.Spot.{Spot}
 
-abbrev pub loop_end : Body → ℕ → List Keep → Known → ℕ → Verdict → Result Verdict Fault
-loop_end body line keeps after turns turn = do
-  required (keeps_hold_after keeps turn.after) KeepFailsAfterTurn line (unkept_after body keeps turn.after)
+abbrev pub loop_end : Body → Spot → List Keep → Known → ℕ → Verdict → Result Verdict Fault
+loop_end body spot keeps after turns turn = do
+  required (keeps_hold_after keeps turn.after) KeepFailsAfterTurn spot (unkept_after body keeps turn.after)
   Ok (verdict after (capped (loop_costs turns turn.costs)))
 
 -- all turns of an `each`, and the statement's own step

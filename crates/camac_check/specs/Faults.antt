@@ -8,8 +8,8 @@ use Rattle.camac_check.specs.declared.fault.LeastFault.TheVariants.{OutOfMemory,
 
 abbrev pub of_link : LinkFault → LeastFault
 of_link link.OutOfMemory = OutOfMemory
-of_link (link.Broken rule line case) = Link rule line case
+of_link (link.Broken rule spot case) = Link rule spot case
 
 abbrev pub of_check : CheckFault → LeastFault
 of_check check.OutOfMemory = OutOfMemory
-of_check (check.Broken rule line case) = Check rule line case
+of_check (check.Broken rule spot case) = Check rule spot case

@@ -11,4 +11,4 @@ use Rattle.camac_checked.specs.Checked.{CheckedScript}
 abbrev pub Judges : LinkedScript → Result CheckedScript CheckFault → Type 0
 Judges l (Ok c) = (c.plan ≡ l.plan) × (c.script ≡ l.script) × (accept l.plan l.script ≡ Ok c.bounds)
 Judges l (Err OutOfMemory) = Unit {0}
-Judges l (Err (Broken rule line case)) = accept l.plan l.script ≡ Err (broken rule line case)
+Judges l (Err (Broken rule spot case)) = accept l.plan l.script ≡ Err (broken rule spot case)

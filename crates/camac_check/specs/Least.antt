@@ -22,13 +22,14 @@ use Rattle.camac_rules.specs.Accept.{at_start, within, accept_procedure, with_pr
 use Rattle.camac_check.specs.Faults.{of_link}
 use Rattle.camac_check.specs.declared.fault.LeastFault.{LeastFault}
 use Rattle.camac_check.specs.declared.fault.LeastFault.TheVariants.{OutOfMemory, Link, Check}
+use Rattle.camac_lang.specs.declared.spot.Spot.{Spot}
 
 -- What was answered, seen by view, is what is given here, unless memory ran out.
 abbrev pub Finds : {X Y : Type 0} → (X → Y) → Result X LeastFault → Result Y LeastFault → Type 0
 Finds view (Ok x) r = r ≡ Ok (view x)
 Finds view (Err OutOfMemory) r = Unit {0}
-Finds view (Err (Link rule line case)) r = r ≡ Err (Link rule line case)
-Finds view (Err (Check rule line case)) r = r ≡ Err (Check rule line case)
+Finds view (Err (Link rule spot case)) r = r ≡ Err (Link rule spot case)
+Finds view (Err (Check rule spot case)) r = r ≡ Err (Check rule spot case)
 
 -- goes on with what a step allows
 unfoldable pub and_then : {A B : Type 0} → Result A LeastFault → (A → Result B LeastFault) → Result B LeastFault
@@ -42,7 +43,7 @@ linked (Some f) = Err (of_link f)
 
 abbrev pub checked : {A : Type 0} → Result A Fault → Result A LeastFault
 checked (Ok x) = Ok x
-checked (Err (broken rule line case)) = Err (Check rule line case)
+checked (Err (broken rule spot case)) = Err (Check rule spot case)
 
 -- headings with these numbers
 abbrev pub needing : Bounds → Procedure → Procedure
@@ -60,17 +61,17 @@ abbrev pub procedure_needs : Context → Procedure → Result Bounds LeastFault
 procedure_needs c p = checked (accept_procedure c (needing most p))
 
 -- so many words of an event are a number of a heading, and in the plan's buffer
-abbrev pub event_fits : Body → Layout → ℕ → ℕ → Result (Unit {0}) LeastFault
-event_fits place plan words line =
-    if nat_le words greatest then if nat_le words plan.buffer then Ok tt else Err (Link EventAboveBuffer line (Words words plan.buffer))
-    else Err (Check TooManyWords line (budget place words greatest))
+abbrev pub event_fits : Body → Layout → ℕ → Spot → Result (Unit {0}) LeastFault
+event_fits place plan words spot =
+    if nat_le words greatest then if nat_le words plan.buffer then Ok tt else Err (Link EventAboveBuffer spot (Words words plan.buffer))
+    else Err (Check TooManyWords spot (budget place words greatest))
 
 -- what a service needs
 abbrev pub service_needs : Context → Service → Result Bounds LeastFault
 service_needs c v =
     and_then (checked (count_block (body.Service v.lam) v.body 0))
     (λ judged. and_then (checked (accept_block c (alone_in (body.Service v.lam)) v.body at_start))
-    (λ found. and_then (event_fits (body.Service v.lam) c.plan found.costs.words v.line) (λ _. checked (within (body.Service v.lam) most found.costs v.line))))
+    (λ found. and_then (event_fits (body.Service v.lam) c.plan found.costs.words v.spot) (λ _. checked (within (body.Service v.lam) most found.costs v.spot))))
 
 -- procedures and services
 pub record Headed : Type 0 where
@@ -88,7 +89,7 @@ abbrev pub least_items : Context → List Item → List Procedure → List Servi
 least_items c [] ps vs = Ok (record { procedures = ps; services = vs })
 least_items c (next_table ∷ rest) ps vs = least_items c rest ps vs
 least_items c (next_lam ∷ rest) ps vs = least_items c rest ps vs
-least_items c (next_variables line n ∷ rest) ps vs = least_items c rest ps vs
+least_items c (next_variables spot n ∷ rest) ps vs = least_items c rest ps vs
 least_items c (next_procedure ∷ rest) [] vs = least_items c rest [] vs
 least_items c (next_procedure ∷ rest) (p ∷ ps) vs =
     and_then (procedure_needs c p)
@@ -133,5 +134,5 @@ least_from plan s k done served =
 abbrev pub Heads : Result Headed LeastFault → (old new : Script) → (done served : ℕ) → Result (Unit {0}) LeastFault → Type 0
 Heads found old new done served (Ok u) = (h : Headed) × (found ≡ Ok h) × (new ≡ with_rest old done served h)
 Heads found old new done served (Err OutOfMemory) = Unit {0}
-Heads found old new done served (Err (Link rule line case)) = found ≡ Err (Link rule line case)
-Heads found old new done served (Err (Check rule line case)) = found ≡ Err (Check rule line case)
+Heads found old new done served (Err (Link rule spot case)) = found ≡ Err (Link rule spot case)
+Heads found old new done served (Err (Check rule spot case)) = found ≡ Err (Check rule spot case)

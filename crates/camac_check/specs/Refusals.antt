@@ -26,7 +26,7 @@ refusals plan script = section_refusals (bare (λ k. k) plan script) (sections s
 
 -- as the code tells one
 abbrev pub fault_of : Fault → CheckFault
-fault_of (broken rule line case) = Broken rule line case
+fault_of (broken rule spot case) = Broken rule spot case
 
 -- the first of them is the one that `accept` tells, and there is none exactly where it accepts
 abbrev pub FirstIsRefusal : Type 0

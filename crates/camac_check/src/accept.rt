@@ -17,7 +17,7 @@ use camac_check_loops::count_block;
 use camac_check_rows::Rows;
 use camac_check_simple::Context;
 use camac_checked::Bounds;
-use camac_lang::{Item, Procedure, Script, Service};
+use camac_lang::{Item, Procedure, Script, Service, Spot};
 use camac_names::{LinkCase, LinkRule};
 use camac_rules::{Body, Case, CheckRule};
 use std::alloc::Global;
@@ -122,7 +122,7 @@ fn procedure_in_64_bits(
         words,
         steps,
     };
-    within(body, most, found.costs, procedure.line)
+    within(body, most, found.costs, procedure.spot)
 }
 
 /// What a service can cost.
@@ -160,7 +160,7 @@ fn accept_in_64_bits(
         words,
         steps: u32::MAX,
     };
-    within(body, most, found.costs, service.line)
+    within(body, most, found.costs, service.spot)
 }
 
 /// What a service needs, whatever its heading says.
@@ -189,25 +189,25 @@ fn needs_in_64_bits(
     let known = Some(Facts::at_start(alloc));
     let mut none = Rows::none();
     let found = accept_block(alloc, context, &around, &service.body, known, &mut none)?;
-    event_fits(body, context.plan, found.costs.words(), service.line)?;
-    Ok(within(body, most(), found.costs, service.line)?)
+    event_fits(body, context.plan, found.costs.words(), service.spot)?;
+    Ok(within(body, most(), found.costs, service.spot)?)
 }
 
 // So many words of an event as a number of a heading, and in the plan's buffer.
-fn event_fits(body: Body, plan: &Plan, words: u64, line: u32) -> Result<(), LeastFault>
-    ensures { Finds (λ _. tt) result (event_fits body plan.now words line) }
+fn event_fits(body: Body, plan: &Plan, words: u64, spot: Spot) -> Result<(), LeastFault>
+    ensures { Finds (λ _. tt) result (event_fits body plan.now words spot) }
 {
     if words > u64::from(u32::MAX) {
         return Err(LeastFault::Check {
             rule: CheckRule::TooManyWords,
-            line,
+            spot,
             case: budget(body, words, u32::MAX),
         });
     }
     if words > u64::from(plan.buffer()) {
         return Err(LeastFault::Link {
             rule: LinkRule::EventAboveBuffer,
-            line,
+            spot,
             case: LinkCase::Words {
                 allowed: words as u32,
                 buffer: plan.buffer(),
@@ -228,22 +228,22 @@ fn most() -> Bounds
     }
 }
 
-// The costs of a body within the numbers of its heading, on this line.
+// The costs of a body within the numbers of its heading, at this spot.
 #[tactic(auto, using(camac_check_known::proofs::Steps::steps), unfolding(camac_rules::specs::Refusal::go_on, camac_rules::specs::Refusal::required))]
-fn within(body: Body, most: Bounds, found: Costs, line: u32) -> Result<Bounds, CheckFault>
-    ensures { Gives (λ b. b) result (within body most found line) }
+fn within(body: Body, most: Bounds, found: Costs, spot: Spot) -> Result<Bounds, CheckFault>
+    ensures { Gives (λ b. b) result (within body most found spot) }
 {
     if found.words() > u64::from(most.words) {
         let case = budget(body, found.words(), most.words);
-        return Err(CheckFault::broken(CheckRule::TooManyWords, line, case));
+        return Err(CheckFault::broken(CheckRule::TooManyWords, spot, case));
     }
     if found.cycles() > u64::from(most.cycles) {
         let case = budget(body, found.cycles(), most.cycles);
-        return Err(CheckFault::broken(CheckRule::TooManyCycles, line, case));
+        return Err(CheckFault::broken(CheckRule::TooManyCycles, spot, case));
     }
     if found.steps() > u64::from(most.steps) {
         let case = budget(body, found.steps(), most.steps);
-        return Err(CheckFault::broken(CheckRule::TooManySteps, line, case));
+        return Err(CheckFault::broken(CheckRule::TooManySteps, spot, case));
     }
     Ok(Bounds {
         cycles: found.cycles() as u32,

@@ -5,27 +5,28 @@ ghost use Rattle.camac_check.specs.Faults.{of_link, of_check};
 ghost use Rattle.camac_check.specs.declared.fault.LeastFault.TheVariants.{OutOfMemory};
 
 use camac_check_known::CheckFault;
+use camac_lang::Spot;
 use camac_names::{LinkCase, LinkFault, LinkRule};
 use camac_rules::{Case, CheckRule};
 use std::alloc::AllocError;
 use thiserror::Error;
 
-/// The first rule that a script breaks whatever the numbers of its headings, with its line and its case: of linking, or of the checker (own).
+/// The first rule that a script breaks whatever the numbers of its headings, with its spot and its case: of linking, or of the checker (own).
 #[derive(Clone, Copy, Debug, PartialEq, Eq, Error)]
 pub enum LeastFault {
     /// L5, E19: memory ran out.
     #[error("memory")]
     OutOfMemory,
-    #[error("line {line}: {rule:?}")]
+    #[error("line {}: {rule:?}", spot.line)]
     Link {
         rule: LinkRule,
-        line: u32,
+        spot: Spot,
         case: LinkCase,
     },
-    #[error("line {line}: {rule:?}")]
+    #[error("line {}: {rule:?}", spot.line)]
     Check {
         rule: CheckRule,
-        line: u32,
+        spot: Spot,
         case: Case,
     },
 }
@@ -44,7 +45,7 @@ impl From<LinkFault> for LeastFault {
     fn from(fault: LinkFault) -> LeastFault {
         match fault {
             LinkFault::OutOfMemory => LeastFault::OutOfMemory,
-            LinkFault::Broken { rule, line, case } => LeastFault::Link { rule, line, case },
+            LinkFault::Broken { rule, spot, case } => LeastFault::Link { rule, spot, case },
         }
     }
 }
@@ -55,7 +56,7 @@ impl From<CheckFault> for LeastFault {
     fn from(fault: CheckFault) -> LeastFault {
         match fault {
             CheckFault::OutOfMemory => LeastFault::OutOfMemory,
-            CheckFault::Broken { rule, line, case } => LeastFault::Check { rule, line, case },
+            CheckFault::Broken { rule, spot, case } => LeastFault::Check { rule, spot, case },
         }
     }
 }

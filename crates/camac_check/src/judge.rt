@@ -11,7 +11,7 @@ use camac_names::Linked;
 use std::alloc::Global;
 
 /// Checks a linked script. It is accepted exactly where no rule is broken, with the costs of each service as its bounds. Else the error is
-/// the first broken rule in text order, with its line: E1 to E18 and E21. It is E19 where memory ran out.
+/// the first broken rule in text order, with its spot: E1 to E18 and E21. It is E19 where memory ran out.
 pub fn check(alloc: Global, linked: Linked) -> Result<Checked, CheckFault>
     ensures exact { Judges linked result }
     // The headline: whatever the branch answers.

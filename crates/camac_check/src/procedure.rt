@@ -9,7 +9,7 @@ ghost use Rattle.camac_check_simple.specs.Gives.{Gives, by_code, leaving};
 
 use camac_check_known::{CheckFault, Costs, Facts, numbers_of, range_of};
 use camac_check_simple::Context;
-use camac_lang::{Expr, Parameter, Procedure, ProcedureCall};
+use camac_lang::{Expr, Parameter, Procedure, ProcedureCall, Spot};
 use camac_range::Range;
 use camac_rules::{Case, CheckRule, Numbers};
 use std::alloc::{AllocError, Global};
@@ -22,12 +22,12 @@ pub fn call(
     call: &ProcedureCall,
     known: &mut Facts,
 ) -> Result<Costs, CheckFault>
-    ensures { Gives (leaving known.new) result (call_rule (by_code context.now) call.now.line call.now.procedure (map expression_of call.now.arguments.items) known.old) }
+    ensures { Gives (leaving known.new) result (call_rule (by_code context.now) call.now.spot call.now.procedure (map expression_of call.now.arguments.items) known.old) }
 {
-    let line = call.line;
-    let ranges = ranges_of(alloc, line, &call.arguments, known.ranges())?;
-    let called = procedure_at(context.procedures, call.procedure, line)?;
-    arguments_in_range(call.procedure, &ranges, &called.parameters, line)?;
+    let spot = call.spot;
+    let ranges = ranges_of(alloc, spot, &call.arguments, known.ranges())?;
+    let called = procedure_at(context.procedures, call.procedure, spot)?;
+    arguments_in_range(call.procedure, &ranges, &called.parameters, spot)?;
     Ok(Costs::of_call(called.cycles, called.words, called.steps))
 }
 
@@ -35,17 +35,17 @@ pub fn call(
 #[tactic(auto, unfolding(camac_rules::specs::Refusal::go_on))]
 fn ranges_of(
     alloc: Global,
-    line: u32,
+    spot: Spot,
     arguments: &[Expr],
     ranges: &[Range],
 ) -> Result<Vec<Range>, CheckFault>
-    ensures { Gives (λ v. v.items) result (ranges_of line (map expression_of arguments.now) ranges.now) }
+    ensures { Gives (λ v. v.items) result (ranges_of spot (map expression_of arguments.now) ranges.now) }
 {
     match arguments {
         [] => Ok(Vec::new(alloc)),
         [argument, rest @ ..] => {
-            let first = range_of(line, argument, ranges)?;
-            let mut all = ranges_of(alloc, line, rest, ranges)?;
+            let first = range_of(spot, argument, ranges)?;
+            let mut all = ranges_of(alloc, spot, rest, ranges)?;
             all.insert(0, first)?;
             Ok(all)
         }
@@ -57,15 +57,15 @@ fn ranges_of(
 fn procedure_at(
     procedures: &[Procedure],
     number: usize,
-    line: u32,
+    spot: Spot,
 ) -> Result<&Procedure, CheckFault>
-    ensures { Gives (λ p. procedure_of p.now) result (given (slice_get (map procedure_of procedures.now) number) CheckRule.ArgumentOutOfRange line Case.Malformed) }
+    ensures { Gives (λ p. procedure_of p.now) result (given (slice_get (map procedure_of procedures.now) number) CheckRule.ArgumentOutOfRange spot Case.Malformed) }
 {
     match procedures.get(number) {
         Some(procedure) => Ok(procedure),
         None => Err(CheckFault::Broken {
             rule: CheckRule::ArgumentOutOfRange,
-            line,
+            spot,
             case: Case::Malformed,
         }),
     }
@@ -77,16 +77,16 @@ fn arguments_in_range(
     procedure: usize,
     ranges: &[Range],
     parameters: &[Parameter],
-    line: u32,
+    spot: Spot,
 ) -> Result<(), CheckFault>
-    ensures { Gives (λ u. tt) result (required (arguments_fit ranges.now (map parameter_of parameters.now)) CheckRule.ArgumentOutOfRange line (unfit procedure 0 ranges.now (map parameter_of parameters.now))) }
+    ensures { Gives (λ u. tt) result (required (arguments_fit ranges.now (map parameter_of parameters.now)) CheckRule.ArgumentOutOfRange spot (unfit procedure 0 ranges.now (map parameter_of parameters.now))) }
 {
     if arguments_fit(ranges, parameters) {
         return Ok(());
     }
     Err(CheckFault::broken(
         CheckRule::ArgumentOutOfRange,
-        line,
+        spot,
         unfit(procedure, 0, ranges, parameters),
     ))
 }

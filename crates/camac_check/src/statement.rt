@@ -29,7 +29,7 @@ use camac_check_simple::{
     Context, Findings, Place, assign, crate_call, lam_call, lock_crate, put, q_repeat, q_stop,
     scan, set_register, single,
 };
-use camac_lang::{Expr, ForHead, Keep, Part, Stmt, WhileHead};
+use camac_lang::{Expr, ForHead, Keep, Part, Spot, Stmt, WhileHead};
 use camac_rules::Body;
 use std::alloc::{AllocError, Global};
 
@@ -223,16 +223,16 @@ fn accept_reached(
     ensures rows { OnOk result (rows.new ≡ with_rows rows.old (statement_rows (by_code place.now.context.now) place.now.around.now (statement_of statement.now) (Some known))) }
 {
     match statement {
-        Stmt::If { line, test, then } => {
-            accept_if(alloc, place, *line, &test.parts, then, known, rows)
+        Stmt::If { spot, test, then } => {
+            accept_if(alloc, place, *spot, &test.parts, then, known, rows)
         }
         Stmt::IfElse {
-            line,
+            spot,
             test,
             then,
             otherwise,
         } => {
-            let ways = split(alloc, *line, &test.parts, known)?;
+            let ways = split(alloc, *spot, &test.parts, known)?;
             let times = times_at(&ways.fails);
             let mut one = rows.inside(alloc);
             let (context, around) = (place.context, place.around);
@@ -240,9 +240,9 @@ fn accept_reached(
             let mut two = rows.inside(alloc);
             let second = accept_block(alloc, context, around, otherwise, ways.fails, &mut two)?;
             let costs = first.costs.or(second.costs);
-            let own = if_row(*line, costs);
+            let own = if_row(*spot, costs);
             rows.put_block(own, &one, first_arm(first.costs, second.costs))?;
-            let other = else_row(*line, times, second.costs);
+            let other = else_row(*spot, times, second.costs);
             rows.put_block(other, &two, second_arm(first.costs, second.costs))?;
             Ok(Findings {
                 known: join(alloc, first.known, second.known)?,
@@ -250,20 +250,20 @@ fn accept_reached(
             })
         }
         Stmt::Lock {
-            line,
+            spot,
             crate_no,
             body,
-        } => accept_lock(alloc, place, *line, crate_no, body, known, rows),
+        } => accept_lock(alloc, place, *spot, crate_no, body, known, rows),
         Stmt::For { head, body } => accept_for(alloc, place, head, body, known, rows),
         Stmt::ForEach {
-            line,
+            spot,
             variable,
             first,
             last,
             body,
         } => {
             let head = EachHead {
-                line: *line,
+                spot: *spot,
                 variable: *variable,
                 first: *first,
                 last: *last,
@@ -291,21 +291,21 @@ fn accept_reached(
 fn accept_if(
     alloc: Global,
     place: &Place,
-    line: u32,
+    spot: Spot,
     test: &[Part],
     then: &[Stmt],
     known: Facts,
     rows: &mut Rows,
 ) -> Result<Findings, CheckFault>
-    ensures found { Gives verdict_of result (accept_statement (by_code place.now.context.now) place.now.around.now (choose line (map part_of test.now) (statements_of then.now)) known) }
-    ensures rows { OnOk result (rows.new ≡ with_rows rows.old (statement_rows (by_code place.now.context.now) place.now.around.now (choose line (map part_of test.now) (statements_of then.now)) (Some known))) }
+    ensures found { Gives verdict_of result (accept_statement (by_code place.now.context.now) place.now.around.now (choose spot (map part_of test.now) (statements_of then.now)) known) }
+    ensures rows { OnOk result (rows.new ≡ with_rows rows.old (statement_rows (by_code place.now.context.now) place.now.around.now (choose spot (map part_of test.now) (statements_of then.now)) (Some known))) }
 {
-    let ways = split(alloc, line, test, known)?;
+    let ways = split(alloc, spot, test, known)?;
     let mut inner = rows.inside(alloc);
     let around = place.around;
     let first = accept_block(alloc, place.context, around, then, ways.holds, &mut inner)?;
     let costs = first.costs.or(Costs::new(0, 0, 0));
-    rows.put_block(if_row(line, costs), &inner, once())?;
+    rows.put_block(if_row(spot, costs), &inner, once())?;
     Ok(Findings {
         known: join(alloc, first.known, ways.fails)?,
         costs,
@@ -319,22 +319,22 @@ fn accept_if(
 fn accept_lock(
     alloc: Global,
     place: &Place,
-    line: u32,
+    spot: Spot,
     crate_no: &Expr,
     body: &[Stmt],
     known: Facts,
     rows: &mut Rows,
 ) -> Result<Findings, CheckFault>
-    ensures found { Gives verdict_of result (accept_statement (by_code place.now.context.now) place.now.around.now (locked line (expression_of crate_no.now) (statements_of body.now)) known) }
-    ensures rows { OnOk result (rows.new ≡ with_rows rows.old (statement_rows (by_code place.now.context.now) place.now.around.now (locked line (expression_of crate_no.now) (statements_of body.now)) (Some known))) }
+    ensures found { Gives verdict_of result (accept_statement (by_code place.now.context.now) place.now.around.now (locked spot (expression_of crate_no.now) (statements_of body.now)) known) }
+    ensures rows { OnOk result (rows.new ≡ with_rows rows.old (statement_rows (by_code place.now.context.now) place.now.around.now (locked spot (expression_of crate_no.now) (statements_of body.now)) (Some known))) }
 {
-    let c = lock_crate(place, line, crate_no, &known)?;
+    let c = lock_crate(place, spot, crate_no, &known)?;
     let inside = place.around.with_locked(alloc, c)?;
     let mut inner = rows.inside(alloc);
     let found = accept_block(alloc, place.context, &inside, body, Some(known), &mut inner)?;
     let waits = waits_of(place.context.plan, c);
     let costs = found.costs.in_lock(waits);
-    rows.put_block(lock_row(line, costs, waits, c), &inner, once())?;
+    rows.put_block(lock_row(spot, costs, waits, c), &inner, once())?;
     Ok(Findings {
         known: found.known,
         costs,
@@ -356,16 +356,16 @@ fn accept_while(
     ensures found { Gives verdict_of result (accept_statement (by_code place.now.context.now) place.now.around.now (while_of limited.now (statements_of body.now)) known) }
     ensures rows { OnOk result (rows.new ≡ with_rows rows.old (statement_rows (by_code place.now.context.now) place.now.around.now (while_of limited.now (statements_of body.now)) (Some known))) }
 {
-    let line = limited.line;
+    let spot = limited.spot;
     let around = place.around;
     let top = while_head(around.body(), limited, body, known)?;
-    let ways = split(alloc, line, &limited.test.parts, top)?;
+    let ways = split(alloc, spot, &limited.test.parts, top)?;
     let most = turn_bound(&ways.holds, limited.turns);
     let mut inner = rows.inside(alloc);
     let turn = accept_block(alloc, place.context, around, body, ways.holds, &mut inner)?;
     let most = u64::from(most);
-    let found = end_loop(around.body(), line, &limited.keeps, ways.fails, most, turn)?;
-    let own = loop_row(line, Kind::While, found.costs, most);
+    let found = end_loop(around.body(), spot, &limited.keeps, ways.fails, most, turn)?;
+    let own = loop_row(spot, Kind::While, found.costs, most);
     rows.put_block(own, &inner, turning(most))?;
     Ok(found)
 }
@@ -382,11 +382,11 @@ fn accept_for(
     known: Facts,
     rows: &mut Rows,
 ) -> Result<Findings, CheckFault>
-    ensures found { Gives verdict_of result (for_rule (by_code place.now.context.now) place.now.around.now counted.now.line counted.now.variable (expression_of counted.now.from) (expression_of counted.now.to) (map keep_of counted.now.keeps.items) (statements_of body.now)
+    ensures found { Gives verdict_of result (for_rule (by_code place.now.context.now) place.now.around.now counted.now.spot counted.now.variable (expression_of counted.now.from) (expression_of counted.now.to) (map keep_of counted.now.keeps.items) (statements_of body.now)
         (accept_block (by_code place.now.context.now) (with_fixed counted.now.variable place.now.around.now) (statements_of body.now)) known) }
     ensures rows { OnOk result (rows.new ≡ with_rows rows.old (statement_rows (by_code place.now.context.now) place.now.around.now (for_of counted.now (statements_of body.now)) (Some known))) }
 {
-    let line = counted.line;
+    let spot = counted.spot;
     let around = place.around;
     let limits = for_limits(around, counted, &known)?;
     let inside = around.with_fixed(alloc, counted.variable)?;
@@ -396,13 +396,13 @@ fn accept_for(
     let turns = limits.turns();
     let found = end_loop(
         around.body(),
-        line,
+        spot,
         &counted.keeps,
         Some(facts.after),
         turns,
         turn,
     )?;
-    let own = loop_row(line, Kind::For, found.costs, turns);
+    let own = loop_row(spot, Kind::For, found.costs, turns);
     rows.put_block(own, &inner, turning(turns))?;
     Ok(found)
 }
@@ -419,8 +419,8 @@ fn accept_each(
     known: Facts,
     rows: &mut Rows,
 ) -> Result<Findings, CheckFault>
-    ensures found { Gives verdict_of result (accept_statement (by_code place.now.context.now) place.now.around.now (for_each head.line head.variable head.first head.last (statements_of body.now)) known) }
-    ensures rows { OnOk result (rows.new ≡ with_rows rows.old (statement_rows (by_code place.now.context.now) place.now.around.now (for_each head.line head.variable head.first head.last (statements_of body.now)) (Some known))) }
+    ensures found { Gives verdict_of result (accept_statement (by_code place.now.context.now) place.now.around.now (for_each head.spot head.variable head.first head.last (statements_of body.now)) known) }
+    ensures rows { OnOk result (rows.new ≡ with_rows rows.old (statement_rows (by_code place.now.context.now) place.now.around.now (for_each head.spot head.variable head.first head.last (statements_of body.now)) (Some known))) }
 {
     let turns = each_begins(place.around, head)?;
     let around = place.around.with_fixed(alloc, head.variable)?;
@@ -432,7 +432,7 @@ fn accept_each(
     let Turns { found, reached } = accept_turns(
         alloc, &inside, head, turns, body, known, &mut all,
     )?;
-    let own = loop_row(head.line, Kind::For, found.costs, reached);
+    let own = loop_row(head.spot, Kind::For, found.costs, reached);
     rows.put_block(own, &all, once())?;
     Ok(found)
 }
@@ -551,15 +551,15 @@ fn leave_last(known: &mut Option<Facts>, variable: usize, last: u32) -> Result<(
 #[tactic(auto, unfolding(camac_rules::specs::Refusal::go_on))]
 fn end_loop(
     place: Body,
-    line: u32,
+    spot: Spot,
     keeps: &[Keep],
     after: Option<Facts>,
     turns: u64,
     turn: Findings,
 ) -> Result<Findings, CheckFault>
-    ensures { Gives verdict_of result (loop_end place line (map keep_of keeps.now) after turns (verdict_of turn)) }
+    ensures { Gives verdict_of result (loop_end place spot (map keep_of keeps.now) after turns (verdict_of turn)) }
 {
-    keeps_after(place, keeps, &turn.known, line)?;
+    keeps_after(place, keeps, &turn.known, spot)?;
     Ok(Findings {
         known: after,
         costs: turn.costs.in_loop(turns),

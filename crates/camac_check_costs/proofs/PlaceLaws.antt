@@ -1,7 +1,7 @@
 -- What holds of the places that are found.
-use Rattle.std.proofs.Common.{◌≡◌, ◌⊎◌, ℕ, zero, suc, ◌+◌, ◌-◌, ◌<◌, Bool, true, false, List, [], ◌∷◌, Option, Some, None, Result, Ok, Err, refl, ap, ◌∙◌, subst, inl, inr, ⊎_elim, arith}
-use Rattle.std.specs.Prelude.{nat_eq, nat_lt, if◌then◌else◌}
-use Rattle.std.proofs.lemmas.Bool.{ltb-true}
+use Rattle.std.proofs.Common.{◌≡◌, ◌⊎◌, ℕ, zero, suc, ◌+◌, ◌-◌, ◌<◌, Bool, true, false, List, [], ◌∷◌, Option, Some, None, Result, Ok, Err, refl, ap, ◌∙◌, subst, inl, inr, arith}
+use Rattle.std.specs.Prelude.{◌&&◌, nat_le, nat_lt, if◌then◌else◌}
+use Rattle.std.proofs.lemmas.Bool.{and_parts, ltb-true}
 use Rattle.camac_lang.specs.Tree.{Statement, assign, set_register, single, address_scan, q_stop, q_repeat, put, crate_call, lam_call, choose, choose_else, for_, for_each, while_, locked, call, Block, done, next}
 use Rattle.camac_range.specs.Interval.{only}
 use Rattle.camac_rules.specs.Calls.{lock_rule}
@@ -14,7 +14,7 @@ use Rattle.camac_rules.specs.Known.{Facts, Known, with_range}
 use Rattle.camac_rules.specs.Loops.{Limits, with_fixed, for_limits, for_head, while_head}
 use Rattle.camac_rules.specs.Refusal.{go_on, if_reached}
 use Rattle.camac_rules.specs.Statements.{accept_statement, accept_block}
-use Rattle.camac_check_costs.specs.Places.{Place, place, HasPlace, BlockHasPlace, at_turn, IsTold, at_one, at_both, PlacesAreFound, TurnsAreTold, at_or, first_or, past, past_block, chosen_inside, are_chosen, are_chosen_in, told_of_both, left_by, over_turns, in_turns, place_in, place_in_block}
+use Rattle.camac_check_costs.specs.Places.{Place, place, HasPlace, BlockHasPlace, at_turn, IsTold, at_one, at_both, PlacesAreFound, TurnsAreTold, begins_at, holds, holds_at, each_inside, each_around, chosen_inside, are_chosen, told_of_both, left_by, over_turns, in_turns, place_inside, place_in_block}
 
 -- ---- what led to an answer
 
@@ -53,20 +53,16 @@ is_told : (P : Place → Type 0) (b : Bool) (told : Place) → Tells P b told �
 is_told P true told h = at_one told h
 is_told P false told h = h
 
-by_choice : (P : Place → Type 0) (b t : Bool) (here p : Place) (f : Found) → P here → (f ≡ Ok (Some p) → Tells P t p)
-    → (if b then Ok (Some here) else f) ≡ Ok (Some p) → Tells P (if b then true else t) p
-by_choice P true t here p f h g e = subst P (same_place here p e) h
-by_choice P false t here p f h g e = g e
+by_choice : (P : Place → Type 0) (b : Bool) (xs turns : List ℕ) (here p : Place) (f : Found) → P here → (f ≡ Ok (Some p) → Tells P (are_chosen xs turns) p)
+    → (if b then Ok (Some here) else f) ≡ Ok (Some p) → Tells P (are_chosen (if b then [] else xs) turns) p
+by_choice P true xs turns here p f h g e = subst P (same_place here p e) h
+by_choice P false xs turns here p f h g e = g e
 
--- a statement, or one in it
-at_this : (P : Place → Type 0) (n : ℕ) (here p : Place) (f : ℕ → Found) (t : ℕ → Bool) → P here → (f (n - 1) ≡ Ok (Some p) → Tells P (t (n - 1)) p)
-    → at_or (Ok (Some here)) n f ≡ Ok (Some p) → Tells P (at_or true n t) p
-at_this P n here p f t h g e = by_choice P (nat_eq n 0) (t (n - 1)) here p (f (n - 1)) h g e
-
-in_either : (P : Place → Type 0) (o : Option ℕ) (first : Found) (others : ℕ → Found) (t : Bool) (u : ℕ → Bool) (p : Place)
-    → (first ≡ Ok (Some p) → Tells P t p) → ((r : ℕ) → others r ≡ Ok (Some p) → Tells P (u r) p) → first_or o first others ≡ Ok (Some p) → Tells P (first_or o t u) p
-in_either P None first others t u p h g e = h e
-in_either P (Some r) first others t u p h g e = g r e
+in_either : (P : Place → Type 0) (b : Bool) (first other : Found) (xs ys turns : List ℕ) (p : Place)
+    → (first ≡ Ok (Some p) → Tells P (are_chosen xs turns) p) → (other ≡ Ok (Some p) → Tells P (are_chosen ys turns) p)
+    → (if b then first else other) ≡ Ok (Some p) → Tells P (are_chosen (if b then xs else ys) turns) p
+in_either P true first other xs ys turns p h g e = h e
+in_either P false first other xs ys turns p h g e = g e
 
 -- ---- turns
 
@@ -131,12 +127,13 @@ turns_tell : (P : Place → Type 0) (test : List ℕ → Bool) (count x v : ℕ)
     → in_turns count x v check find k turns ≡ Ok (Some p) → Tells P (chosen_inside test turns) p
 turns_tell P test count x v check find k [] p each e =
     all_told P count x v check (find []) k None p (λ turn lt t at q i. is_told P (test []) q (each [] turn lt t at q i)) tt e
-turns_tell P test count x v check find k (turn ∷ inner) p each e =
-    let h = if_so (nat_lt turn count) (go_on (at_turn check x v turn k) (λ o. if_reached None o (find inner))) p e in
+turns_tell P test count x v check find k (value ∷ inner) p each e =
+    let turn : ℕ = value - v in
+    let h = if_so (nat_le v value && nat_lt turn count) (go_on (at_turn check x v turn k) (λ o. if_reached None o (find inner))) p e in
     let o = went_on (at_turn check x v turn k) (λ o. if_reached None o (find inner)) p h.1 in
     let known : Known = o.0 in
     let t = was_reached known (find inner) p o.2 in
-    each inner turn (ltb-true turn count h.0) t.0 (o.1 ∙ ap Ok t.1) p t.2
+    each inner turn (ltb-true turn count (and_parts (nat_le v value) (nat_lt turn count) h.0).1) t.0 (o.1 ∙ ap Ok t.1) p t.2
 
 pub turns_told : (P : Place → Type 0) (count x v : ℕ) (check : Facts → Result Verdict Fault) (find : List ℕ → Facts → Found) (k : Facts) (turns : List ℕ) (p : Place)
     → ((inner : List ℕ) → EachTells P count x v check k (λ t q. find inner t ≡ Ok (Some q) → IsTold P q)) → in_turns count x v check find k turns ≡ Ok (Some p) → IsTold P p
@@ -145,113 +142,89 @@ turns_told P count x v check find k turns p each e =
 
 -- ---- places
 
-abbrev Here : Context → Around → Statement → Facts → Place → Type 0
-Here c around s k p = (p ≡ place around s k) ⊎ HasPlace c p around s k
+abbrev Inside : Context → Around → Statement → Facts → Place → Type 0
+Inside c around s k p = HasPlace c p around s k
 
 abbrev There : Context → Around → Block → Facts → Place → Type 0
 There c around b k p = BlockHasPlace c p around b k
 
-alone_by : (b : Bool) (here p : Place) → ◌≡◌ {A = Found} (if b then Ok (Some here) else Ok None) (Ok (Some p)) → p ≡ here
-alone_by true here p e = cc
-alone_by false here p e = absurd (cc)
-
--- a statement that holds no others
-alone : (c : Context) (around : Around) (s : Statement) (k : Facts) (n : ℕ) (p : Place) → ◌≡◌ {A = Found} (at_or {A = Found} (Ok (Some (place around s k))) n (λ m. Ok None)) (Ok (Some p)) → Here c around s k p
-alone c around s k n p e = inl (alone_by (nat_eq n 0) (place around s k) p e)
-
 mutual
-  inside : (c : Context) (around : Around) (s : Statement) (k : Facts) (n : ℕ) (turns : List ℕ) (p : Place) → place_in c around s k n turns ≡ Ok (Some p)
-      → Tells (Here c around s k) (are_chosen s n turns) p
-  inside c around (choose line test a) k n turns p e =
-      let find : ℕ → Facts → Found = λ m t. place_in_block c around a t m turns in
-      at_this (Here c around (choose line test a) k) n (place around (choose line test a) k) p (λ m. go_on (split line test k) (λ arms. if_reached None arms.holds (find m)))
-      (λ m. are_chosen_in a m turns) (inl refl)
-      (λ h. let s = went_on (split line test k) (λ arms. if_reached None arms.holds (find (n - 1))) p h in
+  inside : (c : Context) (around : Around) (s : Statement) (k : Facts) (n : ℕ) (turns : List ℕ) (p : Place) → place_inside c around s k n turns ≡ Ok (Some p)
+      → Tells (Inside c around s k) (are_chosen (each_inside n s) turns) p
+  inside c around (choose spot test a) k n turns p e =
+      let find : Facts → Found = λ t. place_in_block c around a t n turns in
+      let s = went_on (split spot test k) (λ arms. if_reached None arms.holds find) p e in
       let arms : Branches = s.0 in
-      let r = was_reached arms.holds (find (n - 1)) p s.2 in
-      tells_more (There c around a r.0) (Here c around (choose line test a) k) (λ q i. inr (arms, s.1, (r.0, r.1, i))) (are_chosen_in a (n - 1) turns) p (block_inside c around a r.0 (n - 1) turns p r.2))
-      e
-  inside c around (choose_else line test a b) k n turns p e =
-      let find : ℕ → Facts → Found = λ m t. place_in_block c around a t m turns in
-      let other : ℕ → Facts → Found = λ r t. place_in_block c around b t r turns in
-      let here : Place → Type 0 = Here c around (choose_else line test a b) k in
-      at_this here n (place around (choose_else line test a b) k) p
-      (λ m. go_on (split line test k) (λ arms. first_or (past_block a m) (if_reached None arms.holds (find m)) (λ r. if_reached None arms.fails (other r))))
-      (λ m. first_or (past_block a m) (are_chosen_in a m turns) (λ r. are_chosen_in b r turns)) (inl refl)
-      (λ h. let s = went_on (split line test k) (λ arms. first_or (past_block a (n - 1)) (if_reached None arms.holds (find (n - 1))) (λ r. if_reached None arms.fails (other r))) p h in
+      let r = was_reached arms.holds find p s.2 in
+      tells_more (There c around a r.0) (Inside c around (choose spot test a) k) (λ q i. (arms, s.1, (r.0, r.1, i))) (are_chosen (each_around n a) turns) p (block_inside c around a r.0 n turns p r.2)
+  inside c around (choose_else spot test a b) k n turns p e =
+      let find : Facts → Found = λ t. place_in_block c around a t n turns in
+      let other : Facts → Found = λ t. place_in_block c around b t n turns in
+      let here : Place → Type 0 = Inside c around (choose_else spot test a b) k in
+      let s = went_on (split spot test k) (λ arms. if holds n a then if_reached None arms.holds find else if_reached None arms.fails other) p e in
       let arms : Branches = s.0 in
-      in_either here (past_block a (n - 1)) (if_reached None arms.holds (find (n - 1))) (λ r. if_reached None arms.fails (other r))
-      (are_chosen_in a (n - 1) turns) (λ r. are_chosen_in b r turns) p
-      (λ f. let r = was_reached arms.holds (find (n - 1)) p f in
-      tells_more (There c around a r.0) here (λ q i. inr (arms, s.1, inl (r.0, r.1, i))) (are_chosen_in a (n - 1) turns) p (block_inside c around a r.0 (n - 1) turns p r.2))
-      (λ m g. let r = was_reached arms.fails (other m) p g in
-      tells_more (There c around b r.0) here (λ q i. inr (arms, s.1, inr (r.0, r.1, i))) (are_chosen_in b m turns) p (block_inside c around b r.0 m turns p r.2))
-      s.2)
-      e
-  inside c around (locked line x body) k n turns p e =
-      let find : ℕ → ℕ → Found = λ i m. place_in_block c (with_locked m around) body k i turns in
-      at_this (Here c around (locked line x body) k) n (place around (locked line x body) k) p (λ i. go_on (lock_rule c around line x k) (find i)) (λ m. are_chosen_in body m turns) (inl refl)
-      (λ h. let s = went_on (lock_rule c around line x k) (find (n - 1)) p h in
-      tells_more (There c (with_locked s.0 around) body k) (Here c around (locked line x body) k) (λ q i. inr (s.0, s.1, i)) (are_chosen_in body (n - 1) turns) p
-      (block_inside c (with_locked s.0 around) body k (n - 1) turns p s.2))
-      e
-  inside c around (for_ line x e1 e2 keeps body) k n turns p e =
-      let find : ℕ → Facts → Found = λ m t. place_in_block c (with_fixed x around) body t m turns in
-      at_this (Here c around (for_ line x e1 e2 keeps body) k) n (place around (for_ line x e1 e2 keeps body) k) p
-      (λ m. go_on (for_limits around line x e1 e2 keeps k) (λ l. if_reached None (for_head x l keeps body k) (find m))) (λ m. are_chosen_in body m turns) (inl refl)
-      (λ h. let s = went_on (for_limits around line x e1 e2 keeps k) (λ l. if_reached None (for_head x l keeps body k) (find (n - 1))) p h in
+      in_either here (holds n a) (if_reached None arms.holds find) (if_reached None arms.fails other) (each_around n a) (each_around n b) turns p
+      (λ f. let r = was_reached arms.holds find p f in
+      tells_more (There c around a r.0) here (λ q i. (arms, s.1, inl (r.0, r.1, i))) (are_chosen (each_around n a) turns) p (block_inside c around a r.0 n turns p r.2))
+      (λ g. let r = was_reached arms.fails other p g in
+      tells_more (There c around b r.0) here (λ q i. (arms, s.1, inr (r.0, r.1, i))) (are_chosen (each_around n b) turns) p (block_inside c around b r.0 n turns p r.2))
+      s.2
+  inside c around (locked spot x body) k n turns p e =
+      let find : ℕ → Found = λ m. place_in_block c (with_locked m around) body k n turns in
+      let s = went_on (lock_rule c around spot x k) find p e in
+      tells_more (There c (with_locked s.0 around) body k) (Inside c around (locked spot x body) k) (λ q i. (s.0, s.1, i)) (are_chosen (each_around n body) turns) p
+      (block_inside c (with_locked s.0 around) body k n turns p s.2)
+  inside c around (for_ spot x e1 e2 keeps body) k n turns p e =
+      let find : Facts → Found = λ t. place_in_block c (with_fixed x around) body t n turns in
+      let s = went_on (for_limits around spot x e1 e2 keeps k) (λ l. if_reached None (for_head x l keeps body k) find) p e in
       let l : Limits = s.0 in
-      let r = was_reached (for_head x l keeps body k) (find (n - 1)) p s.2 in
-      tells_more (There c (with_fixed x around) body r.0) (Here c around (for_ line x e1 e2 keeps body) k) (λ q i. inr (l, s.1, (r.0, r.1, i))) (are_chosen_in body (n - 1) turns) p
-      (block_inside c (with_fixed x around) body r.0 (n - 1) turns p r.2))
-      e
-  inside c around (for_each line x v last body) k n turns p e =
+      let r = was_reached (for_head x l keeps body k) find p s.2 in
+      tells_more (There c (with_fixed x around) body r.0) (Inside c around (for_ spot x e1 e2 keeps body) k) (λ q i. (l, s.1, (r.0, r.1, i))) (are_chosen (each_around n body) turns) p
+      (block_inside c (with_fixed x around) body r.0 n turns p r.2)
+  inside c around (for_each spot x v last body) k n turns p e =
       let check : Facts → Result Verdict Fault = accept_block c (with_fixed x around) body in
-      let find : ℕ → List ℕ → Facts → Found = λ m inner t. place_in_block c (with_fixed x around) body t m inner in
-      let here : Place → Type 0 = Here c around (for_each line x v last body) k in
-      at_this here n (place around (for_each line x v last body) k) p
-      (λ m. go_on (each_begins around line x v last) (λ count. in_turns count x v check (find m) k turns)) (λ m. chosen_inside (are_chosen_in body m) turns) (inl refl)
-      (λ h. let s = went_on (each_begins around line x v last) (λ count. in_turns count x v check (find (n - 1)) k turns) p h in
-      turns_tell here (are_chosen_in body (n - 1)) s.0 x v check (find (n - 1)) k turns p
-      (λ inner turn lt t at q i. tells_more (There c (with_fixed x around) body t) here (λ r j. inr (s.0, s.1, (turn, lt, (t, at, j)))) (are_chosen_in body (n - 1) inner) q
-      (block_inside c (with_fixed x around) body t (n - 1) inner q i))
-      s.2)
-      e
-  inside c around (while_ line test most x keeps body) k n turns p e =
-      let find : ℕ → Facts → Found = λ m t. place_in_block c around body t m turns in
-      at_this (Here c around (while_ line test most x keeps body) k) n (place around (while_ line test most x keeps body) k) p
-      (λ m. go_on (while_head around.body line most x keeps body k) (λ top. go_on (split line test top) (λ arms. if_reached None arms.holds (find m)))) (λ m. are_chosen_in body m turns) (inl refl)
-      (λ h. let s = went_on (while_head around.body line most x keeps body k) (λ top. go_on (split line test top) (λ arms. if_reached None arms.holds (find (n - 1)))) p h in
+      let find : List ℕ → Facts → Found = λ inner t. place_in_block c (with_fixed x around) body t n inner in
+      let here : Place → Type 0 = Inside c around (for_each spot x v last body) k in
+      let s = went_on (each_begins around spot x v last) (λ count. in_turns count x v check find k turns) p e in
+      turns_tell here (are_chosen (each_around n body)) s.0 x v check find k turns p
+      (λ inner turn lt t at q i. tells_more (There c (with_fixed x around) body t) here (λ r j. (s.0, s.1, (turn, lt, (t, at, j)))) (are_chosen (each_around n body) inner) q
+      (block_inside c (with_fixed x around) body t n inner q i))
+      s.2
+  inside c around (while_ spot test most x keeps body) k n turns p e =
+      let find : Facts → Found = λ t. place_in_block c around body t n turns in
+      let s = went_on (while_head around.body spot most x keeps body k) (λ top. go_on (split spot test top) (λ arms. if_reached None arms.holds find)) p e in
       let top : Facts = s.0 in
-      let q = went_on (split line test top) (λ arms. if_reached None arms.holds (find (n - 1))) p s.2 in
+      let q = went_on (split spot test top) (λ arms. if_reached None arms.holds find) p s.2 in
       let arms : Branches = q.0 in
-      let r = was_reached arms.holds (find (n - 1)) p q.2 in
-      tells_more (There c around body r.0) (Here c around (while_ line test most x keeps body) k) (λ j i. inr (top, s.1, (arms, q.1, (r.0, r.1, i)))) (are_chosen_in body (n - 1) turns) p
-      (block_inside c around body r.0 (n - 1) turns p r.2))
-      e
-  inside c around (assign line x v) k n turns p e = alone c around (assign line x v) k n p e
-  inside c around (set_register line r e1 e2 e3) k n turns p e = alone c around (set_register line r e1 e2 e3) k n p e
-  inside c around (single line size f r move) k n turns p e = alone c around (single line size f r move) k n p e
-  inside c around (address_scan line f r1 r2 max x) k n turns p e = alone c around (address_scan line f r1 r2 max x) k n p e
-  inside c around (q_stop line f r t max x) k n turns p e = alone c around (q_stop line f r t max x) k n p e
-  inside c around (q_repeat line f r t max limit x) k n turns p e = alone c around (q_repeat line f r t max limit x) k n p e
-  inside c around (put line v) k n turns p e = alone c around (put line v) k n p e
-  inside c around (crate_call line which v) k n turns p e = alone c around (crate_call line which v) k n p e
-  inside c around (lam_call line which l) k n turns p e = alone c around (lam_call line which l) k n p e
-  inside c around (call line q es) k n turns p e = alone c around (call line q es) k n p e
+      let r = was_reached arms.holds find p q.2 in
+      tells_more (There c around body r.0) (Inside c around (while_ spot test most x keeps body) k) (λ j i. (top, s.1, (arms, q.1, (r.0, r.1, i)))) (are_chosen (each_around n body) turns) p
+      (block_inside c around body r.0 n turns p r.2)
+  inside c around (assign spot x v) k n turns p e = absurd (cc)
+  inside c around (set_register spot r e1 e2 e3) k n turns p e = absurd (cc)
+  inside c around (single spot size f r move) k n turns p e = absurd (cc)
+  inside c around (address_scan spot f r1 r2 max x) k n turns p e = absurd (cc)
+  inside c around (q_stop spot f r t max x) k n turns p e = absurd (cc)
+  inside c around (q_repeat spot f r t max limit x) k n turns p e = absurd (cc)
+  inside c around (put spot v) k n turns p e = absurd (cc)
+  inside c around (crate_call spot which v) k n turns p e = absurd (cc)
+  inside c around (lam_call spot which l) k n turns p e = absurd (cc)
+  inside c around (call spot q es) k n turns p e = absurd (cc)
 
   block_inside : (c : Context) (around : Around) (b : Block) (k : Facts) (n : ℕ) (turns : List ℕ) (p : Place) → place_in_block c around b k n turns ≡ Ok (Some p)
-      → Tells (There c around b k) (are_chosen_in b n turns) p
+      → Tells (There c around b k) (are_chosen (each_around n b) turns) p
   block_inside c around done k n turns p e = absurd (cc)
   block_inside c around (next s rest) k n turns p e =
-      let find : ℕ → Facts → Found = λ r t. place_in_block c around rest t r turns in
-      in_either (There c around (next s rest) k) (past s n) (place_in c around s k n turns) (λ r. go_on (accept_statement c around s k) (λ v. if_reached None v.after (find r)))
-      (are_chosen s n turns) (λ r. are_chosen_in rest r turns) p
-      (λ f. tells_more (Here c around s k) (There c around (next s rest) k) (λ q i. ⊎_elim (λ h. inl h) (λ h. inr (inl h)) i) (are_chosen s n turns) p (inside c around s k n turns p f))
-      (λ m g. let v = went_on (accept_statement c around s k) (λ w. if_reached None w.after (find m)) p g in
+      let find : Facts → Found = λ t. place_in_block c around rest t n turns in
+      let there : Place → Type 0 = There c around (next s rest) k in
+      let here : Found = if begins_at n s then Ok (Some (place around s k)) else place_inside c around s k n turns in
+      let variables : List ℕ = if begins_at n s then [] else each_inside n s in
+      in_either there (holds_at n s) here (go_on (accept_statement c around s k) (λ v. if_reached None v.after find)) variables (each_around n rest) turns p
+      (by_choice there (begins_at n s) (each_inside n s) turns (place around s k) p (place_inside c around s k n turns) (inl refl)
+      (λ f. tells_more (Inside c around s k) there (λ q i. inr (inl i)) (are_chosen (each_inside n s) turns) p (inside c around s k n turns p f)))
+      (λ g. let v = went_on (accept_statement c around s k) (λ w. if_reached None w.after find) p g in
       let found : Verdict = v.0 in
-      let r = was_reached found.after (find m) p v.2 in
-      tells_more (There c around rest r.0) (There c around (next s rest) k) (λ q i. inr (inr (found, v.1, (r.0, r.1, i)))) (are_chosen_in rest m turns) p (block_inside c around rest r.0 m turns p r.2))
+      let r = was_reached found.after find p v.2 in
+      tells_more (There c around rest r.0) there (λ q i. inr (inr (found, v.1, (r.0, r.1, i)))) (are_chosen (each_around n rest) turns) p (block_inside c around rest r.0 n turns p r.2))
       e
 
 pub places_are_found : PlacesAreFound
@@ -260,4 +233,4 @@ places_are_found c around block start n turns p are e =
 
 pub turns_are_told : TurnsAreTold
 turns_are_told c around block start n turns told e =
-    is_told (There c around block start) (are_chosen_in block n turns) told (block_inside c around block start n turns told e)
+    is_told (There c around block start) (are_chosen (each_around n block) turns) told (block_inside c around block start n turns told e)

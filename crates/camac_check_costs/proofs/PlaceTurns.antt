@@ -1,6 +1,6 @@
 -- What is told over several turns holds in each of them.
 use Rattle.std.proofs.Common.{◌≡◌, ℕ, zero, suc, ◌+◌, ◌-◌, ◌<◌, Bool, true, false, List, [], ◌∷◌, ◌++◌, Option, Some, None, Result, Ok, Err, refl, sym, ap, ◌∙◌, subst, ⊎_elim, arith}
-use Rattle.std.specs.Prelude.{◌&&◌, nat_eq, nat_lt, if◌then◌else◌}
+use Rattle.std.specs.Prelude.{◌&&◌, nat_eq, nat_le, nat_lt, if◌then◌else◌}
 use Rattle.std.proofs.lemmas.Bool.{and_parts, eqb-true, or_cases, ltb-true}
 use Rattle.camac_lang.specs.Tree.{Statement, assign, set_register, single, address_scan, q_stop, q_repeat, put, crate_call, lam_call, choose, choose_else, for_, for_each, while_, locked, call, Block, done, next}
 use Rattle.camac_range.specs.Interval.{only, IsWithin}
@@ -19,9 +19,9 @@ use Rattle.camac_rules.specs.Loops.{with_fixed, for_limits, for_head, while_head
 use Rattle.camac_rules.specs.Refusal.{go_on, if_reached}
 use Rattle.camac_rules.specs.Statements.{accept_statement, accept_block}
 use Rattle.camac_rules.proofs.Joined.{range_at-hulls, region_at-join}
-use Rattle.camac_check_costs.specs.Places.{Place, place, at_turn, at_or, first_or, past, past_block, locked_in_both, place_of_both, told_of_both, left_by, over_turns, in_turns, place_in, place_in_block, IsSetSo, HoldsAt, IsCovered, TurnsAreCovered}
+use Rattle.camac_check_costs.specs.Places.{Place, place, at_turn, begins_at, holds, holds_at, locked_in_both, place_of_both, told_of_both, left_by, over_turns, in_turns, place_inside, place_in_block, IsSetSo, HoldsAt, IsCovered, TurnsAreCovered}
 use Rattle.camac_check_costs.proofs.PlaceLaws.{Found, went_on, was_reached, if_so}
-use Rattle.camac_check_costs.proofs.PlaceNumbers.{IsNumbered, body_of_both, numbered_in, statement_in}
+use Rattle.camac_check_costs.proofs.PlaceStatements.{IsPlaced, body_of_both, placed_in, statement_in}
 
 -- ---- of two places
 
@@ -101,22 +101,22 @@ covers_itself f p e = subst (IsCovered p) (sym e) (itself p)
 
 abbrev IfNumbered : Option Statement → Body → Option Place → Type 0
 IfNumbered s b None = Unit {0}
-IfNumbered s b (Some p) = IsNumbered s b p
+IfNumbered s b (Some p) = IsPlaced s b p
 
 abbrev IfHeld : Place → Option Place → Type 0
 IfHeld p None = ⊥
 IfHeld p (Some told) = HoldsAt p told
 
-same_of : (s : Option Statement) (b : Body) (p q : Place) → IsNumbered s b p → IsNumbered s b q → IsSame p q
+same_of : (s : Option Statement) (b : Body) (p q : Place) → IsPlaced s b p → IsPlaced s b q → IsSame p q
 same_of s b p q i j = record {
   statement = let both : ◌≡◌ {A = Option Statement} (Some q.statement) (Some p.statement) = sym j.statement ∙ i.statement in cc;
   body = sym j.body ∙ i.body;
 }
 
-both_numbered : (s : Option Statement) (b : Body) (p q : Option Place) → IfNumbered s b p → IfNumbered s b q → IfNumbered s b (told_of_both p q)
-both_numbered s b None q i j = j
-both_numbered s b (Some p) None i j = i
-both_numbered s b (Some p) (Some q) i j = record { statement = i.statement; body = i.body ∙ sym (body_of_both crate_end p.around q.around) }
+both_placed : (s : Option Statement) (b : Body) (p q : Option Place) → IfNumbered s b p → IfNumbered s b q → IfNumbered s b (told_of_both p q)
+both_placed s b None q i j = j
+both_placed s b (Some p) None i j = i
+both_placed s b (Some p) (Some q) i j = record { statement = i.statement; body = i.body ∙ sym (body_of_both crate_end p.around q.around) }
 
 held_before : (p : Place) (a b : Option Place) → IfHeld p a → IfHeld p (told_of_both a b)
 held_before p None b h = absurd h
@@ -143,9 +143,9 @@ unfolding if_reached
 goes_behind p w None g h more = covered_by p w h
 goes_behind p w (Some q) g h more = more q
 
-numbered_by : (s : Option Statement) (b : Body) (f : Found) → ((q : Place) → f ≡ Ok (Some q) → IsNumbered s b q) → (o : Option Place) → f ≡ Ok o → IfNumbered s b o
-numbered_by s b f each None e = tt
-numbered_by s b f each (Some q) e = each q e
+placed_by : (s : Option Statement) (b : Body) (f : Found) → ((q : Place) → f ≡ Ok (Some q) → IsPlaced s b q) → (o : Option Place) → f ≡ Ok o → IfNumbered s b o
+placed_by s b f each None e = tt
+placed_by s b f each (Some q) e = each q e
 
 -- what holds of what is told so far holds to the end
 stays : (p : Place) (count x v : ℕ) (check : Facts → Result Verdict Fault) (find : Facts → Found) (k : Facts) (so_far : Option Place) → IfHeld p so_far → IsCovered p (over_turns count x v check find k so_far)
@@ -176,7 +176,7 @@ came check x v turn k t e = go (check (with_range x (only v) k)) e
 
 -- what is told over all turns holds in this one
 turn_covered : (s : Option Statement) (b : Body) (p : Place) (count x v : ℕ) (check : Facts → Result Verdict Fault) (find : Facts → Found) (k : Facts) (so_far : Option Place)
-    → ((t : Facts) (q : Place) → find t ≡ Ok (Some q) → IsNumbered s b q) → IfNumbered s b so_far
+    → ((t : Facts) (q : Place) → find t ≡ Ok (Some q) → IsPlaced s b q) → IfNumbered s b so_far
     → (turn : ℕ) → turn < count → (t : Facts) → at_turn check x v turn k ≡ Ok (Some t) → IsCovered p (find t) → IsCovered p (over_turns count x v check find k so_far)
 unfolding if_reached
 turn_covered s b p zero x v check find k so_far each i turn lt t at h = absurd (omega arith)
@@ -184,7 +184,7 @@ turn_covered s b p (suc n) x v check find k so_far each i zero lt t at h =
     let now : Facts = with_range x (only v) k in
     let same : t ≡ now = cc in
     goes_on p (find now) _ (λ here e.
-    let held = held_now s b p so_far here i (numbered_by s b (find now) (each now) here e) (held_of p (find now) here e (subst (λ u. IsCovered p (find u)) same h)) in
+    let held = held_now s b p so_far here i (placed_by s b (find now) (each now) here e) (held_of p (find now) here e (subst (λ u. IsCovered p (find u)) same h)) in
     goes_behind p (told_of_both so_far here) (left_by (check now)) _ held
     (λ q. stays p n x (v + 1) check find q (told_of_both so_far here) held))
 turn_covered s b p (suc n) x v check find k so_far each i (suc turn) lt t at h =
@@ -193,7 +193,7 @@ turn_covered s b p (suc n) x v check find k so_far each i (suc turn) lt t at h =
     goes_on p (find now) _ (λ here e.
     subst (λ o. IsCovered p (if_reached (told_of_both so_far here) o (λ r. over_turns n x (v + 1) check find r (told_of_both so_far here)))) (sym q.1)
     (turn_covered s b p n x (v + 1) check find q.0 (told_of_both so_far here) each
-    (both_numbered s b so_far here i (numbered_by s b (find now) (each now) here e)) turn (omega arith) t q.2 h))
+    (both_placed s b so_far here i (placed_by s b (find now) (each now) here e)) turn (omega arith) t q.2 h))
 
 -- ---- places
 
@@ -201,13 +201,10 @@ covers_here : (b : Bool) (here p : Place) (f g : Found) → (g ≡ Ok (Some p) �
 covers_here true here p f g h e = covers_itself (Ok (Some here)) p e
 covers_here false here p f g h e = h e
 
-at_this : (n : ℕ) (here p : Place) (f g : ℕ → Found) → (g (n - 1) ≡ Ok (Some p) → IsCovered p (f (n - 1))) → at_or (Ok (Some here)) n g ≡ Ok (Some p) → IsCovered p (at_or (Ok (Some here)) n f)
-at_this n here p f g h e = covers_here (nat_eq n 0) here p (f (n - 1)) (g (n - 1)) h e
-
-in_either : (o : Option ℕ) (p : Place) (first first' : Found) (others others' : ℕ → Found) → (first' ≡ Ok (Some p) → IsCovered p first) → ((r : ℕ) → others' r ≡ Ok (Some p) → IsCovered p (others r))
-    → first_or o first' others' ≡ Ok (Some p) → IsCovered p (first_or o first others)
-in_either None p first first' others others' h g e = h e
-in_either (Some r) p first first' others others' h g e = g r e
+in_either : (b : Bool) (p : Place) (first first' other other' : Found) → (first' ≡ Ok (Some p) → IsCovered p first) → (other' ≡ Ok (Some p) → IsCovered p other)
+    → (if b then first' else other') ≡ Ok (Some p) → IsCovered p (if b then first else other)
+in_either true p first first' other other' h g e = h e
+in_either false p first first' other other' h g e = g e
 
 covers_step : {A : Type 0} (r : Result A Fault) (p : Place) (f g : A → Found) → ((y : A) → g y ≡ Ok (Some p) → IsCovered p (f y)) → go_on r g ≡ Ok (Some p) → IsCovered p (go_on r f)
 unfolding go_on
@@ -224,94 +221,86 @@ if_same true p f g h e = h e
 if_same false p f g h e = absurd (cc)
 
 turns_covered : (s : Option Statement) (b : Body) (p : Place) (count x v : ℕ) (check : Facts → Result Verdict Fault) (find : List ℕ → Facts → Found) (k : Facts) (turns inner : List ℕ)
-    → ((t : Facts) (q : Place) → find [] t ≡ Ok (Some q) → IsNumbered s b q) → ((us vs : List ℕ) (t : Facts) → find (us ++ vs) t ≡ Ok (Some p) → IsCovered p (find us t))
+    → ((t : Facts) (q : Place) → find [] t ≡ Ok (Some q) → IsPlaced s b q) → ((us vs : List ℕ) (t : Facts) → find (us ++ vs) t ≡ Ok (Some p) → IsCovered p (find us t))
     → in_turns count x v check find k (turns ++ inner) ≡ Ok (Some p) → IsCovered p (in_turns count x v check find k turns)
-turns_covered s b p count x v check find k (turn ∷ us) inner each covers e =
-    if_same (nat_lt turn count) p (go_on (at_turn check x v turn k) (λ o. if_reached None o (find us))) (go_on (at_turn check x v turn k) (λ o. if_reached None o (find (us ++ inner))))
+turns_covered s b p count x v check find k (value ∷ us) inner each covers e =
+    let turn : ℕ = value - v in
+    if_same (nat_le v value && nat_lt turn count) p (go_on (at_turn check x v turn k) (λ o. if_reached None o (find us))) (go_on (at_turn check x v turn k) (λ o. if_reached None o (find (us ++ inner))))
     (covers_step (at_turn check x v turn k) p (λ o. if_reached None o (find us)) (λ o. if_reached None o (find (us ++ inner)))
     (λ o. covers_reached o p (find us) (find (us ++ inner)) (covers us inner))) e
 turns_covered s b p count x v check find k [] [] each covers e = covers_itself (over_turns count x v check (find []) k None) p e
-turns_covered s b p count x v check find k [] (turn ∷ inner) each covers e =
-    let h = if_so (nat_lt turn count) (go_on (at_turn check x v turn k) (λ o. if_reached None o (find inner))) p e in
+turns_covered s b p count x v check find k [] (value ∷ inner) each covers e =
+    let turn : ℕ = value - v in
+    let h = if_so (nat_le v value && nat_lt turn count) (go_on (at_turn check x v turn k) (λ o. if_reached None o (find inner))) p e in
     let o = went_on (at_turn check x v turn k) (λ o. if_reached None o (find inner)) p h.1 in
     let known : Known = o.0 in
     let t = was_reached known (find inner) p o.2 in
-    turn_covered s b p count x v check (find []) k None each tt turn (ltb-true turn count h.0) t.0 (o.1 ∙ ap Ok t.1) (covers [] inner t.0 t.2)
+    turn_covered s b p count x v check (find []) k None each tt turn (ltb-true turn count (and_parts (nat_le v value) (nat_lt turn count) h.0).1) t.0 (o.1 ∙ ap Ok t.1) (covers [] inner t.0 t.2)
 
 mutual
-  covered : (c : Context) (around : Around) (s : Statement) (k : Facts) (n : ℕ) (turns inner : List ℕ) (p : Place) → place_in c around s k n (turns ++ inner) ≡ Ok (Some p)
-      → IsCovered p (place_in c around s k n turns)
-  covered c around (choose line test a) k n turns inner p e =
-      let find : List ℕ → ℕ → Facts → Found = λ ts m t. place_in_block c around a t m ts in
-      let inside : List ℕ → ℕ → Found = λ ts m. go_on (split line test k) (λ arms. if_reached None arms.holds (find ts m)) in
-      at_this n (place around (choose line test a) k) p (inside turns) (inside (turns ++ inner))
-      (covers_step (split line test k) p (λ arms. if_reached None arms.holds (find turns (n - 1))) (λ arms. if_reached None arms.holds (find (turns ++ inner) (n - 1))) (λ arms.
-      covers_reached arms.holds p (find turns (n - 1)) (find (turns ++ inner) (n - 1)) (λ t. block_covered c around a t (n - 1) turns inner p)))
+  covered : (c : Context) (around : Around) (s : Statement) (k : Facts) (n : ℕ) (turns inner : List ℕ) (p : Place) → place_inside c around s k n (turns ++ inner) ≡ Ok (Some p)
+      → IsCovered p (place_inside c around s k n turns)
+  covered c around (choose spot test a) k n turns inner p e =
+      let find : List ℕ → Facts → Found = λ ts t. place_in_block c around a t n ts in
+      covers_step (split spot test k) p (λ arms. if_reached None arms.holds (find turns)) (λ arms. if_reached None arms.holds (find (turns ++ inner))) (λ arms.
+      covers_reached arms.holds p (find turns) (find (turns ++ inner)) (λ t. block_covered c around a t n turns inner p))
       e
-  covered c around (choose_else line test a b) k n turns inner p e =
-      let find : List ℕ → ℕ → Facts → Found = λ ts m t. place_in_block c around a t m ts in
-      let other : List ℕ → ℕ → Facts → Found = λ ts r t. place_in_block c around b t r ts in
-      let of_arms : List ℕ → ℕ → Branches → Found = λ ts m arms. first_or (past_block a m) (if_reached None arms.holds (find ts m)) (λ r. if_reached None arms.fails (other ts r)) in
-      let inside : List ℕ → ℕ → Found = λ ts m. go_on (split line test k) (of_arms ts m) in
-      at_this n (place around (choose_else line test a b) k) p (inside turns) (inside (turns ++ inner))
-      (covers_step (split line test k) p (of_arms turns (n - 1)) (of_arms (turns ++ inner) (n - 1)) (λ arms.
-      in_either (past_block a (n - 1)) p (if_reached None arms.holds (find turns (n - 1))) (if_reached None arms.holds (find (turns ++ inner) (n - 1)))
-      (λ r. if_reached None arms.fails (other turns r)) (λ r. if_reached None arms.fails (other (turns ++ inner) r))
-      (covers_reached arms.holds p (find turns (n - 1)) (find (turns ++ inner) (n - 1)) (λ t. block_covered c around a t (n - 1) turns inner p))
-      (λ r. covers_reached arms.fails p (other turns r) (other (turns ++ inner) r) (λ t. block_covered c around b t r turns inner p))))
+  covered c around (choose_else spot test a b) k n turns inner p e =
+      let find : List ℕ → Facts → Found = λ ts t. place_in_block c around a t n ts in
+      let other : List ℕ → Facts → Found = λ ts t. place_in_block c around b t n ts in
+      let of_arms : List ℕ → Branches → Found = λ ts arms. if holds n a then if_reached None arms.holds (find ts) else if_reached None arms.fails (other ts) in
+      covers_step (split spot test k) p (of_arms turns) (of_arms (turns ++ inner)) (λ arms.
+      in_either (holds n a) p (if_reached None arms.holds (find turns)) (if_reached None arms.holds (find (turns ++ inner)))
+      (if_reached None arms.fails (other turns)) (if_reached None arms.fails (other (turns ++ inner)))
+      (covers_reached arms.holds p (find turns) (find (turns ++ inner)) (λ t. block_covered c around a t n turns inner p))
+      (covers_reached arms.fails p (other turns) (other (turns ++ inner)) (λ t. block_covered c around b t n turns inner p)))
       e
-  covered c around (locked line x body) k n turns inner p e =
-      let find : List ℕ → ℕ → ℕ → Found = λ ts m i. place_in_block c (with_locked i around) body k m ts in
-      at_this n (place around (locked line x body) k) p (λ m. go_on (lock_rule c around line x k) (find turns m)) (λ m. go_on (lock_rule c around line x k) (find (turns ++ inner) m))
-      (covers_step (lock_rule c around line x k) p (find turns (n - 1)) (find (turns ++ inner) (n - 1)) (λ i. block_covered c (with_locked i around) body k (n - 1) turns inner p))
+  covered c around (locked spot x body) k n turns inner p e =
+      let find : List ℕ → ℕ → Found = λ ts i. place_in_block c (with_locked i around) body k n ts in
+      covers_step (lock_rule c around spot x k) p (find turns) (find (turns ++ inner)) (λ i. block_covered c (with_locked i around) body k n turns inner p)
       e
-  covered c around (for_ line x e1 e2 keeps body) k n turns inner p e =
-      let find : List ℕ → ℕ → Facts → Found = λ ts m t. place_in_block c (with_fixed x around) body t m ts in
-      let inside : List ℕ → ℕ → Found = λ ts m. go_on (for_limits around line x e1 e2 keeps k) (λ l. if_reached None (for_head x l keeps body k) (find ts m)) in
-      at_this n (place around (for_ line x e1 e2 keeps body) k) p (inside turns) (inside (turns ++ inner))
-      (covers_step (for_limits around line x e1 e2 keeps k) p (λ l. if_reached None (for_head x l keeps body k) (find turns (n - 1)))
-      (λ l. if_reached None (for_head x l keeps body k) (find (turns ++ inner) (n - 1))) (λ l.
-      covers_reached (for_head x l keeps body k) p (find turns (n - 1)) (find (turns ++ inner) (n - 1)) (λ t. block_covered c (with_fixed x around) body t (n - 1) turns inner p)))
+  covered c around (for_ spot x e1 e2 keeps body) k n turns inner p e =
+      let find : List ℕ → Facts → Found = λ ts t. place_in_block c (with_fixed x around) body t n ts in
+      covers_step (for_limits around spot x e1 e2 keeps k) p (λ l. if_reached None (for_head x l keeps body k) (find turns))
+      (λ l. if_reached None (for_head x l keeps body k) (find (turns ++ inner))) (λ l.
+      covers_reached (for_head x l keeps body k) p (find turns) (find (turns ++ inner)) (λ t. block_covered c (with_fixed x around) body t n turns inner p))
       e
-  covered c around (for_each line x v last body) k n turns inner p e =
+  covered c around (for_each spot x v last body) k n turns inner p e =
       let check : Facts → Result Verdict Fault = accept_block c (with_fixed x around) body in
-      let find : ℕ → List ℕ → Facts → Found = λ m ts t. place_in_block c (with_fixed x around) body t m ts in
-      let inside : List ℕ → ℕ → Found = λ ts m. go_on (each_begins around line x v last) (λ count. in_turns count x v check (find m) k ts) in
-      at_this n (place around (for_each line x v last body) k) p (inside turns) (inside (turns ++ inner))
-      (covers_step (each_begins around line x v last) p (λ count. in_turns count x v check (find (n - 1)) k turns) (λ count. in_turns count x v check (find (n - 1)) k (turns ++ inner)) (λ count.
-      turns_covered (statement_in body (n - 1)) around.body p count x v check (find (n - 1)) k turns inner (λ t q. numbered_in c (with_fixed x around) body t (n - 1) [] q)
-      (λ us vs t. block_covered c (with_fixed x around) body t (n - 1) us vs p)))
+      let find : List ℕ → Facts → Found = λ ts t. place_in_block c (with_fixed x around) body t n ts in
+      covers_step (each_begins around spot x v last) p (λ count. in_turns count x v check find k turns) (λ count. in_turns count x v check find k (turns ++ inner)) (λ count.
+      turns_covered (statement_in body n) around.body p count x v check find k turns inner (λ t q. placed_in c (with_fixed x around) body t n [] q)
+      (λ us vs t. block_covered c (with_fixed x around) body t n us vs p))
       e
-  covered c around (while_ line test most x keeps body) k n turns inner p e =
-      let find : List ℕ → ℕ → Facts → Found = λ ts m t. place_in_block c around body t m ts in
-      let of_top : List ℕ → ℕ → Facts → Found = λ ts m top. go_on (split line test top) (λ arms. if_reached None arms.holds (find ts m)) in
-      let inside : List ℕ → ℕ → Found = λ ts m. go_on (while_head around.body line most x keeps body k) (of_top ts m) in
-      at_this n (place around (while_ line test most x keeps body) k) p (inside turns) (inside (turns ++ inner))
-      (covers_step (while_head around.body line most x keeps body k) p (of_top turns (n - 1)) (of_top (turns ++ inner) (n - 1)) (λ top.
-      covers_step (split line test top) p (λ arms. if_reached None arms.holds (find turns (n - 1))) (λ arms. if_reached None arms.holds (find (turns ++ inner) (n - 1))) (λ arms.
-      covers_reached arms.holds p (find turns (n - 1)) (find (turns ++ inner) (n - 1)) (λ t. block_covered c around body t (n - 1) turns inner p))))
+  covered c around (while_ spot test most x keeps body) k n turns inner p e =
+      let find : List ℕ → Facts → Found = λ ts t. place_in_block c around body t n ts in
+      let of_top : List ℕ → Facts → Found = λ ts top. go_on (split spot test top) (λ arms. if_reached None arms.holds (find ts)) in
+      covers_step (while_head around.body spot most x keeps body k) p (of_top turns) (of_top (turns ++ inner)) (λ top.
+      covers_step (split spot test top) p (λ arms. if_reached None arms.holds (find turns)) (λ arms. if_reached None arms.holds (find (turns ++ inner))) (λ arms.
+      covers_reached arms.holds p (find turns) (find (turns ++ inner)) (λ t. block_covered c around body t n turns inner p)))
       e
-  covered c around (assign line x v) k n turns inner p e = covers_itself (place_in c around (assign line x v) k n turns) p e
-  covered c around (set_register line r e1 e2 e3) k n turns inner p e = covers_itself (place_in c around (set_register line r e1 e2 e3) k n turns) p e
-  covered c around (single line size f r move) k n turns inner p e = covers_itself (place_in c around (single line size f r move) k n turns) p e
-  covered c around (address_scan line f r1 r2 max x) k n turns inner p e = covers_itself (place_in c around (address_scan line f r1 r2 max x) k n turns) p e
-  covered c around (q_stop line f r t max x) k n turns inner p e = covers_itself (place_in c around (q_stop line f r t max x) k n turns) p e
-  covered c around (q_repeat line f r t max limit x) k n turns inner p e = covers_itself (place_in c around (q_repeat line f r t max limit x) k n turns) p e
-  covered c around (put line v) k n turns inner p e = covers_itself (place_in c around (put line v) k n turns) p e
-  covered c around (crate_call line which v) k n turns inner p e = covers_itself (place_in c around (crate_call line which v) k n turns) p e
-  covered c around (lam_call line which l) k n turns inner p e = covers_itself (place_in c around (lam_call line which l) k n turns) p e
-  covered c around (call line q es) k n turns inner p e = covers_itself (place_in c around (call line q es) k n turns) p e
+  covered c around (assign spot x v) k n turns inner p e = absurd (cc)
+  covered c around (set_register spot r e1 e2 e3) k n turns inner p e = absurd (cc)
+  covered c around (single spot size f r move) k n turns inner p e = absurd (cc)
+  covered c around (address_scan spot f r1 r2 max x) k n turns inner p e = absurd (cc)
+  covered c around (q_stop spot f r t max x) k n turns inner p e = absurd (cc)
+  covered c around (q_repeat spot f r t max limit x) k n turns inner p e = absurd (cc)
+  covered c around (put spot v) k n turns inner p e = absurd (cc)
+  covered c around (crate_call spot which v) k n turns inner p e = absurd (cc)
+  covered c around (lam_call spot which l) k n turns inner p e = absurd (cc)
+  covered c around (call spot q es) k n turns inner p e = absurd (cc)
 
   block_covered : (c : Context) (around : Around) (b : Block) (k : Facts) (n : ℕ) (turns inner : List ℕ) (p : Place) → place_in_block c around b k n (turns ++ inner) ≡ Ok (Some p)
       → IsCovered p (place_in_block c around b k n turns)
   block_covered c around done k n turns inner p e = absurd (cc)
   block_covered c around (next s rest) k n turns inner p e =
-      let find : List ℕ → ℕ → Facts → Found = λ ts r t. place_in_block c around rest t r ts in
-      let behind : List ℕ → ℕ → Found = λ ts r. go_on (accept_statement c around s k) (λ v. if_reached None v.after (find ts r)) in
-      in_either (past s n) p (place_in c around s k n turns) (place_in c around s k n (turns ++ inner)) (behind turns) (behind (turns ++ inner))
-      (covered c around s k n turns inner p)
-      (λ r. covers_step (accept_statement c around s k) p (λ v. if_reached None v.after (find turns r)) (λ v. if_reached None v.after (find (turns ++ inner) r)) (λ v.
-      covers_reached v.after p (find turns r) (find (turns ++ inner) r) (λ t. block_covered c around rest t r turns inner p)))
+      let find : List ℕ → Facts → Found = λ ts t. place_in_block c around rest t n ts in
+      let here : List ℕ → Found = λ ts. if begins_at n s then Ok (Some (place around s k)) else place_inside c around s k n ts in
+      let behind : List ℕ → Found = λ ts. go_on (accept_statement c around s k) (λ v. if_reached None v.after (find ts)) in
+      in_either (holds_at n s) p (here turns) (here (turns ++ inner)) (behind turns) (behind (turns ++ inner))
+      (covers_here (begins_at n s) (place around s k) p (place_inside c around s k n turns) (place_inside c around s k n (turns ++ inner)) (covered c around s k n turns inner p))
+      (covers_step (accept_statement c around s k) p (λ v. if_reached None v.after (find turns)) (λ v. if_reached None v.after (find (turns ++ inner))) (λ v.
+      covers_reached v.after p (find turns) (find (turns ++ inner)) (λ t. block_covered c around rest t n turns inner p)))
       e
 
 pub turns_are_covered : TurnsAreCovered

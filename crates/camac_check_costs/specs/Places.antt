@@ -1,6 +1,6 @@
--- Where the checker comes while it judges a body, and the place of a statement by its number.
-use Rattle.std.specs.Prelude.{◌≡◌, ◌⊎◌, ℕ, zero, suc, ◌+◌, ◌-◌, ◌<◌, Bool, true, false, ◌&&◌, List, [], ◌∷◌, ◌++◌, Option, Some, None, Result, Ok, Err, nat_eq, nat_lt, option_and_then, if◌then◌else◌}
-use Rattle.camac_lang.specs.Tree.{Statement, choose, choose_else, for_, for_each, while_, locked, Block, done, next, Script}
+-- Where the checker comes while it judges a body, and the place of a statement by its spot.
+use Rattle.std.specs.Prelude.{◌≡◌, ◌⊎◌, ℕ, zero, suc, ◌+◌, ◌-◌, ◌<◌, Bool, true, false, ◌&&◌, ◌||◌, List, [], ◌∷◌, ◌++◌, Option, Some, None, Result, Ok, Err, nat_eq, nat_le, nat_lt, if◌then◌else◌}
+use Rattle.camac_lang.specs.Tree.{Statement, choose, choose_else, for_, for_each, while_, locked, Block, done, next, Script, spot_of}
 use Rattle.camac_range.specs.Interval.{Interval, only, IsWithin}
 use Rattle.camac_branch.specs.Plan.{Layout}
 use Rattle.camac_model.specs.Fine.{Bounds}
@@ -47,23 +47,23 @@ at_turn check x v (suc i) k = do
 -- judged where those before it are accepted; the second arm of an `if` is a place whether or not the first one is accepted.
 abbrev mutual
   pub HasPlace : Context → Place → Around → Statement → Facts → Type 0
-  HasPlace c p around (choose line test a) k =
-      (arms : Branches) × (split line test k ≡ Ok arms) × IfReached arms.holds (λ t. BlockHasPlace c p around a t)
-  HasPlace c p around (choose_else line test a b) k =
-      (arms : Branches) × (split line test k ≡ Ok arms)
+  HasPlace c p around (choose spot test a) k =
+      (arms : Branches) × (split spot test k ≡ Ok arms) × IfReached arms.holds (λ t. BlockHasPlace c p around a t)
+  HasPlace c p around (choose_else spot test a b) k =
+      (arms : Branches) × (split spot test k ≡ Ok arms)
       × (IfReached arms.holds (λ t. BlockHasPlace c p around a t) ⊎ IfReached arms.fails (λ t. BlockHasPlace c p around b t))
-  HasPlace c p around (locked line e body) k =
-      (n : ℕ) × (lock_rule c around line e k ≡ Ok n) × BlockHasPlace c p (with_locked n around) body k
-  HasPlace c p around (for_ line x e1 e2 keeps body) k =
-      (l : Limits) × (for_limits around line x e1 e2 keeps k ≡ Ok l)
+  HasPlace c p around (locked spot e body) k =
+      (n : ℕ) × (lock_rule c around spot e k ≡ Ok n) × BlockHasPlace c p (with_locked n around) body k
+  HasPlace c p around (for_ spot x e1 e2 keeps body) k =
+      (l : Limits) × (for_limits around spot x e1 e2 keeps k ≡ Ok l)
       × IfReached (for_head x l keeps body k) (λ t. BlockHasPlace c p (with_fixed x around) body t)
-  HasPlace c p around (for_each line x v last body) k =
-      (turns : ℕ) × (each_begins around line x v last ≡ Ok turns)
+  HasPlace c p around (for_each spot x v last body) k =
+      (turns : ℕ) × (each_begins around spot x v last ≡ Ok turns)
       × ((turn : ℕ) × (turn < turns)
       × ((t : Facts) × (at_turn (accept_block c (with_fixed x around) body) x v turn k ≡ Ok (Some t)) × BlockHasPlace c p (with_fixed x around) body t))
-  HasPlace c p around (while_ line test most m keeps body) k =
-      (top : Facts) × (while_head around.body line most m keeps body k ≡ Ok top)
-      × ((arms : Branches) × (split line test top ≡ Ok arms) × IfReached arms.holds (λ t. BlockHasPlace c p around body t))
+  HasPlace c p around (while_ spot test most m keeps body) k =
+      (top : Facts) × (while_head around.body spot most m keeps body k ≡ Ok top)
+      × ((arms : Branches) × (split spot test top ≡ Ok arms) × IfReached arms.holds (λ t. BlockHasPlace c p around body t))
   HasPlace c p around s k = ⊥
 
   pub BlockHasPlace : Context → Place → Around → Block → Facts → Type 0
@@ -73,50 +73,57 @@ abbrev mutual
       ⊎ (HasPlace c p around s k
       ⊎ ((v : Verdict) × (accept_statement c around s k ≡ Ok v) × IfReached v.after (λ t. BlockHasPlace c p around rest t)))
 
--- ---- by numbers: statements are counted from 0 in the order of the text, those inside others after the one that they stand in
+-- ---- by spots: a statement is told from all others by how many bytes of the text stand from its first token on
 
--- at 0 itself, else one is passed
-abbrev pub at_or : {A : Type 0} → A → ℕ → (ℕ → A) → A
-at_or here n inside = if nat_eq n 0 then here else inside (n - 1)
+abbrev pub begins_at : (left : ℕ) → Statement → Bool
+begins_at left s = nat_eq (spot_of s).left left
 
--- the number counted from behind a statement, or none where it is one of it
 abbrev mutual
-  pub past : Statement → ℕ → Option ℕ
-  past (choose line test a) n = at_or None n (λ m. past_block a m)
-  past (choose_else line test a b) n = at_or None n (λ m. option_and_then (λ r. past_block b r) (past_block a m))
-  past (for_ line x e1 e2 keeps body) n = at_or None n (λ m. past_block body m)
-  past (for_each line x v last body) n = at_or None n (λ m. past_block body m)
-  past (while_ line test most x keeps body) n = at_or None n (λ m. past_block body m)
-  past (locked line e body) n = at_or None n (λ m. past_block body m)
-  past s n = at_or None n (λ m. Some m)
+  -- whether a statement in it begins there
+  pub holds_inside : (left : ℕ) → Statement → Bool
+  holds_inside left (choose spot test a) = holds left a
+  holds_inside left (choose_else spot test a b) = holds left a || holds left b
+  holds_inside left (for_ spot x e1 e2 keeps body) = holds left body
+  holds_inside left (for_each spot x v last body) = holds left body
+  holds_inside left (while_ spot test most x keeps body) = holds left body
+  holds_inside left (locked spot e body) = holds left body
+  holds_inside left s = false
 
-  pub past_block : Block → ℕ → Option ℕ
-  past_block done n = Some n
-  past_block (next s rest) n = option_and_then (λ m. past_block rest m) (past s n)
+  pub holds : (left : ℕ) → Block → Bool
+  holds left done = false
+  holds left (next s rest) = (begins_at left s || holds_inside left s) || holds left rest
 
--- in what comes first, or with the number counted from behind it
-abbrev pub first_or : {A : Type 0} → Option ℕ → A → (ℕ → A) → A
-first_or None first others = first
-first_or (Some n) first others = others n
+-- itself or one in it
+abbrev pub holds_at : (left : ℕ) → Statement → Bool
+holds_at left s = begins_at left s || holds_inside left s
 
--- A turn is chosen of each `each` that stands around the statement of this number: of the outermost first. Else all turns of it are meant.
+abbrev mutual
+  -- the variables of the `each` loops around the statement, the outermost first
+  pub each_inside : (left : ℕ) → Statement → List ℕ
+  each_inside left (choose spot test a) = each_around left a
+  each_inside left (choose_else spot test a b) = if holds left a then each_around left a else each_around left b
+  each_inside left (for_ spot x e1 e2 keeps body) = each_around left body
+  each_inside left (for_each spot x v last body) = x ∷ each_around left body
+  each_inside left (while_ spot test most x keeps body) = each_around left body
+  each_inside left (locked spot e body) = each_around left body
+  each_inside left s = []
+
+  pub each_around : (left : ℕ) → Block → List ℕ
+  each_around left done = []
+  each_around left (next s rest) = if holds_at left s then (if begins_at left s then [] else each_inside left s) else each_around left rest
+
+abbrev pub each_at : (left : ℕ) → Statement → List ℕ
+each_at left s = if begins_at left s then [] else each_inside left s
+
+-- Turns are chosen by the numbers that the variables have in them, of the outermost `each` around the statement first. Whether one is chosen of each of
+-- these; of others all turns are meant.
 abbrev pub chosen_inside : (List ℕ → Bool) → (turns : List ℕ) → Bool
 chosen_inside inside [] = false
-chosen_inside inside (turn ∷ turns) = inside turns
+chosen_inside inside (value ∷ turns) = inside turns
 
-abbrev mutual
-  pub are_chosen : Statement → ℕ → (turns : List ℕ) → Bool
-  are_chosen (choose line test a) n turns = at_or true n (λ m. are_chosen_in a m turns)
-  are_chosen (choose_else line test a b) n turns = at_or true n (λ m. first_or (past_block a m) (are_chosen_in a m turns) (λ r. are_chosen_in b r turns))
-  are_chosen (for_ line x e1 e2 keeps body) n turns = at_or true n (λ m. are_chosen_in body m turns)
-  are_chosen (for_each line x v last body) n turns = at_or true n (λ m. chosen_inside (λ inner. are_chosen_in body m inner) turns)
-  are_chosen (while_ line test most x keeps body) n turns = at_or true n (λ m. are_chosen_in body m turns)
-  are_chosen (locked line e body) n turns = at_or true n (λ m. are_chosen_in body m turns)
-  are_chosen s n turns = true
-
-  pub are_chosen_in : Block → ℕ → (turns : List ℕ) → Bool
-  are_chosen_in done n turns = true
-  are_chosen_in (next s rest) n turns = first_or (past s n) (are_chosen s n turns) (λ r. are_chosen_in rest r turns)
+abbrev pub are_chosen : (variables turns : List ℕ) → Bool
+are_chosen [] turns = true
+are_chosen (x ∷ xs) turns = chosen_inside (are_chosen xs) turns
 
 -- ---- what is told over turns
 
@@ -150,71 +157,71 @@ over_turns (suc n) x v check find k so_far = do
   if_reached (told_of_both so_far here) (left_by (check (with_range x (only v) k)))
       (λ q. over_turns n x (v + 1) check find q (told_of_both so_far here))
 
--- in the turn that is chosen, or over all
-abbrev pub in_turns : (turns variable value : ℕ) → (Facts → Result Verdict Fault) → (List ℕ → Facts → Result (Option Place) Fault) → Facts → (chosen : List ℕ) → Result (Option Place) Fault
+-- In the turn in which the variable is the number that is chosen, or over all turns. None where no turn has that number.
+abbrev pub in_turns : (turns variable first : ℕ) → (Facts → Result Verdict Fault) → (List ℕ → Facts → Result (Option Place) Fault) → Facts → (chosen : List ℕ) → Result (Option Place) Fault
 in_turns n x v check find k [] = over_turns n x v check (find []) k None
-in_turns n x v check find k (turn ∷ inner) =
-    if nat_lt turn n then (do
-      known ← at_turn check x v turn k
+in_turns n x v check find k (value ∷ inner) =
+    if nat_le v value && nat_lt (value - v) n then (do
+      known ← at_turn check x v (value - v) k
       if_reached None known (find inner))
     else Ok None
 
--- The place of the statement of this number, in the turns that are chosen; none where it is not reached, or is not there. Where one before it is
+-- The place of the statement that begins there, in the turns that are chosen; none where it is not reached, or is not there. Where one before it is
 -- refused, the refusal.
 abbrev mutual
-  pub place_in : Context → Around → Statement → Facts → ℕ → (turns : List ℕ) → Result (Option Place) Fault
-  place_in c around (choose line test a) k n turns =
-      at_or (Ok (Some (place around (choose line test a) k))) n (λ m. do
-        arms ← split line test k
-        if_reached None arms.holds (λ t. place_in_block c around a t m turns))
-  place_in c around (choose_else line test a b) k n turns =
-      at_or (Ok (Some (place around (choose_else line test a b) k))) n (λ m. do
-        arms ← split line test k
-        first_or (past_block a m)
-            (if_reached None arms.holds (λ t. place_in_block c around a t m turns))
-            (λ r. if_reached None arms.fails (λ t. place_in_block c around b t r turns)))
-  place_in c around (locked line e body) k n turns =
-      at_or (Ok (Some (place around (locked line e body) k))) n (λ m. do
-        crate_no ← lock_rule c around line e k
-        place_in_block c (with_locked crate_no around) body k m turns)
-  place_in c around (for_ line x e1 e2 keeps body) k n turns =
-      at_or (Ok (Some (place around (for_ line x e1 e2 keeps body) k))) n (λ m. do
-        l ← for_limits around line x e1 e2 keeps k
-        if_reached None (for_head x l keeps body k) (λ t. place_in_block c (with_fixed x around) body t m turns))
-  place_in c around (for_each line x v last body) k n turns =
-      at_or (Ok (Some (place around (for_each line x v last body) k))) n (λ m. do
-        count ← each_begins around line x v last
-        in_turns count x v (accept_block c (with_fixed x around) body) (λ inner t. place_in_block c (with_fixed x around) body t m inner) k turns)
-  place_in c around (while_ line test most x keeps body) k n turns =
-      at_or (Ok (Some (place around (while_ line test most x keeps body) k))) n (λ m. do
-        top ← while_head around.body line most x keeps body k
-        arms ← split line test top
-        if_reached None arms.holds (λ t. place_in_block c around body t m turns))
-  place_in c around s k n turns = at_or (Ok (Some (place around s k))) n (λ m. Ok None)
+  pub place_inside : Context → Around → Statement → Facts → (left : ℕ) → (turns : List ℕ) → Result (Option Place) Fault
+  place_inside c around (choose spot test a) k left turns = do
+    arms ← split spot test k
+    if_reached None arms.holds (λ t. place_in_block c around a t left turns)
+  place_inside c around (choose_else spot test a b) k left turns = do
+    arms ← split spot test k
+    if holds left a then if_reached None arms.holds (λ t. place_in_block c around a t left turns)
+        else if_reached None arms.fails (λ t. place_in_block c around b t left turns)
+  place_inside c around (locked spot e body) k left turns = do
+    crate_no ← lock_rule c around spot e k
+    place_in_block c (with_locked crate_no around) body k left turns
+  place_inside c around (for_ spot x e1 e2 keeps body) k left turns = do
+    l ← for_limits around spot x e1 e2 keeps k
+    if_reached None (for_head x l keeps body k) (λ t. place_in_block c (with_fixed x around) body t left turns)
+  place_inside c around (for_each spot x v last body) k left turns = do
+    count ← each_begins around spot x v last
+    in_turns count x v (accept_block c (with_fixed x around) body) (λ inner t. place_in_block c (with_fixed x around) body t left inner) k turns
+  place_inside c around (while_ spot test most x keeps body) k left turns = do
+    top ← while_head around.body spot most x keeps body k
+    arms ← split spot test top
+    if_reached None arms.holds (λ t. place_in_block c around body t left turns)
+  place_inside c around s k left turns = Ok None
 
-  pub place_in_block : Context → Around → Block → Facts → ℕ → (turns : List ℕ) → Result (Option Place) Fault
-  place_in_block c around done k n turns = Ok None
-  place_in_block c around (next s rest) k n turns = first_or (past s n) (place_in c around s k n turns) (λ r. do
-    v ← accept_statement c around s k
-    if_reached None v.after (λ t. place_in_block c around rest t r turns))
+  pub place_in_block : Context → Around → Block → Facts → (left : ℕ) → (turns : List ℕ) → Result (Option Place) Fault
+  place_in_block c around done k left turns = Ok None
+  place_in_block c around (next s rest) k left turns =
+      if holds_at left s then (if begins_at left s then Ok (Some (place around s k)) else place_inside c around s k left turns)
+      else (do
+        v ← accept_statement c around s k
+        if_reached None v.after (λ t. place_in_block c around rest t left turns))
 
--- In the body of a procedure or service, over all turns of the `each` loops around it. How much these judge is counted before the body is judged.
-abbrev pub place_of : Context → Section → ℕ → Result (Option Place) Fault
-place_of c (of_procedure p) n = do
+-- of one statement, itself or one in it
+abbrev pub place_in : Context → Around → Statement → Facts → (left : ℕ) → (turns : List ℕ) → Result (Option Place) Fault
+place_in c around s k left turns = if begins_at left s then Ok (Some (place around s k)) else place_inside c around s k left turns
+
+-- In the body of a procedure or service. How much its `each` loops judge is counted before the body is judged.
+abbrev pub place_of : Context → Section → (left : ℕ) → (turns : List ℕ) → Result (Option Place) Fault
+place_of c (of_procedure p) left turns = do
   judged ← count_block (own_body c) p.body 0
-  if_reached None (at_entry p.parameters) (λ k. place_in_block c (alone_in (own_body c)) p.body k n [])
-place_of c (of_service v) n = do
+  if_reached None (at_entry p.parameters) (λ k. place_in_block c (alone_in (own_body c)) p.body k left turns)
+place_of c (of_service v) left turns = do
   judged ← count_block (body.Service v.lam) v.body 0
-  place_in_block c (alone_in (body.Service v.lam)) v.body at_start n []
+  place_in_block c (alone_in (body.Service v.lam)) v.body at_start left turns
 
--- in the body of this number, from 0
-abbrev pub place_over : Context → List Section → (body n : ℕ) → Result (Option Place) Fault
-place_over c [] i n = Ok None
-place_over c (of_procedure p ∷ rest) i n = at_or (place_of c (of_procedure p) n) i (λ j. place_over (with_procedure p c) rest j n)
-place_over c (of_service v ∷ rest) i n = at_or (place_of c (of_service v) n) i (λ j. place_over c rest j n)
+-- in the first body that holds it
+abbrev pub place_over : Context → List Section → (left : ℕ) → (turns : List ℕ) → Result (Option Place) Fault
+place_over c [] left turns = Ok None
+place_over c (of_procedure p ∷ rest) left turns =
+    if holds left p.body then place_of c (of_procedure p) left turns else place_over (with_procedure p c) rest left turns
+place_over c (of_service v ∷ rest) left turns = if holds left v.body then place_of c (of_service v) left turns else place_over c rest left turns
 
-abbrev pub place_with : (Bounds → Bounds) → Layout → Script → (body n : ℕ) → Result (Option Place) Fault
-place_with limit plan s i n = place_over (bare limit plan s) (sections_of s) i n
+abbrev pub place_with : (Bounds → Bounds) → Layout → Script → (left : ℕ) → (turns : List ℕ) → Result (Option Place) Fault
+place_with limit plan s left turns = place_over (bare limit plan s) (sections_of s) left turns
 
 -- ---- laws
 
@@ -222,8 +229,8 @@ place_with limit plan s i n = place_over (bare limit plan s) (sections_of s) i n
 -- are chosen.
 abbrev pub PlacesAreFound : Type 0
 PlacesAreFound =
-    (c : Context) (around : Around) (block : Block) (start : Facts) (n : ℕ) (turns : List ℕ) (p : Place) → are_chosen_in block n turns ≡ true
-    → place_in_block c around block start n turns ≡ Ok (Some p) → BlockHasPlace c p around block start
+    (c : Context) (around : Around) (block : Block) (start : Facts) (left : ℕ) (turns : List ℕ) (p : Place) → are_chosen (each_around left block) turns ≡ true
+    → place_in_block c around block start left turns ≡ Ok (Some p) → BlockHasPlace c p around block start
 
 -- of several places what is known at all of them, and no less
 pub data IsTold (P : Place → Type 0) : Place → Type 0 where
@@ -233,8 +240,8 @@ pub data IsTold (P : Place → Type 0) : Place → Type 0 where
 -- Over several turns that is told of places to which the checker comes.
 abbrev pub TurnsAreTold : Type 0
 TurnsAreTold =
-    (c : Context) (around : Around) (block : Block) (start : Facts) (n : ℕ) (turns : List ℕ) (told : Place)
-    → place_in_block c around block start n turns ≡ Ok (Some told) → IsTold (λ p. BlockHasPlace c p around block start) told
+    (c : Context) (around : Around) (block : Block) (start : Facts) (left : ℕ) (turns : List ℕ) (told : Place)
+    → place_in_block c around block start left turns ≡ Ok (Some told) → IsTold (λ p. BlockHasPlace c p around block start) told
 
 -- each number of a range is one of those that are told
 abbrev pub IsPart : Interval → Interval → Type 0
@@ -268,5 +275,5 @@ IsCovered p (Err refusal) = Unit {0}
 -- What is told over all turns holds in each of them.
 abbrev pub TurnsAreCovered : Type 0
 TurnsAreCovered =
-    (c : Context) (around : Around) (block : Block) (start : Facts) (n : ℕ) (turns inner : List ℕ) (p : Place)
-    → place_in_block c around block start n (turns ++ inner) ≡ Ok (Some p) → IsCovered p (place_in_block c around block start n turns)
+    (c : Context) (around : Around) (block : Block) (start : Facts) (left : ℕ) (turns inner : List ℕ) (p : Place)
+    → place_in_block c around block start left (turns ++ inner) ≡ Ok (Some p) → IsCovered p (place_in_block c around block start left turns)

@@ -1,7 +1,7 @@
 -- The lines of `camac costs`.
 use Rattle.std.specs.Prelude.{ℕ, List, [], ◌++◌, codes, decimal, nat_eq, option_map, unwrap_or, slice_get, if◌then◌else◌}
 use Rattle.std.specs.List.{flat_map}
-use Rattle.camac_range.specs.Interval.{Interval}
+use Rattle.camac_range.specs.Interval.{Interval, only}
 use Rattle.camac_lang.specs.Tree.{Text, Lam, Procedure, Service, Script}
 use Rattle.camac_branch.specs.Plan.{Layout}
 use Rattle.camac_names.specs.Link.{service_bit}
@@ -51,15 +51,15 @@ range_text r = if nat_eq r.lo r.hi then decimal r.lo else decimal r.lo ++ codes 
 abbrev pub region_text : Region → List ℕ
 region_text g = codes " at " ++ range_text g.crates ++ codes " " ++ range_text g.stations ++ codes " " ++ range_text g.sub_addresses
 
--- one address after a word
-abbrev pub address_after : List ℕ → (crate_no station sub_address : ℕ) → List ℕ
-address_after word c n a = word ++ decimal c ++ codes " " ++ decimal n ++ codes " " ++ decimal a
+-- a station and a sub-address after a word and their crate, or several
+abbrev pub address_after : List ℕ → (crates : Interval) → (station sub_address : ℕ) → List ℕ
+address_after word crates n a = word ++ range_text crates ++ codes " " ++ decimal n ++ codes " " ++ decimal a
 
--- from its first address to its last one
-abbrev pub window_text : Window → List ℕ
-window_text w =
-    address_after (codes " at ") w.crate_no w.first_station w.first_sub_address
-    ++ address_after (codes " to ") w.crate_no w.last_station w.last_sub_address
+-- from its first address to its last one, in each of these crates: an `each` may have another one in each turn
+abbrev pub window_text : (crates : Interval) → Window → List ℕ
+window_text crates w =
+    address_after (codes " at ") crates w.first_station w.first_sub_address
+    ++ address_after (codes " to ") crates w.last_station w.last_sub_address
 
 abbrev pub procedure_name : List Procedure → ℕ → Text
 procedure_name ps i = unwrap_or (option_map (λ p. p.name) (slice_get ps i)) []
@@ -69,14 +69,14 @@ abbrev pub detail_text : List Procedure → Detail → List ℕ
 detail_text ps detail.Nothing = []
 detail_text ps (detail.At g) = region_text g
 detail_text ps (detail.Turns n) = codes " turns " ++ decimal n
-detail_text ps (detail.Between g h) = window_text (window_of g h)
+detail_text ps (detail.Between g h) = window_text g.crates (window_of g h)
 detail_text ps (detail.Crates r) = codes " crate " ++ range_text r
 detail_text ps (detail.Procedure i) = codes " proc " ++ procedure_name ps i
 
 -- where it stands, how often it is made, what one time costs, and its share
 abbrev pub row_start : Row → List ℕ
 row_start r =
-    codes "line " ++ decimal r.line ++ codes " depth " ++ decimal r.depth ++ codes " " ++ kind_word r.kind ++ codes " times " ++ decimal r.times
+    codes "line " ++ decimal r.spot.line ++ codes " depth " ++ decimal r.depth ++ codes " " ++ kind_word r.kind ++ codes " times " ++ decimal r.times
     ++ codes " cycles " ++ decimal r.each.cycles ++ codes " words " ++ decimal r.each.words ++ codes " steps " ++ decimal r.each.steps
     ++ codes " share " ++ decimal r.share.cycles ++ codes " " ++ decimal r.share.words ++ codes " " ++ decimal r.share.steps
 
@@ -86,18 +86,18 @@ row_text ps r = row_start r ++ (detail_text ps r.detail ++ codes "\n")
 -- what a body can cost, each number beside that of its heading
 abbrev pub procedure_line : Procedure → Bounds → List ℕ
 procedure_line p costs =
-    codes "proc " ++ p.name ++ codes " line " ++ decimal p.line
+    codes "proc " ++ p.name ++ codes " line " ++ decimal p.spot.line
     ++ codes " cycles " ++ decimal costs.cycles ++ codes " of " ++ decimal p.cycles
     ++ codes " words " ++ decimal costs.words ++ codes " of " ++ decimal p.words
     ++ codes " steps " ++ decimal costs.steps ++ codes " of " ++ decimal p.steps ++ codes "\n"
 
 abbrev pub address_text : Lam → List ℕ
-address_text l = address_after (codes " at ") l.crate_no l.station l.sub_address
+address_text l = address_after (codes " at ") (only l.crate_no) l.station l.sub_address
 
 -- of a service with the GL bit and the address of its LAM
 abbrev pub service_line : Lam → ℕ → Service → Bounds → List ℕ
 service_line l bit v costs =
-    codes "service " ++ l.name ++ codes " line " ++ decimal v.line ++ codes " gl " ++ decimal bit
+    codes "service " ++ l.name ++ codes " line " ++ decimal v.spot.line ++ codes " gl " ++ decimal bit
     ++ address_text l
     ++ codes " cycles " ++ decimal costs.cycles ++ codes " of " ++ decimal v.cycles
     ++ codes " words " ++ decimal costs.words ++ codes " of " ++ decimal v.words

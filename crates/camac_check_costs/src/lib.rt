@@ -8,9 +8,11 @@ pub mod laws;
 mod place;
 mod texts;
 mod told;
+mod turns;
 
 pub use bodies::{BodyCosts, Owner, costs_of, procedure_costs, service_costs};
 pub use camac_check_rows::{Detail, Kind, Row};
 pub use known::known_lines;
 pub use place::{Standing, find_place};
 pub use texts::write_costs;
+pub use turns::last_turn;

@@ -1,22 +1,23 @@
 // What is known where a statement begins.
 
-ghost use Rattle.std.specs.Prelude.{◌≡◌, ◌≤◌, None, [], drop, length, map};
+ghost use Rattle.std.specs.Prelude.{◌≡◌, ◌≤◌, None, [], drop, false, length, map, nat_eq};
+ghost use Rattle.camac_lang.specs.Tree.{for_each};
 ghost use Rattle.camac_lang.specs.View.{item_of, procedure_of, service_of, statement_of, statements_of};
 ghost use Rattle.camac_rules.specs.Accept.{of_procedure, of_service, sections};
 ghost use Rattle.camac_rules.specs.Capped.{capped};
 ghost use Rattle.camac_rules.specs.Refusal.{if_reached};
 ghost use Rattle.camac_check_simple.specs.Gives.{Gives, by_code, code_before};
-ghost use Rattle.camac_check_costs.specs.Stands.{place_found, place_in_each};
-ghost use Rattle.camac_check_costs.specs.Places.{past, past_block, place_in, place_in_block, place_of, place_over, place_with};
+ghost use Rattle.camac_check_costs.specs.Stands.{place_found};
+ghost use Rattle.camac_check_costs.specs.Places.{holds, holds_at, place_in, place_in_block, place_of, place_over, place_with};
 
-use crate::told::{left_by, told_of_both};
+use crate::told::{known_at_turn, left_by, told_of_both};
 use camac_branch::Plan;
 use camac_check::{CheckFault, Context, accept_next, at_entry};
 use camac_check_known::{Around, Facts, between, split};
 use camac_check_loops::{EachHead, count_block, each_begins, for_limits, while_head};
 use camac_check_rows::Rows;
 use camac_check_simple::{Place, lock_crate};
-use camac_lang::{Item, Procedure, Script, Service, Stmt};
+use camac_lang::{Item, Procedure, Script, Service, Spot, Stmt};
 use camac_rules::Body;
 use std::alloc::Global;
 
@@ -28,28 +29,22 @@ pub struct Standing<'a> {
     pub known: Facts,
 }
 
-/// Finds what the checker knows before a statement of a linked script. The statement is given by the number of its body, in the order of the
-/// text, and its own number there. Both count from 0, and statements inside others count too. None if the checker does not come to it, or if it
-/// is not there. If an earlier statement of its body is refused, it gives that refusal. In a `for` with `each` it is what is known in all turns to
-/// which the checker comes.
+/// Finds what the checker knows before the statement of a linked script that begins at a spot. None if the checker does not come to it, or if none begins
+/// there. If an earlier statement of its body is refused, it gives that refusal. Of the `for` loops with `each` around it, the outermost first, `turns` has
+/// the number of the variable in the turn that is meant; none, too, if a loop has no such turn. Of further loops it is what is known in all turns to which
+/// the checker comes.
 pub fn find_place<'a>(
     alloc: Global,
     plan: &'a Plan,
     script: &'a Script,
-    body: usize,
-    number: usize,
+    spot: Spot,
+    turns: &[u32],
 ) -> Result<Option<Standing<'a>>, CheckFault>
-    ensures { Gives place_found result (place_with capped plan.now script.now body number) }
+    ensures { Gives place_found result (place_with capped plan.now script.now spot.left turns.now) }
 {
     let whole = Context::of(plan, script);
-    place_over(
-        alloc,
-        &whole,
-        script.order(),
-        0,
-        script.services(),
-        (body, number),
-    )
+    let services = script.services();
+    place_over(alloc, &whole, script.order(), 0, services, spot.left, turns)
 }
 
 // The same in these declarations, after so many procedures.
@@ -59,34 +54,34 @@ fn place_over<'a>(
     items: &[Item],
     done: usize,
     services: &'a [Service],
-    wanted: (usize, usize),
+    left: usize,
+    turns: &[u32],
 ) -> Result<Option<Standing<'a>>, CheckFault>
     requires { done ≤ length whole.now.procedures.now }
     ensures { Gives place_found result (place_over (code_before whole.now done)
-        (sections (map item_of items.now) (map procedure_of (drop done whole.now.procedures.now)) (map service_of services.now)) wanted.0 wanted.1) }
+        (sections (map item_of items.now) (map procedure_of (drop done whole.now.procedures.now)) (map service_of services.now)) left turns.now) }
 {
-    let (body, number) = wanted;
     match items {
         [] => Ok(None),
         [Item::Procedure, rest @ ..] => match whole.procedures.get(done) {
-            None => place_over(alloc, whole, rest, done, services, wanted),
+            None => place_over(alloc, whole, rest, done, services, left, turns),
             Some(procedure) => {
-                if body == 0 {
-                    return place_in_procedure(alloc, &whole.after(done), procedure, number);
+                if holds(&procedure.body, left) {
+                    return place_in_procedure(alloc, &whole.after(done), procedure, left, turns);
                 }
-                place_over(alloc, whole, rest, done + 1, services, (body - 1, number))
+                place_over(alloc, whole, rest, done + 1, services, left, turns)
             }
         },
         [Item::Service, rest @ ..] => match services {
-            [] => place_over(alloc, whole, rest, done, services, wanted),
+            [] => place_over(alloc, whole, rest, done, services, left, turns),
             [service, others @ ..] => {
-                if body == 0 {
-                    return place_in_service(alloc, &whole.after(done), service, number);
+                if holds(&service.body, left) {
+                    return place_in_service(alloc, &whole.after(done), service, left, turns);
                 }
-                place_over(alloc, whole, rest, done, others, (body - 1, number))
+                place_over(alloc, whole, rest, done, others, left, turns)
             }
         },
-        [_, rest @ ..] => place_over(alloc, whole, rest, done, services, wanted),
+        [_, rest @ ..] => place_over(alloc, whole, rest, done, services, left, turns),
     }
 }
 
@@ -95,15 +90,16 @@ fn place_in_procedure<'a>(
     alloc: Global,
     context: &Context,
     procedure: &'a Procedure,
-    number: usize,
+    left: usize,
+    turns: &[u32],
 ) -> Result<Option<Standing<'a>>, CheckFault>
-    ensures { Gives place_found result (place_of (by_code context.now) (of_procedure (procedure_of procedure.now)) number) }
+    ensures { Gives place_found result (place_of (by_code context.now) (of_procedure (procedure_of procedure.now)) left turns.now) }
 {
     let body = Body::Procedure(context.procedures.len());
     count_block(body, &procedure.body, 0)?;
     let around = Around::alone_in(alloc, body);
     let known = at_entry(alloc, &procedure.parameters)?;
-    place_if_reached(alloc, context, around, &procedure.body, known, number)
+    place_if_reached(alloc, context, around, &procedure.body, known, left, turns)
 }
 
 #[tactic(auto, unfolding(camac_rules::specs::Refusal::go_on))]
@@ -111,40 +107,37 @@ fn place_in_service<'a>(
     alloc: Global,
     context: &Context,
     service: &'a Service,
-    number: usize,
+    left: usize,
+    turns: &[u32],
 ) -> Result<Option<Standing<'a>>, CheckFault>
-    ensures { Gives place_found result (place_of (by_code context.now) (of_service (service_of service.now)) number) }
+    ensures { Gives place_found result (place_of (by_code context.now) (of_service (service_of service.now)) left turns.now) }
 {
     let body = Body::Service(service.lam);
     count_block(body, &service.body, 0)?;
     let around = Around::alone_in(alloc, body);
     let known = Facts::at_start(alloc);
-    place_in_block(alloc, context, around, &service.body, known, number)
+    place_in_block(alloc, context, around, &service.body, known, left, turns)
 }
 
-// The number of a statement, counted from after this one and those in its blocks; none if it is one of these.
-#[cycle(past)]
-fn past(statement: &Stmt, number: usize) -> Option<usize>
-    ensures { result ≡ past (statement_of statement.now) number }
+// Whether a statement begins there, or one in it.
+#[cycle(holds)]
+pub(crate) fn is_in(statement: &Stmt, left: usize) -> bool
+    ensures { result ≡ holds_at left (statement_of statement.now) }
 {
-    if number == 0 {
-        return None;
+    if statement.spot().left == left {
+        return true;
     }
-    let inside = number - 1;
     match statement {
-        Stmt::If { then, .. } => past_block(then, inside),
+        Stmt::If { then, .. } => holds(then, left),
         Stmt::IfElse {
             then,
             otherwise,
             ..
-        } => match past_block(then, inside) {
-            None => None,
-            Some(number) => past_block(otherwise, number),
-        },
+        } => holds(then, left) || holds(otherwise, left),
         Stmt::For { body, .. }
         | Stmt::ForEach { body, .. }
         | Stmt::While { body, .. }
-        | Stmt::Lock { body, .. } => past_block(body, inside),
+        | Stmt::Lock { body, .. } => holds(body, left),
         Stmt::Assign(_)
         | Stmt::SetRegister(_)
         | Stmt::Single(_)
@@ -154,26 +147,24 @@ fn past(statement: &Stmt, number: usize) -> Option<usize>
         | Stmt::Put(_)
         | Stmt::CrateCall(_)
         | Stmt::LamCall(_)
-        | Stmt::Call(_) => Some(inside),
+        | Stmt::Call(_) => false,
     }
 }
 
-#[cycle(past)]
-#[tactic(auto, using(crate::proofs::Placed::past_on, crate::proofs::Placed::past_none, crate::proofs::Placed::past_done))]
-fn past_block(block: &[Stmt], number: usize) -> Option<usize>
-    ensures { result ≡ past_block (statements_of block.now) number }
+#[cycle(holds)]
+#[tactic(auto, using(crate::proofs::Placed::holds_on, crate::proofs::Placed::holds_here, crate::proofs::Placed::holds_none))]
+pub(crate) fn holds(block: &[Stmt], left: usize) -> bool
+    ensures { result ≡ holds left (statements_of block.now) }
 {
-    let mut left = number;
     'statements: for statement in block {
-        left = match past(statement, left) {
-            None => return None,
-            Some(number) => number,
-        };
+        if is_in(statement, left) {
+            return true;
+        }
     }
-    Some(left)
+    false
 }
 
-// The place of the statement of this number in a block that can be reached.
+// The place of the statement that is looked for, in a block that can be reached.
 #[cycle(places)]
 #[tactic(auto, using(crate::proofs::Placed::place_here, crate::proofs::Placed::place_on, crate::proofs::Placed::place_ends, crate::proofs::Placed::place_refused, crate::proofs::Placed::place_done))]
 fn place_in_block<'a>(
@@ -182,17 +173,16 @@ fn place_in_block<'a>(
     around: Around,
     block: &'a [Stmt],
     known: Facts,
-    number: usize,
+    left: usize,
+    turns: &[u32],
 ) -> Result<Option<Standing<'a>>, CheckFault>
-    ensures { Gives place_found result (place_in_block (by_code context.now) around (statements_of block.now) known number []) }
+    ensures { Gives place_found result (place_in_block (by_code context.now) around (statements_of block.now) known left turns.now) }
 {
     let mut here = known;
-    let mut left = number;
     'statements: for statement in block {
-        left = match past(statement, left) {
-            None => return place_in(alloc, context, around, statement, here, left),
-            Some(number) => number,
-        };
+        if is_in(statement, left) {
+            return place_in(alloc, context, around, statement, here, left, turns);
+        }
         let mut after = Some(here);
         accept_next(
             alloc,
@@ -219,17 +209,18 @@ fn place_if_reached<'a>(
     around: Around,
     block: &'a [Stmt],
     known: Option<Facts>,
-    number: usize,
+    left: usize,
+    turns: &[u32],
 ) -> Result<Option<Standing<'a>>, CheckFault>
-    ensures { Gives place_found result (if_reached None known (λ k. place_in_block (by_code context.now) around (statements_of block.now) k number [])) }
+    ensures { Gives place_found result (if_reached None known (λ k. place_in_block (by_code context.now) around (statements_of block.now) k left turns.now)) }
 {
     match known {
-        Some(known) => place_in_block(alloc, context, around, block, known, number),
+        Some(known) => place_in_block(alloc, context, around, block, known, left, turns),
         None => Ok(None),
     }
 }
 
-// The place of the statement of this number in a statement: itself at 0.
+// The same in a statement: itself, or one in it.
 #[cycle(places)]
 #[tactic(auto, unfolding(camac_rules::specs::Refusal::go_on, camac_rules::specs::Refusal::if_reached))]
 fn place_in<'a>(
@@ -238,39 +229,38 @@ fn place_in<'a>(
     around: Around,
     statement: &'a Stmt,
     known: Facts,
-    number: usize,
+    left: usize,
+    turns: &[u32],
 ) -> Result<Option<Standing<'a>>, CheckFault>
-    ensures { Gives place_found result (place_in (by_code context.now) around (statement_of statement.now) known number []) }
+    ensures { Gives place_found result (place_in (by_code context.now) around (statement_of statement.now) known left turns.now) }
 {
-    if number == 0 {
+    if statement.spot().left == left {
         return Ok(Some(Standing {
             statement,
             around,
             known,
         }));
     }
-    let inside = number - 1;
     match statement {
-        Stmt::If { line, test, then } => {
-            let ways = split(alloc, *line, &test.parts, known)?;
-            place_if_reached(alloc, context, around, then, ways.holds, inside)
+        Stmt::If { spot, test, then } => {
+            let ways = split(alloc, *spot, &test.parts, known)?;
+            place_if_reached(alloc, context, around, then, ways.holds, left, turns)
         }
         Stmt::IfElse {
-            line,
+            spot,
             test,
             then,
             otherwise,
         } => {
-            let ways = split(alloc, *line, &test.parts, known)?;
-            match past_block(then, inside) {
-                None => place_if_reached(alloc, context, around, then, ways.holds, inside),
-                Some(number) => {
-                    place_if_reached(alloc, context, around, otherwise, ways.fails, number)
-                }
+            let ways = split(alloc, *spot, &test.parts, known)?;
+            if holds(then, left) {
+                place_if_reached(alloc, context, around, then, ways.holds, left, turns)
+            } else {
+                place_if_reached(alloc, context, around, otherwise, ways.fails, left, turns)
             }
         }
         Stmt::Lock {
-            line,
+            spot,
             crate_no,
             body,
         } => {
@@ -278,35 +268,39 @@ fn place_in<'a>(
                 context: &*context,
                 around: &around,
             };
-            let c = lock_crate(&place, *line, crate_no, &known)?;
+            let c = lock_crate(&place, *spot, crate_no, &known)?;
             let locked = around.with_locked(alloc, c)?;
-            place_in_block(alloc, context, locked, body, known, inside)
+            place_in_block(alloc, context, locked, body, known, left, turns)
         }
         Stmt::For { head, body } => {
             let limits = for_limits(&around, head, &known)?;
             let fixed = around.with_fixed(alloc, head.variable)?;
             let facts = limits.facts(alloc, head, body, known)?;
-            place_if_reached(alloc, context, fixed, body, facts.head, inside)
+            place_if_reached(alloc, context, fixed, body, facts.head, left, turns)
         }
         Stmt::ForEach {
-            line,
+            spot,
             variable,
             first,
             last,
             body,
         } => {
             let head = EachHead {
-                line: *line,
+                spot: *spot,
                 variable: *variable,
                 first: *first,
                 last: *last,
             };
-            place_in_each(alloc, context, &around, head, body, known, inside)
+            let place = Place {
+                context: &*context,
+                around: &around,
+            };
+            place_in_each(alloc, &place, head, body, known, left, turns)
         }
         Stmt::While { head, body } => {
             let top = while_head(around.body(), head, body, known)?;
-            let ways = split(alloc, head.line, &head.test.parts, top)?;
-            place_if_reached(alloc, context, around, body, ways.holds, inside)
+            let ways = split(alloc, head.spot, &head.test.parts, top)?;
+            place_if_reached(alloc, context, around, body, ways.holds, left, turns)
         }
         Stmt::Assign(_)
         | Stmt::SetRegister(_)
@@ -321,35 +315,62 @@ fn place_in<'a>(
     }
 }
 
-// The place of the statement of this number in the block of an `each`, over its turns.
+// The same in an `each`, of a statement inside: in the turn that is chosen, or over all turns.
 #[cycle(places)]
 #[tactic(auto, unfolding(camac_rules::specs::Refusal::go_on))]
 fn place_in_each<'a>(
     alloc: Global,
-    context: &Context,
-    around: &Around,
+    place: &Place,
     head: EachHead,
     body: &'a [Stmt],
     known: Facts,
-    number: usize,
+    left: usize,
+    turns: &[u32],
 ) -> Result<Option<Standing<'a>>, CheckFault>
-    ensures { Gives place_found result (place_in_each (by_code context.now) around.now head (statements_of body.now) known number) }
+    requires { nat_eq head.spot.left left ≡ false }
+    ensures { Gives place_found result (place_in (by_code place.now.context.now) place.now.around.now (for_each head.spot head.variable head.first head.last (statements_of body.now)) known left turns.now) }
 {
-    let turns = each_begins(around, head)?;
+    let [value, inner @ ..] = turns else {
+        return place_over_turns(alloc, place, head, body, known, left);
+    };
+    let count = each_begins(place.around, head)?;
+    if *value < head.first || count <= *value - head.first {
+        return Ok(None);
+    }
+    let fixed = place.around.with_fixed(alloc, head.variable)?;
+    let begun = known_at_turn(alloc, place.context, &fixed, head, body, known, *value)?;
+    place_if_reached(alloc, place.context, fixed, body, begun, left, inner)
+}
+
+// The same over all turns.
+#[cycle(places)]
+#[tactic(auto, unfolding(camac_rules::specs::Refusal::go_on))]
+fn place_over_turns<'a>(
+    alloc: Global,
+    place: &Place,
+    head: EachHead,
+    body: &'a [Stmt],
+    known: Facts,
+    left: usize,
+) -> Result<Option<Standing<'a>>, CheckFault>
+    requires { nat_eq head.spot.left left ≡ false }
+    ensures { Gives place_found result (place_in (by_code place.now.context.now) place.now.around.now (for_each head.spot head.variable head.first head.last (statements_of body.now)) known left []) }
+{
+    let turns = each_begins(place.around, head)?;
     let mut here = known;
     let mut told = None;
     'turns: for turn in 0..turns {
         let value = head.first + turn;
         here.put_range(head.variable, between(value, value))?;
-        let fixed = around.with_fixed(alloc, head.variable)?;
+        let fixed = place.around.with_fixed(alloc, head.variable)?;
         let begun = here.try_clone(alloc)?;
-        let found = match place_in_block(alloc, context, fixed, body, begun, number) {
+        let found = match place_in_block(alloc, place.context, fixed, body, begun, left, &[]) {
             Ok(found) => found,
             Err(fault) => return Err(fault),
         };
         told = told_of_both(alloc, told, found)?;
-        let inside = around.with_fixed(alloc, head.variable)?;
-        here = match left_by(alloc, context, &inside, body, here)? {
+        let inside = place.around.with_fixed(alloc, head.variable)?;
+        here = match left_by(alloc, place.context, &inside, body, here)? {
             None => return Ok(told),
             Some(known) => known,
         };

@@ -78,7 +78,7 @@ fn start_of_row(row: &Row) -> Line
 {
     let mut line = Line::new();
     line.push_str("line ");
-    line.push_number(row.line);
+    line.push_number(row.spot.line);
     line.push_str(" depth ");
     line.push_number(row.depth);
     line.push_str(" ");
@@ -140,31 +140,31 @@ fn push_region(line: &mut Line, region: Region)
 
 // The window of a scan between the addresses of two registers.
 fn push_window(line: &mut Line, first: Region, last: Region)
-    requires { length line.old ≤ 100 }
-    ensures text { line.new ≡ line.old ++ window_text (window_of first last) }
-    ensures len { length line.new ≤ length line.old + 72 }
+    requires { length line.old ≤ 80 }
+    ensures text { line.new ≡ line.old ++ window_text first.crates (window_of first last) }
+    ensures len { length line.new ≤ length line.old + 96 }
 {
-    let from = first.crates().lo();
+    let crates = first.crates();
     push_address(
         line,
         " at ",
-        from,
+        crates,
         first.stations().lo(),
         first.sub_addresses().lo(),
     );
     let to = last.sub_addresses().hi().min(15);
-    push_address(line, " to ", from, last.stations().hi(), to);
+    push_address(line, " to ", crates, last.stations().hi(), to);
 }
 
-// An address after a word.
-fn push_address(line: &mut Line, word: &str, c: u32, n: u32, a: u32)
+// An address after a word, in one crate or each of several.
+fn push_address(line: &mut Line, word: &str, crates: Range, n: u32, a: u32)
     requires room { length line.old ≤ 140 }
     requires word { length word.now ≤ 4 }
-    ensures text { line.new ≡ line.old ++ address_after word.now c n a }
-    ensures len { length line.new ≤ length line.old + 36 }
+    ensures text { line.new ≡ line.old ++ address_after word.now crates n a }
+    ensures len { length line.new ≤ length line.old + 48 }
 {
     line.push_str(word);
-    line.push_number(c);
+    push_range(line, crates);
     line.push_str(" ");
     line.push_number(n);
     line.push_str(" ");
@@ -274,13 +274,13 @@ fn service_line(lam: &Lam, bit: GlBit, service: &Service, costs: Costs) -> Line
     line.push_str("service ");
     line.push_bytes(lam.name.as_bytes());
     line.push_str(" line ");
-    line.push_number(service.line);
+    line.push_number(service.spot.line);
     line.push_str(" gl ");
     line.push_number(bit.get());
     push_address(
         &mut line,
         " at ",
-        lam.crate_no,
+        Range::only(lam.crate_no),
         lam.station,
         lam.sub_address.get(),
     );
@@ -305,7 +305,7 @@ fn procedure_line(procedure: &Procedure, costs: Costs) -> Line
     line.push_str("proc ");
     line.push_bytes(procedure.name.as_bytes());
     line.push_str(" line ");
-    line.push_number(procedure.line);
+    line.push_number(procedure.spot.line);
     line.push_str(" cycles ");
     line.push_number(costs.cycles());
     line.push_str(" of ");

@@ -1,16 +1,17 @@
-// What is told of a statement in several turns.
+// What is told of a statement in several turns, and what is known where one begins.
 
-ghost use Rattle.std.specs.Prelude.{◌≡◌, IfOk, Ok};
+ghost use Rattle.std.specs.Prelude.{◌≡◌, ◌≤◌, ◌-◌, IfOk, Ok};
 ghost use Rattle.camac_lang.specs.View.{statements_of};
 ghost use Rattle.camac_rules.specs.Addresses.{crate_end};
 ghost use Rattle.camac_rules.specs.Statements.{accept_block};
 ghost use Rattle.camac_check_simple.specs.Gives.{Gives, by_code};
 ghost use Rattle.camac_check_costs.specs.Stands.{place_found};
-ghost use Rattle.camac_check_costs.specs.Places.{left_by, locked_in_both, told_of_both};
+ghost use Rattle.camac_check_costs.specs.Places.{at_turn, left_by, locked_in_both, told_of_both};
 
 use crate::place::Standing;
 use camac_check::{CheckFault, Context, accept_block};
-use camac_check_known::{Around, Facts};
+use camac_check_known::{Around, Facts, between};
+use camac_check_loops::EachHead;
 use camac_check_rows::Rows;
 use camac_lang::Stmt;
 use std::alloc::{AllocError, Global};
@@ -69,4 +70,34 @@ pub(crate) fn left_by(
         Err(CheckFault::OutOfMemory) => Err(CheckFault::OutOfMemory),
         Err(CheckFault::Broken { .. }) => Ok(None),
     }
+}
+
+// What is known where the turn of an `each` begins in which its variable is this number, if the turns before it are accepted and their ends can be
+// reached.
+#[tactic(auto, unfolding(camac_rules::specs::Refusal::go_on, camac_rules::specs::Refusal::if_reached))]
+pub(crate) fn known_at_turn(
+    alloc: Global,
+    context: &Context,
+    around: &Around,
+    head: EachHead,
+    body: &[Stmt],
+    known: Facts,
+    wanted: u32,
+) -> Result<Option<Facts>, CheckFault>
+    requires { head.first ≤ wanted }
+    ensures { Gives (λ o. o) result (at_turn (accept_block (by_code context.now) around.now (statements_of body.now)) head.variable head.first (wanted - head.first) known) }
+{
+    let mut rows = Rows::none();
+    let mut here = known;
+    'turns: for value in head.first..wanted {
+        here.put_range(head.variable, between(value, value))?;
+        let found = accept_block(alloc, context, around, body, Some(here), &mut rows)?;
+        let after = found.known;
+        here = match after {
+            None => return Ok(None),
+            Some(known) => known,
+        };
+    }
+    here.put_range(head.variable, between(wanted, wanted))?;
+    Ok(Some(here))
 }

@@ -9,6 +9,7 @@ use Rattle.camac_rules.specs.Walks.{all_from, count_below, hull_from}
 use Rattle.camac_rules.specs.Addresses.{all_in, are_stations, are_stations_in, command_widths, crate_end, crate_widths, is_station, missing, region_widths, station_end, station_widths, undeclared}
 use Rattle.camac_rules.specs.Refusal.{given, go_on, required}
 use Rattle.camac_rules.specs.declared.rule.CheckRule.TheVariants.{StationNotInstalled, CommandNotDeclared}
+use Rattle.camac_lang.specs.declared.spot.Spot.{Spot}
 
 one_below : (end : ℕ) (r : Interval) (k : ℕ) → k ≡ r.lo → k ≡ r.hi → k < end → count_below end r ≡ 1
 one_below end r k lo hi h = omega arith
@@ -37,7 +38,7 @@ widths_at plan f g c n cl ch nl nh hc hn =
     hull_of_one crate_end g.crates (crate_widths plan f g.sub_addresses g.stations) c cl ch hc
     ∙ hull_of_one station_end g.stations (station_widths plan f g.sub_addresses c) n nl nh hn
 
-pub declared_at : (plan : Layout) (line f : ℕ) (g : Region) (r : Interval) → are_stations plan g ≡ true → region_widths plan f g ≡ Some r → command_widths plan line f g ≡ Ok r
+pub declared_at : (plan : Layout) (spot : Spot) (f : ℕ) (g : Region) (r : Interval) → are_stations plan g ≡ true → region_widths plan f g ≡ Some r → command_widths plan spot f g ≡ Ok r
 unfolding go_on required given
-declared_at plan line f g r is e =
-    ap₂ (λ b o. go_on (required b StationNotInstalled line (missing plan g)) (λ _. given o CommandNotDeclared line (undeclared plan f g))) is e
+declared_at plan spot f g r is e =
+    ap₂ (λ b o. go_on (required b StationNotInstalled spot (missing plan g)) (λ _. given o CommandNotDeclared spot (undeclared plan f g))) is e

@@ -6,21 +6,22 @@ use Rattle.camac_rules.specs.declared.rule.CheckRule.{CheckRule}
 use Rattle.camac_rules.specs.declared.case.Case.{Case}
 use Rattle.camac_rules.specs.Fault.{Fault, broken}
 use Rattle.camac_rules.specs.Refusal.{go_on, required}
+use Rattle.camac_lang.specs.declared.spot.Spot.{Spot}
 
-passes : {B : Type 0} (b : Bool) (rule : CheckRule) (line : ℕ) (case : Case) (r : Result B Fault) → b ≡ true → go_on (required b rule line case) (λ _. r) ≡ r
+passes : {B : Type 0} (b : Bool) (rule : CheckRule) (spot : Spot) (case : Case) (r : Result B Fault) → b ≡ true → go_on (required b rule spot case) (λ _. r) ≡ r
 unfolding go_on required
-passes true rule line case r e = refl
-passes false rule line case r e = cc
+passes true rule spot case r e = refl
+passes false rule spot case r e = cc
 
-pub passes_le : {B : Type 0} (m n : ℕ) (rule : CheckRule) (line : ℕ) (case : Case) (r : Result B Fault) → m ≤ n → go_on (required (nat_le m n) rule line case) (λ _. r) ≡ r
-passes_le m n rule line case r h = passes (nat_le m n) rule line case r (le-leb m n h)
+pub passes_le : {B : Type 0} (m n : ℕ) (rule : CheckRule) (spot : Spot) (case : Case) (r : Result B Fault) → m ≤ n → go_on (required (nat_le m n) rule spot case) (λ _. r) ≡ r
+passes_le m n rule spot case r h = passes (nat_le m n) rule spot case r (le-leb m n h)
 
-refuses : {B : Type 0} (b : Bool) (rule : CheckRule) (line : ℕ) (case : Case) (r : Result B Fault) → b ≡ false → go_on (required b rule line case) (λ _. r) ≡ Err (broken rule line case)
+refuses : {B : Type 0} (b : Bool) (rule : CheckRule) (spot : Spot) (case : Case) (r : Result B Fault) → b ≡ false → go_on (required b rule spot case) (λ _. r) ≡ Err (broken rule spot case)
 unfolding go_on required
-refuses true rule line case r e = cc
-refuses false rule line case r e = refl
+refuses true rule spot case r e = cc
+refuses false rule spot case r e = refl
 
-pub refuses_le : {B : Type 0} (m n : ℕ) (rule : CheckRule) (line : ℕ) (case : Case) (r : Result B Fault) → n < m → go_on (required (nat_le m n) rule line case) (λ _. r) ≡ Err (broken rule line case)
-refuses_le m n rule line case r h = refuses (nat_le m n) rule line case r (lt-leb m n h)
+pub refuses_le : {B : Type 0} (m n : ℕ) (rule : CheckRule) (spot : Spot) (case : Case) (r : Result B Fault) → n < m → go_on (required (nat_le m n) rule spot case) (λ _. r) ≡ Err (broken rule spot case)
+refuses_le m n rule spot case r h = refuses (nat_le m n) rule spot case r (lt-leb m n h)
 
 pub ruleset steps = (passes_le, refuses_le)

@@ -18,6 +18,7 @@ use Rattle.camac_rules.specs.Refusal.{given}
 use Rattle.camac_check_known.specs.declared.fault.CheckFault.{CheckFault}
 use Rattle.camac_check_known.specs.Gives.{Gives}
 use Rattle.camac_rules.proofs.Walks.{least_and_greatest_at}
+use Rattle.camac_lang.specs.declared.spot.Spot.{Spot}
 
 longer : (k end : ℕ) → k < end → end - k ≡ suc (end - (k + 1))
 longer k end h = omega arith
@@ -185,8 +186,8 @@ region_small plan allows f g w e =
     (λ n s k. station_small plan allows f g.sub_addresses c n s k) is) e
 
 -- what is given of something small is small
-pub given_small : (o : Option Interval) (r : Result Interval CheckFault) (rule : CheckRule) (line : ℕ) (case : Case) → Gives (λ w. w) r (given o rule line case) → ((w : Interval) → o ≡ Some w → w.hi ≤ 24) → IfOk r (λ w. w.hi ≤ 24)
+pub given_small : (o : Option Interval) (r : Result Interval CheckFault) (rule : CheckRule) (spot : Spot) (case : Case) → Gives (λ w. w) r (given o rule spot case) → ((w : Interval) → o ≡ Some w → w.hi ≤ 24) → IfOk r (λ w. w.hi ≤ 24)
 unfolding given
-given_small None (Ok w) rule line case g h = cc
-given_small (Some v) (Ok w) rule line case g h = let same : v ≡ w = cc in h w (ap (λ x. Some x) same)
-given_small o (Err e) rule line case g h = tt
+given_small None (Ok w) rule spot case g h = cc
+given_small (Some v) (Ok w) rule spot case g h = let same : v ≡ w = cc in h w (ap (λ x. Some x) same)
+given_small o (Err e) rule spot case g h = tt

@@ -11,7 +11,7 @@ use Rattle.camac_check_known.specs.declared.fault.CheckFault.TheVariants.{OutOfM
 -- the rules refuse so, unless memory ran out
 abbrev pub Fails : {Y : Type 0} → CheckFault → Result Y Fault → Type 0
 Fails OutOfMemory rules = Unit {0}
-Fails (Broken rule line case) rules = rules ≡ Err (broken rule line case)
+Fails (Broken rule spot case) rules = rules ≡ Err (broken rule spot case)
 
 -- What was answered, seen by view, is what the rules give, unless memory ran out.
 abbrev pub Gives : {X Y : Type 0} → (X → Y) → Result X CheckFault → Result Y Fault → Type 0

@@ -15,6 +15,7 @@ use crate::known::Region;
 use crate::missing::{missing, undeclared};
 use crate::walk::{end_of, first_failing, hull_from};
 use camac_branch::Plan;
+use camac_lang::Spot;
 use camac_range::Range;
 use camac_rules::CheckRule;
 use camac_word::{CrateNo, Function, Station, SubAddress};
@@ -29,26 +30,26 @@ pub(crate) const SUB_ADDRESS_END: u32 = 16;
 /// The least and the greatest width of a command at the addresses of a region. E1 where one of them is not installed, and else E2 where one
 /// does not declare the command.
 #[tactic(auto, unfolding(camac_rules::specs::Refusal::go_on))]
-pub fn command_widths(plan: &Plan, line: u32, f: Function, g: Region) -> Result<Range, CheckFault>
-    ensures rule { Gives (λ r. r) result (command_widths plan.now line f g) }
+pub fn command_widths(plan: &Plan, spot: Spot, f: Function, g: Region) -> Result<Range, CheckFault>
+    ensures rule { Gives (λ r. r) result (command_widths plan.now spot f g) }
     ensures in_range { IfOk result (λ r. r.hi ≤ 24) }
 {
     match widths_at_station(plan, f, g) {
         Some(widths) => Ok(widths),
-        None => walked_widths(plan, line, f, g),
+        None => walked_widths(plan, spot, f, g),
     }
 }
 
 // The same by a walk over the addresses.
 #[inline(never)]
 #[tactic(auto, unfolding(camac_rules::specs::Refusal::go_on))]
-fn walked_widths(plan: &Plan, line: u32, f: Function, g: Region) -> Result<Range, CheckFault>
-    ensures rule { Gives (λ r. r) result (command_widths plan.now line f g) }
+fn walked_widths(plan: &Plan, spot: Spot, f: Function, g: Region) -> Result<Range, CheckFault>
+    ensures rule { Gives (λ r. r) result (command_widths plan.now spot f g) }
     ensures in_range { IfOk result (λ r. r.hi ≤ 24) }
 {
     plan.allows_commands();
-    installed(plan, line, g)?;
-    declared_widths(plan, line, f, g)
+    installed(plan, spot, g)?;
+    declared_widths(plan, spot, f, g)
 }
 
 // The same where the region has one station alone, as most have, and nothing is refused: no walk is needed.
@@ -85,25 +86,25 @@ fn only_in(range: Range) -> Option<u32>
 
 // Refuses where a station of the region is not installed.
 #[tactic(auto, unfolding(camac_rules::specs::Refusal::required))]
-fn installed(plan: &Plan, line: u32, g: Region) -> Result<(), CheckFault>
-    ensures { Gives (λ u. tt) result (required (are_stations plan.now g) StationNotInstalled line (missing plan.now g)) }
+fn installed(plan: &Plan, spot: Spot, g: Region) -> Result<(), CheckFault>
+    ensures { Gives (λ u. tt) result (required (are_stations plan.now g) StationNotInstalled spot (missing plan.now g)) }
 {
     if are_stations(plan, g) {
         return Ok(());
     }
-    Err(CheckFault::broken(CheckRule::StationNotInstalled, line, missing(plan, g)))
+    Err(CheckFault::broken(CheckRule::StationNotInstalled, spot, missing(plan, g)))
 }
 
 // Refuses where an address of the region has not the command.
 #[tactic(auto, unfolding(camac_rules::specs::Refusal::given))]
-fn declared_widths(plan: &Plan, line: u32, f: Function, g: Region) -> Result<Range, CheckFault>
-    ensures { Gives (λ r. r) result (given (region_widths plan.now f g) CommandNotDeclared line (undeclared plan.now f g)) }
+fn declared_widths(plan: &Plan, spot: Spot, f: Function, g: Region) -> Result<Range, CheckFault>
+    ensures { Gives (λ r. r) result (given (region_widths plan.now f g) CommandNotDeclared spot (undeclared plan.now f g)) }
 {
     match region_widths(plan, f, g) {
         Some(widths) => Ok(widths),
         None => Err(CheckFault::broken(
             CheckRule::CommandNotDeclared,
-            line,
+            spot,
             undeclared(plan, f, g),
         )),
     }

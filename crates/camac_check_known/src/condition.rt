@@ -10,7 +10,7 @@ use crate::expression::range_of;
 use crate::fault::CheckFault;
 use crate::joined::join;
 use crate::known::{Facts, range_in};
-use camac_lang::{Expr, Form, Part, Term, Test};
+use camac_lang::{Expr, Form, Part, Spot, Term, Test};
 use camac_range::{Cmp, Range, narrow};
 use std::alloc::{AllocError, Global};
 
@@ -21,12 +21,17 @@ pub struct Branches {
     pub fails: Option<Facts>,
 }
 
-/// Both ways out of a condition, from what is known before it. E4 on this line where a number in it may be outside 0 to `u32::MAX`; a part
+/// Both ways out of a condition, from what is known before it. E4 at this spot where a number in it may be outside 0 to `u32::MAX`; a part
 /// is looked at where all earlier ones hold.
 #[cycle(split)]
 #[tactic(auto, unfolding(camac_rules::specs::Refusal::go_on))]
-pub fn split(alloc: Global, line: u32, parts: &[Part], known: Facts) -> Result<Branches, CheckFault>
-    ensures { Gives branches_of result (split line (map part_of parts.now) known) }
+pub fn split(
+    alloc: Global,
+    spot: Spot,
+    parts: &[Part],
+    known: Facts,
+) -> Result<Branches, CheckFault>
+    ensures { Gives branches_of result (split spot (map part_of parts.now) known) }
 {
     match parts {
         [] => Ok(Branches {
@@ -34,8 +39,8 @@ pub fn split(alloc: Global, line: u32, parts: &[Part], known: Facts) -> Result<B
             fails: None,
         }),
         [part, rest @ ..] => {
-            let first = split_part(alloc, line, part, known)?;
-            let others = split_reached(alloc, line, rest, first.holds)?;
+            let first = split_part(alloc, spot, part, known)?;
+            let others = split_reached(alloc, spot, rest, first.holds)?;
             Ok(Branches {
                 holds: others.holds,
                 fails: join(alloc, first.fails, others.fails)?,
@@ -49,29 +54,29 @@ pub fn split(alloc: Global, line: u32, parts: &[Part], known: Facts) -> Result<B
 #[tactic(auto, unfolding(camac_rules::specs::Refusal::if_reached))]
 fn split_reached(
     alloc: Global,
-    line: u32,
+    spot: Spot,
     parts: &[Part],
     known: Option<Facts>,
 ) -> Result<Branches, CheckFault>
-    ensures { Gives branches_of result (if_reached (branches None None) known (split line (map part_of parts.now))) }
+    ensures { Gives branches_of result (if_reached (branches None None) known (split spot (map part_of parts.now))) }
 {
     match known {
         None => Ok(Branches {
             holds: None,
             fails: None,
         }),
-        Some(known) => split(alloc, line, parts, known),
+        Some(known) => split(alloc, spot, parts, known),
     }
 }
 
 #[tactic(auto, unfolding(camac_rules::specs::Refusal::go_on))]
-fn split_part(alloc: Global, line: u32, part: &Part, known: Facts) -> Result<Branches, CheckFault>
-    ensures { Gives branches_of result (split_part line (part_of part.now) known) }
+fn split_part(alloc: Global, spot: Spot, part: &Part, known: Facts) -> Result<Branches, CheckFault>
+    ensures { Gives branches_of result (split_part spot (part_of part.now) known) }
 {
     match part {
-        Part::Plain(test) => split_test(alloc, line, test, known),
+        Part::Plain(test) => split_test(alloc, spot, test, known),
         Part::Not(test) => {
-            let ways = split_test(alloc, line, test, known)?;
+            let ways = split_test(alloc, spot, test, known)?;
             Ok(Branches {
                 holds: ways.fails,
                 fails: ways.holds,
@@ -81,8 +86,8 @@ fn split_part(alloc: Global, line: u32, part: &Part, known: Facts) -> Result<Bra
 }
 
 #[tactic(auto, unfolding(camac_rules::specs::Refusal::go_on))]
-fn split_test(alloc: Global, line: u32, test: &Test, known: Facts) -> Result<Branches, CheckFault>
-    ensures { Gives branches_of result (split_test line (test_of test.now) known) }
+fn split_test(alloc: Global, spot: Spot, test: &Test, known: Facts) -> Result<Branches, CheckFault>
+    ensures { Gives branches_of result (split_test spot (test_of test.now) known) }
 {
     match test {
         Test::Q | Test::X => {
@@ -93,8 +98,8 @@ fn split_test(alloc: Global, line: u32, test: &Test, known: Facts) -> Result<Bra
             })
         }
         Test::Compare(a, comparison, b) => {
-            let r = range_of(line, a, known.ranges())?;
-            let s = range_of(line, b, known.ranges())?;
+            let r = range_of(spot, a, known.ranges())?;
+            let s = range_of(spot, b, known.ranges())?;
             let other = known.try_clone(alloc)?;
             Ok(Branches {
                 holds: assume(a, *comparison, b, r, s, known)?,

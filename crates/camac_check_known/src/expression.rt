@@ -10,10 +10,11 @@ ghost use Rattle.camac_rules.specs.declared.rule.CheckRule.TheVariants.{ValueOut
 ghost use Rattle.camac_check_known.specs.declared.fault.CheckFault.TheVariants.{Broken};
 ghost use Rattle.camac_check_known.specs.Gives.{Gives};
 ghost use Rattle.camac_check_known.specs.Told.{Tells};
+ghost use Rattle.camac_lang.specs.declared.spot.Spot.{Spot};
 
 use crate::fault::{CheckFault, numbers_of};
 use crate::known::range_in;
-use camac_lang::{Divisor, Expr, Form, Term};
+use camac_lang::{Divisor, Expr, Form, Spot, Term};
 use camac_range::Range;
 use camac_rules::{Case, CheckRule, Operator};
 
@@ -26,13 +27,13 @@ pub struct Beyond {
 }
 
 impl Beyond {
-    /// E4 on this line.
-    pub fn fault(self, line: u32) -> CheckFault
-        ensures { result ≡ Broken ValueOutOfRange line (operation self.operator self.left self.right) }
+    /// E4 at this spot.
+    pub fn fault(self, spot: Spot) -> CheckFault
+        ensures { result ≡ Broken ValueOutOfRange spot (operation self.operator self.left self.right) }
     {
         CheckFault::broken(
             CheckRule::ValueOutOfRange,
-            line,
+            spot,
             Case::Operation {
                 operator: self.operator,
                 left: numbers_of(self.left),
@@ -42,26 +43,26 @@ impl Beyond {
     }
 }
 
-/// The range of an expression, where the variables have these ranges. E4 on this line where a number may be outside 0 to `u32::MAX`.
-pub fn range_of(line: u32, e: &Expr, ranges: &[Range]) -> Result<Range, CheckFault>
-    ensures { Gives (λ r. r) result (range_of line (expression_of e.now) ranges.now) }
+/// The range of an expression, where the variables have these ranges. E4 at this spot where a number may be outside 0 to `u32::MAX`.
+pub fn range_of(spot: Spot, e: &Expr, ranges: &[Range]) -> Result<Range, CheckFault>
+    ensures { Gives (λ r. r) result (range_of spot (expression_of e.now) ranges.now) }
 {
     let mut beyond = None;
     match reach(e.term(), ranges, &mut beyond) {
         Some(range) => Ok(range),
         None => match beyond {
-            Some(beyond) => Err(beyond.fault(line)),
+            Some(beyond) => Err(beyond.fault(spot)),
             None => unreachable!(),
         },
     }
 }
 
-// The same for every line. An operator without a range is written to a place of its own: a range alone is returned in registers.
+// The same for every spot. An operator without a range is written to a place of its own: a range alone is returned in registers.
 #[cycle(reach)]
 #[tactic(auto, unfolding(camac_rules::specs::Refusal::go_on, camac_rules::specs::Refusal::required))]
 #[inline(always)]
 fn reach(e: Term<'_>, ranges: &[Range], beyond: &mut Option<Beyond>) -> Option<Range>
-    ensures { (line : ℕ) → Tells line result beyond.new (range_of line (term_of e.entry) ranges.now) }
+    ensures { (spot : Spot) → Tells spot result beyond.new (range_of spot (term_of e.entry) ranges.now) }
 {
     match e.form() {
         Form::Number(n) => Some(Range::only(n)),
@@ -73,7 +74,7 @@ fn reach(e: Term<'_>, ranges: &[Range], beyond: &mut Option<Beyond>) -> Option<R
 #[cycle(reach)]
 #[tactic(auto, using(crate::proofs::Steps::steps), unfolding(camac_rules::specs::Refusal::go_on, camac_rules::specs::Refusal::given, camac_rules::specs::Refusal::required))]
 fn reach_operator(e: Term<'_>, ranges: &[Range], beyond: &mut Option<Beyond>) -> Option<Range>
-    ensures { (line : ℕ) → Tells line result beyond.new (range_of line (term_of e.entry) ranges.now) }
+    ensures { (spot : Spot) → Tells spot result beyond.new (range_of spot (term_of e.entry) ranges.now) }
 {
     match e.form() {
         Form::Number(n) => Some(Range::only(n)),
@@ -113,7 +114,7 @@ fn number_or(
     right: Range,
     beyond: &mut Option<Beyond>,
 ) -> Option<Range>
-    ensures { (line : ℕ) → Tells line result beyond.new (given found ValueOutOfRange line (operation operator left right)) }
+    ensures { (spot : Spot) → Tells spot result beyond.new (given found ValueOutOfRange spot (operation operator left right)) }
 {
     if found.is_none() {
         *beyond = Some(Beyond {

@@ -6,6 +6,7 @@ ghost use Rattle.camac_check_known.specs.declared.fault.CheckFault.TheVariants.{
 ghost use Rattle.camac_check_known.specs.Gives.{Gives};
 ghost use Rattle.camac_rules.specs.Cases.{numbers_of};
 
+use camac_lang::Spot;
 use camac_range::Range;
 use camac_rules::{Case, CheckRule, Numbers};
 use std::alloc::{AllocError, AllocFailed};
@@ -21,16 +22,16 @@ pub fn numbers_of(range: Range) -> Numbers
     }
 }
 
-/// The first rule that a script breaks, with the line of the first token of the statement or heading that breaks it (own).
+/// The first rule that a script breaks, with the spot of the first token of the statement or heading that breaks it (own).
 #[derive(Clone, Copy, Debug, PartialEq, Eq, Error)]
 pub enum CheckFault {
     /// E19: memory ran out.
     #[error("memory")]
     OutOfMemory,
-    #[error("line {line}: {rule:?}")]
+    #[error("line {}: {rule:?}", spot.line)]
     Broken {
         rule: CheckRule,
-        line: u32,
+        spot: Spot,
         case: Case,
     },
 }
@@ -52,22 +53,22 @@ impl<T: Drop> From<AllocFailed<T>> for CheckFault {
 }
 
 impl CheckFault {
-    /// A rule that is broken on this line, in this case.
-    pub fn broken(rule: CheckRule, line: u32, case: Case) -> CheckFault
-        ensures { result ≡ Broken rule line case }
+    /// A rule that is broken at this spot, in this case.
+    pub fn broken(rule: CheckRule, spot: Spot, case: Case) -> CheckFault
+        ensures { result ≡ Broken rule spot case }
     {
-        CheckFault::Broken { rule, line, case }
+        CheckFault::Broken { rule, spot, case }
     }
 }
 
-/// Refuses by a rule on this line, in this case, unless its test holds.
+/// Refuses by a rule at this spot, in this case, unless its test holds.
 #[tactic(auto, unfolding(camac_rules::specs::Refusal::required))]
-pub fn required(test: bool, rule: CheckRule, line: u32, case: Case) -> Result<(), CheckFault>
-    ensures { Gives (λ u. tt) result (required test rule line case) }
+pub fn required(test: bool, rule: CheckRule, spot: Spot, case: Case) -> Result<(), CheckFault>
+    ensures { Gives (λ u. tt) result (required test rule spot case) }
 {
     if test {
         Ok(())
     } else {
-        Err(CheckFault::broken(rule, line, case))
+        Err(CheckFault::broken(rule, spot, case))
     }
 }

@@ -18,6 +18,7 @@ use Rattle.camac_rules.specs.EachLimit.{judged_limit}
 use Rattle.camac_rules.specs.Fault.{broken}
 use Rattle.camac_rules.specs.Refusal.{go_on, required}
 use Rattle.camac_check_loops.specs.Counting.{counted}
+use Rattle.camac_lang.specs.declared.spot.Spot.{Spot}
 
 -- so many times a number that is cut
 pub scaled : (t n k : ℕ) → min (t * min n k) k ≡ min (t * n) k
@@ -45,20 +46,20 @@ turns_cut before turns n k =
     omega (arith, outer)
 
 -- a sum of 64 bits before the limit, and past it
-pub below_limit : (place : Body) (line needed n : ℕ) → needed ≡ min n (2 ^ 64 - 1) → needed ≤ 65536 → counted place line n ≡ Ok needed
+pub below_limit : (place : Body) (spot : Spot) (needed n : ℕ) → needed ≡ min n (2 ^ 64 - 1) → needed ≤ 65536 → counted place spot n ≡ Ok needed
 unfolding go_on required
-below_limit place line needed n e le =
+below_limit place spot needed n e le =
     let small : n ≤ judged_limit = omega (arith, e, le) in
     let same : n ≡ needed = omega (arith, e, le) in
-    ap (λ b. go_on (required b TooManyTurns line (judged_case place n judged_limit)) (λ _. Ok n)) (le-leb n judged_limit small) ∙ ap (λ m. Ok m) same
+    ap (λ b. go_on (required b TooManyTurns spot (judged_case place n judged_limit)) (λ _. Ok n)) (le-leb n judged_limit small) ∙ ap (λ m. Ok m) same
 
-pub past_limit : (place : Body) (line needed n : ℕ) → needed ≡ min n (2 ^ 64 - 1) → 65536 < needed → counted place line n ≡ Err (broken TooManyTurns line (Judged place needed 65536))
+pub past_limit : (place : Body) (spot : Spot) (needed n : ℕ) → needed ≡ min n (2 ^ 64 - 1) → 65536 < needed → counted place spot n ≡ Err (broken TooManyTurns spot (Judged place needed 65536))
 unfolding go_on required
-past_limit place line needed n e lt =
+past_limit place spot needed n e lt =
     let large : judged_limit < n = omega (arith, e, lt) in
-    ap (λ b. go_on (required b TooManyTurns line (judged_case place n judged_limit)) (λ _. Ok n)) (lt-leb n judged_limit large)
-    ∙ ap (λ m. Err (broken TooManyTurns line (Judged place m 65536))) (sym e)
+    ap (λ b. go_on (required b TooManyTurns spot (judged_case place n judged_limit)) (λ _. Ok n)) (lt-leb n judged_limit large)
+    ∙ ap (λ m. Err (broken TooManyTurns spot (Judged place m 65536))) (sym e)
 
 -- an `each` of the code as the tree has it
-pub each_is : (line x first last : ℕ) (body : Vec Stmt Global) → statement_of (rust.ForEach line x first last body) ≡ for_each line x first last (statements_of body.items)
-each_is line x first last body = ap statement_of (sym (rust.rolls-ForEach line x first last body)) ∙ fold-roll-Stmt Statement statement_step (layer.ForEach line x first last body)
+pub each_is : (spot : Spot) (x first last : ℕ) (body : Vec Stmt Global) → statement_of (rust.ForEach spot x first last body) ≡ for_each spot x first last (statements_of body.items)
+each_is spot x first last body = ap statement_of (sym (rust.rolls-ForEach spot x first last body)) ∙ fold-roll-Stmt Statement statement_step (layer.ForEach spot x first last body)

@@ -81,18 +81,18 @@ pub struct LoopFacts {
 /// The values of a `for` that may begin. E4, E17, E10 and E8, in this order.
 #[tactic(auto, unfolding(camac_rules::specs::Refusal::go_on))]
 pub fn for_limits(around: &Around, counted: &ForHead, known: &Facts) -> Result<Limits, CheckFault>
-    ensures rule { Gives (λ l. l) result (for_limits around.now counted.now.line counted.now.variable (expression_of counted.now.from) (expression_of counted.now.to) (map keep_of counted.now.keeps.items) known.now) }
+    ensures rule { Gives (λ l. l) result (for_limits around.now counted.now.spot counted.now.variable (expression_of counted.now.from) (expression_of counted.now.to) (map keep_of counted.now.keeps.items) known.now) }
     ensures ordered { IfOk result (λ l. IsTrue (are_ordered (map keep_of counted.now.keeps.items))) }
 {
-    let line = counted.line;
+    let spot = counted.spot;
     let variable = counted.variable;
-    let first = range_of(line, &counted.from, known.ranges())?;
-    let last = range_of(line, &counted.to, known.ranges())?;
+    let first = range_of(spot, &counted.from, known.ranges())?;
+    let last = range_of(spot, &counted.to, known.ranges())?;
     let limits = Limits { first, last };
     required(
         around.may_write(variable),
         CheckRule::LoopVariableAssigned,
-        line,
+        spot,
         Case::Counted {
             body: around.body(),
             variable,
@@ -102,12 +102,12 @@ pub fn for_limits(around: &Around, counted: &ForHead, known: &Facts) -> Result<L
     required(
         needed <= u64::from(limits::TURNS),
         CheckRule::TooManyTurns,
-        line,
+        spot,
         Case::Turns {
             needed,
             allowed: limits::TURNS,
         },
     )?;
-    keeps_at_entry(around.body(), &counted.keeps, known, line)?;
+    keeps_at_entry(around.body(), &counted.keeps, known, spot)?;
     Ok(limits)
 }

@@ -7,7 +7,7 @@ ghost use Rattle.camac_rules.specs.EachLimit.{judged, block_judged, count, count
 ghost use Rattle.camac_check_loops.specs.Counting.{counted};
 
 use camac_check_known::CheckFault;
-use camac_lang::Stmt;
+use camac_lang::{Spot, Stmt};
 use camac_rules::{Body, Case, CheckRule};
 
 /// The most that the `each` loops of a procedure or service may judge.
@@ -33,7 +33,7 @@ fn count(place: Body, statement: &Stmt, before: u64) -> Result<u64, CheckFault>
 {
     match statement {
         Stmt::ForEach {
-            line,
+            spot,
             first,
             last,
             body,
@@ -41,7 +41,7 @@ fn count(place: Body, statement: &Stmt, before: u64) -> Result<u64, CheckFault>
         } => {
             let turns = (u64::from(*last) + 1).saturating_sub(u64::from(*first));
             let all = turns.saturating_mul(block_judged(body).saturating_add(1));
-            within_limit(place, *line, before.saturating_add(all))
+            within_limit(place, *spot, before.saturating_add(all))
         }
         Stmt::If { then, .. } => count_block(place, then, before),
         Stmt::IfElse {
@@ -61,9 +61,9 @@ fn count(place: Body, statement: &Stmt, before: u64) -> Result<u64, CheckFault>
     }
 }
 
-// E10 on this line where so much is judged up to here, 2^64 - 1 where it is more.
-fn within_limit(place: Body, line: u32, needed: u64) -> Result<u64, CheckFault>
-    ensures { (n : ℕ) → needed ≡ min n (2 ^ 64 - 1) → Gives (λ m. m) result (counted place line n) }
+// E10 at this spot where so much is judged up to here, 2^64 - 1 where it is more.
+fn within_limit(place: Body, spot: Spot, needed: u64) -> Result<u64, CheckFault>
+    ensures { (n : ℕ) → needed ≡ min n (2 ^ 64 - 1) → Gives (λ m. m) result (counted place spot n) }
 {
     if needed <= u64::from(JUDGED) {
         return Ok(needed);
@@ -73,7 +73,7 @@ fn within_limit(place: Body, line: u32, needed: u64) -> Result<u64, CheckFault>
         needed,
         allowed: JUDGED,
     };
-    Err(CheckFault::broken(CheckRule::TooManyTurns, line, case))
+    Err(CheckFault::broken(CheckRule::TooManyTurns, spot, case))
 }
 
 // What is judged where a block is judged once, 2^64 - 1 where it is more.

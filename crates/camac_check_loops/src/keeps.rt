@@ -11,20 +11,20 @@ ghost use Rattle.camac_rules.specs.declared.rule.CheckRule.TheVariants.{KeepFail
 
 use crate::forgotten::forget_block;
 use camac_check_known::{CheckFault, Facts, between, numbers_of, range_in};
-use camac_lang::{Keep, Stmt};
+use camac_lang::{Keep, Spot, Stmt};
 use camac_range::Range;
 use camac_rules::{Body, Case, CheckRule, Numbers};
 use std::alloc::AllocError;
 
-/// E8 on this line, unless each kept variable is in its range, which then has a number.
+/// E8 at this spot, unless each kept variable is in its range, which then has a number.
 #[tactic(auto, unfolding(camac_rules::specs::Refusal::required))]
 pub fn keeps_at_entry(
     body: Body,
     keeps: &[Keep],
     known: &Facts,
-    line: u32,
+    spot: Spot,
 ) -> Result<(), CheckFault>
-    ensures rule { Gives (λ u. tt) result (required (keeps_hold (map keep_of keeps.now) known.now) KeepFailsAtEntry line (unkept body (map keep_of keeps.now) known.now)) }
+    ensures rule { Gives (λ u. tt) result (required (keeps_hold (map keep_of keeps.now) known.now) KeepFailsAtEntry spot (unkept body (map keep_of keeps.now) known.now)) }
     ensures ordered { IfOk result (λ u. IsTrue (are_ordered (map keep_of keeps.now))) }
 {
     if keeps_hold(keeps, known) {
@@ -32,7 +32,7 @@ pub fn keeps_at_entry(
     } else {
         Err(CheckFault::broken(
             CheckRule::KeepFailsAtEntry,
-            line,
+            spot,
             unkept(body, keeps, known),
         ))
     }
@@ -82,21 +82,21 @@ fn is_kept(keep: &Keep, range: Range) -> bool
     keep.low <= range.lo() && range.hi() <= keep.high
 }
 
-/// E9 on this line, unless each kept variable is in its range after a turn, if the body comes to its end.
+/// E9 at this spot, unless each kept variable is in its range after a turn, if the body comes to its end.
 #[tactic(auto, unfolding(camac_rules::specs::Refusal::required))]
 pub fn keeps_after(
     body: Body,
     keeps: &[Keep],
     known: &Option<Facts>,
-    line: u32,
+    spot: Spot,
 ) -> Result<(), CheckFault>
-    ensures { Gives (λ u. tt) result (required (keeps_hold_after (map keep_of keeps.now) known.now) KeepFailsAfterTurn line (unkept_after body (map keep_of keeps.now) known.now)) }
+    ensures { Gives (λ u. tt) result (required (keeps_hold_after (map keep_of keeps.now) known.now) KeepFailsAfterTurn spot (unkept_after body (map keep_of keeps.now) known.now)) }
 {
     if keeps_hold_after(keeps, known) {
         return Ok(());
     }
     let case = unkept_after(body, keeps, known);
-    Err(CheckFault::broken(CheckRule::KeepFailsAfterTurn, line, case))
+    Err(CheckFault::broken(CheckRule::KeepFailsAfterTurn, spot, case))
 }
 
 fn unkept_after(body: Body, keeps: &[Keep], known: &Option<Facts>) -> Case

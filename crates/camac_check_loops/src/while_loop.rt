@@ -11,7 +11,7 @@ ghost use Rattle.camac_rules.specs.declared.rule.CheckRule.TheVariants as rule;
 use crate::keeps::{head, keeps_at_entry};
 use crate::written::fall_of;
 use camac_check_known::{CheckFault, Facts, between, range_in, required};
-use camac_lang::{Stmt, WhileHead, limits};
+use camac_lang::{Spot, Stmt, WhileHead, limits};
 use camac_rules::{Body, Case, CheckRule};
 
 /// What is known at the head of a `while` of at most so many turns that may begin. E7, E10 and E8, in this order.
@@ -22,21 +22,21 @@ pub fn while_head(
     body: &[Stmt],
     known: Facts,
 ) -> Result<Facts, CheckFault>
-    ensures { Gives (λ k. k) result (while_head place limited.now.line limited.now.turns limited.now.measure (map keep_of limited.now.keeps.items) (statements_of body.now) known) }
+    ensures { Gives (λ k. k) result (while_head place limited.now.spot limited.now.turns limited.now.measure (map keep_of limited.now.keeps.items) (statements_of body.now) known) }
 {
-    let line = limited.line;
+    let spot = limited.spot;
     let most = limited.turns;
     let measure = limited.measure;
-    let fall = fall_at(place, measure, body, line)?;
+    let fall = fall_at(place, measure, body, spot)?;
     let greatest = range_in(known.ranges(), measure).hi();
     let needed = greatest / fall;
     required(
         most <= limits::TURNS && needed <= most,
         CheckRule::TooManyTurns,
-        line,
+        spot,
         turns_case(needed, most),
     )?;
-    keeps_at_entry(place, &limited.keeps, &known, line)?;
+    keeps_at_entry(place, &limited.keeps, &known, spot)?;
     let mut top = head(body, &limited.keeps, known)?;
     top.put_range(measure, between(0, greatest))?;
     Ok(top)
@@ -44,15 +44,15 @@ pub fn while_head(
 
 // What a turn takes from the measure. E7 where it is not taken once and nothing else writes the measure.
 #[tactic(auto, unfolding(camac_rules::specs::Refusal::given))]
-fn fall_at(place: Body, measure: usize, body: &[Stmt], line: u32) -> Result<u32, CheckFault>
-    ensures rule { Gives (λ k. k) result (given (fall_of measure (statements_of body.now)) rule.MeasureBroken line (Case.Measure place measure)) }
+fn fall_at(place: Body, measure: usize, body: &[Stmt], spot: Spot) -> Result<u32, CheckFault>
+    ensures rule { Gives (λ k. k) result (given (fall_of measure (statements_of body.now)) rule.MeasureBroken spot (Case.Measure place measure)) }
     ensures positive { IfOk result (λ k. 1 ≤ k) }
 {
     match fall_of(measure, body) {
         Some(fall) => Ok(fall),
         None => Err(CheckFault::broken(
             CheckRule::MeasureBroken,
-            line,
+            spot,
             Case::Measure {
                 body: place,
                 variable: measure,

@@ -3,7 +3,7 @@ use Rattle.std.proofs.Common.{◌≡◌, ℕ, List, [], ◌∷◌, Some, None, r
 use Rattle.camac_range.specs.declared.comparison.Cmp.TheVariants.{Less}
 use Rattle.camac_range.specs.Interval.{interval, only}
 use Rattle.camac_lang.specs.declared.word.WordSize.TheVariants.{Full}
-use Rattle.camac_lang.specs.Tree.{number, variable, plain, compare, into, Statement, set_register, single, put, choose, for_each}
+use Rattle.camac_lang.specs.Tree.{number, variable, plain, compare, into, Statement, set_register, single, put, choose, for_each, on_line}
 use Rattle.camac_lang.specs.View.{block_of}
 use Rattle.camac_model.specs.Fine.{Bounds}
 use Rattle.camac_model.specs.Sample.{sample_plan}
@@ -29,17 +29,17 @@ alone = alone_in (Service 0)
 
 -- of `for i = a to b each` on line 4
 abbrev rows_of : (first last : ℕ) → List Statement → Known → List Row
-rows_of a b ss q = statement_rows checking alone (for_each 4 i a b (block_of ss)) q
+rows_of a b ss q = statement_rows checking alone (for_each (on_line 4) i a b (block_of ss)) q
 
 abbrev at_start : Known
 at_start = Some (facts [] [])
 
 abbrev row : (line depth : ℕ) → Kind → (times : ℕ) → (each share : Bounds) → Detail → Row
-row line depth word times each share told = record { line = line; depth = depth; kind = word; times = times; each = each; share = share; detail = told }
+row line depth word times each share told = record { spot = on_line line; depth = depth; kind = word; times = times; each = each; share = share; detail = told }
 
 -- each turn has its own station: the row has all of them
 abbrev stations : List Statement
-stations = set_register 5 r (number 1) (variable i) (number 0) ∷ single 6 Full 0 r (into v) ∷ []
+stations = set_register (on_line 5) r (number 1) (variable i) (number 0) ∷ single (on_line 6) Full 0 r (into v) ∷ []
 
 two_stations : rows_of 5 6 stations at_start
     ≡ row 4 1 kind.For 1 (costs 6 0 7) (costs 0 0 3) (detail.Turns 2)
@@ -51,7 +51,7 @@ two_stations = refl
 
 -- what only one turn makes is made once
 abbrev once_a_word : List Statement
-once_a_word = choose 5 (plain (compare (variable i) Less (number 2)) ∷ []) (block_of (put 6 (number 1) ∷ put 7 (number 2) ∷ [])) ∷ []
+once_a_word = choose (on_line 5) (plain (compare (variable i) Less (number 2)) ∷ []) (block_of (put (on_line 6) (number 1) ∷ put (on_line 7) (number 2) ∷ [])) ∷ []
 
 first_turn_alone : rows_of 1 12 once_a_word at_start
     ≡ row 4 1 kind.For 1 (costs 0 2 27) (costs 0 0 13) (detail.Turns 12)
@@ -80,7 +80,7 @@ unfolding go_on required given if_reached
 not_reached = refl
 
 -- one in another, with as many turns in each
-nested : rows_of 1 4 (for_each 5 k 1 3 (block_of (put 6 (variable k) ∷ [])) ∷ []) at_start
+nested : rows_of 1 4 (for_each (on_line 5) k 1 3 (block_of (put (on_line 6) (variable k) ∷ [])) ∷ []) at_start
     ≡ row 4 1 kind.For 1 (costs 0 12 33) (costs 0 0 5) (detail.Turns 4)
     ∷ row 5 2 kind.For 4 (costs 0 3 7) (costs 0 0 16) (detail.Turns 3)
     ∷ row 6 3 kind.Put 12 (costs 0 1 1) (costs 0 12 12) detail.Nothing

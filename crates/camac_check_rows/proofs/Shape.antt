@@ -1,4 +1,4 @@
--- The rows of a block have one shape, wherever they are judged: as many rows, and each of the same line, depth and kind.
+-- The rows of a block have one shape, wherever they are judged: as many rows, and each of the same spot, depth and kind.
 use Rattle.std.proofs.Common.{◌≡◌, ℕ, suc, zero, ◌+◌, ◌-◌, List, [], ◌∷◌, ◌++◌, map, length, Some, None, refl, sym, ap, ◌∙◌}
 use Rattle.camac_range.specs.Interval.{only}
 use Rattle.camac_lang.specs.Tree.{Statement, assign, set_register, single, address_scan, q_stop, q_repeat, put, crate_call, lam_call, choose, choose_else, for_, for_each, while_, locked, call, Block, done, next}
@@ -14,7 +14,7 @@ use Rattle.camac_check_rows.specs.Turns.{merge, Turned, turned, turns_over, each
 use Rattle.camac_check_rows.specs.Rows.{ways, for_turning, while_turning, taken, lock_inside, lock_head, block_verdict, statement_verdict, inside, statement_rows, block_rows}
 
 pub record SameRow (r s : Row) : Type 0 where
-  pub line : r.line ≡ s.line
+  pub spot : r.spot ≡ s.spot
   pub depth : r.depth ≡ s.depth
   pub kind : r.kind ≡ s.kind
 
@@ -40,7 +40,7 @@ shape_between [] (s ∷ ss) (t ∷ ts) h g = absurd h
 shape_between (r ∷ rs) ss [] h g = absurd h
 shape_between (r ∷ rs) [] (t ∷ ts) h g = absurd g
 shape_between (r ∷ rs) (s ∷ ss) (t ∷ ts) (first, h) (second, g) =
-    (record { line = first.line ∙ sym second.line; depth = first.depth ∙ sym second.depth; kind = first.kind ∙ sym second.kind }, shape_between rs ss ts h g)
+    (record { spot = first.spot ∙ sym second.spot; depth = first.depth ∙ sym second.depth; kind = first.kind ∙ sym second.kind }, shape_between rs ss ts h g)
 
 pub shape_append : (rs ss ts us : List Row) → SameShape rs ss → SameShape ts us → SameShape (rs ++ ts) (ss ++ us)
 shape_append [] [] ts us h g = g
@@ -53,7 +53,7 @@ shape_inside limit v w [] [] h = tt
 shape_inside limit v w [] (s ∷ ss) h = absurd h
 shape_inside limit v w (r ∷ rs) [] h = absurd h
 shape_inside limit v w (r ∷ rs) (s ∷ ss) (first, h) =
-    (record { line = first.line; depth = ap (λ d. in_64_bits (1 + d)) first.depth; kind = first.kind }, shape_inside limit v w rs ss h)
+    (record { spot = first.spot; depth = ap (λ d. in_64_bits (1 + d)) first.depth; kind = first.kind }, shape_inside limit v w rs ss h)
 
 -- ---- turns
 
@@ -62,7 +62,7 @@ merge_shape limit [] ss ts h g = g
 merge_shape limit (r ∷ rs) [] ts h g = h
 merge_shape limit (r ∷ rs) (s ∷ ss) [] h g = absurd h
 merge_shape limit (r ∷ rs) (s ∷ ss) (t ∷ ts) (first, h) (second, g) =
-    (record { line = first.line; depth = first.depth; kind = first.kind }, merge_shape limit rs ss ts h g)
+    (record { spot = first.spot; depth = first.depth; kind = first.kind }, merge_shape limit rs ss ts h g)
 
 pub turns_shape : (limit : Bounds → Bounds) (n x v : ℕ) (judge : Known → Verdict) (rows : Known → List Row) (k : Known) (so_far : Turned) (ts : List Row)
     → ((q : Known) → SameShape (rows q) ts) → SameShape so_far.rows ts → SameShape (turns_over limit n x v judge rows k so_far).rows ts
@@ -81,58 +81,58 @@ each_shape limit x v last judge rows k ts h = turns_shape limit (last + 1 - v) x
 
 mutual
   pub statement_shape : (c : Context) (around others : Around) (s : Statement) (k l : Known) → SameShape (statement_rows c around s k) (statement_rows c others s l)
-  statement_shape c around others (assign line x e) k l = (record { line = refl; depth = refl; kind = refl }, tt)
-  statement_shape c around others (set_register line r e1 e2 e3) k l = (record { line = refl; depth = refl; kind = refl }, tt)
-  statement_shape c around others (single line size f r move) k l = (record { line = refl; depth = refl; kind = refl }, tt)
-  statement_shape c around others (address_scan line f r1 r2 max x) k l = (record { line = refl; depth = refl; kind = refl }, tt)
-  statement_shape c around others (q_stop line f r t max x) k l = (record { line = refl; depth = refl; kind = refl }, tt)
-  statement_shape c around others (q_repeat line f r t max limit x) k l = (record { line = refl; depth = refl; kind = refl }, tt)
-  statement_shape c around others (put line e) k l = (record { line = refl; depth = refl; kind = refl }, tt)
-  statement_shape c around others (crate_call line which e) k l = (record { line = refl; depth = refl; kind = refl }, tt)
-  statement_shape c around others (lam_call line which e) k l = (record { line = refl; depth = refl; kind = refl }, tt)
-  statement_shape c around others (call line p es) k l = (record { line = refl; depth = refl; kind = refl }, tt)
-  statement_shape c around others (choose line test a) k l = (
-    record { line = refl; depth = refl; kind = refl },
-    shape_inside c.limit once once _ _ (block_shape c around others a (ways line test k).holds (ways line test l).holds),
+  statement_shape c around others (assign spot x e) k l = (record { spot = refl; depth = refl; kind = refl }, tt)
+  statement_shape c around others (set_register spot r e1 e2 e3) k l = (record { spot = refl; depth = refl; kind = refl }, tt)
+  statement_shape c around others (single spot size f r move) k l = (record { spot = refl; depth = refl; kind = refl }, tt)
+  statement_shape c around others (address_scan spot f r1 r2 max x) k l = (record { spot = refl; depth = refl; kind = refl }, tt)
+  statement_shape c around others (q_stop spot f r t max x) k l = (record { spot = refl; depth = refl; kind = refl }, tt)
+  statement_shape c around others (q_repeat spot f r t max limit x) k l = (record { spot = refl; depth = refl; kind = refl }, tt)
+  statement_shape c around others (put spot e) k l = (record { spot = refl; depth = refl; kind = refl }, tt)
+  statement_shape c around others (crate_call spot which e) k l = (record { spot = refl; depth = refl; kind = refl }, tt)
+  statement_shape c around others (lam_call spot which e) k l = (record { spot = refl; depth = refl; kind = refl }, tt)
+  statement_shape c around others (call spot p es) k l = (record { spot = refl; depth = refl; kind = refl }, tt)
+  statement_shape c around others (choose spot test a) k l = (
+    record { spot = refl; depth = refl; kind = refl },
+    shape_inside c.limit once once _ _ (block_shape c around others a (ways spot test k).holds (ways spot test l).holds),
   )
-  statement_shape c around others (choose_else line test a b) k l =
-      let arms = ways line test k in
-      let arms' = ways line test l in
+  statement_shape c around others (choose_else spot test a b) k l =
+      let arms = ways spot test k in
+      let arms' = ways spot test l in
       let first = (block_verdict c around a arms.holds).costs in
       let second = (block_verdict c around b arms.fails).costs in
       let first' = (block_verdict c others a arms'.holds).costs in
       let second' = (block_verdict c others b arms'.fails).costs in (
-        record { line = refl; depth = refl; kind = refl },
+        record { spot = refl; depth = refl; kind = refl },
         shape_append (inside c (first_arm first second) (block_rows c around a arms.holds)) (inside c (first_arm first' second') (block_rows c others a arms'.holds)) _ _
             (shape_inside c.limit (first_arm first second) (first_arm first' second') _ _ (block_shape c around others a arms.holds arms'.holds))
-            (record { line = refl; depth = refl; kind = refl }, shape_inside c.limit (second_arm first second) (second_arm first' second') _ _ (block_shape c around others b arms.fails arms'.fails)),
+            (record { spot = refl; depth = refl; kind = refl }, shape_inside c.limit (second_arm first second) (second_arm first' second') _ _ (block_shape c around others b arms.fails arms'.fails)),
       )
-  statement_shape c around others (for_ line x e1 e2 keeps body) k l =
-      let turn = for_turning around line x e1 e2 keeps body k in
-      let turn' = for_turning others line x e1 e2 keeps body l in (
-        record { line = refl; depth = refl; kind = refl },
+  statement_shape c around others (for_ spot x e1 e2 keeps body) k l =
+      let turn = for_turning around spot x e1 e2 keeps body k in
+      let turn' = for_turning others spot x e1 e2 keeps body l in (
+        record { spot = refl; depth = refl; kind = refl },
         shape_inside c.limit (turning turn.turns) (turning turn'.turns) _ _ (block_shape c (with_fixed x around) (with_fixed x others) body turn.head turn'.head),
       )
-  statement_shape c around others (for_each line x v last body) k l =
+  statement_shape c around others (for_each spot x v last body) k l =
       let none = block_rows c (with_fixed x around) body None in
       let turn = each_turned c.limit x v last (block_verdict c (with_fixed x around) body) (block_rows c (with_fixed x around) body) k in
       let turn' = each_turned c.limit x v last (block_verdict c (with_fixed x others) body) (block_rows c (with_fixed x others) body) l in (
-        record { line = refl; depth = refl; kind = refl },
+        record { spot = refl; depth = refl; kind = refl },
         shape_inside c.limit once once turn.rows turn'.rows
             (shape_between turn.rows turn'.rows none
             (each_shape c.limit x v last (block_verdict c (with_fixed x around) body) (block_rows c (with_fixed x around) body) k none (λ q. block_shape c (with_fixed x around) (with_fixed x around) body q None))
             (each_shape c.limit x v last (block_verdict c (with_fixed x others) body) (block_rows c (with_fixed x others) body) l none (λ q. block_shape c (with_fixed x others) (with_fixed x around) body q None))),
       )
-  statement_shape c around others (while_ line test most m keeps body) k l =
-      let turn = while_turning around line test most m keeps body k in
-      let turn' = while_turning others line test most m keeps body l in (
-        record { line = refl; depth = refl; kind = refl },
+  statement_shape c around others (while_ spot test most m keeps body) k l =
+      let turn = while_turning around spot test most m keeps body k in
+      let turn' = while_turning others spot test most m keeps body l in (
+        record { spot = refl; depth = refl; kind = refl },
         shape_inside c.limit (turning turn.turns) (turning turn'.turns) _ _ (block_shape c around others body turn.head turn'.head),
       )
-  statement_shape c around others (locked line e body) k l =
-      let o = taken c around line e k in
-      let o' = taken c others line e l in (
-        record { line = refl; depth = refl; kind = refl },
+  statement_shape c around others (locked spot e body) k l =
+      let o = taken c around spot e k in
+      let o' = taken c others spot e l in (
+        record { spot = refl; depth = refl; kind = refl },
         shape_inside c.limit once once _ _ (block_shape c (lock_inside o around) (lock_inside o' others) body (lock_head o k) (lock_head o' l)),
       )
 

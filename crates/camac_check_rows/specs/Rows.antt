@@ -1,7 +1,7 @@
 -- What each statement has of the bound of its body: rows over what the checker's rules find. No rule is stated here.
 use Rattle.std.specs.Prelude.{ℕ, ◌+◌, List, [], ◌∷◌, ◌++◌, map, Option, Some, None, Result, Ok, Err, option_map, unwrap_or}
 use Rattle.camac_range.specs.Interval.{only}
-use Rattle.camac_lang.specs.Tree.{Expression, Condition, Keep, Statement, choose, choose_else, for_, for_each, while_, locked, Block, done, next, line_of}
+use Rattle.camac_lang.specs.Tree.{Expression, Condition, Keep, Statement, choose, choose_else, for_, for_each, while_, locked, Block, done, next, spot_of}
 use Rattle.camac_branch.specs.Plan.{crate_waits}
 use Rattle.camac_model.specs.Fine.{Bounds}
 use Rattle.camac_rules.specs.Fault.{Fault}
@@ -21,6 +21,7 @@ use Rattle.camac_check_rows.specs.declared.inside.Weight.{Weight}
 use Rattle.camac_check_rows.specs.Statements.{kind_of, detail_of, first_row}
 use Rattle.camac_check_rows.specs.Turns.{Turned, each_turned}
 use Rattle.camac_check_rows.specs.Weights.{once, turning, first_arm, second_arm, inside_row}
+use Rattle.camac_lang.specs.declared.spot.Spot.{Spot}
 
 -- what is found where it is reached and not refused
 abbrev pub found : {A : Type 0} → A → Result A Fault → A
@@ -37,8 +38,8 @@ statement_verdict c around s k = where_reached unreached k (accept_statement c a
 abbrev pub block_verdict : Context → Around → Block → Known → Verdict
 block_verdict c around b k = where_reached unreached k (accept_block c around b)
 
-abbrev pub ways : ℕ → Condition → Known → Branches
-ways line test k = where_reached (branches None None) k (split line test)
+abbrev pub ways : Spot → Condition → Known → Branches
+ways spot test k = where_reached (branches None None) k (split spot test)
 
 -- the most turns of a loop, and what is known where its body begins
 pub record Turning : Type 0 where
@@ -48,21 +49,21 @@ pub record Turning : Type 0 where
 abbrev pub turning_from : ℕ → Known → Turning
 turning_from turns head = record { turns = turns; head = head }
 
-abbrev pub for_turning : Around → ℕ → ℕ → Expression → Expression → List Keep → Block → Known → Turning
-for_turning around line x e1 e2 keeps body k = where_reached (turning_from 0 None) k (λ q. do
-  l ← for_limits around line x e1 e2 keeps q
+abbrev pub for_turning : Around → Spot → ℕ → Expression → Expression → List Keep → Block → Known → Turning
+for_turning around spot x e1 e2 keeps body k = where_reached (turning_from 0 None) k (λ q. do
+  l ← for_limits around spot x e1 e2 keeps q
   Ok (turning_from (turns_between l) (for_head x l keeps body q)))
 
-abbrev pub while_turning : Around → ℕ → Condition → ℕ → ℕ → List Keep → Block → Known → Turning
-while_turning around line test most m keeps body k = where_reached (turning_from 0 None) k (λ q. do
-  top ← while_head around.body line most m keeps body q
-  arms ← split line test top
+abbrev pub while_turning : Around → Spot → Condition → ℕ → ℕ → List Keep → Block → Known → Turning
+while_turning around spot test most m keeps body k = where_reached (turning_from 0 None) k (λ q. do
+  top ← while_head around.body spot most m keeps body q
+  arms ← split spot test top
   Ok (turning_from (turn_bound arms.holds most) arms.holds))
 
 -- the crate that a `lock` takes
-abbrev pub taken : Context → Around → ℕ → Expression → Known → Option ℕ
-taken c around line e k = where_reached None k (λ q. do
-  crate_no ← lock_rule c around line e q
+abbrev pub taken : Context → Around → Spot → Expression → Known → Option ℕ
+taken c around spot e k = where_reached None k (λ q. do
+  crate_no ← lock_rule c around spot e q
   Ok (Some crate_no))
 
 -- 1, or 0 where it can't be reached
@@ -103,15 +104,15 @@ lock_head (Some crate_no) k = k
 
 -- the row of a statement without those of its blocks, where one time of it can cost what the rules find
 abbrev pub own_row : Context → Around → Statement → Known → (share : Bounds) → Detail → Row
-own_row c around s k share told = first_row (line_of s) (kind_of s) (times_at k) (statement_verdict c around s k).costs share told
+own_row c around s k share told = first_row (spot_of s) (kind_of s) (times_at k) (statement_verdict c around s k).costs share told
 
 -- of a statement that holds no others: its share is all that it can cost
 abbrev pub simple_row : Context → Around → Statement → Known → Row
 simple_row c around s k = own_row c around s k (statement_verdict c around s k).costs (detail_of c s k)
 
--- of the second arm of a choice on this line
-abbrev pub else_row : Context → Around → ℕ → Block → Known → Row
-else_row c around line b k = first_row line kind.Else (times_at k) (block_verdict c around b k).costs no_costs detail.Nothing
+-- of the second arm of a choice at this spot
+abbrev pub else_row : Context → Around → Spot → Block → Known → Row
+else_row c around spot b k = first_row spot kind.Else (times_at k) (block_verdict c around b k).costs no_costs detail.Nothing
 
 -- rows of a block as those of its statement
 abbrev pub inside : Context → Weight → List Row → List Row
@@ -137,25 +138,25 @@ lock_rows c around s k o rows = own_row c around s k (lock_share c o) (lock_deta
 
 abbrev mutual
   pub statement_rows : Context → Around → Statement → Known → List Row
-  statement_rows c around (choose line test a) k =
-      if_rows c (own_row c around (choose line test a) k (choice_share k) detail.Nothing) (block_rows c around a (ways line test k).holds)
-  statement_rows c around (choose_else line test a b) k =
-      let arms = ways line test k in
-      choice_rows c (own_row c around (choose_else line test a b) k (choice_share k) detail.Nothing)
+  statement_rows c around (choose spot test a) k =
+      if_rows c (own_row c around (choose spot test a) k (choice_share k) detail.Nothing) (block_rows c around a (ways spot test k).holds)
+  statement_rows c around (choose_else spot test a b) k =
+      let arms = ways spot test k in
+      choice_rows c (own_row c around (choose_else spot test a b) k (choice_share k) detail.Nothing)
       (block_verdict c around a arms.holds).costs (block_rows c around a arms.holds)
-      (else_row c around line b arms.fails) (block_verdict c around b arms.fails).costs (block_rows c around b arms.fails)
-  statement_rows c around (for_ line x e1 e2 keeps body) k =
-      let turn = for_turning around line x e1 e2 keeps body k in
-      loop_rows c around (for_ line x e1 e2 keeps body) k turn (block_rows c (with_fixed x around) body turn.head)
-  statement_rows c around (for_each line x v last body) k =
-      each_rows c around (for_each line x v last body) k
+      (else_row c around spot b arms.fails) (block_verdict c around b arms.fails).costs (block_rows c around b arms.fails)
+  statement_rows c around (for_ spot x e1 e2 keeps body) k =
+      let turn = for_turning around spot x e1 e2 keeps body k in
+      loop_rows c around (for_ spot x e1 e2 keeps body) k turn (block_rows c (with_fixed x around) body turn.head)
+  statement_rows c around (for_each spot x v last body) k =
+      each_rows c around (for_each spot x v last body) k
       (each_turned c.limit x v last (block_verdict c (with_fixed x around) body) (block_rows c (with_fixed x around) body) k)
-  statement_rows c around (while_ line test most m keeps body) k =
-      let turn = while_turning around line test most m keeps body k in
-      loop_rows c around (while_ line test most m keeps body) k turn (block_rows c around body turn.head)
-  statement_rows c around (locked line e body) k =
-      let o = taken c around line e k in
-      lock_rows c around (locked line e body) k o (block_rows c (lock_inside o around) body (lock_head o k))
+  statement_rows c around (while_ spot test most m keeps body) k =
+      let turn = while_turning around spot test most m keeps body k in
+      loop_rows c around (while_ spot test most m keeps body) k turn (block_rows c around body turn.head)
+  statement_rows c around (locked spot e body) k =
+      let o = taken c around spot e k in
+      lock_rows c around (locked spot e body) k o (block_rows c (lock_inside o around) body (lock_head o k))
   statement_rows c around s k = simple_row c around s k ∷ []
 
   -- one after the other, each at what the one before leaves

@@ -19,19 +19,20 @@ use Rattle.camac_check_rows.specs.declared.row.Kind.TheVariants as kind
 use Rattle.camac_check_rows.specs.declared.row.Detail.{Detail}
 use Rattle.camac_check_rows.specs.declared.row.Detail.TheVariants as detail
 use Rattle.camac_check_rows.specs.declared.row.Row.{Row}
+use Rattle.camac_lang.specs.declared.spot.Spot.{Spot}
 
 -- in the body itself
-abbrev pub first_row : (line : ℕ) → Kind → (times : ℕ) → (each share : Bounds) → Detail → Row
-first_row line word times each share told = record { line = line; depth = 1; kind = word; times = times; each = each; share = share; detail = told }
+abbrev pub first_row : (spot : Spot) → Kind → (times : ℕ) → (each share : Bounds) → Detail → Row
+first_row spot word times each share told = record { spot = spot; depth = 1; kind = word; times = times; each = each; share = share; detail = told }
 
 -- it holds no others
 abbrev pub is_simple : Statement → Bool
-is_simple (choose line test a) = false
-is_simple (choose_else line test a b) = false
-is_simple (for_ line x e1 e2 keeps body) = false
-is_simple (for_each line x v last body) = false
-is_simple (while_ line test most m keeps body) = false
-is_simple (locked line e body) = false
+is_simple (choose spot test a) = false
+is_simple (choose_else spot test a b) = false
+is_simple (for_ spot x e1 e2 keeps body) = false
+is_simple (for_each spot x v last body) = false
+is_simple (while_ spot test most m keeps body) = false
+is_simple (locked spot e body) = false
 is_simple s = true
 
 abbrev pub single_kind : WordSize → Kind
@@ -56,22 +57,22 @@ lam_kind lam_word.Clear = kind.Cclc
 lam_kind lam_word.Test = kind.Ctlm
 
 abbrev pub kind_of : Statement → Kind
-kind_of (assign line x e) = kind.Assign
-kind_of (set_register line r c n a) = kind.Cdreg
-kind_of (single line size f r move) = single_kind size
-kind_of (address_scan line f r1 r2 max x) = kind.Cfmad
-kind_of (q_stop line f r t max x) = kind.Cfubc
-kind_of (q_repeat line f r t max limit x) = kind.Cfubr
-kind_of (put line e) = kind.Put
-kind_of (crate_call line which e) = crate_kind which
-kind_of (lam_call line which l) = lam_kind which
-kind_of (choose line test a) = kind.If
-kind_of (choose_else line test a b) = kind.If
-kind_of (for_ line x e1 e2 keeps body) = kind.For
-kind_of (for_each line x v last body) = kind.For
-kind_of (while_ line test most m keeps body) = kind.While
-kind_of (locked line e body) = kind.Lock
-kind_of (call line p es) = kind.Call
+kind_of (assign spot x e) = kind.Assign
+kind_of (set_register spot r c n a) = kind.Cdreg
+kind_of (single spot size f r move) = single_kind size
+kind_of (address_scan spot f r1 r2 max x) = kind.Cfmad
+kind_of (q_stop spot f r t max x) = kind.Cfubc
+kind_of (q_repeat spot f r t max limit x) = kind.Cfubr
+kind_of (put spot e) = kind.Put
+kind_of (crate_call spot which e) = crate_kind which
+kind_of (lam_call spot which l) = lam_kind which
+kind_of (choose spot test a) = kind.If
+kind_of (choose_else spot test a b) = kind.If
+kind_of (for_ spot x e1 e2 keeps body) = kind.For
+kind_of (for_each spot x v last body) = kind.For
+kind_of (while_ spot test most m keeps body) = kind.While
+kind_of (locked spot e body) = kind.Lock
+kind_of (call spot p es) = kind.Call
 
 abbrev pub at_region : Option Region → Detail
 at_region None = detail.Nothing
@@ -93,17 +94,17 @@ in_crates (Ok r) = detail.Crates r
 in_crates (Err f) = detail.Nothing
 
 -- the crates that an expression may name
-abbrev pub crate_detail : ℕ → Expression → Known → Detail
-crate_detail line e None = detail.Nothing
-crate_detail line e (Some k) = in_crates (range_of line e k.ranges)
+abbrev pub crate_detail : Spot → Expression → Known → Detail
+crate_detail spot e None = detail.Nothing
+crate_detail spot e (Some k) = in_crates (range_of spot e k.ranges)
 
 -- of a statement that holds no others
 abbrev pub detail_of : Context → Statement → Known → Detail
-detail_of c (single line size f r move) k = at_region (known_region k r)
-detail_of c (address_scan line f r1 r2 max x) k = between (known_region k r1) (known_region k r2)
-detail_of c (q_stop line f r t max x) k = at_region (known_region k r)
-detail_of c (q_repeat line f r t max limit x) k = at_region (known_region k r)
-detail_of c (crate_call line which e) k = crate_detail line e k
-detail_of c (lam_call line which l) k = at_region (lam_region c l)
-detail_of c (call line p es) k = detail.Procedure p
+detail_of c (single spot size f r move) k = at_region (known_region k r)
+detail_of c (address_scan spot f r1 r2 max x) k = between (known_region k r1) (known_region k r2)
+detail_of c (q_stop spot f r t max x) k = at_region (known_region k r)
+detail_of c (q_repeat spot f r t max limit x) k = at_region (known_region k r)
+detail_of c (crate_call spot which e) k = crate_detail spot e k
+detail_of c (lam_call spot which l) k = at_region (lam_region c l)
+detail_of c (call spot p es) k = detail.Procedure p
 detail_of c s k = detail.Nothing

@@ -25,7 +25,7 @@ most_of a b = costs (max a.cycles b.cycles) (max a.words b.words) (max a.steps b
 
 abbrev pub merged : (Bounds → Bounds) → Row → Row → Row
 merged limit a b = record {
-  line = a.line;
+  spot = a.spot;
   depth = a.depth;
   kind = a.kind;
   times = in_64_bits (a.times + b.times);

@@ -38,7 +38,7 @@ weighed w share = costs (w.cycles * share.cycles) (w.words * share.words) (w.ste
 -- a row of a block as one of its statement
 abbrev pub inside_row : (Bounds → Bounds) → Weight → Row → Row
 inside_row limit w r = record {
-  line = r.line;
+  spot = r.spot;
   depth = in_64_bits (1 + r.depth);
   kind = r.kind;
   times = in_64_bits (w.times * r.times);

@@ -80,7 +80,7 @@ fn inside_row(row: &Row, weight: Weight) -> Row
     ensures { result ≡ inside_row capped weight row.now }
 {
     Row {
-        line: row.line,
+        spot: row.spot,
         depth: row.depth.saturating_add(1),
         kind: row.kind,
         times: weight.times.saturating_mul(row.times),

@@ -1,6 +1,7 @@
 // What a statement has of the bound of its body.
 
 use camac_check_known::{Costs, Region};
+use camac_lang::Spot;
 use camac_range::Range;
 
 /// The word by which a statement is known, and that of the second arm of a choice.
@@ -53,8 +54,8 @@ pub enum Detail {
 /// script are below it (own).
 #[derive(Clone, Copy)]
 pub struct Row {
-    /// The line of the statement's first token, from 1.
-    pub line: u32,
+    /// Where the statement's first token stands.
+    pub spot: Spot,
     /// 1 in the body itself, 1 more in each block.
     pub depth: u64,
     pub kind: Kind,

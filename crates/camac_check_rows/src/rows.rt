@@ -1,7 +1,7 @@
 // Where a walk puts the rows of the statements: in a list, or nowhere.
 
 ghost use Rattle.std.specs.Prelude.{◌≡◌, ◌∷◌, [], OnOk, None, Some, is_some, map, option_map, unwrap_or};
-ghost use Rattle.camac_lang.specs.Tree.{line_of};
+ghost use Rattle.camac_lang.specs.Tree.{spot_of};
 ghost use Rattle.camac_lang.specs.View.{statement_of};
 ghost use Rattle.camac_rules.specs.Capped.{capped};
 ghost use Rattle.camac_rules.specs.Cycles.{Around as Surroundings};
@@ -84,7 +84,7 @@ impl Rows {
 
     /// Puts the row of a statement that is reached and holds no others: its share is all that it can cost.
     pub fn put(&mut self, statement: &Stmt, each: Costs, detail: Detail) -> Result<(), AllocError>
-        ensures { OnOk result (self.new ≡ with_rows self.old (first_row (line_of (statement_of statement.now)) (kind_of (statement_of statement.now)) 1 each each detail ∷ [])) }
+        ensures { OnOk result (self.new ≡ with_rows self.old (first_row (spot_of (statement_of statement.now)) (kind_of (statement_of statement.now)) 1 each each detail ∷ [])) }
     {
         match &mut self.kept {
             Some(rows) => Ok(rows.push(simple_row(statement, 1, each, detail))?),

@@ -1,7 +1,7 @@
 // What the text of a statement tells of its row.
 
 ghost use Rattle.std.specs.Prelude.{◌≡◌, ◌<◌, ◌+◌, ◌-◌, ◌^◌, IfOk, option_map};
-ghost use Rattle.camac_lang.specs.Tree.{line_of};
+ghost use Rattle.camac_lang.specs.Tree.{spot_of};
 ghost use Rattle.camac_lang.specs.View.{expression_of, statement_of};
 ghost use Rattle.camac_range.specs.Interval.{only};
 ghost use Rattle.camac_check_simple.specs.Gives.{by_code};
@@ -12,16 +12,16 @@ ghost use Rattle.camac_check_rows.specs.Statements.{at_region, between, crate_de
 use crate::row::{Detail, Kind, Row};
 use camac_check_known::{CheckFault, Costs, Facts, Region, range_of};
 use camac_check_simple::{Context, lam_region};
-use camac_lang::{CrateCall, Expr, LamCall, Stmt, WordSize};
+use camac_lang::{CrateCall, Expr, LamCall, Spot, Stmt, WordSize};
 use camac_range::Range;
 use std::alloc::AllocError;
 
-// The row of a statement on this line, before it is counted how often its block is.
-fn own_row(line: u32, kind: Kind, times: u64, each: Costs, share: Costs, detail: Detail) -> Row
-    ensures { result ≡ first_row line kind times each share detail }
+// The row of a statement at this spot, before it is counted how often its block is.
+fn own_row(spot: Spot, kind: Kind, times: u64, each: Costs, share: Costs, detail: Detail) -> Row
+    ensures { result ≡ first_row spot kind times each share detail }
 {
     Row {
-        line,
+        spot,
         depth: 1,
         kind,
         times,
@@ -33,26 +33,26 @@ fn own_row(line: u32, kind: Kind, times: u64, each: Costs, share: Costs, detail:
 
 /// The row of a statement that holds no others: its share is all that it can cost.
 pub fn simple_row(statement: &Stmt, times: u64, each: Costs, detail: Detail) -> Row
-    ensures { result ≡ first_row (line_of (statement_of statement.now)) (kind_of (statement_of statement.now)) times each each detail }
+    ensures { result ≡ first_row (spot_of (statement_of statement.now)) (kind_of (statement_of statement.now)) times each each detail }
 {
-    let line = statement.line();
-    own_row(line, kind_of(statement), times, each, each, detail)
+    let spot = statement.spot();
+    own_row(spot, kind_of(statement), times, each, each, detail)
 }
 
-/// The row of an `if` on this line: its share is a step.
-pub fn if_row(line: u32, each: Costs) -> Row
-    ensures { result ≡ first_row line Kind.If 1 each (costs 0 0 1) Detail.Nothing }
+/// The row of an `if` at this spot: its share is a step.
+pub fn if_row(spot: Spot, each: Costs) -> Row
+    ensures { result ≡ first_row spot Kind.If 1 each (costs 0 0 1) Detail.Nothing }
 {
     let step = Costs::new(0, 0, 1);
-    own_row(line, Kind::If, 1, each, step, Detail::Nothing)
+    own_row(spot, Kind::If, 1, each, step, Detail::Nothing)
 }
 
-/// The row of the `else` of a choice on this line: it has no share.
-pub fn else_row(line: u32, times: u64, each: Costs) -> Row
-    ensures { result ≡ first_row line Kind.Else times each no_costs Detail.Nothing }
+/// The row of the `else` of a choice at this spot: it has no share.
+pub fn else_row(spot: Spot, times: u64, each: Costs) -> Row
+    ensures { result ≡ first_row spot Kind.Else times each no_costs Detail.Nothing }
 {
     let nothing = Costs::new(0, 0, 0);
-    own_row(line, Kind::Else, times, each, nothing, Detail::Nothing)
+    own_row(spot, Kind::Else, times, each, nothing, Detail::Nothing)
 }
 
 /// 1, or 0 where it can't be reached.
@@ -66,21 +66,21 @@ pub fn times_at(known: &Option<Facts>) -> u64
 }
 
 /// The row of a loop of at most so many turns: its share is a step, and one for each turn.
-pub fn loop_row(line: u32, kind: Kind, each: Costs, turns: u64) -> Row
+pub fn loop_row(spot: Spot, kind: Kind, each: Costs, turns: u64) -> Row
     requires { turns < 2 ^ 64 - 1 }
-    ensures { result ≡ first_row line kind 1 each (costs 0 0 (turns + 1)) (Detail.Turns turns) }
+    ensures { result ≡ first_row spot kind 1 each (costs 0 0 (turns + 1)) (Detail.Turns turns) }
 {
     let share = Costs::new(0, 0, turns + 1);
-    own_row(line, kind, 1, each, share, Detail::Turns(turns))
+    own_row(spot, kind, 1, each, share, Detail::Turns(turns))
 }
 
 /// The row of a `lock` of this crate: its share is the waits, a step for taking the crate, and one for its release.
-pub fn lock_row(line: u32, each: Costs, waits: u8, crate_no: u32) -> Row
-    ensures { result ≡ first_row line Kind.Lock 1 each (costs waits 0 2) (Detail.Crates (only crate_no)) }
+pub fn lock_row(spot: Spot, each: Costs, waits: u8, crate_no: u32) -> Row
+    ensures { result ≡ first_row spot Kind.Lock 1 each (costs waits 0 2) (Detail.Crates (only crate_no)) }
 {
     let share = Costs::new(u64::from(waits), 0, 2);
     let taken = Detail::Crates(Range::only(crate_no));
-    own_row(line, Kind::Lock, 1, each, share, taken)
+    own_row(spot, Kind::Lock, 1, each, share, taken)
 }
 
 fn kind_of(statement: &Stmt) -> Kind
@@ -155,7 +155,7 @@ pub fn detail_of(
             let from = region_of(known, scan.first);
             Ok(between(from, region_of(known, scan.last)))
         }
-        Stmt::CrateCall(action) => crate_detail(action.line, &action.crate_no, known),
+        Stmt::CrateCall(action) => crate_detail(action.spot, &action.crate_no, known),
         Stmt::LamCall(action) => Ok(at_region(lam_region(context, action.lam))),
         Stmt::Call(call) => Ok(Detail::Procedure(call.procedure)),
         _ => Ok(Detail::Nothing),
@@ -190,13 +190,13 @@ fn between(first: Option<Region>, last: Option<Region>) -> Detail
 }
 
 // The crates that an expression may name.
-fn crate_detail(line: u32, crate_no: &Expr, known: Option<&Facts>) -> Result<Detail, AllocError>
-    ensures { IfOk result (λ d. d ≡ crate_detail line (expression_of crate_no.now) (option_map (λ k. k.now) known.entry)) }
+fn crate_detail(spot: Spot, crate_no: &Expr, known: Option<&Facts>) -> Result<Detail, AllocError>
+    ensures { IfOk result (λ d. d ≡ crate_detail spot (expression_of crate_no.now) (option_map (λ k. k.now) known.entry)) }
 {
     let Some(known) = known else {
         return Ok(Detail::Nothing);
     };
-    match range_of(line, crate_no, known.ranges()) {
+    match range_of(spot, crate_no, known.ranges()) {
         Ok(range) => Ok(Detail::Crates(range)),
         Err(CheckFault::Broken { .. }) => Ok(Detail::Nothing),
         Err(CheckFault::OutOfMemory) => Err(AllocError),

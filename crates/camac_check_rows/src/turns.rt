@@ -24,7 +24,7 @@ fn merged(row: &Row, other: &Row) -> Row
     ensures { result ≡ merged capped row.now other.now }
 {
     Row {
-        line: row.line,
+        spot: row.spot,
         depth: row.depth,
         kind: row.kind,
         times: row.times.saturating_add(other.times),

@@ -34,14 +34,14 @@ pub fn unreached_rows(
             Ok(rows)
         }
         Stmt::IfElse {
-            line,
+            spot,
             then,
             otherwise,
             ..
         } => {
             let first = first_arm(nothing, nothing);
             push_unreached(alloc, context, &mut rows, then, first)?;
-            rows.push(else_row(*line, 0, nothing))?;
+            rows.push(else_row(*spot, 0, nothing))?;
             let second = second_arm(nothing, nothing);
             push_unreached(alloc, context, &mut rows, otherwise, second)?;
             Ok(rows)

@@ -14,7 +14,7 @@ use camac_check_known::{
     required,
 };
 use camac_esone::lam_function;
-use camac_lang::{CrateAction, Expr, LamAction};
+use camac_lang::{CrateAction, Expr, LamAction, Spot};
 use camac_range::Range;
 use camac_rules::{Case, CheckRule};
 
@@ -25,13 +25,13 @@ pub fn crate_call(
     action: &CrateAction,
     known: &mut Facts,
 ) -> Result<Costs, CheckFault>
-    ensures { Gives (leaving known.new) result (crate_rule (by_code place.now.context.now) place.now.around.now action.now.line (expression_of action.now.crate_no) known.old) }
+    ensures { Gives (leaving known.new) result (crate_rule (by_code place.now.context.now) place.now.around.now action.now.spot (expression_of action.now.crate_no) known.old) }
 {
-    let crates = range_of(action.line, &action.crate_no, known.ranges())?;
+    let crates = range_of(action.spot, &action.crate_no, known.ranges())?;
     required(
         is_crate(place.context.plan, crates),
         CheckRule::CrateUnfit,
-        action.line,
+        action.spot,
         Case::Crate {
             numbers: numbers_of(crates),
         },
@@ -43,17 +43,17 @@ pub fn crate_call(
 #[tactic(auto, unfolding(camac_rules::specs::Refusal::go_on))]
 pub fn lock_crate(
     place: &Place,
-    line: u32,
+    spot: Spot,
     crate_no: &Expr,
     known: &Facts,
 ) -> Result<u32, CheckFault>
-    ensures { Gives (λ c. c) result (lock_rule (by_code place.now.context.now) place.now.around.now line (expression_of crate_no.now) known.now) }
+    ensures { Gives (λ c. c) result (lock_rule (by_code place.now.context.now) place.now.around.now spot (expression_of crate_no.now) known.now) }
 {
-    let crates = range_of(line, crate_no, known.ranges())?;
+    let crates = range_of(spot, crate_no, known.ranges())?;
     required(
         is_free(place.context, place.around, crates),
         CheckRule::CrateUnfit,
-        line,
+        spot,
         lock_unfit(place.context, crates),
     )?;
     Ok(crates.lo())
@@ -84,22 +84,22 @@ fn is_free(context: &Context, around: &Around, crates: Range) -> bool
 /// Checks a LAM call.
 #[tactic(auto, unfolding(camac_rules::specs::Refusal::go_on))]
 pub fn lam_call(place: &Place, action: &LamAction, known: &mut Facts) -> Result<Costs, CheckFault>
-    ensures { Gives (leaving known.new) result (lam_rule (by_code place.now.context.now) place.now.around.now action.now.line action.now.call action.now.lam known.old) }
+    ensures { Gives (leaving known.new) result (lam_rule (by_code place.now.context.now) place.now.around.now action.now.spot action.now.call action.now.lam known.old) }
 {
-    let at = address_of(place.context, action.lam, action.line)?;
+    let at = address_of(place.context, action.lam, action.spot)?;
     let function = lam_function(action.call);
-    let _widths = command_widths(place.context.plan, action.line, function, at)?;
+    let _widths = command_widths(place.context.plan, action.spot, function, at)?;
     Ok(one_cycle(place.context, place.around, at.crates()))
 }
 
 // The address of a LAM. E1 where there is no such LAM.
 #[tactic(auto, unfolding(camac_rules::specs::Refusal::given))]
-fn address_of(context: &Context, lam: usize, line: u32) -> Result<Region, CheckFault>
-    ensures { Gives (λ g. g) result (given (lam_region (by_code context.now) lam) CheckRule.StationNotInstalled line Case.Malformed) }
+fn address_of(context: &Context, lam: usize, spot: Spot) -> Result<Region, CheckFault>
+    ensures { Gives (λ g. g) result (given (lam_region (by_code context.now) lam) CheckRule.StationNotInstalled spot Case.Malformed) }
 {
     match lam_region(context, lam) {
         Some(region) => Ok(region),
-        None => Err(CheckFault::broken(CheckRule::StationNotInstalled, line, Case::Malformed)),
+        None => Err(CheckFault::broken(CheckRule::StationNotInstalled, spot, Case::Malformed)),
     }
 }
 

@@ -17,14 +17,14 @@ use camac_check_known::{
     Around, CheckFault, Costs, Facts, Region, command_widths, cycle_cost, range_of, required,
 };
 use camac_func::{FunctionClass, class};
-use camac_lang::{Expr, Move, SingleAction, WordSize};
+use camac_lang::{Expr, Move, SingleAction, Spot, WordSize};
 use camac_range::Range;
 use camac_rules::{Case, CheckRule};
 use camac_word::Function;
 
 /// Checks a single action.
 pub fn single(place: &Place, action: &SingleAction, known: &mut Facts) -> Result<Costs, CheckFault>
-    ensures { Gives (leaving known.new) result (single_rule (by_code place.now.context.now) place.now.around.now action.now.line action.now.size action.now.function action.now.register (move_of action.now.data) known.old) }
+    ensures { Gives (leaving known.new) result (single_rule (by_code place.now.context.now) place.now.around.now action.now.spot action.now.size action.now.function action.now.register (move_of action.now.data) known.old) }
 {
     match &action.data {
         Move::NoData => control(place, action, known),
@@ -36,11 +36,11 @@ pub fn single(place: &Place, action: &SingleAction, known: &mut Facts) -> Result
 // A cycle without data.
 #[tactic(auto, unfolding(camac_rules::specs::Refusal::go_on))]
 fn control(place: &Place, action: &SingleAction, known: &mut Facts) -> Result<Costs, CheckFault>
-    ensures { Gives (leaving known.new) result (control_rule (by_code place.now.context.now) place.now.around.now action.now.line action.now.function action.now.register known.old) }
+    ensures { Gives (leaving known.new) result (control_rule (by_code place.now.context.now) place.now.around.now action.now.spot action.now.function action.now.register known.old) }
 {
-    let g = addresses_of(place.around, known, action.register, action.line)?;
-    let _widths = command_widths(place.context.plan, action.line, action.function, g)?;
-    moves(action.function, FunctionClass::Control, action.line)?;
+    let g = addresses_of(place.around, known, action.register, action.spot)?;
+    let _widths = command_widths(place.context.plan, action.spot, action.function, g)?;
+    moves(action.function, FunctionClass::Control, action.spot)?;
     Ok(one_cycle(place.context, place.around, g.crates()))
 }
 
@@ -52,12 +52,12 @@ fn read(
     variable: usize,
     known: &mut Facts,
 ) -> Result<Costs, CheckFault>
-    ensures { Gives (leaving known.new) result (read_rule (by_code place.now.context.now) place.now.around.now action.now.line action.now.size action.now.function action.now.register variable known.old) }
+    ensures { Gives (leaving known.new) result (read_rule (by_code place.now.context.now) place.now.around.now action.now.spot action.now.size action.now.function action.now.register variable known.old) }
 {
-    may_write(place.around, variable, action.line)?;
-    let g = addresses_of(place.around, known, action.register, action.line)?;
-    let widths = command_widths(place.context.plan, action.line, action.function, g)?;
-    moves(action.function, FunctionClass::Read, action.line)?;
+    may_write(place.around, variable, action.spot)?;
+    let g = addresses_of(place.around, known, action.register, action.spot)?;
+    let widths = command_widths(place.context.plan, action.spot, action.function, g)?;
+    moves(action.function, FunctionClass::Read, action.spot)?;
     let word = words_of(action.size, widths.hi());
     known.put_range(variable, word)?;
     Ok(one_cycle(place.context, place.around, g.crates()))
@@ -71,13 +71,13 @@ fn write(
     value: &Expr,
     known: &mut Facts,
 ) -> Result<Costs, CheckFault>
-    ensures { Gives (leaving known.new) result (write_rule (by_code place.now.context.now) place.now.around.now action.now.line action.now.size action.now.function action.now.register (expression_of value.now) known.old) }
+    ensures { Gives (leaving known.new) result (write_rule (by_code place.now.context.now) place.now.around.now action.now.spot action.now.size action.now.function action.now.register (expression_of value.now) known.old) }
 {
-    let v = range_of(action.line, value, known.ranges())?;
-    let g = addresses_of(place.around, known, action.register, action.line)?;
-    let widths = command_widths(place.context.plan, action.line, action.function, g)?;
-    moves(action.function, FunctionClass::Write, action.line)?;
-    value_fits(action.size, v, widths, action.line)?;
+    let v = range_of(action.spot, value, known.ranges())?;
+    let g = addresses_of(place.around, known, action.register, action.spot)?;
+    let widths = command_widths(place.context.plan, action.spot, action.function, g)?;
+    moves(action.function, FunctionClass::Write, action.spot)?;
+    value_fits(action.size, v, widths, action.spot)?;
     Ok(one_cycle(place.context, place.around, g.crates()))
 }
 
@@ -87,15 +87,15 @@ pub fn addresses_of(
     around: &Around,
     known: &Facts,
     register: usize,
-    line: u32,
+    spot: Spot,
 ) -> Result<Region, CheckFault>
-    ensures { Gives (λ g. g) result (given (region_at known.now.registers register) CheckRule.RegisterUnset line (Case.Unset around.now.body register)) }
+    ensures { Gives (λ g. g) result (given (region_at known.now.registers register) CheckRule.RegisterUnset spot (Case.Unset around.now.body register)) }
 {
     match known.register(register) {
         Some(region) => Ok(region),
         None => Err(CheckFault::broken(
             CheckRule::RegisterUnset,
-            line,
+            spot,
             Case::Unset {
                 body: around.body(),
                 register,
@@ -105,27 +105,27 @@ pub fn addresses_of(
 }
 
 /// E17 where a `for` around counts the variable.
-pub fn may_write(around: &Around, variable: usize, line: u32) -> Result<(), CheckFault>
-    ensures { Gives (λ u. tt) result (required (may_write around.now variable) CheckRule.LoopVariableAssigned line (Case.Counted around.now.body variable)) }
+pub fn may_write(around: &Around, variable: usize, spot: Spot) -> Result<(), CheckFault>
+    ensures { Gives (λ u. tt) result (required (may_write around.now variable) CheckRule.LoopVariableAssigned spot (Case.Counted around.now.body variable)) }
 {
     let body = around.body();
     required(
         around.may_write(variable),
         CheckRule::LoopVariableAssigned,
-        line,
+        spot,
         Case::Counted { body, variable },
     )
 }
 
 /// E3 where a function is not of the class that a statement needs.
-pub fn moves(f: Function, wanted: FunctionClass, line: u32) -> Result<(), CheckFault>
-    ensures { Gives (λ u. tt) result (required (same_class wanted (class_of f)) CheckRule.WrongDirection line (direction f wanted)) }
+pub fn moves(f: Function, wanted: FunctionClass, spot: Spot) -> Result<(), CheckFault>
+    ensures { Gives (λ u. tt) result (required (same_class wanted (class_of f)) CheckRule.WrongDirection spot (direction f wanted)) }
 {
     let class = class(f);
     required(
         same_class(wanted, class),
         CheckRule::WrongDirection,
-        line,
+        spot,
         Case::Direction {
             function: f.get(),
             class,
@@ -172,16 +172,16 @@ fn sized(size: WordSize, width: u32) -> u32
 
 // E5 where a write of this size can't send each number of a range at these widths.
 #[tactic(auto, using(crate::proofs::Steps::power_below, crate::proofs::Steps::fits_sized))]
-fn value_fits(size: WordSize, values: Range, widths: Range, line: u32) -> Result<(), CheckFault>
+fn value_fits(size: WordSize, values: Range, widths: Range, spot: Spot) -> Result<(), CheckFault>
     requires { widths.hi ≤ 24 }
-    ensures { Gives (λ u. tt) result (required (nat_lt values.hi (2 ^ widths.lo) && fits_size size values.hi) CheckRule.ValueTooWide line (Case.Width values.hi (sized size widths.lo))) }
+    ensures { Gives (λ u. tt) result (required (nat_lt values.hi (2 ^ widths.lo) && fits_size size values.hi) CheckRule.ValueTooWide spot (Case.Width values.hi (sized size widths.lo))) }
 {
     let greatest = values.hi();
     let bits = sized(size, widths.lo());
     required(
         greatest < 1u32 << bits,
         CheckRule::ValueTooWide,
-        line,
+        spot,
         Case::Width { greatest, bits },
     )
 }

@@ -16,10 +16,10 @@ pub fn assign(
     assignment: &Assignment,
     known: &mut Facts,
 ) -> Result<Costs, CheckFault>
-    ensures { Gives (leaving known.new) result (assign_rule around.now assignment.now.line assignment.now.variable (expression_of assignment.now.value) known.old) }
+    ensures { Gives (leaving known.new) result (assign_rule around.now assignment.now.spot assignment.now.variable (expression_of assignment.now.value) known.old) }
 {
-    let assigned = range_of(assignment.line, &assignment.value, known.ranges())?;
-    may_write(around, assignment.variable, assignment.line)?;
+    let assigned = range_of(assignment.spot, &assignment.value, known.ranges())?;
+    may_write(around, assignment.variable, assignment.spot)?;
     known.put_range(assignment.variable, assigned)?;
     Ok(Costs::new(0, 0, 1))
 }
@@ -27,11 +27,11 @@ pub fn assign(
 /// Checks `cdreg`.
 #[tactic(auto, unfolding(camac_rules::specs::Refusal::go_on))]
 pub fn set_register(setting: &RegisterSetting, known: &mut Facts) -> Result<Costs, CheckFault>
-    ensures { Gives (leaving known.new) result (register_rule setting.now.line setting.now.register (expression_of setting.now.crate_no) (expression_of setting.now.station) (expression_of setting.now.sub_address) known.old) }
+    ensures { Gives (leaving known.new) result (register_rule setting.now.spot setting.now.register (expression_of setting.now.crate_no) (expression_of setting.now.station) (expression_of setting.now.sub_address) known.old) }
 {
-    let c = range_of(setting.line, &setting.crate_no, known.ranges())?;
-    let n = range_of(setting.line, &setting.station, known.ranges())?;
-    let a = range_of(setting.line, &setting.sub_address, known.ranges())?;
+    let c = range_of(setting.spot, &setting.crate_no, known.ranges())?;
+    let n = range_of(setting.spot, &setting.station, known.ranges())?;
+    let a = range_of(setting.spot, &setting.sub_address, known.ranges())?;
     known.put_region(setting.register, Region::new(c, n, a))?;
     Ok(Costs::new(0, 0, 1))
 }
@@ -39,14 +39,14 @@ pub fn set_register(setting: &RegisterSetting, known: &mut Facts) -> Result<Cost
 /// Checks `put`.
 #[tactic(auto, unfolding(camac_rules::specs::Refusal::go_on))]
 pub fn put(action: &PutAction, known: &mut Facts) -> Result<Costs, CheckFault>
-    ensures { Gives (leaving known.new) result (put_rule action.now.line (expression_of action.now.value) known.old) }
+    ensures { Gives (leaving known.new) result (put_rule action.now.spot (expression_of action.now.value) known.old) }
 {
-    let r = range_of(action.line, &action.value, known.ranges())?;
+    let r = range_of(action.spot, &action.value, known.ranges())?;
     let greatest = r.hi();
     required(
         greatest <= 16_777_215,
         CheckRule::WordTooWide,
-        action.line,
+        action.spot,
         Case::Word { greatest },
     )?;
     Ok(Costs::new(0, 1, 1))

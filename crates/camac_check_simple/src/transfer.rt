@@ -20,7 +20,7 @@ use camac_check_known::{
     required,
 };
 use camac_func::FunctionClass;
-use camac_lang::{AddressScan, BlockTransfer, Expr, Table};
+use camac_lang::{AddressScan, BlockTransfer, Expr, Spot, Table};
 use camac_range::Range;
 use camac_rules::{Case, CheckRule};
 use camac_word::Function;
@@ -29,23 +29,23 @@ use std::alloc::AllocError;
 /// Checks an address scan between two registers.
 #[tactic(auto, unfolding(camac_rules::specs::Refusal::go_on))]
 pub fn scan(place: &Place, transfer: &AddressScan, known: &mut Facts) -> Result<Costs, CheckFault>
-    ensures { Gives (leaving known.new) result (scan_rule (by_code place.now.context.now) place.now.around.now transfer.now.line transfer.now.function transfer.now.first transfer.now.last (expression_of transfer.now.max) transfer.now.tally known.old) }
+    ensures { Gives (leaving known.new) result (scan_rule (by_code place.now.context.now) place.now.around.now transfer.now.spot transfer.now.function transfer.now.first transfer.now.last (expression_of transfer.now.max) transfer.now.tally known.old) }
 {
-    let line = transfer.line;
+    let spot = transfer.spot;
     let f = transfer.function;
-    let most = range_of(line, &transfer.max, known.ranges())?;
-    may_write(place.around, transfer.tally, line)?;
-    let g = addresses_of(place.around, known, transfer.first, line)?;
-    let h = addresses_of(place.around, known, transfer.last, line)?;
+    let most = range_of(spot, &transfer.max, known.ranges())?;
+    may_write(place.around, transfer.tally, spot)?;
+    let g = addresses_of(place.around, known, transfer.first, spot)?;
+    let h = addresses_of(place.around, known, transfer.last, spot)?;
     required(
         is_one_crate(g, h),
         CheckRule::ScanCratesDiffer,
-        line,
+        spot,
         crates_of(g, h),
     )?;
-    installed(place.context.plan, g, h, line)?;
-    declared(place.context.plan, f, g, h, line)?;
-    moves(f, FunctionClass::Read, line)?;
+    installed(place.context.plan, g, h, spot)?;
+    declared(place.context.plan, f, g, h, spot)?;
+    moves(f, FunctionClass::Read, spot)?;
     Ok(scan_findings(place, g, h, most.hi(), transfer.tally, known)?)
 }
 
@@ -61,27 +61,27 @@ fn crates_of(g: Region, h: Region) -> Case
 
 // E1 where a station between two registers is not installed.
 #[tactic(auto, unfolding(camac_rules::specs::Refusal::required))]
-fn installed(plan: &Plan, g: Region, h: Region, line: u32) -> Result<(), CheckFault>
-    ensures { Gives (λ u. tt) result (required (is_installed plan.now (window_of g h)) StationNotInstalled line (missing_over plan.now (window_of g h))) }
+fn installed(plan: &Plan, g: Region, h: Region, spot: Spot) -> Result<(), CheckFault>
+    ensures { Gives (λ u. tt) result (required (is_installed plan.now (window_of g h)) StationNotInstalled spot (missing_over plan.now (window_of g h))) }
 {
     let window = Window::between(g, h);
     if window.is_installed(plan) {
         return Ok(());
     }
     let case = window.missing(plan);
-    Err(CheckFault::broken(CheckRule::StationNotInstalled, line, case))
+    Err(CheckFault::broken(CheckRule::StationNotInstalled, spot, case))
 }
 
 // E2 where an address between two registers has not the command.
 #[tactic(auto, unfolding(camac_rules::specs::Refusal::required))]
-fn declared(plan: &Plan, f: Function, g: Region, h: Region, line: u32) -> Result<(), CheckFault>
-    ensures { Gives (λ u. tt) result (required (has_sub_addresses g && (has_sub_addresses h && is_declared plan.now f (window_of g h))) CommandNotDeclared line (undeclared_by plan.now f g h)) }
+fn declared(plan: &Plan, f: Function, g: Region, h: Region, spot: Spot) -> Result<(), CheckFault>
+    ensures { Gives (λ u. tt) result (required (has_sub_addresses g && (has_sub_addresses h && is_declared plan.now f (window_of g h))) CommandNotDeclared spot (undeclared_by plan.now f g h)) }
 {
     if is_declared(plan, f, g, h) {
         return Ok(());
     }
     let case = undeclared_by(plan, f, g, h);
-    Err(CheckFault::broken(CheckRule::CommandNotDeclared, line, case))
+    Err(CheckFault::broken(CheckRule::CommandNotDeclared, spot, case))
 }
 
 // The first address between two registers that has not the command.
@@ -145,9 +145,9 @@ pub fn q_stop(
     transfer: &BlockTransfer,
     known: &mut Facts,
 ) -> Result<Costs, CheckFault>
-    ensures { Gives (leaving known.new) result (q_stop_rule (by_code place.now.context.now) place.now.around.now transfer.now.line transfer.now.function transfer.now.register transfer.now.table (expression_of transfer.now.max) transfer.now.tally known.old) }
+    ensures { Gives (leaving known.new) result (q_stop_rule (by_code place.now.context.now) place.now.around.now transfer.now.spot transfer.now.function transfer.now.register transfer.now.table (expression_of transfer.now.max) transfer.now.tally known.old) }
 {
-    let most = range_of(transfer.line, &transfer.max, known.ranges())?.hi();
+    let most = range_of(transfer.spot, &transfer.max, known.ranges())?.hi();
     let g = block_region(place, transfer, most, known)?;
     Ok(block_findings(place, transfer, most, most, g, known)?)
 }
@@ -160,10 +160,10 @@ pub fn q_repeat(
     limit: &Expr,
     known: &mut Facts,
 ) -> Result<Costs, CheckFault>
-    ensures { Gives (leaving known.new) result (q_repeat_rule (by_code place.now.context.now) place.now.around.now transfer.now.line transfer.now.function transfer.now.register transfer.now.table (expression_of transfer.now.max) (expression_of limit.now) transfer.now.tally known.old) }
+    ensures { Gives (leaving known.new) result (q_repeat_rule (by_code place.now.context.now) place.now.around.now transfer.now.spot transfer.now.function transfer.now.register transfer.now.table (expression_of transfer.now.max) (expression_of limit.now) transfer.now.tally known.old) }
 {
-    let most = range_of(transfer.line, &transfer.max, known.ranges())?.hi();
-    let cycles = range_of(transfer.line, limit, known.ranges())?.hi();
+    let most = range_of(transfer.spot, &transfer.max, known.ranges())?.hi();
+    let cycles = range_of(transfer.spot, limit, known.ranges())?.hi();
     let g = block_region(place, transfer, most, known)?;
     let kept = most.min(cycles);
     Ok(block_findings(
@@ -190,24 +190,24 @@ fn block_region(
     most: u32,
     known: &Facts,
 ) -> Result<Region, CheckFault>
-    ensures { Gives (λ g. g) result (block_region (by_code place.now.context.now) place.now.around.now transfer.now.line transfer.now.function transfer.now.register transfer.now.table most transfer.now.tally known.now) }
+    ensures { Gives (λ g. g) result (block_region (by_code place.now.context.now) place.now.around.now transfer.now.spot transfer.now.function transfer.now.register transfer.now.table most transfer.now.tally known.now) }
 {
-    let line = transfer.line;
+    let spot = transfer.spot;
     let tables = place.context.tables;
-    may_write(place.around, transfer.tally, line)?;
-    let g = addresses_of(place.around, known, transfer.register, line)?;
-    let widths = command_widths(place.context.plan, line, transfer.function, g)?;
-    moves(transfer.function, block_class(transfer.table), line)?;
+    may_write(place.around, transfer.tally, spot)?;
+    let g = addresses_of(place.around, known, transfer.register, spot)?;
+    let widths = command_widths(place.context.plan, spot, transfer.function, g)?;
+    moves(transfer.function, block_class(transfer.table), spot)?;
     required(
         has_words(tables, transfer.table, most),
         CheckRule::CountAboveTable,
-        line,
+        spot,
         Case::Count {
             count: most,
             words: count_sent(tables, transfer.table),
         },
     )?;
-    words_fit_at(tables, transfer.table, widths.lo(), line)?;
+    words_fit_at(tables, transfer.table, widths.lo(), spot)?;
     Ok(g)
 }
 
@@ -217,17 +217,17 @@ fn words_fit_at(
     tables: &[Table],
     table: Option<usize>,
     width: u32,
-    line: u32,
+    spot: Spot,
 ) -> Result<(), CheckFault>
     requires { width ≤ 24 }
-    ensures { Gives (λ u. tt) result (required (words_fit (map (λ t. t.words) (map table_of tables.now)) table width) ValueTooWide line (Width (greatest_of (words_sent (map (λ t. t.words) (map table_of tables.now)) table)) width)) }
+    ensures { Gives (λ u. tt) result (required (words_fit (map (λ t. t.words) (map table_of tables.now)) table width) ValueTooWide spot (Width (greatest_of (words_sent (map (λ t. t.words) (map table_of tables.now)) table)) width)) }
 {
     if words_fit(tables, table, width) {
         return Ok(());
     }
     Err(CheckFault::broken(
         CheckRule::ValueTooWide,
-        line,
+        spot,
         Case::Width {
             greatest: greatest_sent(tables, table),
             bits: width,

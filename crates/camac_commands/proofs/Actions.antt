@@ -40,6 +40,7 @@ use Rattle.camac_rules.proofs.Actions.{Setting, of, seen, value_of, address_of}
 use Rattle.camac_check_rows.specs.Statements.{at_region, between, in_crates}
 use Rattle.camac_commands.specs.Commands.{Command, is_told, IsListed, made_at, span, told_region, called_at}
 use Rattle.camac_commands.proofs.Listed.{Listed, told_at, listed_given, listed_any}
+use Rattle.camac_lang.specs.declared.spot.Spot.{Spot}
 
 -- what holds of any result
 pub always : {A : Type 0} {P : Type 0} (r : Result A Fault) → P → Allows r (λ _. P)
@@ -80,39 +81,39 @@ record IsSet (r : ℕ) (k : Facts) : Type 0 where
 set_by : (r : ℕ) (k : Facts) (g : Region) → region_at k.registers r ≡ Some g → IsSet r k
 set_by r k g e = record { addresses = g; is = e }
 
-at_register : (around : Place) (line f r : ℕ) (k : Facts) → IsSet r k → (s : State) → Inside around k s → (go : Address → Action)
-    → ((at : Address) → list_any (is_told at f) (made_at line f (known_at k r)) ≡ true → Listed (made_at line f (known_at k r)) (go at (stepped s)))
-    → Listed (made_at line f (known_at k r)) (given (s.registers r) go (stepped s))
-at_register around line f r k set s i go h =
-    let cs : List Command = made_at line f (known_at k r) in
+at_register : (around : Place) (spot : Spot) (f r : ℕ) (k : Facts) → IsSet r k → (s : State) → Inside around k s → (go : Address → Action)
+    → ((at : Address) → list_any (is_told at f) (made_at spot f (known_at k r)) ≡ true → Listed (made_at spot f (known_at k r)) (go at (stepped s)))
+    → Listed (made_at spot f (known_at k r)) (given (s.registers r) go (stepped s))
+at_register around spot f r k set s i go h =
+    let cs : List Command = made_at spot f (known_at k r) in
     let a = address_of (region_at k.registers r) (s.registers r) set.addresses set.is (i.registers r) in
     listed_given cs (s.registers r) go a.at (stepped s) a.is
-    (h a.at (subst (λ o. list_any (is_told a.at f) (made_at line f (told_region (at_region o))) ≡ true) (sym set.is) (told_at line f set.addresses a.at a.inside)))
+    (h a.at (subst (λ o. list_any (is_told a.at f) (made_at spot f (told_region (at_region o))) ≡ true) (sym set.is) (told_at spot f set.addresses a.at a.inside)))
 
-single_set : (c : Setting) (around : Place) (line : ℕ) (size : WordSize) (f r : ℕ) (m : Move) (k : Facts) → Allows (single_rule (seen c) (around_of around) line size f r m k) (λ v. IsSet r k)
-single_set c around line size f r no_data k = then_allowed (given_allowed (region_at k.registers r) _ line _) (λ g set. always _ (set_by r k g set))
-single_set c around line size f r (into x) k =
-    required_allowed _ line _ (λ may. then_allowed (given_allowed (region_at k.registers r) _ line _) (λ g set. always _ (set_by r k g set)))
-single_set c around line size f r (from e) k =
-    then_allowed (range_each line e k.ranges) (λ v gives. then_allowed (given_allowed (region_at k.registers r) _ line _) (λ g set. always _ (set_by r k g set)))
+single_set : (c : Setting) (around : Place) (spot : Spot) (size : WordSize) (f r : ℕ) (m : Move) (k : Facts) → Allows (single_rule (seen c) (around_of around) spot size f r m k) (λ v. IsSet r k)
+single_set c around spot size f r no_data k = then_allowed (given_allowed (region_at k.registers r) _ spot _) (λ g set. always _ (set_by r k g set))
+single_set c around spot size f r (into x) k =
+    required_allowed _ spot _ (λ may. then_allowed (given_allowed (region_at k.registers r) _ spot _) (λ g set. always _ (set_by r k g set)))
+single_set c around spot size f r (from e) k =
+    then_allowed (range_each spot e k.ranges) (λ v gives. then_allowed (given_allowed (region_at k.registers r) _ spot _) (λ g set. always _ (set_by r k g set)))
 
-pub single_listed : (c : Setting) (around : Place) (n line : ℕ) (size : WordSize) (f r : ℕ) (m : Move) (k : Facts)
-    → Allows (single_rule (seen c) (around_of around) line size f r m k) (λ v. (s : State) → Inside around k s → Listed (made_at line f (known_at k r)) (effect (of c) n (single line size f r m) (stepped s)))
-single_listed c around n line size f r m k =
-    allowed_more (single_set c around line size f r m k) (λ v set s i.
-    at_register around line f r k set s i (λ at. act c.plan at f size m) (λ at told. act_listed (made_at line f (known_at k r)) c.plan at f size m (stepped s) told))
+pub single_listed : (c : Setting) (around : Place) (n : ℕ) (spot : Spot) (size : WordSize) (f r : ℕ) (m : Move) (k : Facts)
+    → Allows (single_rule (seen c) (around_of around) spot size f r m k) (λ v. (s : State) → Inside around k s → Listed (made_at spot f (known_at k r)) (effect (of c) n (single spot size f r m) (stepped s)))
+single_listed c around n spot size f r m k =
+    allowed_more (single_set c around spot size f r m k) (λ v set s i.
+    at_register around spot f r k set s i (λ at. act c.plan at f size m) (λ at told. act_listed (made_at spot f (known_at k r)) c.plan at f size m (stepped s) told))
 
 -- ---- calls of the controller and of look-at-mes
 
-pub lam_listed : (c : Setting) (around : Place) (n line : ℕ) (which : LamCall) (l : ℕ) (k : Facts)
-    → Allows (lam_rule (seen c) (around_of around) line which l k) (λ v. (s : State) → Inside around k s → Listed (made_at line (lam_function which) (told_region (at_region (lam_region (seen c) l)))) (effect (of c) n (lam_call line which l) (stepped s)))
-lam_listed c around n line which l k = always _ (λ s i. go (slice_get c.lams l) refl s)
+pub lam_listed : (c : Setting) (around : Place) (n : ℕ) (spot : Spot) (which : LamCall) (l : ℕ) (k : Facts)
+    → Allows (lam_rule (seen c) (around_of around) spot which l k) (λ v. (s : State) → Inside around k s → Listed (made_at spot (lam_function which) (told_region (at_region (lam_region (seen c) l)))) (effect (of c) n (lam_call spot which l) (stepped s)))
+lam_listed c around n spot which l k = always _ (λ s i. go (slice_get c.lams l) refl s)
   where
-    go : (o : Option Address) → slice_get c.lams l ≡ o → (s : State) → Listed (made_at line (lam_function which) (told_region (at_region (option_map single_region o)))) (given o (λ at. act c.plan at (lam_function which) Full no_data) (stepped s))
+    go : (o : Option Address) → slice_get c.lams l ≡ o → (s : State) → Listed (made_at spot (lam_function which) (told_region (at_region (option_map single_region o)))) (given o (λ at. act c.plan at (lam_function which) Full no_data) (stepped s))
     go None e s = tt
     go (Some at) e s =
-        act_listed (made_at line (lam_function which) (Some (single_region at))) c.plan at (lam_function which) Full no_data (stepped s)
-        (told_at line (lam_function which) (single_region at) at (alone at))
+        act_listed (made_at spot (lam_function which) (Some (single_region at))) c.plan at (lam_function which) Full no_data (stepped s)
+        (told_at spot (lam_function which) (single_region at) at (alone at))
 
 -- ---- transfers
 
@@ -129,34 +130,34 @@ transfer_listed cs plan f table next_address x s told =
     })
     (λ u qs t i e. tt) s.answers nothing [] s refl tt
 
-block_set : (c : Setting) (around : Place) (line f r : ℕ) (t : Option ℕ) (most x : ℕ) (k : Facts) → Allows (block_region (seen c) (around_of around) line f r t most x k) (λ g. IsSet r k)
-block_set c around line f r t most x k =
-    required_allowed _ line _ (λ may. then_allowed (given_allowed (region_at k.registers r) _ line _) (λ g set. always _ (set_by r k g set)))
+block_set : (c : Setting) (around : Place) (spot : Spot) (f r : ℕ) (t : Option ℕ) (most x : ℕ) (k : Facts) → Allows (block_region (seen c) (around_of around) spot f r t most x k) (λ g. IsSet r k)
+block_set c around spot f r t most x k =
+    required_allowed _ spot _ (λ may. then_allowed (given_allowed (region_at k.registers r) _ spot _) (λ g set. always _ (set_by r k g set)))
 
-pub q_stop_listed : (c : Setting) (around : Place) (n line f r : ℕ) (t : Option ℕ) (e : Expression) (x : ℕ) (k : Facts)
-    → Allows (q_stop_rule (seen c) (around_of around) line f r t e x k) (λ v. (s : State) → Inside around k s → Listed (made_at line f (known_at k r)) (effect (of c) n (q_stop line f r t e x) (stepped s)))
-q_stop_listed c around n line f r t e x k =
-    then_allowed (range_each line e k.ranges) (λ most gives.
-    then_allowed (block_set c around line f r t most.hi x k) (λ g set. allowed (λ s i.
-    let cs : List Command = made_at line f (known_at k r) in
+pub q_stop_listed : (c : Setting) (around : Place) (n : ℕ) (spot : Spot) (f r : ℕ) (t : Option ℕ) (e : Expression) (x : ℕ) (k : Facts)
+    → Allows (q_stop_rule (seen c) (around_of around) spot f r t e x k) (λ v. (s : State) → Inside around k s → Listed (made_at spot f (known_at k r)) (effect (of c) n (q_stop spot f r t e x) (stepped s)))
+q_stop_listed c around n spot f r t e x k =
+    then_allowed (range_each spot e k.ranges) (λ most gives.
+    then_allowed (block_set c around spot f r t most.hi x k) (λ g set. allowed (λ s i.
+    let cs : List Command = made_at spot f (known_at k r) in
     let go : Option (List ℕ) → Address → Action = λ o at. given (value e s.variables) (λ m. transfer_to c.plan f o (q_stop_next at m) x) in
     listed_any cs (sent (of c) t) (λ o. given (s.registers r) (go o)) (stepped s) (λ o _.
-    at_register around line f r k set s i (go o) (λ at told.
+    at_register around spot f r k set s i (go o) (λ at told.
     listed_any cs (value e s.variables) (λ m. transfer_to c.plan f o (q_stop_next at m) x) (stepped s) (λ m _.
     transfer_listed cs c.plan f o (q_stop_next at m) x (stepped s) (λ qs to w.
     subst (λ a. list_any (is_told a f) cs ≡ true) (sym (stop.wanted_goes_on at to m qs w).1) told)))))))
 
-pub q_repeat_listed : (c : Setting) (around : Place) (n line f r : ℕ) (t : Option ℕ) (e1 e2 : Expression) (x : ℕ) (k : Facts)
-    → Allows (q_repeat_rule (seen c) (around_of around) line f r t e1 e2 x k) (λ v. (s : State) → Inside around k s → Listed (made_at line f (known_at k r)) (effect (of c) n (q_repeat line f r t e1 e2 x) (stepped s)))
-q_repeat_listed c around n line f r t e1 e2 x k =
-    then_allowed (range_each line e1 k.ranges) (λ most gives_m.
-    then_allowed (range_each line e2 k.ranges) (λ limit gives_l.
-    then_allowed (block_set c around line f r t most.hi x k) (λ g set. allowed (λ s i.
-    let cs : List Command = made_at line f (known_at k r) in
+pub q_repeat_listed : (c : Setting) (around : Place) (n : ℕ) (spot : Spot) (f r : ℕ) (t : Option ℕ) (e1 e2 : Expression) (x : ℕ) (k : Facts)
+    → Allows (q_repeat_rule (seen c) (around_of around) spot f r t e1 e2 x k) (λ v. (s : State) → Inside around k s → Listed (made_at spot f (known_at k r)) (effect (of c) n (q_repeat spot f r t e1 e2 x) (stepped s)))
+q_repeat_listed c around n spot f r t e1 e2 x k =
+    then_allowed (range_each spot e1 k.ranges) (λ most gives_m.
+    then_allowed (range_each spot e2 k.ranges) (λ limit gives_l.
+    then_allowed (block_set c around spot f r t most.hi x k) (λ g set. allowed (λ s i.
+    let cs : List Command = made_at spot f (known_at k r) in
     let last : Option (List ℕ) → Address → ℕ → Action = λ o at m. given (value e2 s.variables) (λ l. transfer_to c.plan f o (q_repeat_next at m l) x) in
     let go : Option (List ℕ) → Address → Action = λ o at. given (value e1 s.variables) (last o at) in
     listed_any cs (sent (of c) t) (λ o. given (s.registers r) (go o)) (stepped s) (λ o _.
-    at_register around line f r k set s i (go o) (λ at told.
+    at_register around spot f r k set s i (go o) (λ at told.
     listed_any cs (value e1 s.variables) (last o at) (stepped s) (λ m _.
     listed_any cs (value e2 s.variables) (λ l. transfer_to c.plan f o (q_repeat_next at m l) x) (stepped s) (λ l _.
     transfer_listed cs c.plan f o (q_repeat_next at m l) x (stepped s) (λ qs to w.
@@ -187,15 +188,15 @@ record AreSet (r1 r2 : ℕ) (k : Facts) : Type 0 where
   last : IsSet r2 k
   few : first.addresses.sub_addresses.hi < 16
 
-scan_set : (c : Setting) (around : Place) (line f r1 r2 : ℕ) (e : Expression) (x : ℕ) (k : Facts) → Allows (scan_rule (seen c) (around_of around) line f r1 r2 e x k) (λ v. AreSet r1 r2 k)
-scan_set c around line f r1 r2 e x k =
-    then_allowed (range_each line e k.ranges) (λ most gives.
-    required_allowed _ line _ (λ may.
-    then_allowed (given_allowed (region_at k.registers r1) _ line _) (λ g set1.
-    then_allowed (given_allowed (region_at k.registers r2) _ line _) (λ h set2.
-    required_allowed _ line _ (λ one.
-    required_allowed _ line _ (λ installed.
-    required_allowed _ line _ (λ declared.
+scan_set : (c : Setting) (around : Place) (spot : Spot) (f r1 r2 : ℕ) (e : Expression) (x : ℕ) (k : Facts) → Allows (scan_rule (seen c) (around_of around) spot f r1 r2 e x k) (λ v. AreSet r1 r2 k)
+scan_set c around spot f r1 r2 e x k =
+    then_allowed (range_each spot e k.ranges) (λ most gives.
+    required_allowed _ spot _ (λ may.
+    then_allowed (given_allowed (region_at k.registers r1) _ spot _) (λ g set1.
+    then_allowed (given_allowed (region_at k.registers r2) _ spot _) (λ h set2.
+    required_allowed _ spot _ (λ one.
+    required_allowed _ spot _ (λ installed.
+    required_allowed _ spot _ (λ declared.
     always _ (record {
       first = record { addresses = g; is = set1 };
       last = record { addresses = h; is = set2 };
@@ -224,15 +225,15 @@ has_stations g h at i =
     let some : g.stations.lo ≤ h.stations.hi = omega (arith, low, high) in
     ap (λ b. option_map (λ stations. region g.crates stations (interval 0 15)) (if b then Some (interval g.stations.lo h.stations.hi) else None)) (le-leb g.stations.lo h.stations.hi some)
 
-pub scan_listed : (c : Setting) (around : Place) (n line f r1 r2 : ℕ) (e : Expression) (x : ℕ) (k : Facts)
-    → Allows (scan_rule (seen c) (around_of around) line f r1 r2 e x k)
-    (λ v. (s : State) → Inside around k s → Listed (made_at line f (told_region (between (region_at k.registers r1) (region_at k.registers r2)))) (effect (of c) n (address_scan line f r1 r2 e x) (stepped s)))
-scan_listed c around n line f r1 r2 e x k =
-    allowed_more (scan_set c around line f r1 r2 e x k) (λ v set s i.
+pub scan_listed : (c : Setting) (around : Place) (n : ℕ) (spot : Spot) (f r1 r2 : ℕ) (e : Expression) (x : ℕ) (k : Facts)
+    → Allows (scan_rule (seen c) (around_of around) spot f r1 r2 e x k)
+    (λ v. (s : State) → Inside around k s → Listed (made_at spot f (told_region (between (region_at k.registers r1) (region_at k.registers r2)))) (effect (of c) n (address_scan spot f r1 r2 e x) (stepped s)))
+scan_listed c around n spot f r1 r2 e x k =
+    allowed_more (scan_set c around spot f r1 r2 e x k) (λ v set s i.
     let g = set.first.addresses in
     let h = set.last.addresses in
     let told : Option Region = told_region (between (region_at k.registers r1) (region_at k.registers r2)) in
-    let cs : List Command = made_at line f told in
+    let cs : List Command = made_at spot f told in
     let is : told ≡ span g h =
     ap (λ o. told_region (between o (region_at k.registers r2))) set.first.is ∙ ap (λ o. told_region (between (Some g) o)) set.last.is in
     let a = address_of (region_at k.registers r1) (s.registers r1) g set.first.is (i.registers r1) in
@@ -246,8 +247,8 @@ scan_listed c around n line f r1 r2 e x k =
     unless_meets no_count (IsListed cs) AnyStop Any nothing (nat_eq a.at.crate_no b.at.crate_no) (go a.at b.at m) (stepped s) (λ _. tt) (λ _.
     transfer_listed cs c.plan f None (scan_next a.at b.at m) x (stepped s) (λ qs to w.
     let there = in_span g h a.at b.at to qs m a.inside b.inside set.few w in
-    subst (λ o. list_any (is_told to f) (made_at line f o) ≡ true) (sym (is ∙ has_stations g h to there))
-    (told_at line f (region g.crates (interval g.stations.lo h.stations.hi) (interval 0 15)) to there)))))))
+    subst (λ o. list_any (is_told to f) (made_at spot f o) ≡ true) (sym (is ∙ has_stations g h to there))
+    (told_at spot f (region g.crates (interval g.stations.lo h.stations.hi) (interval 0 15)) to there)))))))
 
 -- ---- a crate call, whose crate is one number
 
@@ -262,12 +263,12 @@ call_crate DemandOff c = refl
 call_crate TestDemandOutput c = refl
 call_crate TestDemand c = refl
 
-pub crate_listed : (c : Setting) (around : Place) (n line : ℕ) (which : CrateCall) (e : Expression) (k : Facts)
-    → Allows (crate_rule (seen c) (around_of around) line e k)
-    (λ v. (s : State) → Inside around k s → Listed (made_at line (crate_function which) (called_at which (in_crates (range_of line e k.ranges)))) (effect (of c) n (crate_call line which e) (stepped s)))
-crate_listed c around n line which e k =
-    then_allowed (with_result (range_each line e k.ranges)) (λ r known.
-    required_allowed _ line _ (λ fit. allowed (λ s i.
+pub crate_listed : (c : Setting) (around : Place) (n : ℕ) (spot : Spot) (which : CrateCall) (e : Expression) (k : Facts)
+    → Allows (crate_rule (seen c) (around_of around) spot e k)
+    (λ v. (s : State) → Inside around k s → Listed (made_at spot (crate_function which) (called_at which (in_crates (range_of spot e k.ranges)))) (effect (of c) n (crate_call spot which e) (stepped s)))
+crate_listed c around n spot which e k =
+    then_allowed (with_result (range_each spot e k.ranges)) (λ r known.
+    required_allowed _ spot _ (λ fit. allowed (λ s i.
     let at : Address = crate_address which r.lo in
     let f : ℕ = crate_function which in
     let call : ℕ → Action = λ m. act c.plan (crate_address which m) f Full no_data in
@@ -279,7 +280,7 @@ crate_listed c around n line which e k =
     let place : Region = record (single_region at) { crates = r } in
     let there : at.crate_no ≡ r.lo = call_crate which r.lo in
     let inside : InRegion place at = record { crate_no = record { low = omega (arith, there); high = omega (arith, there, one) }; station = only_within at.station; sub_address = only_within at.sub_address } in
-    let cs : List Command = made_at line f (Some place) in
-    subst (λ q. Listed (made_at line f (called_at which (in_crates q))) (given (value e s.variables) call (stepped s))) (sym known.0)
+    let cs : List Command = made_at spot f (Some place) in
+    subst (λ q. Listed (made_at spot f (called_at which (in_crates q))) (given (value e s.variables) call (stepped s))) (sym known.0)
     (listed_given cs (value e s.variables) call r.lo (stepped s) (v.is ∙ ap (λ m. Some m) same)
-    (act_listed cs c.plan at f Full no_data (stepped s) (told_at line f place at inside))))))
+    (act_listed cs c.plan at f Full no_data (stepped s) (told_at spot f place at inside))))))

@@ -12,6 +12,7 @@ use Rattle.camac_rules.proofs.Allows.{Allows, allowed, then_allowed, for_each}
 use Rattle.camac_rules.proofs.Stores.{VariablesInside}
 use Rattle.camac_rules.proofs.Values.{Fits, Gives, range_holds}
 use Rattle.camac_rules.proofs.Routines.{AreSmall}
+use Rattle.camac_lang.specs.declared.spot.Spot.{Spot}
 
 -- values of several expressions, each in its range
 abbrev pub AllFit : List ℕ → List Interval → Type 0
@@ -29,14 +30,14 @@ give_both None p r rs g h = g
 give_both (Some v) None r rs g h = h
 give_both (Some v) (Some vs) r rs g h = (g, h)
 
-ranges_hold : (line : ℕ) (es : List Expression) (rs : List Interval) (env : Variables) → VariablesInside rs env → Allows (ranges_of line es rs) (GiveAll (values es env))
-ranges_hold line [] rs env h = allowed tt
-ranges_hold line (e ∷ es) rs env h =
-    then_allowed (range_holds line e rs env h) (λ r g.
-    then_allowed (ranges_hold line es rs env h) (λ others gs. allowed (give_both (value e env) (values es env) r others g gs)))
+ranges_hold : (spot : Spot) (es : List Expression) (rs : List Interval) (env : Variables) → VariablesInside rs env → Allows (ranges_of spot es rs) (GiveAll (values es env))
+ranges_hold spot [] rs env h = allowed tt
+ranges_hold spot (e ∷ es) rs env h =
+    then_allowed (range_holds spot e rs env h) (λ r g.
+    then_allowed (ranges_hold spot es rs env h) (λ others gs. allowed (give_both (value e env) (values es env) r others g gs)))
 
-pub ranges_each : (line : ℕ) (es : List Expression) (rs : List Interval) → Allows (ranges_of line es rs) (λ found. (env : Variables) → VariablesInside rs env → GiveAll (values es env) found)
-ranges_each line es rs = for_each (VariablesInside rs) (λ env found. GiveAll (values es env) found) (λ env h. ranges_hold line es rs env h)
+pub ranges_each : (spot : Spot) (es : List Expression) (rs : List Interval) → Allows (ranges_of spot es rs) (λ found. (env : Variables) → VariablesInside rs env → GiveAll (values es env) found)
+ranges_each spot es rs = for_each (VariablesInside rs) (λ env found. GiveAll (values es env) found) (λ env h. ranges_hold spot es rs env h)
 
 pub in_ranges : (vs : List ℕ) (rs : List Interval) (ps : List Parameter) → AllFit vs rs → arguments_fit rs ps ≡ true → AreInRanges vs ps
 in_ranges [] [] [] f e = tt

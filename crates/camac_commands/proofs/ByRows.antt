@@ -21,6 +21,7 @@ use Rattle.camac_commands.specs.Commands.{made_alone, detail_told, behind, behin
 use Rattle.camac_commands.proofs.Listed.{Listed, listed_more}
 use Rattle.camac_commands.proofs.Wider.{Below, below_same, below_then, alone_more, Sort, both_below}
 use Rattle.camac_commands.proofs.Sorts.{block_sorts, AreOf, merge_of, block_sorted}
+use Rattle.camac_lang.specs.declared.spot.Spot.{Spot}
 
 -- ---- rows that begin with such as tell what others do, and those behind them
 
@@ -120,33 +121,33 @@ module _ (c : Context) (around : Around) (b : Block) (limit : Bounds → Bounds)
 module _ (c : Context) where
   mutual
     statement_behind : (around : Around) (s : Statement) (k : Known) (rows rest : List Row) → Over rows (statement_rows c around s k) rest → behind s rows ≡ rest
-    statement_behind around (choose line test a) k rows rest h = block_behind around a (ways line test k).holds (drop 1 rows) rest (over_block _ _ rows _ rest h (λ _. refl))
-    statement_behind around (choose_else line test a b) k rows rest h =
-        let arms = ways line test k in
+    statement_behind around (choose spot test a) k rows rest h = block_behind around a (ways spot test k).holds (drop 1 rows) rest (over_block _ _ rows _ rest h (λ _. refl))
+    statement_behind around (choose_else spot test a b) k rows rest h =
+        let arms = ways spot test k in
         let (middle, first, second) = over_both (drop 1 rows) (inside c _ (block_rows c around a arms.holds)) _ rest (behind_first _ rows _ rest h) in
         let one = block_behind around a arms.holds (drop 1 rows) middle (over_inside _ (drop 1 rows) _ middle first (λ _. refl)) in
         ap (λ m. behind_block b (drop 1 m)) one ∙ block_behind around b arms.fails (drop 1 middle) rest (over_block _ _ middle _ rest second (λ _. refl))
-    statement_behind around (for_ line x e1 e2 keeps body) k rows rest h =
-        block_behind (with_fixed x around) body (for_turning around line x e1 e2 keeps body k).head (drop 1 rows) rest (over_block _ _ rows _ rest h (λ _. refl))
-    statement_behind around (for_each line x v last body) k rows rest h =
+    statement_behind around (for_ spot x e1 e2 keeps body) k rows rest h =
+        block_behind (with_fixed x around) body (for_turning around spot x e1 e2 keeps body k).head (drop 1 rows) rest (over_block _ _ rows _ rest h (λ _. refl))
+    statement_behind around (for_each spot x v last body) k rows rest h =
         let within : Around = with_fixed x around in
         block_behind within body None (drop 1 rows) rest
         (over_so_far c within body c.limit _ x v (block_verdict c within body) k (turned 0 (block_rows c within body None)) (drop 1 rows) rest (block_sorted c within body None) (over_block _ _ rows _ rest h (λ _. refl)))
-    statement_behind around (while_ line test most m keeps body) k rows rest h =
-        block_behind around body (while_turning around line test most m keeps body k).head (drop 1 rows) rest (over_block _ _ rows _ rest h (λ _. refl))
-    statement_behind around (locked line e body) k rows rest h =
-        let o = taken c around line e k in
+    statement_behind around (while_ spot test most m keeps body) k rows rest h =
+        block_behind around body (while_turning around spot test most m keeps body k).head (drop 1 rows) rest (over_block _ _ rows _ rest h (λ _. refl))
+    statement_behind around (locked spot e body) k rows rest h =
+        let o = taken c around spot e k in
         block_behind (lock_inside o around) body (lock_head o k) (drop 1 rows) rest (over_block _ _ rows _ rest h (λ _. refl))
-    statement_behind around (assign line x e) k rows rest h = over_none _ rest (behind_first _ rows [] rest h)
-    statement_behind around (set_register line r e1 e2 e3) k rows rest h = over_none _ rest (behind_first _ rows [] rest h)
-    statement_behind around (single line size f r move) k rows rest h = over_none _ rest (behind_first _ rows [] rest h)
-    statement_behind around (address_scan line f r1 r2 max x) k rows rest h = over_none _ rest (behind_first _ rows [] rest h)
-    statement_behind around (q_stop line f r t max x) k rows rest h = over_none _ rest (behind_first _ rows [] rest h)
-    statement_behind around (q_repeat line f r t max limit x) k rows rest h = over_none _ rest (behind_first _ rows [] rest h)
-    statement_behind around (put line e) k rows rest h = over_none _ rest (behind_first _ rows [] rest h)
-    statement_behind around (crate_call line which e) k rows rest h = over_none _ rest (behind_first _ rows [] rest h)
-    statement_behind around (lam_call line which l) k rows rest h = over_none _ rest (behind_first _ rows [] rest h)
-    statement_behind around (call line p es) k rows rest h = over_none _ rest (behind_first _ rows [] rest h)
+    statement_behind around (assign spot x e) k rows rest h = over_none _ rest (behind_first _ rows [] rest h)
+    statement_behind around (set_register spot r e1 e2 e3) k rows rest h = over_none _ rest (behind_first _ rows [] rest h)
+    statement_behind around (single spot size f r move) k rows rest h = over_none _ rest (behind_first _ rows [] rest h)
+    statement_behind around (address_scan spot f r1 r2 max x) k rows rest h = over_none _ rest (behind_first _ rows [] rest h)
+    statement_behind around (q_stop spot f r t max x) k rows rest h = over_none _ rest (behind_first _ rows [] rest h)
+    statement_behind around (q_repeat spot f r t max limit x) k rows rest h = over_none _ rest (behind_first _ rows [] rest h)
+    statement_behind around (put spot e) k rows rest h = over_none _ rest (behind_first _ rows [] rest h)
+    statement_behind around (crate_call spot which e) k rows rest h = over_none _ rest (behind_first _ rows [] rest h)
+    statement_behind around (lam_call spot which l) k rows rest h = over_none _ rest (behind_first _ rows [] rest h)
+    statement_behind around (call spot p es) k rows rest h = over_none _ rest (behind_first _ rows [] rest h)
 
     block_behind : (around : Around) (b : Block) (k : Known) (rows rest : List Row) → Over rows (block_rows c around b k) rest → behind_block b rows ≡ rest
     block_behind around done k rows rest h = over_none rows rest h
@@ -177,10 +178,10 @@ over_next c around s others k v is rows rest h =
     (first, subst (λ w. Over middle (block_rows code around others w) rest) (after_statement c around s k v is) second)
 
 -- the two arms of a choice
-pub over_arms : (c : Context) (around : Around) (line : ℕ) (test : Condition) (a b : Block) (k : Known) (rows rest : List Row) → Over rows (statement_rows c around (choose_else line test a b) k) rest
-    → Over (drop 1 rows) (block_rows c around a (ways line test k).holds) (behind_block a (drop 1 rows)) × Over (drop 1 (behind_block a (drop 1 rows))) (block_rows c around b (ways line test k).fails) rest
-over_arms c around line test a b k rows rest h =
-    let arms = ways line test k in
+pub over_arms : (c : Context) (around : Around) (spot : Spot) (test : Condition) (a b : Block) (k : Known) (rows rest : List Row) → Over rows (statement_rows c around (choose_else spot test a b) k) rest
+    → Over (drop 1 rows) (block_rows c around a (ways spot test k).holds) (behind_block a (drop 1 rows)) × Over (drop 1 (behind_block a (drop 1 rows))) (block_rows c around b (ways spot test k).fails) rest
+over_arms c around spot test a b k rows rest h =
+    let arms = ways spot test k in
     let (middle, first, second) = over_both (drop 1 rows) (inside c _ (block_rows c around a arms.holds)) _ rest (behind_first _ rows _ rest h) in
     let one = over_inside _ (drop 1 rows) _ middle first (λ _. refl) in
     subst (λ m. Over (drop 1 rows) (block_rows c around a arms.holds) m × Over (drop 1 m) (block_rows c around b arms.fails) rest) (sym (block_behind c around a arms.holds (drop 1 rows) middle one))

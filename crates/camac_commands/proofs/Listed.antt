@@ -14,6 +14,7 @@ use Rattle.camac_rules.specs.Known.{Region}
 use Rattle.camac_rules.proofs.Stores.{InRegion}
 use Rattle.camac_rules.proofs.Sound.{step}
 use Rattle.camac_commands.specs.Commands.{Command, is_told, lies_in, IsListed, made_at}
+use Rattle.camac_lang.specs.declared.spot.Spot.{Spot}
 
 abbrev pub Listed : List Command → Behaviour State → Type 0
 Listed cs b = Meets no_count (IsListed cs) AnyStop Any nothing b
@@ -27,8 +28,8 @@ inside_lies g at h =
     (both g.sub_addresses at.sub_address h.sub_address))
 
 -- a cycle at a known address
-pub told_at : (line f : ℕ) (g : Region) (at : Address) → InRegion g at → list_any (is_told at f) (made_at line f (Some g)) ≡ true
-told_at line f g at h = or_left (nat_eq f f && lies_in g at) _ (and_from (nat_eq f f) (lies_in g at) (eq-eqb f f refl) (inside_lies g at h))
+pub told_at : (spot : Spot) (f : ℕ) (g : Region) (at : Address) → InRegion g at → list_any (is_told at f) (made_at spot f (Some g)) ≡ true
+told_at spot f g at h = or_left (nat_eq f f && lies_in g at) _ (and_from (nat_eq f f) (lies_in g at) (eq-eqb f f refl) (inside_lies g at h))
 
 listed_piece : (cs ds : List Command) → ((at : Address) (f : ℕ) → list_any (is_told at f) cs ≡ true → list_any (is_told at f) ds ≡ true) → (p : Piece) → IsListed cs nothing p → IsListed ds nothing p
 listed_piece cs ds more (demanded p v) h = tt

@@ -62,6 +62,7 @@ use Rattle.camac_commands.proofs.Actions.{always, with_result, single_listed, q_
 use Rattle.camac_commands.proofs.Arguments.{GiveAll, AllFit, ranges_each, in_ranges, are_small}
 use Rattle.camac_commands.proofs.Matches.{Matches, matches_at}
 use Rattle.camac_commands.proofs.Statements.{both_allowed, each_begun, turn_begins}
+use Rattle.camac_lang.specs.declared.spot.Spot.{Spot}
 
 -- ---- behaviours that make a cycle that is meant
 
@@ -116,10 +117,10 @@ module _ (meant : Address → ℕ → Bool) where
   by_or false b P e first second = second e
 
   -- the first of a list of at most one
-  one_meant : (test : Command → Bool) → TellsOf test meant → (line f : ℕ) (o : Option Region) → list_any test (made_at line f o) ≡ true → (at : Address) (g : ℕ) → list_any (is_told at g) (made_at line f o) ≡ true → meant at g ≡ true
-  one_meant test tells line f None e at g t = absurd (false≢true e)
-  one_meant test tells line f (Some r) e at g t =
-      let d : Command = record { line = line; function = f; region = r } in
+  one_meant : (test : Command → Bool) → TellsOf test meant → (spot : Spot) (f : ℕ) (o : Option Region) → list_any test (made_at spot f o) ≡ true → (at : Address) (g : ℕ) → list_any (is_told at g) (made_at spot f o) ≡ true → meant at g ≡ true
+  one_meant test tells spot f None e at g t = absurd (false≢true e)
+  one_meant test tells spot f (Some r) e at g t =
+      let d : Command = record { spot = spot; function = f; region = r } in
       by_or (test d) false (meant at g ≡ true) e (λ passes. by_or (is_told at g d) false (meant at g ≡ true) t (λ there. tells d passes at g there) (λ no. absurd (false≢true no))) (λ no. absurd (false≢true no))
 
 -- what ends has made a cycle
@@ -191,33 +192,33 @@ module _ (c : Setting) (narrow : HasWidths c.plan) (serves : Serves c) (n : ℕ)
   reached_makes : (around : Place) (b : Block) (k : Known) → ((q : Facts) → Allows (accept_block (seen c) (around_of around) b q) (λ v. BlockMakes around b (Some q))) → Accepted around b k (λ v. BlockMakes around b k)
   reached_makes around b k h = if_reached_allowed unreached k (accept_block (seen c) (around_of around) b) (λ q v. BlockMakes around b q) (λ rows rest o e s r. absurd r) h
 
-  single_makes : (around : Place) (line : ℕ) (size : WordSize) (f r : ℕ) (m : Move) (k : Facts) → Allows (accept_statement (seen c) (around_of around) (single line size f r m) k) (λ v. MakesIt around (single line size f r m) k)
-  single_makes around line size f r m k =
-      allowed_more (single_listed c around n line size f r m k) (λ v lists rows rest o e s i.
-      listed_makes meant _ (one_meant meant test tells line f _ e) (effect (of c) n (single line size f r m) (stepped s)) (listed_over (single line size f r m) _ rows rest o _ (lists s i))
+  single_makes : (around : Place) (spot : Spot) (size : WordSize) (f r : ℕ) (m : Move) (k : Facts) → Allows (accept_statement (seen c) (around_of around) (single spot size f r m) k) (λ v. MakesIt around (single spot size f r m) k)
+  single_makes around spot size f r m k =
+      allowed_more (single_listed c around n spot size f r m k) (λ v lists rows rest o e s i.
+      listed_makes meant _ (one_meant meant test tells spot f _ e) (effect (of c) n (single spot size f r m) (stepped s)) (listed_over (single spot size f r m) _ rows rest o _ (lists s i))
       (cycles_given (s.registers r) (λ at. act c.plan at f size m) (stepped s) (λ at _. act_cycles c.plan at f size m (stepped s))))
 
-  q_stop_makes : (around : Place) (line f r : ℕ) (g : Option ℕ) (e : Expression) (x : ℕ) (k : Facts) → Allows (accept_statement (seen c) (around_of around) (q_stop line f r g e x) k) (λ v. MakesIt around (q_stop line f r g e x) k)
-  q_stop_makes around line f r g e x k =
-      allowed_more (q_stop_listed c around n line f r g e x k) (λ v lists rows rest own so s i.
+  q_stop_makes : (around : Place) (spot : Spot) (f r : ℕ) (g : Option ℕ) (e : Expression) (x : ℕ) (k : Facts) → Allows (accept_statement (seen c) (around_of around) (q_stop spot f r g e x) k) (λ v. MakesIt around (q_stop spot f r g e x) k)
+  q_stop_makes around spot f r g e x k =
+      allowed_more (q_stop_listed c around n spot f r g e x k) (λ v lists rows rest own so s i.
       let both = and_parts (is_some_number e) _ so in
       let last : Option (List ℕ) → Address → ℕ → Action = λ o at m. transfer_to c.plan f o (q_stop_next at m) x in
       let go : Option (List ℕ) → Address → Action = λ o at. given (value e s.variables) (last o at) in
-      listed_makes meant _ (one_meant meant test tells line f _ both.1) (effect (of c) n (q_stop line f r g e x) (stepped s)) (listed_over (q_stop line f r g e x) _ rows rest own _ (lists s i))
+      listed_makes meant _ (one_meant meant test tells spot f _ both.1) (effect (of c) n (q_stop spot f r g e x) (stepped s)) (listed_over (q_stop spot f r g e x) _ rows rest own _ (lists s i))
       (cycles_given (sent (of c) g) (λ o. given (s.registers r) (go o)) (stepped s) (λ o _.
       cycles_given (s.registers r) (go o) (stepped s) (λ at _.
       cycles_given (value e s.variables) (last o at) (stepped s) (λ m is.
       transfer_cycles c.plan f o (q_stop_next at m) x (stepped s) (wanted (nat_lt 0 m) at (one_wanted e s.variables m both.0 is)))))))
 
-  q_repeat_makes : (around : Place) (line f r : ℕ) (g : Option ℕ) (e1 e2 : Expression) (x : ℕ) (k : Facts) → Allows (accept_statement (seen c) (around_of around) (q_repeat line f r g e1 e2 x) k) (λ v. MakesIt around (q_repeat line f r g e1 e2 x) k)
-  q_repeat_makes around line f r g e1 e2 x k =
-      allowed_more (q_repeat_listed c around n line f r g e1 e2 x k) (λ v lists rows rest own so s i.
+  q_repeat_makes : (around : Place) (spot : Spot) (f r : ℕ) (g : Option ℕ) (e1 e2 : Expression) (x : ℕ) (k : Facts) → Allows (accept_statement (seen c) (around_of around) (q_repeat spot f r g e1 e2 x) k) (λ v. MakesIt around (q_repeat spot f r g e1 e2 x) k)
+  q_repeat_makes around spot f r g e1 e2 x k =
+      allowed_more (q_repeat_listed c around n spot f r g e1 e2 x k) (λ v lists rows rest own so s i.
       let both = and_parts (is_some_number e1 && is_some_number e2) _ so in
       let limits = and_parts (is_some_number e1) (is_some_number e2) both.0 in
       let last : Option (List ℕ) → Address → ℕ → ℕ → Action = λ o at m l. transfer_to c.plan f o (q_repeat_next at m l) x in
       let next_one : Option (List ℕ) → Address → ℕ → Action = λ o at m. given (value e2 s.variables) (last o at m) in
       let go : Option (List ℕ) → Address → Action = λ o at. given (value e1 s.variables) (next_one o at) in
-      listed_makes meant _ (one_meant meant test tells line f _ both.1) (effect (of c) n (q_repeat line f r g e1 e2 x) (stepped s)) (listed_over (q_repeat line f r g e1 e2 x) _ rows rest own _ (lists s i))
+      listed_makes meant _ (one_meant meant test tells spot f _ both.1) (effect (of c) n (q_repeat spot f r g e1 e2 x) (stepped s)) (listed_over (q_repeat spot f r g e1 e2 x) _ rows rest own _ (lists s i))
       (cycles_given (sent (of c) g) (λ o. given (s.registers r) (go o)) (stepped s) (λ o _.
       cycles_given (s.registers r) (go o) (stepped s) (λ at _.
       cycles_given (value e1 s.variables) (next_one o at) (stepped s) (λ m is.
@@ -225,17 +226,17 @@ module _ (c : Setting) (narrow : HasWidths c.plan) (serves : Serves c) (n : ℕ)
       transfer_cycles c.plan f o (q_repeat_next at m l) x (stepped s)
       (wanted (nat_lt 0 m && nat_lt 0 l) at (and_from (nat_lt 0 m) (nat_lt 0 l) (one_wanted e1 s.variables m limits.0 is) (one_wanted e2 s.variables l limits.1 its)))))))))
 
-  lam_makes : (around : Place) (line : ℕ) (which : LamCall) (l : ℕ) (k : Facts) → Allows (accept_statement (seen c) (around_of around) (lam_call line which l) k) (λ v. MakesIt around (lam_call line which l) k)
-  lam_makes around line which l k =
-      allowed_more (lam_listed c around n line which l k) (λ v lists rows rest o e s i.
-      listed_makes meant _ (one_meant meant test tells line _ _ e) (effect (of c) n (lam_call line which l) (stepped s)) (listed_over (lam_call line which l) _ rows rest o _ (lists s i))
+  lam_makes : (around : Place) (spot : Spot) (which : LamCall) (l : ℕ) (k : Facts) → Allows (accept_statement (seen c) (around_of around) (lam_call spot which l) k) (λ v. MakesIt around (lam_call spot which l) k)
+  lam_makes around spot which l k =
+      allowed_more (lam_listed c around n spot which l k) (λ v lists rows rest o e s i.
+      listed_makes meant _ (one_meant meant test tells spot _ _ e) (effect (of c) n (lam_call spot which l) (stepped s)) (listed_over (lam_call spot which l) _ rows rest o _ (lists s i))
       (cycles_given (slice_get c.lams l) (λ at. act c.plan at (lam_function which) Full no_data) (stepped s) (λ at _. act_cycles c.plan at (lam_function which) Full no_data (stepped s))))
 
-  call_makes : (around : Place) (line p : ℕ) (es : List Expression) (k : Facts) → Allows (call_rule (seen c) line p es k) (λ v. MakesIt around (call line p es) k)
-  call_makes around line p es k =
-      then_allowed (ranges_each line es k.ranges) (λ rs gives.
-      then_allowed (given_allowed (slice_get c.procedures p) _ line _) (λ q is.
-      required_allowed _ line _ (λ fit. allows (λ rows rest o sure_so s i.
+  call_makes : (around : Place) (spot : Spot) (p : ℕ) (es : List Expression) (k : Facts) → Allows (call_rule (seen c) spot p es k) (λ v. MakesIt around (call spot p es) k)
+  call_makes around spot p es k =
+      then_allowed (ranges_each spot es k.ranges) (λ rs gives.
+      then_allowed (given_allowed (slice_get c.procedures p) _ spot _) (λ q is.
+      required_allowed _ spot _ (λ fit. allows (λ rows rest o sure_so s i.
       let r = serves.each p q is in
       let makes = matches_at (RoutineMakes meant n) false c.routines c.procedures bs matches p q r.routine is r.is sure_so in
       makes_given meant (slice_get c.routines p) (λ routine. given (values es s.variables) (λ us. enter (routine n) us)) r.routine (stepped s) r.is
@@ -249,22 +250,22 @@ module _ (c : Setting) (narrow : HasWidths c.plan) (serves : Serves c) (n : ℕ)
   by_test around (Some true) arms first second t d f g = f d
   by_test around (Some false) arms first second t d f g = g d
 
-  choice_makes : (around : Place) (line : ℕ) (test' : Condition) (a b : Block) (k : Facts) (arms : Branches) → split line test' k ≡ Ok arms
-      → ((s : State) → Inside around k s → Decides around (truth test' s.variables s.q s.x) arms s) → BlockMakes around a arms.holds → BlockMakes around b arms.fails → MakesIt around (choose_else line test' a b) k
+  choice_makes : (around : Place) (spot : Spot) (test' : Condition) (a b : Block) (k : Facts) (arms : Branches) → split spot test' k ≡ Ok arms
+      → ((s : State) → Inside around k s → Decides around (truth test' s.variables s.q s.x) arms s) → BlockMakes around a arms.holds → BlockMakes around b arms.fails → MakesIt around (choose_else spot test' a b) k
   unfolding if_reached
-  choice_makes around line test' a b k arms is d first second rows rest o e s i =
+  choice_makes around spot test' a b k arms is d first second rows rest o e s i =
       let t : State = stepped s in
       let middle : List Row = behind_block a (drop 1 rows) in
       let parts = subst (λ (w : Branches). Over (drop 1 rows) (rows_of around a w.holds) middle × Over (drop 1 middle) (rows_of around b w.fails) rest)
-      (ap (λ q. found (branches None None) q) is) (over_arms (in_code (seen c)) (around_of around) line test' a b (Some k) rows rest o) in
+      (ap (λ q. found (branches None None) q) is) (over_arms (in_code (seen c)) (around_of around) spot test' a b (Some k) rows rest o) in
       let both = and_parts (surely_block test bs a (drop 1 rows)) (surely_block test bs b (drop 1 middle)) e in
       by_test around (truth test' s.variables s.q s.x) arms (run a) (run b) t (d t (stepped_reaches around (Some k) s i))
       (λ r. first (drop 1 rows) middle parts.0 both.0 t r) (λ r. second (drop 1 middle) rest parts.1 both.1 t r)
 
-  lock_makes : (around : Place) (line : ℕ) (e : Expression) (body : Block) (k : Facts) (m : ℕ) → lock_rule (seen c) (around_of around) line e k ≡ Ok m
-      → CanLock c.plan around e k m → BlockMakes (holding m around) body (Some k) → MakesIt around (locked line e body) k
+  lock_makes : (around : Place) (spot : Spot) (e : Expression) (body : Block) (k : Facts) (m : ℕ) → lock_rule (seen c) (around_of around) spot e k ≡ Ok m
+      → CanLock c.plan around e k m → BlockMakes (holding m around) body (Some k) → MakesIt around (locked spot e body) k
   unfolding go_on if_reached
-  lock_makes around line e body k m is can makes rows rest o sure_so s i =
+  lock_makes around spot e body k m is can makes rows rest o sure_so s i =
       let t : State = stepped s in
       let held : ℕ → Action = λ d u. then_do (run body u) (release d) in
       let take : ℕ → ℕ → Action = λ d waits u. take_lock d waits (u.branch d).locked (held d) u in
@@ -284,21 +285,21 @@ module _ (c : Setting) (narrow : HasWidths c.plan) (serves : Serves c) (n : ℕ)
   first_turn zero left x v w body t h = λ y. tt
   first_turn (suc m) left x v w body t h = makes_first meant (body (for_state x v t)) (for_turns left m x (v + 1) w body) h
 
-  turns_make : (around : Place) (line x : ℕ) (e1 e2 : Expression) (qs : List Keep) (body : Block) (k : Facts) (l : Limits) (turn : Verdict) → MayCount around x e1 e2 qs k l → keeps_hold_after qs turn.after ≡ true
+  turns_make : (around : Place) (spot : Spot) (x : ℕ) (e1 e2 : Expression) (qs : List Keep) (body : Block) (k : Facts) (l : Limits) (turn : Verdict) → MayCount around x e1 e2 qs k l → keeps_hold_after qs turn.after ≡ true
       → (s : State) → Inside around k s → (v w : ℕ) → Fits l.first v → Fits l.last w → v ≤ w
       → (b : Bool) → nat_lt l.last.hi l.first.lo ≡ b → SoundFor c.plan (fixing x around) (if b then None else Some (with_range x (values_between l) (head body qs k))) (λ m. block_meaning (of c) m body) turn
       → ((t : State) → Reaches (fixing x around) (if b then None else Some (with_range x (values_between l) (head body qs k))) t → Makes meant (run body t))
       → Makes meant (for_from (w + 1 - v) n x v w (run body) (stepped s))
-  turns_make around line x e1 e2 qs body k l turn may keep s i v w f g has true e h makes =
+  turns_make around spot x e1 e2 qs body k l turn may keep s i v w f g has true e h makes =
       let less : l.last.hi < l.first.lo = ltb-true l.last.hi l.first.lo e in
       absurd (omega (arith, f.within.low, g.within.high))
-  turns_make around line x e1 e2 qs body k l turn may keep s i v w f g has false e h makes = go (w + 1 - v) refl
+  turns_make around spot x e1 e2 qs body k l turn may keep s i v w f g has false e h makes = go (w + 1 - v) refl
     where
       go : (j : ℕ) → j ≡ w + 1 - v → Makes meant (for_from j n x v w (run body) (stepped s))
       go zero is = absurd (omega arith)
       go (suc j) is =
-          let checked = counting.checked c around line x e1 e2 qs body k l turn may keep n le h in
-          let before = counting.before_turns c.plan around x body qs k l turn (run body) checked s i v w f g (suc j) is (counting.entered c around line x e1 e2 qs body k l turn may keep s i) in
+          let checked = counting.checked c around spot x e1 e2 qs body k l turn may keep n le h in
+          let before = counting.before_turns c.plan around x body qs k l turn (run body) checked s i v w f g (suc j) is (counting.entered c around spot x e1 e2 qs body k l turn may keep s i) in
           first_turn n j x v w (run body) (stepped s)
           (makes (for_state x v (stepped s)) (counting.turn_begins c.plan around x body qs k l turn (run body) checked s i v w f g j v (stepped s) before))
 
@@ -310,11 +311,11 @@ module _ (c : Setting) (narrow : HasWidths c.plan) (serves : Serves c) (n : ℕ)
       omega (arith, one, two, less)
   in_order e1 e2 env v w e p q = absurd (cc)
 
-  for_makes : (around : Place) (line x : ℕ) (e1 e2 : Expression) (qs : List Keep) (body : Block) (k : Facts) (l : Limits) (turn : Verdict) → for_limits (around_of around) line x e1 e2 qs k ≡ Ok l
+  for_makes : (around : Place) (spot : Spot) (x : ℕ) (e1 e2 : Expression) (qs : List Keep) (body : Block) (k : Facts) (l : Limits) (turn : Verdict) → for_limits (around_of around) spot x e1 e2 qs k ≡ Ok l
       → MayCount around x e1 e2 qs k l → keeps_hold_after qs turn.after ≡ true → SoundFor c.plan (fixing x around) (for_head x l qs body k) (λ m. block_meaning (of c) m body) turn
-      → BlockMakes (fixing x around) body (for_head x l qs body k) → MakesIt around (for_ line x e1 e2 qs body) k
+      → BlockMakes (fixing x around) body (for_head x l qs body k) → MakesIt around (for_ spot x e1 e2 qs body) k
   unfolding go_on if_reached
-  for_makes around line x e1 e2 qs body k l turn is may keep sound makes rows rest o sure_so s i =
+  for_makes around spot x e1 e2 qs body k l turn is may keep sound makes rows rest o sure_so s i =
       let t : State = stepped s in
       let first = value_of (value e1 s.variables) l.first (may.first s i) in
       let last = value_of (value e2 s.variables) l.last (may.last s i) in
@@ -324,14 +325,14 @@ module _ (c : Setting) (narrow : HasWidths c.plan) (serves : Serves c) (n : ℕ)
       (ap (λ q. found (turning_from 0 None) (go_on q (λ j. Ok (turning_from (turns_between j) (for_head x j qs body k))))) is) (over_block _ _ rows _ rest o (λ _. refl)) in
       makes_given meant (value e1 s.variables) (λ v. given (value e2 s.variables) (second v)) first.number t first.is
       (makes_given meant (value e2 s.variables) (second first.number) last.number t last.is
-      (turns_make around line x e1 e2 qs body k l turn may keep s i first.number last.number first.fits last.fits (in_order e1 e2 s.variables first.number last.number both.0 first.is last.is)
+      (turns_make around spot x e1 e2 qs body k l turn may keep s i first.number last.number first.fits last.fits (in_order e1 e2 s.variables first.number last.number both.0 first.is last.is)
       (nat_lt l.last.hi l.first.lo) refl sound (λ u r. makes (drop 1 rows) rest inner both.1 u r)))
 
   -- an `each` that has a turn: the first is one
-  each_makes : (around : Place) (line x v last : ℕ) (body : Block) → ((q : Facts) → Allows (accept_block (seen c) (around_of (fixing x around)) body q) (λ w. BlockMakes (fixing x around) body (Some q)))
-      → (k : Facts) → Allows (each_rule (seen c) (around_of around) line x v last (accept_block (seen c) (around_of (fixing x around)) body) k) (λ w. MakesIt around (for_each line x v last body) k)
-  each_makes around line x v last body each k =
-      then_allowed (each_begun (around_of around) line x v last) (λ count may.
+  each_makes : (around : Place) (spot : Spot) (x v last : ℕ) (body : Block) → ((q : Facts) → Allows (accept_block (seen c) (around_of (fixing x around)) body q) (λ w. BlockMakes (fixing x around) body (Some q)))
+      → (k : Facts) → Allows (each_rule (seen c) (around_of around) spot x v last (accept_block (seen c) (around_of (fixing x around)) body) k) (λ w. MakesIt around (for_each spot x v last body) k)
+  each_makes around spot x v last body each k =
+      then_allowed (each_begun (around_of around) spot x v last) (λ count may.
       then_allowed (first_makes may.0 count may.1) (λ turns makes. allows (λ rows rest o e s i.
       let both = and_parts (nat_le v last) (surely_block test bs body (drop 1 rows)) e in
       makes (leb-true v last both.0) (drop 1 rows) rest (over_block _ _ rows _ rest o (λ _. refl)) both.1 (stepped s) (stepped_reaches around (Some k) s i))))
@@ -367,33 +368,33 @@ module _ (c : Setting) (narrow : HasWidths c.plan) (serves : Serves c) (n : ℕ)
 
   mutual
     statement_makes : (around : Place) (st : Statement) → MayLock around (has_lock st) → (k : Facts) → Allows (accept_statement (seen c) (around_of around) st k) (λ v. MakesIt around st k)
-    statement_makes around (assign line x e) may k = always _ (λ rows rest o no. absurd (false≢true no))
-    statement_makes around (set_register line r e1 e2 e3) may k = always _ (λ rows rest o no. absurd (false≢true no))
-    statement_makes around (single line size f r m) may k = single_makes around line size f r m k
-    statement_makes around (address_scan line f r1 r2 max x) may k = always _ (λ rows rest o no. absurd (false≢true no))
-    statement_makes around (q_stop line f r t max x) may k = q_stop_makes around line f r t max x k
-    statement_makes around (q_repeat line f r t max limit x) may k = q_repeat_makes around line f r t max limit x k
-    statement_makes around (put line e) may k = always _ (λ rows rest o no. absurd (false≢true no))
-    statement_makes around (crate_call line which e) may k = always _ (λ rows rest o no. absurd (false≢true no))
-    statement_makes around (lam_call line which l) may k = lam_makes around line which l k
-    statement_makes around (call line p es) may k = call_makes around line p es k
-    statement_makes around (choose line t a) may k = always _ (λ rows rest o no. absurd (false≢true no))
-    statement_makes around (while_ line t most m qs body) may k = always _ (λ rows rest o no. absurd (false≢true no))
-    statement_makes around (choose_else line t a b) may k =
-        then_allowed (with_result (split_each around line t k)) (λ arms d.
+    statement_makes around (assign spot x e) may k = always _ (λ rows rest o no. absurd (false≢true no))
+    statement_makes around (set_register spot r e1 e2 e3) may k = always _ (λ rows rest o no. absurd (false≢true no))
+    statement_makes around (single spot size f r m) may k = single_makes around spot size f r m k
+    statement_makes around (address_scan spot f r1 r2 max x) may k = always _ (λ rows rest o no. absurd (false≢true no))
+    statement_makes around (q_stop spot f r t max x) may k = q_stop_makes around spot f r t max x k
+    statement_makes around (q_repeat spot f r t max limit x) may k = q_repeat_makes around spot f r t max limit x k
+    statement_makes around (put spot e) may k = always _ (λ rows rest o no. absurd (false≢true no))
+    statement_makes around (crate_call spot which e) may k = always _ (λ rows rest o no. absurd (false≢true no))
+    statement_makes around (lam_call spot which l) may k = lam_makes around spot which l k
+    statement_makes around (call spot p es) may k = call_makes around spot p es k
+    statement_makes around (choose spot t a) may k = always _ (λ rows rest o no. absurd (false≢true no))
+    statement_makes around (while_ spot t most m qs body) may k = always _ (λ rows rest o no. absurd (false≢true no))
+    statement_makes around (choose_else spot t a b) may k =
+        then_allowed (with_result (split_each around spot t k)) (λ arms d.
         then_allowed (reached_makes around a arms.holds (λ q. block_makes around a (may_first (block_has_lock a) (block_has_lock b) around may) q)) (λ first h.
         then_allowed (reached_makes around b arms.fails (λ q. block_makes around b (may_second (block_has_lock a) (block_has_lock b) around may) q)) (λ second g.
-        allows (choice_makes around line t a b k arms d.0 d.1 h g))))
-    statement_makes around (locked line e body) may k =
-        then_allowed (with_result (lock_allowed c around line e k)) (λ m can.
+        allows (choice_makes around spot t a b k arms d.0 d.1 h g))))
+    statement_makes around (locked spot e body) may k =
+        then_allowed (with_result (lock_allowed c around spot e k)) (λ m can.
         then_allowed (block_makes (holding m around) body (λ h. may refl) k) (λ inner h.
-        allows (lock_makes around line e body k m can.0 can.1 h)))
-    statement_makes around (for_ line x e1 e2 qs body) may k =
-        then_allowed (with_result (limits_allowed around line x e1 e2 qs k)) (λ l m.
+        allows (lock_makes around spot e body k m can.0 can.1 h)))
+    statement_makes around (for_ spot x e1 e2 qs body) may k =
+        then_allowed (with_result (limits_allowed around spot x e1 e2 qs k)) (λ l m.
         then_allowed (both_allowed (reached_sound c (fixing x around) body (for_head x l qs body k) (λ q. block_sound c narrow serves (fixing x around) body may q))
         (reached_makes (fixing x around) body (for_head x l qs body k) (λ q. block_makes (fixing x around) body may q))) (λ turn h.
-        required_allowed _ line _ (λ keep. allows (for_makes around line x e1 e2 qs body k l turn m.0 m.1 keep h.1 h.2))))
-    statement_makes around (for_each line x v last body) may k = each_makes around line x v last body (λ q. block_makes (fixing x around) body may q) k
+        required_allowed _ spot _ (λ keep. allows (for_makes around spot x e1 e2 qs body k l turn m.0 m.1 keep h.1 h.2))))
+    statement_makes around (for_each spot x v last body) may k = each_makes around spot x v last body (λ q. block_makes (fixing x around) body may q) k
 
     pub block_makes : (around : Place) (b : Block) → MayLock around (block_has_lock b) → (k : Facts) → Allows (accept_block (seen c) (around_of around) b k) (λ v. BlockMakes around b (Some k))
     block_makes around done may k = allows (λ rows rest o no. absurd (false≢true no))

@@ -142,7 +142,7 @@ module _ (plan : Layout) (script : Script) (narrow : HasWidths plan) where
       items_told i j [] rs done ps vs ls m k e free = allowed (λ n v x at there. absurd (cc))
       items_told i j (next_table ∷ rest) rs done ps vs ls m k e free = items_told i j rest rs done ps vs ls m k e free
       items_told i j (next_lam ∷ rest) rs done ps vs ls m k e free = items_told i j rest rs done ps vs ls m k e free
-      items_told i j (next_variables line n ∷ rest) rs done ps vs ls m k e free = items_told i j rest rs done ps vs ls m k e free
+      items_told i j (next_variables spot n ∷ rest) rs done ps vs ls m k e free = items_told i j rest rs done ps vs ls m k e free
       items_told i j (next_procedure ∷ rest) rs done [] vs ls m k e free = items_told i j rest rs done [] vs ls m k e free
       items_told i j (next_procedure ∷ rest) rs done (p ∷ ps) vs ls m k e free =
           let run : ℕ → Action = λ n. block_meaning (of (setting plan script rs done)) n p.body in

@@ -16,22 +16,23 @@ use Rattle.camac_check_rows.specs.Rows.{ways, for_turning, while_turning, taken,
 use Rattle.camac_check_rows.specs.Statements.{at_region, known_region, between, in_crates, crate_detail}
 use Rattle.camac_check_rows.specs.Turns.{merge, Turned, turned, turns_over}
 use Rattle.camac_commands.proofs.Wider.{Sort, register, registers, crates, nothing, IsOf, both_below}
+use Rattle.camac_lang.specs.declared.spot.Spot.{Spot}
 
 -- of each row of a statement or block
 abbrev mutual
   pub sorts : Statement → List Sort
-  sorts (single line size f r move) = register ∷ []
-  sorts (address_scan line f r1 r2 max x) = registers ∷ []
-  sorts (q_stop line f r t max x) = register ∷ []
-  sorts (q_repeat line f r t max limit x) = register ∷ []
-  sorts (crate_call line which e) = crates ∷ []
-  sorts (lam_call line which l) = register ∷ []
-  sorts (choose line test a) = nothing ∷ block_sorts a
-  sorts (choose_else line test a b) = nothing ∷ block_sorts a ++ nothing ∷ block_sorts b
-  sorts (for_ line x e1 e2 keeps body) = nothing ∷ block_sorts body
-  sorts (for_each line x v last body) = nothing ∷ block_sorts body
-  sorts (while_ line test most m keeps body) = nothing ∷ block_sorts body
-  sorts (locked line e body) = crates ∷ block_sorts body
+  sorts (single spot size f r move) = register ∷ []
+  sorts (address_scan spot f r1 r2 max x) = registers ∷ []
+  sorts (q_stop spot f r t max x) = register ∷ []
+  sorts (q_repeat spot f r t max limit x) = register ∷ []
+  sorts (crate_call spot which e) = crates ∷ []
+  sorts (lam_call spot which l) = register ∷ []
+  sorts (choose spot test a) = nothing ∷ block_sorts a
+  sorts (choose_else spot test a b) = nothing ∷ block_sorts a ++ nothing ∷ block_sorts b
+  sorts (for_ spot x e1 e2 keeps body) = nothing ∷ block_sorts body
+  sorts (for_each spot x v last body) = nothing ∷ block_sorts body
+  sorts (while_ spot test most m keeps body) = nothing ∷ block_sorts body
+  sorts (locked spot e body) = crates ∷ block_sorts body
   sorts s = nothing ∷ []
 
   pub block_sorts : Block → List Sort
@@ -84,9 +85,9 @@ between_of None p = tt
 between_of (Some g) None = tt
 between_of (Some g) (Some h) = tt
 
-crates_of : (line : ℕ) (e : Expression) (k : Known) → IsOf crates (crate_detail line e k)
-crates_of line e None = tt
-crates_of line e (Some k) = go (range_of line e k.ranges)
+crates_of : (spot : Spot) (e : Expression) (k : Known) → IsOf crates (crate_detail spot e k)
+crates_of spot e None = tt
+crates_of spot e (Some k) = go (range_of spot e k.ranges)
   where
     go : (r : Result Interval Fault) → IsOf crates (in_crates r)
     go (Ok r) = tt
@@ -102,37 +103,37 @@ lock_of (Some n) = tt
 
 mutual
   pub statement_sorted : (c : Context) (around : Around) (s : Statement) (k : Known) → AreOf (sorts s) (statement_rows c around s k)
-  statement_sorted c around (assign line x e) k = (tt, tt)
-  statement_sorted c around (set_register line r e1 e2 e3) k = (tt, tt)
-  statement_sorted c around (single line size f r move) k = (at_of (known_region k r), tt)
-  statement_sorted c around (address_scan line f r1 r2 max x) k = (between_of (known_region k r1) (known_region k r2), tt)
-  statement_sorted c around (q_stop line f r t max x) k = (at_of (known_region k r), tt)
-  statement_sorted c around (q_repeat line f r t max limit x) k = (at_of (known_region k r), tt)
-  statement_sorted c around (put line e) k = (tt, tt)
-  statement_sorted c around (crate_call line which e) k = (crates_of line e k, tt)
-  statement_sorted c around (lam_call line which l) k = (at_of (lam_region c l), tt)
-  statement_sorted c around (call line p es) k = (tt, tt)
-  statement_sorted c around (choose line test a) k = (tt, inside_of (block_sorts a) c _ _ (block_sorted c around a (ways line test k).holds))
-  statement_sorted c around (choose_else line test a b) k =
-      let arms = ways line test k in (
+  statement_sorted c around (assign spot x e) k = (tt, tt)
+  statement_sorted c around (set_register spot r e1 e2 e3) k = (tt, tt)
+  statement_sorted c around (single spot size f r move) k = (at_of (known_region k r), tt)
+  statement_sorted c around (address_scan spot f r1 r2 max x) k = (between_of (known_region k r1) (known_region k r2), tt)
+  statement_sorted c around (q_stop spot f r t max x) k = (at_of (known_region k r), tt)
+  statement_sorted c around (q_repeat spot f r t max limit x) k = (at_of (known_region k r), tt)
+  statement_sorted c around (put spot e) k = (tt, tt)
+  statement_sorted c around (crate_call spot which e) k = (crates_of spot e k, tt)
+  statement_sorted c around (lam_call spot which l) k = (at_of (lam_region c l), tt)
+  statement_sorted c around (call spot p es) k = (tt, tt)
+  statement_sorted c around (choose spot test a) k = (tt, inside_of (block_sorts a) c _ _ (block_sorted c around a (ways spot test k).holds))
+  statement_sorted c around (choose_else spot test a b) k =
+      let arms = ways spot test k in (
         tt,
         both_of (block_sorts a) _ (inside c _ (block_rows c around a arms.holds)) _ (inside_of (block_sorts a) c _ _ (block_sorted c around a arms.holds))
             (tt, inside_of (block_sorts b) c _ _ (block_sorted c around b arms.fails)),
       )
-  statement_sorted c around (for_ line x e1 e2 keeps body) k =
-      let turn = for_turning around line x e1 e2 keeps body k in
+  statement_sorted c around (for_ spot x e1 e2 keeps body) k =
+      let turn = for_turning around spot x e1 e2 keeps body k in
       (loop_of k turn.turns, inside_of (block_sorts body) c _ _ (block_sorted c (with_fixed x around) body turn.head))
-  statement_sorted c around (for_each line x v last body) k =
+  statement_sorted c around (for_each spot x v last body) k =
       let within : Around = with_fixed x around in (
         loop_of k _,
         inside_of (block_sorts body) c _ _
             (turns_of (block_sorts body) c.limit (last + 1 - v) x v (block_verdict c within body) (block_rows c within body) k (turned 0 (block_rows c within body None)) (λ q. block_sorted c within body q) (block_sorted c within body None)),
       )
-  statement_sorted c around (while_ line test most m keeps body) k =
-      let turn = while_turning around line test most m keeps body k in
+  statement_sorted c around (while_ spot test most m keeps body) k =
+      let turn = while_turning around spot test most m keeps body k in
       (loop_of k turn.turns, inside_of (block_sorts body) c _ _ (block_sorted c around body turn.head))
-  statement_sorted c around (locked line e body) k =
-      let o = taken c around line e k in
+  statement_sorted c around (locked spot e body) k =
+      let o = taken c around spot e k in
       (lock_of o, inside_of (block_sorts body) c _ _ (block_sorted c (lock_inside o around) body (lock_head o k)))
 
   pub block_sorted : (c : Context) (around : Around) (b : Block) (k : Known) → AreOf (block_sorts b) (block_rows c around b k)

@@ -54,6 +54,7 @@ use Rattle.camac_commands.proofs.Actions.{always, with_result, single_listed, sc
 use Rattle.camac_commands.proofs.Arguments.{GiveAll, AllFit, ranges_each, in_ranges, are_small}
 use Rattle.camac_commands.proofs.Matches.{Matches, matches_at}
 use Rattle.camac_commands.proofs.Loops.{for_listed, while_listed}
+use Rattle.camac_lang.specs.declared.spot.Spot.{Spot}
 
 -- a procedure's body, on all arguments in range
 abbrev pub RoutineLists : ℕ → Procedure → List Command → (ℕ → Action) → Type 0
@@ -64,11 +65,11 @@ both_allowed {r = Ok x} h k = record { holds = (refl, h.holds, k.holds) }
 both_allowed {r = Err f} h k = record { holds = tt }
 
 -- by what an `each` may begin
-pub each_begun : (around : Around) (line x v last : ℕ) → Allows (each_begins around line x v last) (λ count. (last ≤ greatest) × (count ≡ last + 1 - v))
-each_begun around line x v last =
-    required_allowed _ line _ (λ small.
-    required_allowed _ line _ (λ may.
-    required_allowed _ line _ (λ few. allows (leb-true last greatest (and_parts (nat_le v greatest) (nat_le last greatest) small).1, refl))))
+pub each_begun : (around : Around) (spot : Spot) (x v last : ℕ) → Allows (each_begins around spot x v last) (λ count. (last ≤ greatest) × (count ≡ last + 1 - v))
+each_begun around spot x v last =
+    required_allowed _ spot _ (λ small.
+    required_allowed _ spot _ (λ may.
+    required_allowed _ spot _ (λ few. allows (leb-true last greatest (and_parts (nat_le v greatest) (nat_le last greatest) small).1, refl))))
 
 -- where a turn of it begins
 pub turn_begins : (around : Place) (x last v : ℕ) → last ≤ greatest → v ≤ last → (q : Facts) (s : State) → Inside around q s → Inside (fixing x around) (with_range x (only v) q) (for_state x v s)
@@ -112,11 +113,11 @@ module _ (c : Setting) (narrow : HasWidths c.plan) (serves : Serves c) (n : ℕ)
 
   -- ---- what is of no cycle
 
-  assign_lists : (around : Place) (line x : ℕ) (e : Expression) (k : Facts) → Lists around (assign line x e) k
-  assign_lists around line x e k rows rest o s i = listed_any [] (value e s.variables) (λ v t. ends (with_variable x v t)) (stepped s) (λ v _. tt)
+  assign_lists : (around : Place) (spot : Spot) (x : ℕ) (e : Expression) (k : Facts) → Lists around (assign spot x e) k
+  assign_lists around spot x e k rows rest o s i = listed_any [] (value e s.variables) (λ v t. ends (with_variable x v t)) (stepped s) (λ v _. tt)
 
-  register_lists : (around : Place) (line r : ℕ) (e1 e2 e3 : Expression) (k : Facts) → Lists around (set_register line r e1 e2 e3) k
-  register_lists around line r e1 e2 e3 k rows rest o s i =
+  register_lists : (around : Place) (spot : Spot) (r : ℕ) (e1 e2 e3 : Expression) (k : Facts) → Lists around (set_register spot r e1 e2 e3) k
+  register_lists around spot r e1 e2 e3 k rows rest o s i =
       let third : ℕ → ℕ → ℕ → Action = λ p q m t. ends (with_register r (address p q m) t) in
       let second : ℕ → ℕ → Action = λ p q. given (value e3 s.variables) (third p q) in
       let first : ℕ → Action = λ p. given (value e2 s.variables) (second p) in
@@ -124,16 +125,16 @@ module _ (c : Setting) (narrow : HasWidths c.plan) (serves : Serves c) (n : ℕ)
       listed_any [] (value e2 s.variables) (second p) (stepped s) (λ q _.
       listed_any [] (value e3 s.variables) (third p q) (stepped s) (λ m _. tt)))
 
-  put_lists : (around : Place) (line : ℕ) (e : Expression) (k : Facts) → Lists around (put line e) k
-  put_lists around line e k rows rest o s i = listed_any [] (value e s.variables) (λ w t. ends (with_word w t)) (stepped s) (λ w _. tt)
+  put_lists : (around : Place) (spot : Spot) (e : Expression) (k : Facts) → Lists around (put spot e) k
+  put_lists around spot e k rows rest o s i = listed_any [] (value e s.variables) (λ w t. ends (with_word w t)) (stepped s) (λ w _. tt)
 
   -- ---- a call
 
-  call_lists : (around : Place) (line p : ℕ) (es : List Expression) (k : Facts) → Allows (call_rule (seen c) line p es k) (λ v. Lists around (call line p es) k)
-  call_lists around line p es k =
-      then_allowed (ranges_each line es k.ranges) (λ rs gives.
-      then_allowed (given_allowed (slice_get c.procedures p) _ line _) (λ q is.
-      required_allowed _ line _ (λ fit. allows (λ rows rest o s i.
+  call_lists : (around : Place) (spot : Spot) (p : ℕ) (es : List Expression) (k : Facts) → Allows (call_rule (seen c) spot p es k) (λ v. Lists around (call spot p es) k)
+  call_lists around spot p es k =
+      then_allowed (ranges_each spot es k.ranges) (λ rs gives.
+      then_allowed (given_allowed (slice_get c.procedures p) _ spot _) (λ q is.
+      required_allowed _ spot _ (λ fit. allows (λ rows rest o s i.
       let cs : List Command = unwrap_or (slice_get ls p) [] in
       let r = serves.each p q is in
       let lists = matches_at (RoutineLists n) [] c.routines c.procedures ls matches p q r.routine is r.is in
@@ -150,33 +151,33 @@ module _ (c : Setting) (narrow : HasWidths c.plan) (serves : Serves c) (n : ℕ)
   by_test around cs (Some true) arms first second t d f g = f d
   by_test around cs (Some false) arms first second t d f g = g d
 
-  if_lists : (around : Place) (line : ℕ) (test : Condition) (a : Block) (k : Facts) (arms : Branches) → split line test k ≡ Ok arms
-      → ((s : State) → Inside around k s → Decides around (truth test s.variables s.q s.x) arms s) → BlockLists around a arms.holds → Lists around (choose line test a) k
+  if_lists : (around : Place) (spot : Spot) (test : Condition) (a : Block) (k : Facts) (arms : Branches) → split spot test k ≡ Ok arms
+      → ((s : State) → Inside around k s → Decides around (truth test s.variables s.q s.x) arms s) → BlockLists around a arms.holds → Lists around (choose spot test a) k
   unfolding if_reached
-  if_lists around line test a k arms is d first rows rest o s i =
+  if_lists around spot test a k arms is d first rows rest o s i =
       let t : State = stepped s in
       let inner = subst (λ (w : Branches). Over (drop 1 rows) (rows_of around a w.holds) rest) (ap (λ q. found (branches None None) q) is) (over_block _ _ rows _ rest o (λ _. refl)) in
       by_test around (made_block ls a (drop 1 rows)) (truth test s.variables s.q s.x) arms (run a) ends t (d t (stepped_inside around k s i)) (λ r. first (drop 1 rows) rest inner t r) (λ r. tt)
 
-  choice_lists : (around : Place) (line : ℕ) (test : Condition) (a b : Block) (k : Facts) (arms : Branches) → split line test k ≡ Ok arms
-      → ((s : State) → Inside around k s → Decides around (truth test s.variables s.q s.x) arms s) → BlockLists around a arms.holds → BlockLists around b arms.fails → Lists around (choose_else line test a b) k
+  choice_lists : (around : Place) (spot : Spot) (test : Condition) (a b : Block) (k : Facts) (arms : Branches) → split spot test k ≡ Ok arms
+      → ((s : State) → Inside around k s → Decides around (truth test s.variables s.q s.x) arms s) → BlockLists around a arms.holds → BlockLists around b arms.fails → Lists around (choose_else spot test a b) k
   unfolding if_reached
-  choice_lists around line test a b k arms is d first second rows rest o s i =
+  choice_lists around spot test a b k arms is d first second rows rest o s i =
       let t : State = stepped s in
       let middle : List Row = behind_block a (drop 1 rows) in
       let one : List Command = made_block ls a (drop 1 rows) in
       let two : List Command = made_block ls b (drop 1 middle) in
       let parts = subst (λ (w : Branches). Over (drop 1 rows) (rows_of around a w.holds) middle × Over (drop 1 middle) (rows_of around b w.fails) rest)
-      (ap (λ q. found (branches None None) q) is) (over_arms (in_code (seen c)) (around_of around) line test a b (Some k) rows rest o) in
+      (ap (λ q. found (branches None None) q) is) (over_arms (in_code (seen c)) (around_of around) spot test a b (Some k) rows rest o) in
       by_test around (one ++ two) (truth test s.variables s.q s.x) arms (run a) (run b) t (d t (stepped_inside around k s i))
       (λ r. listed_first one two (run a t) (first (drop 1 rows) middle parts.0 t r)) (λ r. listed_second one two (run b t) (second (drop 1 middle) rest parts.1 t r))
 
   -- ---- a lock
 
-  lock_lists : (around : Place) (line : ℕ) (e : Expression) (body : Block) (k : Facts) (m : ℕ) → lock_rule (seen c) (around_of around) line e k ≡ Ok m
-      → CanLock c.plan around e k m → BlockLists (holding m around) body (Some k) → Lists around (locked line e body) k
+  lock_lists : (around : Place) (spot : Spot) (e : Expression) (body : Block) (k : Facts) (m : ℕ) → lock_rule (seen c) (around_of around) spot e k ≡ Ok m
+      → CanLock c.plan around e k m → BlockLists (holding m around) body (Some k) → Lists around (locked spot e body) k
   unfolding go_on if_reached
-  lock_lists around line e body k m is can lists rows rest o s i =
+  lock_lists around spot e body k m is can lists rows rest o s i =
       let t : State = stepped s in
       let cs : List Command = made_block ls body (drop 1 rows) in
       let held : ℕ → Action = λ d u. then_do (run body u) (release d) in
@@ -194,29 +195,29 @@ module _ (c : Setting) (narrow : HasWidths c.plan) (serves : Serves c) (n : ℕ)
 
   -- ---- loops
 
-  some_turns : (around : Place) (line x : ℕ) (e1 e2 : Expression) (qs : List Keep) (body : Block) (k : Facts) (l : Limits) (turn : Verdict) → MayCount around x e1 e2 qs k l → keeps_hold_after qs turn.after ≡ true
+  some_turns : (around : Place) (spot : Spot) (x : ℕ) (e1 e2 : Expression) (qs : List Keep) (body : Block) (k : Facts) (l : Limits) (turn : Verdict) → MayCount around x e1 e2 qs k l → keeps_hold_after qs turn.after ≡ true
       → (s : State) → Inside around k s → (v w : ℕ) → Fits l.first v → Fits l.last w
       → (b : Bool) → nat_lt l.last.hi l.first.lo ≡ b → SoundFor c.plan (fixing x around) (if b then None else Some (with_range x (values_between l) (head body qs k))) (λ m. block_meaning (of c) m body) turn
       → (cs : List Command) → ((t : State) → Reaches (fixing x around) (if b then None else Some (with_range x (values_between l) (head body qs k))) t → Listed cs (run body t))
       → Listed cs (for_from (w + 1 - v) n x v w (run body) (stepped s))
-  some_turns around line x e1 e2 qs body k l turn may keep s i v w f g true e h cs lists =
+  some_turns around spot x e1 e2 qs body k l turn may keep s i v w f g true e h cs lists =
       let less : l.last.hi < l.first.lo = ltb-true l.last.hi l.first.lo e in
       let none : 0 ≡ w + 1 - v = omega (arith, f.within, g.within) in
       subst (λ j. Listed cs (for_from j n x v w (run body) (stepped s))) none tt
-  some_turns around line x e1 e2 qs body k l turn may keep s i v w f g false e h cs lists = go (w + 1 - v) refl
+  some_turns around spot x e1 e2 qs body k l turn may keep s i v w f g false e h cs lists = go (w + 1 - v) refl
     where
       go : (j : ℕ) → j ≡ w + 1 - v → Listed cs (for_from j n x v w (run body) (stepped s))
       go zero is = tt
       go (suc j) is =
-          let checked = counting.checked c around line x e1 e2 qs body k l turn may keep n le h in
+          let checked = counting.checked c around spot x e1 e2 qs body k l turn may keep n le h in
           for_listed c.plan around x qs body k l turn (run body) checked s i v w f g cs lists (suc j) n v (stepped s)
-          (counting.before_turns c.plan around x body qs k l turn (run body) checked s i v w f g (suc j) is (counting.entered c around line x e1 e2 qs body k l turn may keep s i))
+          (counting.before_turns c.plan around x body qs k l turn (run body) checked s i v w f g (suc j) is (counting.entered c around spot x e1 e2 qs body k l turn may keep s i))
 
-  for_lists : (around : Place) (line x : ℕ) (e1 e2 : Expression) (qs : List Keep) (body : Block) (k : Facts) (l : Limits) (turn : Verdict) → for_limits (around_of around) line x e1 e2 qs k ≡ Ok l
+  for_lists : (around : Place) (spot : Spot) (x : ℕ) (e1 e2 : Expression) (qs : List Keep) (body : Block) (k : Facts) (l : Limits) (turn : Verdict) → for_limits (around_of around) spot x e1 e2 qs k ≡ Ok l
       → MayCount around x e1 e2 qs k l → keeps_hold_after qs turn.after ≡ true → SoundFor c.plan (fixing x around) (for_head x l qs body k) (λ m. block_meaning (of c) m body) turn
-      → BlockLists (fixing x around) body (for_head x l qs body k) → Lists around (for_ line x e1 e2 qs body) k
+      → BlockLists (fixing x around) body (for_head x l qs body k) → Lists around (for_ spot x e1 e2 qs body) k
   unfolding go_on if_reached
-  for_lists around line x e1 e2 qs body k l turn is may keep sound lists rows rest o s i =
+  for_lists around spot x e1 e2 qs body k l turn is may keep sound lists rows rest o s i =
       let t : State = stepped s in
       let first = value_of (value e1 s.variables) l.first (may.first s i) in
       let last = value_of (value e2 s.variables) l.last (may.last s i) in
@@ -226,21 +227,21 @@ module _ (c : Setting) (narrow : HasWidths c.plan) (serves : Serves c) (n : ℕ)
       (ap (λ q. found (turning_from 0 None) (go_on q (λ j. Ok (turning_from (turns_between j) (for_head x j qs body k))))) is) (over_block _ _ rows _ rest o (λ _. refl)) in
       listed_given cs (value e1 s.variables) (λ v. given (value e2 s.variables) (second v)) first.number t first.is
       (listed_given cs (value e2 s.variables) (second first.number) last.number t last.is
-      (some_turns around line x e1 e2 qs body k l turn may keep s i first.number last.number first.fits last.fits (nat_lt l.last.hi l.first.lo) refl sound cs (λ u r. lists (drop 1 rows) rest inner u r)))
+      (some_turns around spot x e1 e2 qs body k l turn may keep s i first.number last.number first.fits last.fits (nat_lt l.last.hi l.first.lo) refl sound cs (λ u r. lists (drop 1 rows) rest inner u r)))
 
-  while_lists : (around : Place) (line : ℕ) (test : Condition) (most m : ℕ) (qs : List Keep) (body : Block) (k top : Facts) (arms : Branches) (turn : Verdict)
-      → while_head around.body line most m qs body k ≡ Ok top → split line test top ≡ Ok arms → MayTurn most m qs body k top
+  while_lists : (around : Place) (spot : Spot) (test : Condition) (most m : ℕ) (qs : List Keep) (body : Block) (k top : Facts) (arms : Branches) (turn : Verdict)
+      → while_head around.body spot most m qs body k ≡ Ok top → split spot test top ≡ Ok arms → MayTurn most m qs body k top
       → ((s : State) → Inside around top s → Decides around (truth test s.variables s.q s.x) arms s) → SoundFor c.plan around arms.holds (λ j. block_meaning (of c) j body) turn → keeps_hold_after qs turn.after ≡ true
-      → BlockLists around body arms.holds → Lists around (while_ line test most m qs body) k
+      → BlockLists around body arms.holds → Lists around (while_ spot test most m qs body) k
   unfolding go_on if_reached
-  while_lists around line test most m qs body k top arms turn is split_is may d sound keep lists rows rest o s i =
-      let checked = turning.checked c around line test most m qs body k top arms turn may d sound keep n le in
+  while_lists around spot test most m qs body k top arms turn is split_is may d sound keep lists rows rest o s i =
+      let checked = turning.checked c around spot test most m qs body k top arms turn may d sound keep n le in
       let inner = subst (λ (w : Turning). Over (drop 1 rows) (rows_of around body w.head) rest)
-      (ap (λ q. found (turning_from 0 None) (go_on q (λ r. go_on (split line test r) (λ w. Ok (turning_from (turn_bound w.holds most) w.holds))))) is
+      (ap (λ q. found (turning_from 0 None) (go_on q (λ r. go_on (split spot test r) (λ w. Ok (turning_from (turn_bound w.holds most) w.holds))))) is
       ∙ ap (λ q. found (turning_from 0 None) (go_on q (λ w. Ok (turning_from (turn_bound w.holds most) w.holds)))) split_is)
       (over_block _ _ rows _ rest o (λ _. refl)) in
       while_listed c.plan around test most m may.fall qs body k arms turn (run body) checked s i (made_block ls body (drop 1 rows)) (λ u r. lists (drop 1 rows) rest inner u r) (turn_bound arms.holds most) n (stepped s)
-      (turning.before_turns c around line test most m qs body k top arms turn may d sound keep n le s i)
+      (turning.before_turns c around spot test most m qs body k top arms turn may d sound keep n le s i)
 
   -- ---- turns that are judged one by one
 
@@ -287,11 +288,11 @@ module _ (c : Setting) (narrow : HasWidths c.plan) (serves : Serves c) (n : ℕ)
         allowed_more (turns_list (suc j) v (omega (arith, is)) q) (λ w lists rows rest o s i.
         lists (turned 0 (rows_of (fixing x around) body None)) (block_sorted (in_code (seen c)) (around_of (fixing x around)) body None) rows rest o n s i)
 
-  each_lists : (around : Place) (line x v last : ℕ) (body : Block) → ((q : Facts) → Allows (accept_block (seen c) (around_of (fixing x around)) body q)
+  each_lists : (around : Place) (spot : Spot) (x v last : ℕ) (body : Block) → ((q : Facts) → Allows (accept_block (seen c) (around_of (fixing x around)) body q)
       (λ w. (accept_block (seen c) (around_of (fixing x around)) body q ≡ Ok w) × SoundFor c.plan (fixing x around) (Some q) (λ m. block_meaning (of c) m body) w × BlockLists (fixing x around) body (Some q)))
-      → (k : Facts) → Allows (each_rule (seen c) (around_of around) line x v last (accept_block (seen c) (around_of (fixing x around)) body) k) (λ w. Lists around (for_each line x v last body) k)
-  each_lists around line x v last body each k =
-      then_allowed (each_begun (around_of around) line x v last) (λ count may.
+      → (k : Facts) → Allows (each_rule (seen c) (around_of around) spot x v last (accept_block (seen c) (around_of (fixing x around)) body) k) (λ w. Lists around (for_each spot x v last body) k)
+  each_lists around spot x v last body each k =
+      then_allowed (each_begun (around_of around) spot x v last) (λ count may.
       then_allowed (from_lists around x last body may.0 each count v may.1 k) (λ turns lists. allows (λ rows rest o s i.
       let is = may.1 in
       subst (λ j. Listed (made_block ls body (drop 1 rows)) (for_from j n x v last (run body) (stepped s))) is
@@ -316,40 +317,40 @@ module _ (c : Setting) (narrow : HasWidths c.plan) (serves : Serves c) (n : ℕ)
 
   mutual
     statement_lists : (around : Place) (st : Statement) → MayLock around (has_lock st) → (k : Facts) → Allows (accept_statement (seen c) (around_of around) st k) (λ v. Lists around st k)
-    statement_lists around (assign line x e) may k = always _ (assign_lists around line x e k)
-    statement_lists around (set_register line r e1 e2 e3) may k = always _ (register_lists around line r e1 e2 e3 k)
-    statement_lists around (single line size f r m) may k = alone_lists around (single line size f r m) k _ (single_listed c around n line size f r m k)
-    statement_lists around (address_scan line f r1 r2 max x) may k = alone_lists around (address_scan line f r1 r2 max x) k _ (scan_listed c around n line f r1 r2 max x k)
-    statement_lists around (q_stop line f r t max x) may k = alone_lists around (q_stop line f r t max x) k _ (q_stop_listed c around n line f r t max x k)
-    statement_lists around (q_repeat line f r t max limit x) may k = alone_lists around (q_repeat line f r t max limit x) k _ (q_repeat_listed c around n line f r t max limit x k)
-    statement_lists around (put line e) may k = always _ (put_lists around line e k)
-    statement_lists around (crate_call line which e) may k = alone_lists around (crate_call line which e) k _ (crate_listed c around n line which e k)
-    statement_lists around (lam_call line which l) may k = alone_lists around (lam_call line which l) k _ (lam_listed c around n line which l k)
-    statement_lists around (call line p es) may k = call_lists around line p es k
-    statement_lists around (choose line test a) may k =
-        then_allowed (with_result (split_each around line test k)) (λ arms d.
+    statement_lists around (assign spot x e) may k = always _ (assign_lists around spot x e k)
+    statement_lists around (set_register spot r e1 e2 e3) may k = always _ (register_lists around spot r e1 e2 e3 k)
+    statement_lists around (single spot size f r m) may k = alone_lists around (single spot size f r m) k _ (single_listed c around n spot size f r m k)
+    statement_lists around (address_scan spot f r1 r2 max x) may k = alone_lists around (address_scan spot f r1 r2 max x) k _ (scan_listed c around n spot f r1 r2 max x k)
+    statement_lists around (q_stop spot f r t max x) may k = alone_lists around (q_stop spot f r t max x) k _ (q_stop_listed c around n spot f r t max x k)
+    statement_lists around (q_repeat spot f r t max limit x) may k = alone_lists around (q_repeat spot f r t max limit x) k _ (q_repeat_listed c around n spot f r t max limit x k)
+    statement_lists around (put spot e) may k = always _ (put_lists around spot e k)
+    statement_lists around (crate_call spot which e) may k = alone_lists around (crate_call spot which e) k _ (crate_listed c around n spot which e k)
+    statement_lists around (lam_call spot which l) may k = alone_lists around (lam_call spot which l) k _ (lam_listed c around n spot which l k)
+    statement_lists around (call spot p es) may k = call_lists around spot p es k
+    statement_lists around (choose spot test a) may k =
+        then_allowed (with_result (split_each around spot test k)) (λ arms d.
         then_allowed (reached_lists around a arms.holds (λ q. block_lists around a may q)) (λ first h.
-        allows (if_lists around line test a k arms d.0 d.1 h)))
-    statement_lists around (choose_else line test a b) may k =
-        then_allowed (with_result (split_each around line test k)) (λ arms d.
+        allows (if_lists around spot test a k arms d.0 d.1 h)))
+    statement_lists around (choose_else spot test a b) may k =
+        then_allowed (with_result (split_each around spot test k)) (λ arms d.
         then_allowed (reached_lists around a arms.holds (λ q. block_lists around a (may_first (block_has_lock a) (block_has_lock b) around may) q)) (λ first h.
         then_allowed (reached_lists around b arms.fails (λ q. block_lists around b (may_second (block_has_lock a) (block_has_lock b) around may) q)) (λ second g.
-        allows (choice_lists around line test a b k arms d.0 d.1 h g))))
-    statement_lists around (locked line e body) may k =
-        then_allowed (with_result (lock_allowed c around line e k)) (λ m can.
+        allows (choice_lists around spot test a b k arms d.0 d.1 h g))))
+    statement_lists around (locked spot e body) may k =
+        then_allowed (with_result (lock_allowed c around spot e k)) (λ m can.
         then_allowed (block_lists (holding m around) body (λ h. may refl) k) (λ inner h.
-        allows (lock_lists around line e body k m can.0 can.1 h)))
-    statement_lists around (for_ line x e1 e2 qs body) may k =
-        then_allowed (with_result (limits_allowed around line x e1 e2 qs k)) (λ l m.
+        allows (lock_lists around spot e body k m can.0 can.1 h)))
+    statement_lists around (for_ spot x e1 e2 qs body) may k =
+        then_allowed (with_result (limits_allowed around spot x e1 e2 qs k)) (λ l m.
         then_allowed (both_allowed (reached (fixing x around) body may (for_head x l qs body k)) (reached_lists (fixing x around) body (for_head x l qs body k) (λ q. block_lists (fixing x around) body may q))) (λ turn h.
-        required_allowed _ line _ (λ keep. allows (for_lists around line x e1 e2 qs body k l turn m.0 m.1 keep h.1 h.2))))
-    statement_lists around (for_each line x v last body) may k =
-        each_lists around line x v last body (λ q. both_allowed (block_sound c narrow serves (fixing x around) body may q) (block_lists (fixing x around) body may q)) k
-    statement_lists around (while_ line test most m qs body) may k =
-        then_allowed (with_result (head_allowed around.body line most m qs body k)) (λ top begins.
-        then_allowed (with_result (split_each around line test top)) (λ arms d.
+        required_allowed _ spot _ (λ keep. allows (for_lists around spot x e1 e2 qs body k l turn m.0 m.1 keep h.1 h.2))))
+    statement_lists around (for_each spot x v last body) may k =
+        each_lists around spot x v last body (λ q. both_allowed (block_sound c narrow serves (fixing x around) body may q) (block_lists (fixing x around) body may q)) k
+    statement_lists around (while_ spot test most m qs body) may k =
+        then_allowed (with_result (head_allowed around.body spot most m qs body k)) (λ top begins.
+        then_allowed (with_result (split_each around spot test top)) (λ arms d.
         then_allowed (both_allowed (reached around body may arms.holds) (reached_lists around body arms.holds (λ q. block_lists around body may q))) (λ turn h.
-        required_allowed _ line _ (λ keep. allows (while_lists around line test most m qs body k top arms turn begins.0 d.0 begins.1 d.1 h.1 keep h.2)))))
+        required_allowed _ spot _ (λ keep. allows (while_lists around spot test most m qs body k top arms turn begins.0 d.0 begins.1 d.1 h.1 keep h.2)))))
 
     pub block_lists : (around : Place) (b : Block) → MayLock around (block_has_lock b) → (k : Facts) → Allows (accept_block (seen c) (around_of around) b k) (λ v. BlockLists around b (Some k))
     block_lists around done may k = allows (λ rows rest o s i. tt)

@@ -17,6 +17,7 @@ use Rattle.camac_check_rows.specs.declared.row.Detail.TheVariants as detail
 use Rattle.camac_check_rows.specs.Turns.{wider}
 use Rattle.camac_commands.specs.Commands.{is_told, lies_in, made_at, span, told_region, called_at, made_alone}
 use Rattle.camac_commands.proofs.Listed.{inside_lies}
+use Rattle.camac_lang.specs.declared.spot.Spot.{Spot}
 
 -- ---- regions
 
@@ -37,9 +38,9 @@ IsAt (Some g) at = InRegion g at
 abbrev pub Grows : Option Region → Option Region → Type 0
 Grows o p = (at : Address) → IsAt o at → IsAt p at
 
-told_more : (line f : ℕ) (o p : Option Region) → Grows o p → (at : Address) (g : ℕ) → list_any (is_told at g) (made_at line f o) ≡ true → list_any (is_told at g) (made_at line f p) ≡ true
-told_more line f None p h at g e = absurd (false≢true e)
-told_more line f (Some r) p h at g e =
+told_more : (spot : Spot) (f : ℕ) (o p : Option Region) → Grows o p → (at : Address) (g : ℕ) → list_any (is_told at g) (made_at spot f o) ≡ true → list_any (is_told at g) (made_at spot f p) ≡ true
+told_more spot f None p h at g e = absurd (false≢true e)
+told_more spot f (Some r) p h at g e =
     let own = and_parts (nat_eq g f) (lies_in r at) (only_one (nat_eq g f && lies_in r at) e) in
     go p (h at (lies_inside r at own.1)) own.0
   where
@@ -47,7 +48,7 @@ told_more line f (Some r) p h at g e =
     only_one true e = refl
     only_one false e = e
 
-    go : (q : Option Region) → IsAt q at → nat_eq g f ≡ true → list_any (is_told at g) (made_at line f q) ≡ true
+    go : (q : Option Region) → IsAt q at → nat_eq g f ≡ true → list_any (is_told at g) (made_at spot f q) ≡ true
     go None i same = absurd i
     go (Some q) i same = or_left (nat_eq g f && lies_in q at) _ (and_from (nat_eq g f) (lies_in q at) same (inside_lies q at i))
 
@@ -65,22 +66,22 @@ below_then d e f h g = record { told = λ at i. g.told at (h.told at i); called 
 
 -- what a command is told of by the first, it is by the second
 pub alone_more : (s : Statement) (d e : Detail) → Below d e → (at : Address) (f : ℕ) → list_any (is_told at f) (made_alone s d) ≡ true → list_any (is_told at f) (made_alone s e) ≡ true
-alone_more (single line size f r m) d e h at g t = told_more line f _ _ h.told at g t
-alone_more (address_scan line f r1 r2 max x) d e h at g t = told_more line f _ _ h.told at g t
-alone_more (q_stop line f r o max x) d e h at g t = told_more line f _ _ h.told at g t
-alone_more (q_repeat line f r o max limit x) d e h at g t = told_more line f _ _ h.told at g t
-alone_more (crate_call line which i) d e h at g t = told_more line (crate_function which) _ _ (h.called which) at g t
-alone_more (lam_call line which l) d e h at g t = told_more line (lam_function which) _ _ h.told at g t
-alone_more (assign line x i) d e h at g t = t
-alone_more (set_register line r e1 e2 e3) d e h at g t = t
-alone_more (put line i) d e h at g t = t
-alone_more (choose line test a) d e h at g t = t
-alone_more (choose_else line test a b) d e h at g t = t
-alone_more (for_ line x e1 e2 keeps body) d e h at g t = t
-alone_more (for_each line x v last body) d e h at g t = t
-alone_more (while_ line test most m keeps body) d e h at g t = t
-alone_more (locked line i body) d e h at g t = t
-alone_more (call line p es) d e h at g t = t
+alone_more (single spot size f r m) d e h at g t = told_more spot f _ _ h.told at g t
+alone_more (address_scan spot f r1 r2 max x) d e h at g t = told_more spot f _ _ h.told at g t
+alone_more (q_stop spot f r o max x) d e h at g t = told_more spot f _ _ h.told at g t
+alone_more (q_repeat spot f r o max limit x) d e h at g t = told_more spot f _ _ h.told at g t
+alone_more (crate_call spot which i) d e h at g t = told_more spot (crate_function which) _ _ (h.called which) at g t
+alone_more (lam_call spot which l) d e h at g t = told_more spot (lam_function which) _ _ h.told at g t
+alone_more (assign spot x i) d e h at g t = t
+alone_more (set_register spot r e1 e2 e3) d e h at g t = t
+alone_more (put spot i) d e h at g t = t
+alone_more (choose spot test a) d e h at g t = t
+alone_more (choose_else spot test a b) d e h at g t = t
+alone_more (for_ spot x e1 e2 keeps body) d e h at g t = t
+alone_more (for_each spot x v last body) d e h at g t = t
+alone_more (while_ spot test most m keeps body) d e h at g t = t
+alone_more (locked spot i body) d e h at g t = t
+alone_more (call spot p es) d e h at g t = t
 
 -- ---- what rows of one place in the text may tell
 

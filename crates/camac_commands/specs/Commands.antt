@@ -24,6 +24,7 @@ use Rattle.camac_check_rows.specs.declared.row.Detail.TheVariants as detail
 use Rattle.camac_check_rows.specs.declared.row.Row.{Row}
 use Rattle.camac_check_costs.specs.Body.{BodyRows}
 use Rattle.camac_check_costs.specs.Bodies.{costs_with, sections_of}
+use Rattle.camac_lang.specs.declared.spot.Spot.{Spot}
 pub use Rattle.camac_commands.specs.declared.command.Command.{Command}
 
 abbrev pub is_inside : Region → (crate_no station sub_address : ℕ) → Bool
@@ -52,9 +53,9 @@ MakesOnly plan script v cs =
     (b : Branch) (answers : List Answer) → Meets no_count (IsListed cs) AnyStop Any nothing (service_meaning (context plan script) 65535 v b answers)
 
 -- at one of these addresses, where they are known
-abbrev pub made_at : (line function : ℕ) → Option Region → List Command
-made_at line f None = []
-made_at line f (Some g) = record { line = line; function = f; region = g } ∷ []
+abbrev pub made_at : (spot : Spot) (function : ℕ) → Option Region → List Command
+made_at spot f None = []
+made_at spot f (Some g) = record { spot = spot; function = f; region = g } ∷ []
 
 -- all sub-addresses of the stations from those of the first register to those of the last, if there is one
 abbrev pub span : Region → Region → Option Region
@@ -73,12 +74,12 @@ called_at which told = None
 
 -- the command of a statement that holds no others and calls no procedure, by what its row tells
 abbrev pub made_alone : Statement → Detail → List Command
-made_alone (single line size f r move) told = made_at line f (told_region told)
-made_alone (address_scan line f r1 r2 max x) told = made_at line f (told_region told)
-made_alone (q_stop line f r t max x) told = made_at line f (told_region told)
-made_alone (q_repeat line f r t max limit x) told = made_at line f (told_region told)
-made_alone (crate_call line which e) told = made_at line (crate_function which) (called_at which told)
-made_alone (lam_call line which l) told = made_at line (lam_function which) (told_region told)
+made_alone (single spot size f r move) told = made_at spot f (told_region told)
+made_alone (address_scan spot f r1 r2 max x) told = made_at spot f (told_region told)
+made_alone (q_stop spot f r t max x) told = made_at spot f (told_region told)
+made_alone (q_repeat spot f r t max limit x) told = made_at spot f (told_region told)
+made_alone (crate_call spot which e) told = made_at spot (crate_function which) (called_at which told)
+made_alone (lam_call spot which l) told = made_at spot (lam_function which) (told_region told)
 made_alone s told = []
 
 -- as a list of one or none
@@ -95,12 +96,12 @@ detail_told (row ∷ rows) = row.detail
 -- statement or block.
 abbrev mutual
   pub behind : Statement → List Row → List Row
-  behind (choose line test a) rows = behind_block a (drop 1 rows)
-  behind (choose_else line test a b) rows = behind_block b (drop 1 (behind_block a (drop 1 rows)))
-  behind (for_ line x e1 e2 keeps body) rows = behind_block body (drop 1 rows)
-  behind (for_each line x v last body) rows = behind_block body (drop 1 rows)
-  behind (while_ line test most m keeps body) rows = behind_block body (drop 1 rows)
-  behind (locked line e body) rows = behind_block body (drop 1 rows)
+  behind (choose spot test a) rows = behind_block a (drop 1 rows)
+  behind (choose_else spot test a b) rows = behind_block b (drop 1 (behind_block a (drop 1 rows)))
+  behind (for_ spot x e1 e2 keeps body) rows = behind_block body (drop 1 rows)
+  behind (for_each spot x v last body) rows = behind_block body (drop 1 rows)
+  behind (while_ spot test most m keeps body) rows = behind_block body (drop 1 rows)
+  behind (locked spot e body) rows = behind_block body (drop 1 rows)
   behind s rows = drop 1 rows
 
   pub behind_block : Block → List Row → List Row
@@ -110,13 +111,13 @@ abbrev mutual
 -- the commands of a statement or block by its rows, with those of each procedure before it, by its number
 abbrev mutual
   pub made : List (List Command) → Statement → List Row → List Command
-  made ps (choose line test a) rows = made_block ps a (drop 1 rows)
-  made ps (choose_else line test a b) rows = made_block ps a (drop 1 rows) ++ made_block ps b (drop 1 (behind_block a (drop 1 rows)))
-  made ps (for_ line x e1 e2 keeps body) rows = made_block ps body (drop 1 rows)
-  made ps (for_each line x v last body) rows = made_block ps body (drop 1 rows)
-  made ps (while_ line test most m keeps body) rows = made_block ps body (drop 1 rows)
-  made ps (locked line e body) rows = made_block ps body (drop 1 rows)
-  made ps (call line p es) rows = unwrap_or (slice_get ps p) []
+  made ps (choose spot test a) rows = made_block ps a (drop 1 rows)
+  made ps (choose_else spot test a b) rows = made_block ps a (drop 1 rows) ++ made_block ps b (drop 1 (behind_block a (drop 1 rows)))
+  made ps (for_ spot x e1 e2 keeps body) rows = made_block ps body (drop 1 rows)
+  made ps (for_each spot x v last body) rows = made_block ps body (drop 1 rows)
+  made ps (while_ spot test most m keeps body) rows = made_block ps body (drop 1 rows)
+  made ps (locked spot e body) rows = made_block ps body (drop 1 rows)
+  made ps (call spot p es) rows = unwrap_or (slice_get ps p) []
   made ps s rows = made_alone s (detail_told rows)
 
   pub made_block : List (List Command) → Block → List Row → List Command

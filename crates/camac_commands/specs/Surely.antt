@@ -32,20 +32,20 @@ is_some_number e = false
 
 -- Whether a statement that holds no others and calls no procedure makes a command that passes a test, wherever it ends: by what its row tells
 abbrev pub surely_alone : (Command → Bool) → Statement → Detail → Bool
-surely_alone test (single line size f r m) told = list_any test (made_at line f (told_region told))
-surely_alone test (q_stop line f r t max x) told = is_some_number max && list_any test (made_at line f (told_region told))
-surely_alone test (q_repeat line f r t max limit x) told = (is_some_number max && is_some_number limit) && list_any test (made_at line f (told_region told))
-surely_alone test (lam_call line which l) told = list_any test (made_at line (lam_function which) (told_region told))
+surely_alone test (single spot size f r m) told = list_any test (made_at spot f (told_region told))
+surely_alone test (q_stop spot f r t max x) told = is_some_number max && list_any test (made_at spot f (told_region told))
+surely_alone test (q_repeat spot f r t max limit x) told = (is_some_number max && is_some_number limit) && list_any test (made_at spot f (told_region told))
+surely_alone test (lam_call spot which l) told = list_any test (made_at spot (lam_function which) (told_region told))
 surely_alone test s told = false
 
 -- The same of any statement or block. Of each procedure before it, by its number, is known whether its body does.
 abbrev mutual
   pub surely : (Command → Bool) → List Bool → Statement → List Row → Bool
-  surely test ps (choose_else line c a b) rows = surely_block test ps a (drop 1 rows) && surely_block test ps b (drop 1 (behind_block a (drop 1 rows)))
-  surely test ps (for_ line x e1 e2 keeps body) rows = has_turn e1 e2 && surely_block test ps body (drop 1 rows)
-  surely test ps (for_each line x v last body) rows = nat_le v last && surely_block test ps body (drop 1 rows)
-  surely test ps (locked line e body) rows = surely_block test ps body (drop 1 rows)
-  surely test ps (call line p es) rows = unwrap_or (slice_get ps p) false
+  surely test ps (choose_else spot c a b) rows = surely_block test ps a (drop 1 rows) && surely_block test ps b (drop 1 (behind_block a (drop 1 rows)))
+  surely test ps (for_ spot x e1 e2 keeps body) rows = has_turn e1 e2 && surely_block test ps body (drop 1 rows)
+  surely test ps (for_each spot x v last body) rows = nat_le v last && surely_block test ps body (drop 1 rows)
+  surely test ps (locked spot e body) rows = surely_block test ps body (drop 1 rows)
+  surely test ps (call spot p es) rows = unwrap_or (slice_get ps p) false
   surely test ps s rows = surely_alone test s (detail_told rows)
 
   pub surely_block : (Command → Bool) → List Bool → Block → List Row → Bool

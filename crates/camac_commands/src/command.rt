@@ -10,14 +10,14 @@ use camac_check_known::Region;
 use camac_check_rows::Detail;
 use camac_esone::{crate_call, lam_function};
 use camac_func::DataMove;
-use camac_lang::{CrateCall, Stmt};
+use camac_lang::{CrateCall, Spot, Stmt};
 use camac_range::Range;
 use camac_word::{CrateNo, Function};
 
-/// A command that a service may make: its line, its function, and the addresses at which it may be made.
+/// A command that a service may make: its spot, its function, and the addresses at which it may be made.
 #[derive(Clone, Copy)]
 pub struct Command {
-    pub line: u32,
+    pub spot: Spot,
     pub function: Function,
     pub region: Region,
 }
@@ -27,29 +27,29 @@ pub fn made_alone(statement: &Stmt, detail: Detail) -> Option<Command>
     ensures { as_list result ≡ made_alone (statement_of statement.now) detail }
 {
     match statement {
-        Stmt::Single(single) => made_at(single.line, single.function, told_region(detail)),
-        Stmt::Scan(scan) => made_at(scan.line, scan.function, told_region(detail)),
+        Stmt::Single(single) => made_at(single.spot, single.function, told_region(detail)),
+        Stmt::Scan(scan) => made_at(scan.spot, scan.function, told_region(detail)),
         Stmt::QStop { transfer } | Stmt::QRepeat { transfer, .. } => {
-            made_at(transfer.line, transfer.function, told_region(detail))
+            made_at(transfer.spot, transfer.function, told_region(detail))
         }
         Stmt::CrateCall(action) => {
             let function = called(action.call).f;
-            made_at(action.line, function, called_at(action.call, detail))
+            made_at(action.spot, function, called_at(action.call, detail))
         }
         Stmt::LamCall(action) => {
             let function = lam_function(action.call);
-            made_at(action.line, function, told_region(detail))
+            made_at(action.spot, function, told_region(detail))
         }
         _ => None,
     }
 }
 
-fn made_at(line: u32, function: Function, region: Option<Region>) -> Option<Command>
-    ensures { as_list result ≡ made_at line function region }
+fn made_at(spot: Spot, function: Function, region: Option<Region>) -> Option<Command>
+    ensures { as_list result ≡ made_at spot function region }
 {
     match region {
         Some(region) => Some(Command {
-            line,
+            spot,
             function,
             region,
         }),

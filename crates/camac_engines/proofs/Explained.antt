@@ -1,6 +1,6 @@
 -- What is written of a refused text is its refusal, explained.
-use Rattle.std.proofs.Common.{◌≡◌, ◌<◌, ◌≤◌, ◌-◌, ℕ, arith, get_or, length, take, take_all, List, [], ◌∷◌, ◌++◌, Option, Some, append-nil, ap, ◌∙◌, drop, sym, subst, refl}
-use Rattle.std.specs.Prelude.{Result, Ok, Err, flat_map}
+use Rattle.std.proofs.Common.{◌≡◌, ◌<◌, ◌≤◌, ◌-◌, ℕ, arith, get_or, length, take, take_all, List, [], ◌∷◌, ◌++◌, Option, Some, append-nil, append_assoc, ap, ◌∙◌, drop, sym, subst, refl}
+use Rattle.std.specs.Prelude.{Result, Ok, Err, codes, flat_map}
 use Rattle.std.specs.Result.{result_ok}
 use Rattle.camac_lang.specs.Tree.{Script}
 use Rattle.camac_tokens.specs.Fault.{Fault as TextFault}
@@ -21,8 +21,7 @@ use Rattle.camac_engines.specs.Accepted.{Accepted, accepted_read}
 use Rattle.camac_engines.specs.Engine.{IsWritten, Shows}
 use Rattle.camac_engines.specs.Explain.{AllExplained, Explained, ExplainedIf, IsRead, IsSentence, PlanExplained, ReportsMore, TellsExplained, TellsHeadings}
 use Rattle.camac_engines.specs.Headings.{headed_read, headings_told}
-use Rattle.camac_engines.specs.Mark.{mark_of}
-use Rattle.camac_engines.specs.Refusals.{also_line, also_refused, findings_of}
+use Rattle.camac_engines.specs.Refusals.{after_first, also_line, findings_of, told_after, turn_line, turn_line_of}
 use Rattle.camac_engines.specs.Report.{Report, refused, refused_and, report_plan, report_read}
 use Rattle.camac_engines.specs.declared.explaining.TextExplained.{TextExplained}
 use Rattle.camac_engines.specs.declared.fault.ToolFault.{ToolFault}
@@ -62,6 +61,10 @@ good_explained Follows told shown text o p r is same h =
 
 -- ---- of a script
 
+pub turn_of_some : (turn : List ℕ) → 1 ≤ length turn → turn_line_of turn ≡ codes "Turn: " ++ turn ++ codes "\n"
+turn_of_some [] h = absurd (omega (arith, h))
+turn_of_some (b ∷ bs) h = refl
+
 pub no_items : {A : Type 0} (xs : List A) → length xs < 1 → xs ≡ []
 no_items [] h = refl
 no_items (x ∷ xs) h = absurd (omega (arith, h))
@@ -72,27 +75,30 @@ first_and_rest (x ∷ xs) other h =
     let fits : length xs ≤ length (x ∷ xs) - 1 = omega arith in
     ap (λ ys. x ∷ ys) (sym (take_all (length (x ∷ xs) - 1) xs fits))
 
-script_explained : (text : List ℕ) (script : Script) (f : Finding) (lines : List ℕ) → script_of text ≡ Ok script → lines ≡ explanation_of text f (mark_of text f) (sentence_of script f) → Explained text f lines
+script_explained : (text : List ℕ) (script : Script) (f : Finding) (lines : List ℕ) → script_of text ≡ Ok script → lines ≡ explanation_of text f (sentence_of script f) → Explained text f lines
 script_explained text script f lines read is =
     (sentence_of script f, subst (λ (s : Result Script TextFault). IsSentence text s f (sentence_of script f)) (sym read) refl, is)
 
 module _ (plan : Layout) (text : List ℕ) (script : Script) (o p : Option (List ℕ)) (r : Result Outcome ToolFault) where
-  pub first_explained : FirstIsLinkFault → FirstIsRefusal → (f : Finding) (rest : List Finding) (lines more : List ℕ) → script_of text ≡ Ok script → findings_of plan script ≡ f ∷ rest
-      → lines ≡ explanation_of text f (mark_of text f) (sentence_of script f) → more ≡ lines ++ flat_map also_line rest → Shows (refused_and (refusal_of f) more) o p r
+  pub first_explained : FirstIsLinkFault → FirstIsRefusal → (f : Finding) (rest : List Finding) (lines turned more : List ℕ) → script_of text ≡ Ok script → findings_of plan script ≡ f ∷ rest
+      → lines ≡ explanation_of text f (sentence_of script f) → turned ≡ lines ++ turn_line plan script f → more ≡ turned ++ flat_map (also_line text) rest → Shows (refused_and (refusal_of f) more) o p r
       → IsWritten (TellsExplained plan text) o p r
-  first_explained linked checked f rest lines more read is told also h =
+  first_explained linked checked f rest lines turned more read is told turn also h =
       let found = first_found linked checked plan script text f rest read is in
-      let others : also_refused plan (result_ok (script_of text)) ≡ flat_map also_line rest =
-      ap (λ s. also_refused plan (result_ok s)) read ∙ ap (λ fs. flat_map also_line (drop 1 fs)) is in
-      refusal_explained (AllExplained plan text) more f _ _ o p r found.0 found.1
-      (lines, script_explained text script f lines read told, also ∙ ap (λ l. lines ++ l) (sym others)) h
+      let others : told_after plan text (result_ok (script_of text)) ≡ turn_line plan script f ++ flat_map (also_line text) rest =
+      ap (λ s. told_after plan text (result_ok s)) read ∙ ap (after_first plan text script) is in
+      refusal_explained (AllExplained plan text) more f _ _ o p r found.0 found.1 (
+        lines,
+        script_explained text script f lines read told,
+        also ∙ ap (λ l. l ++ flat_map (also_line text) rest) turn ∙ append_assoc lines (turn_line plan script f) (flat_map (also_line text) rest) ∙ ap (λ l. lines ++ l) (sym others),
+      ) h
 
   pub none_explained : FirstIsLinkFault → FirstIsRefusal → (shown : Report) → script_of text ≡ Ok script → findings_of plan script ≡ [] → report_read plan (Ok script) ≡ shown → Shows shown o p r → IsWritten (TellsExplained plan text) o p r
   none_explained linked checked shown read is same h =
       let found = none_found linked checked plan script text read is in
       good_explained _ _ shown _ o p r found.1 (ap (report_read plan) read ∙ same) h
 
-  pub refusal_headed : (f : Finding) (lines : List ℕ) → script_of text ≡ Ok script → headed_read plan (Ok script) ≡ Some (Err f) → lines ≡ explanation_of text f (mark_of text f) (sentence_of script f)
+  pub refusal_headed : (f : Finding) (lines : List ℕ) → script_of text ≡ Ok script → headed_read plan (Ok script) ≡ Some (Err f) → lines ≡ explanation_of text f (sentence_of script f)
       → Shows (refused_and (refusal_of f) lines) o p r → IsWritten (TellsHeadings plan text) o p r
   refusal_headed f lines read is told h =
       let found = ap (headed_read plan) read ∙ is in
@@ -110,7 +116,7 @@ module _ (plan : Layout) (text : List ℕ) (told : TextExplained) (o p : Option 
   fault_explained (flaw, read, is, explained) h =
       refusal_explained (AllExplained plan text) told.lines.items told.finding _ _ o p r (ap (accepted_read plan) read ∙ ap (λ x. Some (Err x)) (sym is))
       (ap (report_read plan) read ∙ ap (λ x. refused (refusal_of x)) (sym is))
-      (told.lines.items, explained, sym (append-nil told.lines.items) ∙ ap (λ l. told.lines.items ++ l) (sym (ap (λ s. also_refused plan (result_ok s)) read))) h
+      (told.lines.items, explained, sym (append-nil told.lines.items) ∙ ap (λ l. told.lines.items ++ l) (sym (ap (λ s. told_after plan text (result_ok s)) read))) h
 
   pub fault_headed : IsRead text (Err told) → Shows (refused_and (refusal_of told.finding) told.lines.items) o p r → IsWritten (TellsHeadings plan text) o p r
   fault_headed (flaw, read, is, explained) h =

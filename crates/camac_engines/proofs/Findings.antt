@@ -3,6 +3,7 @@ use Rattle.std.proofs.Common.{◌≡◌, ℕ, Bool, true, false, List, [], ◌�
 use Rattle.std.specs.Prelude.{Result, Ok, Err, flat_map, is_some, not, nat_le}
 use Rattle.std.specs.Result.{result_err}
 use Rattle.camac_lang.specs.Tree.{Lam, Service, Script}
+use Rattle.camac_lang.specs.declared.spot.Spot.{Spot}
 use Rattle.camac_branch.specs.Plan.{Layout, installed}
 use Rattle.camac_model.specs.Fine.{Bounds}
 use Rattle.camac_names.specs.Link.{FirstIsLinkFault, is_served, lam_bit, lams_fault, link_fault, link_faults, or_else, service_fault, served_by, served_fault, services_fault, place_of, unless}
@@ -29,12 +30,12 @@ use Rattle.camac_engines.specs.declared.outcome.Outcome.TheVariants.{Good}
 
 abbrev IsRule : Option LinkFault → Type 0
 IsRule None = Unit {0}
-IsRule (Some (link.Broken rule line case)) = Unit {0}
+IsRule (Some (link.Broken rule spot case)) = Unit {0}
 IsRule (Some link.OutOfMemory) = ⊥
 
-unless_rule : (test : Bool) (rule : LinkRule) (line : ℕ) (case : LinkCase) (next : Option LinkFault) → IsRule next → IsRule (unless test rule line case next)
-unless_rule true rule line case next h = h
-unless_rule false rule line case next h = tt
+unless_rule : (test : Bool) (rule : LinkRule) (spot : Spot) (case : LinkCase) (next : Option LinkFault) → IsRule next → IsRule (unless test rule spot case next)
+unless_rule true rule spot case next h = h
+unless_rule false rule spot case next h = tt
 
 or_rule : (o next : Option LinkFault) → IsRule o → IsRule next → IsRule (or_else o next)
 or_rule None next h k = k
@@ -42,16 +43,16 @@ or_rule (Some f) next h k = h
 
 lams_rule : (plan : Layout) (ls : List Lam) → IsRule (lams_fault plan ls)
 lams_rule plan [] = tt
-lams_rule plan (l ∷ ls) = unless_rule (is_some (installed plan l.crate_no l.station)) LamNotInstalled l.line (place_of l) (lams_fault plan ls) (lams_rule plan ls)
+lams_rule plan (l ∷ ls) = unless_rule (is_some (installed plan l.crate_no l.station)) LamNotInstalled l.spot (place_of l) (lams_fault plan ls) (lams_rule plan ls)
 
 served_rule : (plan : Layout) (lams : List Lam) (earlier : List Service) (v : Service) (o : Option Lam) → IsRule (served_fault plan lams earlier v o)
 served_rule plan lams earlier v None = tt
 served_rule plan lams earlier v (Some l) =
-    let third : Option LinkFault = unless (nat_le v.words plan.buffer) EventAboveBuffer v.line (Words v.words plan.buffer) None in
-    let second : Option LinkFault = unless (not (is_served lams l earlier)) StationServedTwice v.line (served_by lams l earlier) third in
-    unless_rule (is_some (lam_bit plan l)) StationWithoutBit v.line (place_of l) second
-    (unless_rule (not (is_served lams l earlier)) StationServedTwice v.line (served_by lams l earlier) third
-    (unless_rule (nat_le v.words plan.buffer) EventAboveBuffer v.line (Words v.words plan.buffer) None tt))
+    let third : Option LinkFault = unless (nat_le v.words plan.buffer) EventAboveBuffer v.spot (Words v.words plan.buffer) None in
+    let second : Option LinkFault = unless (not (is_served lams l earlier)) StationServedTwice v.spot (served_by lams l earlier) third in
+    unless_rule (is_some (lam_bit plan l)) StationWithoutBit v.spot (place_of l) second
+    (unless_rule (not (is_served lams l earlier)) StationServedTwice v.spot (served_by lams l earlier) third
+    (unless_rule (nat_le v.words plan.buffer) EventAboveBuffer v.spot (Words v.words plan.buffer) None tt))
 
 services_rule : (plan : Layout) (lams : List Lam) (earlier vs : List Service) → IsRule (services_fault plan lams earlier vs)
 services_rule plan lams earlier [] = tt
@@ -71,9 +72,9 @@ module _ (first_fault : FirstIsLinkFault) (first_refusal : FirstIsRefusal) (plan
       → (accepted_checked script r ≡ Some (Err f)) × (report_accepted plan script r ≡ refused (refusal_of f))
   checker_first [] r f rest e is = absurd (cc)
   checker_first (g ∷ fs) (Ok bounds) f rest e is = absurd (cc)
-  checker_first (broken rule line case ∷ fs) (Err g) f rest e is =
-      let same : broken rule line case ≡ g = cc in
-      let first : finding.Check rule line case ≡ f = cc in (
+  checker_first (broken rule spot case ∷ fs) (Err g) f rest e is =
+      let same : broken rule spot case ≡ g = cc in
+      let first : finding.Check rule spot case ≡ f = cc in (
         ap (λ h. accepted_checked script (Err h)) (sym same) ∙ ap (λ x. Some (Err x)) first,
         ap (λ h. report_accepted plan script (Err h)) (sym same) ∙ ap (λ x. refused (refusal_of x)) first,
       )
@@ -81,7 +82,7 @@ module _ (first_fault : FirstIsLinkFault) (first_refusal : FirstIsRefusal) (plan
   checker_none : (fs : List Fault) (r : Result (List Bounds) Fault) → slice_get fs 0 ≡ result_err r → flat_map check_finding (map fault_of fs) ≡ [] → (bounds : List Bounds) × (r ≡ Ok bounds)
   checker_none [] (Ok bounds) e is = (bounds, refl)
   checker_none [] (Err g) e is = absurd (cc)
-  checker_none (broken rule line case ∷ fs) r e is = absurd (cc)
+  checker_none (broken rule spot case ∷ fs) r e is = absurd (cc)
 
   linking_first : (fs : List LinkFault) (o : Option LinkFault) (f : Finding) (rest : List Finding) → slice_get fs 0 ≡ o → IsRule o → linked_findings plan script fs ≡ f ∷ rest
       → (accepted_linked plan script o ≡ Some (Err f)) × (report_linked plan script o ≡ refused (refusal_of f))
@@ -89,10 +90,10 @@ module _ (first_fault : FirstIsLinkFault) (first_refusal : FirstIsRefusal) (plan
   linking_first [] (Some g) f rest e h is = absurd (cc)
   linking_first (g ∷ fs) None f rest e h is = absurd (cc)
   linking_first (g ∷ fs) (Some link.OutOfMemory) f rest e h is = absurd h
-  linking_first (link.OutOfMemory ∷ fs) (Some (link.Broken rule line case)) f rest e h is = absurd (cc)
-  linking_first (link.Broken rule line case ∷ fs) (Some (link.Broken rule' line' case')) f rest e h is =
-      let same : link.Broken rule line case ≡ link.Broken rule' line' case' = cc in
-      let first : finding.Link rule line case ≡ f = cc in (
+  linking_first (link.OutOfMemory ∷ fs) (Some (link.Broken rule spot case)) f rest e h is = absurd (cc)
+  linking_first (link.Broken rule spot case ∷ fs) (Some (link.Broken rule' spot' case')) f rest e h is =
+      let same : link.Broken rule spot case ≡ link.Broken rule' spot' case' = cc in
+      let first : finding.Link rule spot case ≡ f = cc in (
         ap (λ g. accepted_linked plan script (Some g)) (sym same) ∙ ap (λ x. Some (Err x)) first,
         ap (λ g. report_linked plan script (Some g)) (sym same) ∙ ap (λ x. refused (refusal_of x)) first,
       )
@@ -104,8 +105,8 @@ module _ (first_fault : FirstIsLinkFault) (first_refusal : FirstIsRefusal) (plan
   linking_none [] (Some g) e h is = absurd (cc)
   linking_none (g ∷ fs) None e h is = absurd (cc)
   linking_none (g ∷ fs) (Some link.OutOfMemory) e h is = absurd h
-  linking_none (link.OutOfMemory ∷ fs) (Some (link.Broken rule line case)) e h is = absurd (cc)
-  linking_none (link.Broken rule line case ∷ fs) (Some g) e h is = absurd (cc)
+  linking_none (link.OutOfMemory ∷ fs) (Some (link.Broken rule spot case)) e h is = absurd (cc)
+  linking_none (link.Broken rule spot case ∷ fs) (Some g) e h is = absurd (cc)
 
   pub first_found : (text : List ℕ) (f : Finding) (rest : List Finding) → script_of text ≡ Ok script → findings_of plan script ≡ f ∷ rest
       → (accepted plan text ≡ Some (Err f)) × (report plan text ≡ refused (refusal_of f))

@@ -3,4 +3,3 @@ pub mod Explained
 pub mod Findings
 pub mod Told
 pub mod Responses
-pub mod Marks

@@ -25,18 +25,18 @@ Accepted = Option (Result Script Finding)
 -- by what the checker says of the script
 abbrev pub accepted_checked : Script → Result (List Bounds) CheckFault → Accepted
 accepted_checked script (Ok bounds) = Some (Ok script)
-accepted_checked script (Err (broken rule line case)) = Some (Err (finding.Check rule line case))
+accepted_checked script (Err (broken rule spot case)) = Some (Err (finding.Check rule spot case))
 
 -- by what linking says of it
 abbrev pub accepted_linked : Layout → Script → Option LinkFault → Accepted
 accepted_linked plan script None = accepted_checked script (accept plan script)
-accepted_linked plan script (Some (link_fault_of.Broken rule line case)) = Some (Err (finding.Link rule line case))
+accepted_linked plan script (Some (link_fault_of.Broken rule spot case)) = Some (Err (finding.Link rule spot case))
 accepted_linked plan script (Some link_fault_of.OutOfMemory) = None
 
 -- by what reading the text gives
 abbrev pub accepted_read : Layout → Result Script TextFault → Accepted
 accepted_read plan (Ok script) = accepted_linked plan script (link_fault plan script)
-accepted_read plan (Err flaw) = Some (Err (finding.Text (rule_of flaw.case) flaw.line flaw.left))
+accepted_read plan (Err flaw) = Some (Err (finding.Text (rule_of flaw.case) flaw.spot))
 
 abbrev pub accepted : Layout → List ℕ → Accepted
 accepted plan text = accepted_read plan (script_of text)

@@ -31,7 +31,7 @@ abbrev pub TellsScript : Ask → Layout → List ℕ → Outcome → List ℕ �
 TellsScript ask.Check plan text = Reports (report plan text)
 TellsScript ask.Explain plan text = TellsExplained plan text
 TellsScript ask.ExplainBounds plan text = TellsHeadings plan text
-TellsScript (ask.ExplainAt line column) plan text = Reports (known_report line column plan text)
+TellsScript (ask.ExplainAt line column turns) plan text = Reports (known_report line column turns plan text)
 TellsScript ask.Bounds plan text = Reports (headings_report plan text)
 TellsScript ask.Costs plan text = Reports (costs_report plan text)
 

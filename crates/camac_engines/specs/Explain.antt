@@ -16,9 +16,8 @@ use Rattle.camac_explain.specs.declared.finding.Finding.TheVariants as finding
 use Rattle.camac_explain_text.specs.Text.{IsTextSentence}
 use Rattle.camac_engines.specs.Accepted.{Accepted, accepted}
 use Rattle.camac_engines.specs.Headings.{headed, headings_report}
-use Rattle.camac_engines.specs.Mark.{mark_of}
 use Rattle.camac_engines.specs.Plan.{PlanFound}
-use Rattle.camac_engines.specs.Refusals.{also_refused}
+use Rattle.camac_engines.specs.Refusals.{told_after}
 use Rattle.camac_engines.specs.Report.{Report, report}
 use Rattle.camac_engines.specs.declared.explaining.TextExplained.{TextExplained}
 use Rattle.camac_engines.specs.declared.outcome.Outcome.{Outcome}
@@ -29,13 +28,13 @@ abbrev pub IsSentence : List ℕ → Result Script TextFault → Finding → Opt
 IsSentence text (Ok script) f sentence = sentence ≡ sentence_of script f
 IsSentence text (Err flaw) f sentence = IsTextSentence text sentence
 
--- the lines that explain what was found in a script's text, the mark in its place
+-- the lines that explain what was found in a script's text
 abbrev pub Explained : List ℕ → Finding → List ℕ → Type 0
-Explained text f more = (sentence : Option (List ℕ)) × IsSentence text (script_of text) f sentence × (more ≡ explanation_of text f (mark_of text f) sentence)
+Explained text f more = (sentence : Option (List ℕ)) × IsSentence text (script_of text) f sentence × (more ≡ explanation_of text f sentence)
 
--- and then a line for each further refusal
+-- and then its turn, and a line for each further refusal
 abbrev pub AllExplained : Layout → List ℕ → Finding → List ℕ → Type 0
-AllExplained plan text f more = (lines : List ℕ) × Explained text f lines × (more ≡ lines ++ also_refused plan (result_ok (script_of text)))
+AllExplained plan text f more = (lines : List ℕ) × Explained text f lines × (more ≡ lines ++ told_after plan text (result_ok (script_of text)))
 
 -- what explains a finding, where there is one
 abbrev pub ExplainedIf : (Explains : Finding → List ℕ → Type 0) → Accepted → List ℕ → Type 0
@@ -68,4 +67,4 @@ TellsHeadings plan text = ReportsMore (ExplainedIf (Explained text) (headed plan
 abbrev pub IsRead : List ℕ → Result Script TextExplained → Type 0
 IsRead text (Ok script) = script_of text ≡ Ok script
 IsRead text (Err told) =
-    (flaw : TextFault) × (script_of text ≡ Err flaw) × (told.finding ≡ finding.Text (rule_of flaw.case) flaw.line flaw.left) × Explained text told.finding told.lines.items
+    (flaw : TextFault) × (script_of text ≡ Err flaw) × (told.finding ≡ finding.Text (rule_of flaw.case) flaw.spot) × Explained text told.finding told.lines.items

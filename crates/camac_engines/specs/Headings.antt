@@ -22,14 +22,14 @@ use Rattle.camac_engines.specs.declared.outcome.Outcome.TheVariants.{Good}
 -- the script with its least headings, or what refuses it whatever its headings say, with its case
 abbrev pub headed_found : Result Script LeastFault → Accepted
 headed_found (Ok script) = Some (Ok script)
-headed_found (Err (least_fault.Link rule line case)) = Some (Err (finding.Link rule line case))
-headed_found (Err (least_fault.Check rule line case)) = Some (Err (finding.Check rule line case))
+headed_found (Err (least_fault.Link rule spot case)) = Some (Err (finding.Link rule spot case))
+headed_found (Err (least_fault.Check rule spot case)) = Some (Err (finding.Check rule spot case))
 headed_found (Err least_fault.OutOfMemory) = None
 
 -- by what reading the text gives
 abbrev pub headed_read : Layout → Result Script TextFault → Accepted
 headed_read plan (Ok script) = headed_found (least plan script)
-headed_read plan (Err flaw) = Some (Err (finding.Text (rule_of flaw.case) flaw.line flaw.left))
+headed_read plan (Err flaw) = Some (Err (finding.Text (rule_of flaw.case) flaw.spot))
 
 abbrev pub headed : Layout → List ℕ → Accepted
 headed plan text = headed_read plan (script_of text)

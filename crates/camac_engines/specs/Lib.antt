@@ -7,8 +7,7 @@ pub mod Headings
 pub mod Accepted
 pub mod Found
 pub mod Refusals
-pub mod Spot
-pub mod Mark
+pub mod Standing
 pub mod Explain
 pub mod Rule
 pub mod Known

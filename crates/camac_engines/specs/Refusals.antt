@@ -1,7 +1,8 @@
 -- All that is refused of a script's text for a plan, and the lines that `camac explain` tells of it after the first.
-use Rattle.std.specs.Prelude.{ℕ, ◌&&◌, Bool, false, nat_eq, List, [], ◌∷◌, ◌++◌, Option, Some, None, codes, drop, flat_map, if◌then◌else◌, map}
+use Rattle.std.specs.Prelude.{ℕ, ◌+◌, ◌-◌, ◌^◌, ◌&&◌, Bool, false, min, nat_eq, List, [], ◌∷◌, ◌++◌, Option, Some, None, codes, flat_map, if◌then◌else◌, map}
 use Rattle.std.specs.List.{list_any}
 use Rattle.camac_lang.specs.Tree.{Script}
+use Rattle.camac_lang.specs.declared.spot.Spot.{Spot}
 use Rattle.camac_branch.specs.Plan.{Layout}
 use Rattle.camac_names.specs.Link.{link_faults}
 use Rattle.camac_names.specs.declared.fault.LinkCase.{LinkCase}
@@ -10,18 +11,20 @@ use Rattle.camac_names.specs.declared.fault.LinkRule.TheVariants.{LamNotInstalle
 use Rattle.camac_names.specs.declared.fault.LinkFault.{LinkFault}
 use Rattle.camac_names.specs.declared.fault.LinkFault.TheVariants as link
 use Rattle.camac_check.specs.Refusals.{CheckFault, OutOfMemory, Broken, fault_of, refusals}
-use Rattle.camac_explain.specs.Finding.{refusal_of}
+use Rattle.camac_check_costs.specs.Turns.{last_turn}
+use Rattle.camac_explain.specs.Source.{column_of}
 use Rattle.camac_explain.specs.declared.finding.Finding.{Finding}
 use Rattle.camac_explain.specs.declared.finding.Finding.TheVariants as finding
-use Rattle.camac_lines.specs.Refusal.{refusal_text}
+use Rattle.camac_lines.specs.Refusal.{refusal_text, refusal_text_at}
+use Rattle.camac_lines.specs.declared.refusal.Refusal.TheVariants as refusal
 
 -- a fault as it is found; none where memory was refused
 abbrev pub link_finding : LinkFault → List Finding
-link_finding (link.Broken rule line case) = finding.Link rule line case ∷ []
+link_finding (link.Broken rule spot case) = finding.Link rule spot case ∷ []
 link_finding link.OutOfMemory = []
 
 abbrev pub check_finding : CheckFault → List Finding
-check_finding (Broken rule line case) = finding.Check rule line case ∷ []
+check_finding (Broken rule spot case) = finding.Check rule spot case ∷ []
 check_finding OutOfMemory = []
 
 abbrev pub same_place : LinkCase → LinkCase → Bool
@@ -30,12 +33,12 @@ same_place p q = false
 
 -- it says that this place has no module
 abbrev pub is_missing : LinkCase → LinkFault → Bool
-is_missing place (link.Broken LamNotInstalled line case) = same_place place case
+is_missing place (link.Broken LamNotInstalled spot case) = same_place place case
 is_missing place f = false
 
 -- that a service's station has no bit is told by the L1 of its LAM, if there is no module at all
 abbrev pub is_told_by : List LinkFault → LinkFault → Bool
-is_told_by faults (link.Broken StationWithoutBit line place) = list_any (is_missing place) faults
+is_told_by faults (link.Broken StationWithoutBit spot place) = list_any (is_missing place) faults
 is_told_by faults f = false
 
 abbrev pub further_finding : List LinkFault → LinkFault → List Finding
@@ -49,11 +52,36 @@ linked_findings plan script (f ∷ fs) = link_finding f ++ flat_map (further_fin
 abbrev pub findings_of : Layout → Script → List Finding
 findings_of plan script = linked_findings plan script (link_faults plan script)
 
--- `also refused CODE line LINE: MEANING`
-abbrev pub also_line : Finding → List ℕ
-also_line f = codes "also " ++ refusal_text (refusal_of f)
+-- the column of a spot of a text; a number stays at the greatest of 64 bits
+abbrev pub column_from_one : (text : List ℕ) → Spot → ℕ
+column_from_one text s = min (column_of text s + 1) (2 ^ 64 - 1)
 
--- for each after the first; a text that is no script is refused by its first fault alone
-abbrev pub also_refused : Layout → Option Script → List ℕ
-also_refused plan None = []
-also_refused plan (Some script) = flat_map also_line (drop 1 (findings_of plan script))
+-- the line of a refusal, with the column of its spot in the text; that of a plan has none
+abbrev pub placed_refusal : (text : List ℕ) → Finding → List ℕ
+placed_refusal text (finding.Plan rule) = refusal_text (refusal.Plan rule)
+placed_refusal text (finding.Text rule spot) = refusal_text_at (refusal.Text rule spot.line) (column_from_one text spot)
+placed_refusal text (finding.Link rule spot case) = refusal_text_at (refusal.Link rule spot.line) (column_from_one text spot)
+placed_refusal text (finding.Check rule spot case) = refusal_text_at (refusal.Check rule spot.line) (column_from_one text spot)
+
+-- `also refused CODE line LINE column COLUMN: MEANING`
+abbrev pub also_line : (text : List ℕ) → Finding → List ℕ
+also_line text f = codes "also " ++ placed_refusal text f
+
+-- `Turn: VARIABLE = NUMBER`: the turn in which the checker refuses a statement, if an `each` loop is around it
+abbrev pub turn_line_of : (turn : List ℕ) → List ℕ
+turn_line_of [] = []
+turn_line_of (b ∷ bs) = codes "Turn: " ++ (b ∷ bs) ++ codes "\n"
+
+abbrev pub turn_line : Layout → Script → Finding → List ℕ
+turn_line plan script (finding.Check rule spot case) = turn_line_of (last_turn plan script spot.left)
+turn_line plan script _ = []
+
+-- after the explanation of the first: its turn, and a line for each other
+abbrev pub after_first : Layout → (text : List ℕ) → Script → List Finding → List ℕ
+after_first plan text script [] = []
+after_first plan text script (f ∷ fs) = turn_line plan script f ++ flat_map (also_line text) fs
+
+-- a text that is no script is refused by its first fault alone
+abbrev pub told_after : Layout → (text : List ℕ) → Option Script → List ℕ
+told_after plan text None = []
+told_after plan text (Some script) = after_first plan text script (findings_of plan script)

@@ -45,18 +45,18 @@ refused_and r more = Some (Refused, refusal_text r ++ more)
 -- of what acceptance says of the script
 abbrev pub report_accepted : Layout → Script → Result (List Bounds) CheckFault → Report
 report_accepted plan script (Ok bounds) = Some (Good, verdict_text plan script bounds)
-report_accepted plan script (Err (broken rule line case)) = refused (refusal.Check rule line)
+report_accepted plan script (Err (broken rule spot case)) = refused (refusal.Check rule spot.line)
 
 -- of what linking says of the script
 abbrev pub report_linked : Layout → Script → Option LinkFault → Report
 report_linked plan script None = report_accepted plan script (accept plan script)
-report_linked plan script (Some (link_fault_of.Broken rule line case)) = refused (refusal.Link rule line)
+report_linked plan script (Some (link_fault_of.Broken rule spot case)) = refused (refusal.Link rule spot.line)
 report_linked plan script (Some link_fault_of.OutOfMemory) = None
 
 -- of what reading the text gives
 abbrev pub report_read : Layout → Result Script TextFault → Report
 report_read plan (Ok script) = report_linked plan script (link_fault plan script)
-report_read plan (Err fault) = refused (refusal.Text (rule_of fault.case) fault.line)
+report_read plan (Err fault) = refused (refusal.Text (rule_of fault.case) fault.spot.line)
 
 -- of a script's text
 abbrev pub report : Layout → List ℕ → Report

@@ -1,5 +1,5 @@
 -- The sample plan.
-use Rattle.std.specs.Prelude.{ℕ, true, false, List, [], ◌∷◌, ◌++◌, Option, Some, None, Result, Ok, Err, codes, map}
+use Rattle.std.specs.Prelude.{ℕ, List, [], ◌∷◌, ◌++◌, Option, Some, None, Result, Ok, Err, codes, map}
 use Rattle.std.specs.List.{range_with_len, fold}
 use Rattle.camac_module.specs.Commands.{Commands, none_declared, with_declared, declare_fault}
 use Rattle.camac_module.specs.declared.map.Decl.{Decl}

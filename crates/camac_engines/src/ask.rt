@@ -3,9 +3,11 @@
 ghost use Rattle.std.specs.Prelude.{◌≡◌};
 ghost use Rattle.camac_engines.specs.Ask.{of_plan};
 
+use std::marker::Model;
+
 /// What is asked of a plan and a script.
-#[derive(Clone, Copy, Debug)]
-pub enum Ask {
+#[derive(Drop)]
+pub enum Ask<'a> {
     /// The bounds of each service.
     Check,
     /// The same, and why a plan or a script is refused, with a line for each further refusal: of linking, or else of the checker, which judges each
@@ -15,7 +17,11 @@ pub enum Ask {
     ExplainBounds,
     /// What the checker knows before the statement at a place: a line for each variable, for each register that is set and for each locked
     /// crate, or that the checker does not come there. Line and column are from 1, the column in bytes.
-    ExplainAt { line: u32, column: u32 },
+    ExplainAt {
+        line: u32,
+        column: u32,
+        turns: Turns<'a>,
+    },
     /// The headings with the least numbers that are accepted. The script's own numbers there are not looked at.
     Bounds,
     /// What the bounds consist of: a line for each procedure and service, and one for each of its statements.
@@ -33,10 +39,39 @@ pub enum PlanAsk {
     Explain,
 }
 
-impl Ask {
+/// The turns that are chosen of the `each` loops around a statement, the outermost first: the numbers that their variables have there. Of further loops
+/// all turns are meant.
+#[derive(Drop)]
+pub struct Turns<'a> {
+    numbers: &'a [u32],
+}
+
+impl<'a> Model for Turns<'a> {
+    ghost use Rattle.std.specs.Prelude.{List, ℕ};
+
+    ghost Value = { List ℕ };
+
+    ghost view = { λ t. t.numbers.now };
+}
+
+impl<'a> Turns<'a> {
+    pub fn of(numbers: &'a [u32]) -> Turns<'a>
+        ensures { result ≡ numbers.now }
+    {
+        Turns { numbers }
+    }
+
+    pub fn numbers(self) -> &'a [u32]
+        ensures { result.now ≡ self.entry }
+    {
+        self.numbers
+    }
+}
+
+impl Ask<'_> {
     /// What is asked of a plan that is refused.
     pub fn of_plan(self) -> PlanAsk
-        ensures { result ≡ of_plan self }
+        ensures { result ≡ of_plan self.entry }
     {
         match self {
             Ask::Explain | Ask::ExplainBounds => PlanAsk::Explain,

@@ -36,12 +36,12 @@ use std::io::{Read, Write};
 /// first, then the script. Nothing is written before a fault but one of the writer, which leaves a prefix of the text.
 pub fn answer<P: Read, S: Read, W: Write>(
     alloc: Global,
-    ask: Ask,
+    ask: Ask<'_>,
     plan: &mut PlanSource<P>,
     script: &mut Watched<S>,
     out: &mut Watched<W>,
 ) -> Result<Outcome, ToolFault>
-    ensures answers { AnswersTexts ask P.remaining plan.old plan.new (S.remaining (inner_of script.old)) (S.remaining (inner_of script.new)) (W.contents (inner_of out.old)) (W.contents (inner_of out.new)) result }
+    ensures answers { AnswersTexts ask.entry P.remaining plan.old plan.new (S.remaining (inner_of script.old)) (S.remaining (inner_of script.new)) (W.contents (inner_of out.old)) (W.contents (inner_of out.new)) result }
     ensures out_failed { has_failed out.new ≡ (has_failed out.old || is_write_fault result) }
     ensures in_failed { (plan_failed plan.new || has_failed script.new)
         ≡ ((plan_failed plan.old || has_failed script.old) || is_read_fault result) }
@@ -175,12 +175,12 @@ fn tell_refusal<W: Write>(
 
 fn tell<W: Write>(
     alloc: Global,
-    ask: Ask,
+    ask: Ask<'_>,
     texts: &Texts,
     out: &mut Watched<W>,
 ) -> Result<Outcome, ToolFault>
     requires { HaveCase texts.now }
-    ensures tells { IsWritten (TellsFound ask (found_of texts.now)) (W.contents (inner_of out.old)) (W.contents (inner_of out.new)) result }
+    ensures tells { IsWritten (TellsFound ask.entry (found_of texts.now)) (W.contents (inner_of out.old)) (W.contents (inner_of out.new)) result }
     ensures failed { has_failed out.new ≡ (has_failed out.old || is_write_fault result) }
 {
     match texts {
@@ -191,20 +191,24 @@ fn tell<W: Write>(
 
 fn tell_script<W: Write>(
     alloc: Global,
-    ask: Ask,
+    ask: Ask<'_>,
     plan: &Plan,
     text: &[u8],
     out: &mut Watched<W>,
 ) -> Result<Outcome, ToolFault>
-    ensures tells { IsWritten (TellsScript ask plan.now text.now) (W.contents (inner_of out.old)) (W.contents (inner_of out.new)) result }
+    ensures tells { IsWritten (TellsScript ask.entry plan.now text.now) (W.contents (inner_of out.old)) (W.contents (inner_of out.new)) result }
     ensures failed { has_failed out.new ≡ (has_failed out.old || is_write_fault result) }
 {
     match ask {
         Ask::Check => show(out, &judge(alloc, plan, text)?),
         Ask::Explain => explain_text(alloc, plan, text, out),
         Ask::ExplainBounds => explain_headings(alloc, plan, text, out),
-        Ask::ExplainAt { line, column } => {
-            let found = find_known(alloc, plan, text, line, column)?;
+        Ask::ExplainAt {
+            line,
+            column,
+            turns,
+        } => {
+            let found = find_known(alloc, plan, text, line, column, turns.numbers())?;
             show_known(out, line, column, &found)
         }
         Ask::Bounds => show_headings(out, &judge_headings(alloc, plan, text)?),

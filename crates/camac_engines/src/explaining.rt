@@ -1,14 +1,14 @@
 // Explains a refusal.
 
-ghost use Rattle.std.specs.Prelude.{◌≡◌, ◌||◌, ◌++◌, Ok, Err, IfOk, is_err};
+ghost use Rattle.std.specs.Prelude.{◌≡◌, ◌||◌, ◌++◌, Ok, Err, IfOk, OnOk, is_err};
 ghost use Rattle.camac_text.specs.Parser.{script_of};
 ghost use Rattle.camac_lines.specs.Refusal.{refusal_text};
 ghost use Rattle.camac_explain.specs.Explanation.{explanation_of};
 ghost use Rattle.camac_explain.specs.Sentence.{sentence_of};
 ghost use Rattle.camac_engines.specs.Engine.{IsWritten, Shows, is_write_fault};
 ghost use Rattle.camac_engines.specs.Explain.{IsRead, PlanExplained, ReportsMore, TellsExplained, TellsHeadings};
-ghost use Rattle.camac_engines.specs.Mark.{mark_of};
 ghost use Rattle.camac_engines.specs.Plan.{HasCase};
+ghost use Rattle.camac_engines.specs.Refusals.{turn_line, turn_line_of};
 ghost use Rattle.camac_engines.specs.Report.{refused_and, report_plan};
 ghost use Rattle.camac_word.specs.Watched.{inner_of, has_failed};
 ghost use Rattle.camac_word.specs.Writing.{Writes};
@@ -17,12 +17,12 @@ use crate::engine::show;
 use crate::fault::ToolFault;
 use crate::headings::{find_headings, show_headings};
 use crate::judging::{Judged, judge_script};
-use crate::mark::mark_of;
 use crate::outcome::Outcome;
 use crate::plan::PlanRefusal;
 use crate::refusals::{findings_of, push_also};
 use camac_branch::Plan;
 use camac_check::laws::first_is_refusal;
+use camac_check_costs::last_turn;
 use camac_explain::{Finding, explain_plan, explain_script, script_sentence};
 use camac_explain_text::text_sentence;
 use camac_lang::Script;
@@ -84,7 +84,8 @@ fn explain_judged<W: Write>(
         [] => show(out, &judge_script(alloc, plan, script)?),
         [first, further @ ..] => {
             let mut more = explain_finding(alloc, text, &script, *first)?;
-            push_also(&mut more, further)?;
+            push_turn(alloc, &mut more, plan, &script, *first)?;
+            push_also(&mut more, text, further)?;
             refuse_and(out, first.refusal(), &more)
         }
     }
@@ -144,11 +145,11 @@ fn read_script(alloc: Global, text: &[u8]) -> Result<Result<Script, TextExplaine
     match parse_expecting(alloc, text, &mut noted) {
         Ok(script) => Ok(Ok(script)),
         Err(TextFault::OutOfMemory) => Err(AllocError),
-        Err(TextFault::Broken { case, line, left }) => {
+        Err(TextFault::Broken { case, spot }) => {
             let rule = case.rule();
-            let finding = Finding::Text { rule, line, left };
-            let sentence = text_sentence(alloc, text, case, left, noted)?;
-            let lines = explain_script(alloc, text, finding, Some(left), Some(sentence))?;
+            let finding = Finding::Text { rule, spot };
+            let sentence = text_sentence(alloc, text, case, spot.left, noted)?;
+            let lines = explain_script(alloc, text, finding, Some(sentence))?;
             Ok(Err(TextExplained { finding, lines }))
         }
     }
@@ -161,11 +162,40 @@ fn explain_finding(
     script: &Script,
     finding: Finding,
 ) -> Result<Vec<u8>, AllocError>
-    ensures { IfOk result (λ more. more.items ≡ explanation_of text.now finding (mark_of text.now finding) (sentence_of script.now finding)) }
+    ensures { IfOk result (λ more. more.items ≡ explanation_of text.now finding (sentence_of script.now finding)) }
 {
-    let mark = mark_of(alloc, text, finding)?;
     let sentence = script_sentence(alloc, script, finding)?;
-    explain_script(alloc, text, finding, mark, sentence)
+    explain_script(alloc, text, finding, sentence)
+}
+
+// Puts the turn in which the checker refuses a statement at the end, on a line of its own, if an `each` loop is around it.
+fn push_turn(
+    alloc: Global,
+    lines: &mut Vec<u8>,
+    plan: &Plan,
+    script: &Script,
+    finding: Finding,
+) -> Result<(), AllocError>
+    ensures { OnOk result (lines.new.items ≡ lines.old.items ++ turn_line plan.now script.now finding) }
+{
+    let Finding::Check { spot, .. } = finding else {
+        return Ok(());
+    };
+    let turn = last_turn(alloc, plan, script, spot)?;
+    push_turn_line(lines, turn.as_slice())
+}
+
+#[tactic(auto, using(crate::proofs::Explained::turn_of_some))]
+fn push_turn_line(lines: &mut Vec<u8>, turn: &[u8]) -> Result<(), AllocError>
+    ensures { OnOk result (lines.new.items ≡ lines.old.items ++ turn_line_of turn.now) }
+{
+    let [_, ..] = turn else {
+        return Ok(());
+    };
+    lines.extend_from_slice(b"Turn: ")?;
+    lines.extend_from_slice(turn)?;
+    lines.push(b'\n')?;
+    Ok(())
 }
 
 fn refuse_and<W: Write>(

@@ -43,9 +43,9 @@ pub fn judge_headings(alloc: Global, plan: &Plan, text: &[u8]) -> Result<Judged,
     match parse(alloc, text) {
         Ok(script) => find_headings(alloc, plan, script),
         Err(TextFault::OutOfMemory) => Err(ToolFault::Memory),
-        Err(TextFault::Broken { case, line, left }) => {
+        Err(TextFault::Broken { case, spot }) => {
             let rule = case.rule();
-            Ok(Judged::Refused(Finding::Text { rule, line, left }))
+            Ok(Judged::Refused(Finding::Text { rule, spot }))
         }
     }
 }
@@ -58,11 +58,11 @@ pub fn find_headings(alloc: Global, plan: &Plan, script: Script) -> Result<Judge
     match least(alloc, script, plan) {
         Ok(checked) => Ok(Judged::Accepted(checked)),
         Err(LeastFault::OutOfMemory) => Err(ToolFault::Memory),
-        Err(LeastFault::Link { rule, line, case }) => {
-            Ok(Judged::Refused(Finding::Link { rule, line, case }))
+        Err(LeastFault::Link { rule, spot, case }) => {
+            Ok(Judged::Refused(Finding::Link { rule, spot, case }))
         }
-        Err(LeastFault::Check { rule, line, case }) => {
-            Ok(Judged::Refused(Finding::Check { rule, line, case }))
+        Err(LeastFault::Check { rule, spot, case }) => {
+            Ok(Judged::Refused(Finding::Check { rule, spot, case }))
         }
     }
 }

@@ -54,9 +54,9 @@ pub fn judge(alloc: Global, plan: &Plan, text: &[u8]) -> Result<Judged, ToolFaul
     match parse(alloc, text) {
         Ok(script) => judge_script(alloc, plan, script),
         Err(TextFault::OutOfMemory) => Err(ToolFault::Memory),
-        Err(TextFault::Broken { case, line, left }) => {
+        Err(TextFault::Broken { case, spot }) => {
             let rule = case.rule();
-            Ok(Judged::Refused(Finding::Text { rule, line, left }))
+            Ok(Judged::Refused(Finding::Text { rule, spot }))
         }
     }
 }
@@ -69,8 +69,8 @@ pub fn judge_script(alloc: Global, plan: &Plan, script: Script) -> Result<Judged
     match resolve(alloc, script, plan) {
         Ok(linked) => judge_linked(alloc, linked),
         Err(LinkFault::OutOfMemory) => Err(ToolFault::Memory),
-        Err(LinkFault::Broken { rule, line, case }) => {
-            Ok(Judged::Refused(Finding::Link { rule, line, case }))
+        Err(LinkFault::Broken { rule, spot, case }) => {
+            Ok(Judged::Refused(Finding::Link { rule, spot, case }))
         }
     }
 }
@@ -82,8 +82,8 @@ fn judge_linked(alloc: Global, linked: Linked) -> Result<Judged, ToolFault>
     match check(alloc, linked) {
         Ok(checked) => Ok(Judged::Accepted(checked)),
         Err(CheckFault::OutOfMemory) => Err(ToolFault::Memory),
-        Err(CheckFault::Broken { rule, line, case }) => {
-            Ok(Judged::Refused(Finding::Check { rule, line, case }))
+        Err(CheckFault::Broken { rule, spot, case }) => {
+            Ok(Judged::Refused(Finding::Check { rule, spot, case }))
         }
     }
 }

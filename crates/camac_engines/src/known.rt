@@ -1,22 +1,20 @@
 // What is told of what is known at a place of a script.
 
 ghost use Rattle.std.specs.Prelude.{◌≡◌, ◌||◌, ◌++◌, codes, decimal};
-ghost use Rattle.camac_rules.specs.Capped.{capped};
-ghost use Rattle.camac_check_costs.specs.Places.{place_with};
 ghost use Rattle.camac_names.specs.Link.{link_fault};
 ghost use Rattle.camac_tokens.specs.Scanning.{tokens_of};
 ghost use Rattle.camac_engines.specs.Engine.{Shows, is_write_fault};
-ghost use Rattle.camac_engines.specs.Known.{FindsKnown, FindsSpot, known_found, known_linked, known_report, known_report_of, known_there, spot_among};
+ghost use Rattle.camac_engines.specs.Known.{FindsKnown, FindsStanding, known_linked, known_report, known_report_of, known_there, standing_among};
 ghost use Rattle.camac_word.specs.Watched.{inner_of, has_failed};
 
 use crate::engine::refuse;
 use crate::fault::ToolFault;
 use crate::outcome::Outcome;
-use crate::spot::{Spot, spot_at};
+use crate::standing::standing_at;
 use camac_branch::Plan;
 use camac_check::CheckFault;
 use camac_check_costs::{find_place, known_lines};
-use camac_lang::Script;
+use camac_lang::{Script, Spot};
 use camac_lines::{Line, Refusal};
 use camac_names::{LinkFault, Linked, resolve};
 use camac_text::{TextFault, parse};
@@ -73,21 +71,22 @@ fn no_statement(line: u32, column: u32) -> Line
     text
 }
 
-/// Finds what is known at a place of a text.
+/// Finds what is known at a place of a text, in the turns that are chosen.
 pub fn find_known(
     alloc: Global,
     plan: &Plan,
     text: &[u8],
     line: u32,
     column: u32,
+    turns: &[u32],
 ) -> Result<Known, ToolFault>
-    ensures { FindsKnown line column result (known_report line column plan.now text.now) }
+    ensures { FindsKnown line column result (known_report line column turns.now plan.now text.now) }
 {
     match parse(alloc, text) {
-        Ok(script) => known_in(alloc, plan, text, line, column, script),
+        Ok(script) => known_in(alloc, plan, text, line, column, turns, script),
         Err(TextFault::OutOfMemory) => Err(ToolFault::Memory),
-        Err(TextFault::Broken { case, line, .. }) => {
-            let rule = case.rule();
+        Err(TextFault::Broken { case, spot }) => {
+            let (rule, line) = (case.rule(), spot.line);
             Ok(Known::Refused(Refusal::Text { rule, line }))
         }
     }
@@ -99,28 +98,35 @@ fn known_in(
     text: &[u8],
     line: u32,
     column: u32,
+    turns: &[u32],
     script: Script,
 ) -> Result<Known, ToolFault>
-    ensures { FindsKnown line column result (known_linked plan.now text.now line column script (link_fault plan.now script)) }
+    ensures { FindsKnown line column result (known_linked plan.now text.now line column turns.now script (link_fault plan.now script)) }
 {
     match resolve(alloc, script, plan) {
         Ok(linked) => {
-            let spot = find_spot(alloc, text, line, column)?;
-            known_there(alloc, &linked, line, column, spot)
+            let spot = find_standing(alloc, text, line, column)?;
+            known_there(alloc, &linked, line, column, turns, spot)
         }
         Err(LinkFault::OutOfMemory) => Err(ToolFault::Memory),
-        Err(LinkFault::Broken { rule, line, .. }) => {
+        Err(LinkFault::Broken { rule, spot, .. }) => {
+            let line = spot.line;
             Ok(Known::Refused(Refusal::Link { rule, line }))
         }
     }
 }
 
-// The statement at a place of a text; none if the text has a fault.
-fn find_spot(alloc: Global, text: &[u8], line: u32, column: u32) -> Result<Option<Spot>, ToolFault>
-    ensures { FindsSpot result (spot_among text.now line column (tokens_of text.now)) }
+// Where the statement at a place of a text begins; none if the text has a fault.
+fn find_standing(
+    alloc: Global,
+    text: &[u8],
+    line: u32,
+    column: u32,
+) -> Result<Option<Spot>, ToolFault>
+    ensures { FindsStanding result (standing_among text.now line column (tokens_of text.now)) }
 {
     match tokens(alloc, text) {
-        Ok(tokens) => Ok(spot_at(text, &tokens, line, column)),
+        Ok(tokens) => Ok(standing_at(text, &tokens, line, column)),
         Err(TextFault::OutOfMemory) => Err(ToolFault::Memory),
         Err(TextFault::Broken { .. }) => Ok(None),
     }
@@ -131,36 +137,20 @@ fn known_there(
     linked: &Linked,
     line: u32,
     column: u32,
+    turns: &[u32],
     spot: Option<Spot>,
 ) -> Result<Known, ToolFault>
-    ensures { FindsKnown line column result (known_there linked.now.plan linked.now.script line column spot) }
+    ensures { FindsKnown line column result (known_there linked.now.plan linked.now.script line column turns.now spot) }
 {
     let Some(spot) = spot else {
         return Ok(Known::NoStatement);
     };
-    known_at(alloc, linked, line, column, spot)
-}
-
-fn known_at(
-    alloc: Global,
-    linked: &Linked,
-    line: u32,
-    column: u32,
-    spot: Spot,
-) -> Result<Known, ToolFault>
-    ensures { FindsKnown line column result (known_found linked.now.script (place_with capped linked.now.plan linked.now.script spot.body spot.statement)) }
-{
-    match find_place(
-        alloc,
-        linked.plan(),
-        linked.script(),
-        spot.body,
-        spot.statement,
-    ) {
+    match find_place(alloc, linked.plan(), linked.script(), spot, turns) {
         Ok(Some(found)) => Ok(Known::Reached(known_lines(alloc, linked.script(), &found)?)),
         Ok(None) => Ok(Known::NotReached),
         Err(CheckFault::OutOfMemory) => Err(ToolFault::Memory),
-        Err(CheckFault::Broken { rule, line, .. }) => {
+        Err(CheckFault::Broken { rule, spot, .. }) => {
+            let line = spot.line;
             Ok(Known::Refused(Refusal::Check { rule, line }))
         }
     }

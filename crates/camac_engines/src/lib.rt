@@ -11,7 +11,6 @@ mod fault;
 mod headings;
 mod judging;
 mod known;
-mod mark;
 mod outcome;
 mod plan;
 mod reading;
@@ -19,10 +18,10 @@ mod refusals;
 mod response;
 mod rule;
 mod sample;
-mod spot;
+mod standing;
 mod texts;
 
-pub use ask::{Ask, PlanAsk};
+pub use ask::{Ask, PlanAsk, Turns};
 pub use engine::{
     answer, answer_plan, engine_bounds, engine_check, engine_events, engine_plan, refuse,
 };

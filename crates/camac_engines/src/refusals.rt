@@ -2,13 +2,13 @@
 
 ghost use Rattle.std.specs.Prelude.{◌≡◌, ◌++◌, IfOk, OnOk, flat_map};
 ghost use Rattle.std.specs.List.{list_any};
-ghost use Rattle.camac_engines.specs.Refusals.{also_line, check_finding, findings_of, further_finding, is_missing, is_told_by, link_finding, same_place};
+ghost use Rattle.camac_engines.specs.Refusals.{also_line, check_finding, column_from_one, findings_of, further_finding, is_missing, is_told_by, link_finding, placed_refusal, same_place};
 
 use camac_branch::Plan;
 use camac_check::{CheckFault, refusals};
-use camac_explain::Finding;
-use camac_lang::Script;
-use camac_lines::refusal_line;
+use camac_explain::{Finding, column_of};
+use camac_lang::{Script, Spot};
+use camac_lines::{Line, refusal_line, refusal_line_at};
 use camac_names::{LinkCase, LinkFault, LinkRule, link_faults};
 use std::alloc::{AllocError, Global};
 
@@ -48,8 +48,8 @@ fn link_findings(
 fn push_link(findings: &mut Vec<Finding>, fault: &LinkFault) -> Result<(), AllocError>
     ensures { OnOk result (findings.new.items ≡ findings.old.items ++ link_finding fault.now) }
 {
-    if let LinkFault::Broken { rule, line, case } = *fault {
-        findings.push(Finding::Link { rule, line, case })?;
+    if let LinkFault::Broken { rule, spot, case } = *fault {
+        findings.push(Finding::Link { rule, spot, case })?;
     }
     Ok(())
 }
@@ -110,20 +110,38 @@ fn check_findings(alloc: Global, faults: &[CheckFault]) -> Result<Vec<Finding>, 
 {
     let mut findings = Vec::new(alloc);
     'faults: for fault in faults {
-        if let CheckFault::Broken { rule, line, case } = *fault {
-            findings.push(Finding::Check { rule, line, case })?;
+        if let CheckFault::Broken { rule, spot, case } = *fault {
+            findings.push(Finding::Check { rule, spot, case })?;
         }
     }
     Ok(findings)
 }
 
-/// Puts a line at the end for each of these findings.
-pub fn push_also(lines: &mut Vec<u8>, findings: &[Finding]) -> Result<(), AllocError>
-    ensures { OnOk result (lines.new.items ≡ lines.old.items ++ flat_map also_line findings.now) }
+/// Puts a line at the end for each of these findings in a script's text.
+pub fn push_also(lines: &mut Vec<u8>, text: &[u8], findings: &[Finding]) -> Result<(), AllocError>
+    ensures { OnOk result (lines.new.items ≡ lines.old.items ++ flat_map (also_line text.now) findings.now) }
 {
     'findings: for finding in findings {
         lines.extend_from_slice(b"also ")?;
-        lines.extend_from_slice(refusal_line(finding.refusal()).as_bytes())?;
+        lines.extend_from_slice(placed_refusal(text, *finding).as_bytes())?;
     }
     Ok(())
+}
+
+// The line of a refusal, with the column of its spot.
+fn placed_refusal(text: &[u8], finding: Finding) -> Line
+    ensures { result ≡ placed_refusal text.now finding }
+{
+    match finding {
+        Finding::Plan(_) => refusal_line(finding.refusal()),
+        Finding::Text { spot, .. } | Finding::Link { spot, .. } | Finding::Check { spot, .. } => {
+            refusal_line_at(finding.refusal(), column_from_one(text, spot))
+        }
+    }
+}
+
+fn column_from_one(text: &[u8], spot: Spot) -> usize
+    ensures { result ≡ column_from_one text.now spot }
+{
+    column_of(text, spot).saturating_add(1)
 }

@@ -1,4 +1,3 @@
 pub mod Told
-pub mod Fixes
 pub mod Places
 pub mod Pieces

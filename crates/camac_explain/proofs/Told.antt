@@ -2,6 +2,7 @@
 use Rattle.std.proofs.Common.{◌≡◌, ℕ, List, ◌++◌, Option, ap, ◌∙◌}
 use Rattle.camac_explain.specs.Advice.{Told, told}
 use Rattle.camac_explain.specs.Explanation.{advice_text, sentence_line}
+use Rattle.camac_explain.specs.Rule.{Grows}
 
 pub same_advice : (why fix code code' : List ℕ) (t : Told) → why ≡ t.why → fix ≡ t.fix → code ≡ code' → advice_text (told why fix) code ≡ advice_text t code'
 same_advice why fix code code' t e f g =
@@ -13,3 +14,9 @@ pub explained : (source l1 l2 l3 advice wanted : List ℕ) (s t : Option (List �
 explained source l1 l2 l3 advice wanted s t e1 e2 e3 e4 e5 =
     e4 ∙ ap (λ l. l ++ advice) (e2 ∙ ap (λ l. l ++ sentence_line s) e1 ∙ ap (λ o. source ++ sentence_line o) e3)
     ∙ ap (λ a. (source ++ sentence_line t) ++ a) e5
+
+-- the text of a rule, with an example that has no clause
+pub rule_parts : (l1 l2 l3 l4 l5 a b m d : List ℕ) → l1 ≡ a → l2 ≡ l1 ++ b → l3 ≡ l2 ++ m → Grows l3 l4 → l5 ≡ l4 ++ d
+    → (example : List ℕ) × (l5 ≡ (((a ++ b) ++ m) ++ example) ++ d)
+rule_parts l1 l2 l3 l4 l5 a b m d e1 e2 e3 (example, e4) e5 =
+    (example, e5 ∙ ap (λ l. l ++ d) (e4 ∙ ap (λ l. l ++ example) (e3 ∙ ap (λ l. l ++ m) (e2 ∙ ap (λ l. l ++ b) e1))))

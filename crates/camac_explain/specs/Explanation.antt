@@ -13,9 +13,9 @@ use Rattle.camac_explain.specs.declared.finding.Finding.TheVariants.{Plan, Text,
 
 abbrev pub told_of : Finding → Told
 told_of (Plan rule) = plan_told rule
-told_of (Text rule line left) = text_told rule
-told_of (Link rule line case) = link_told rule
-told_of (Check rule line case) = check_told rule case
+told_of (Text rule spot) = text_told rule
+told_of (Link rule spot case) = link_told rule
+told_of (Check rule spot case) = check_told rule case
 
 abbrev pub line_of : (label text : List ℕ) → List ℕ
 line_of label text = label ++ text ++ codes "\n"
@@ -32,9 +32,9 @@ sentence_line (Some sentence) = map shown_byte sentence ++ codes "\n"
 abbrev pub explanation : (source : List ℕ) → (sentence : Option (List ℕ)) → Told → (code : List ℕ) → List ℕ
 explanation source sentence told code = source ++ sentence_line sentence ++ advice_text told code
 
--- of a script's refusal, with a mark in its line, if its place is known
-abbrev pub explanation_of : (text : List ℕ) → Finding → (mark : Option ℕ) → (sentence : Option (List ℕ)) → List ℕ
-explanation_of text f mark sentence = explanation (source_of text f mark) sentence (told_of f) (code_of (refusal_of f)).0
+-- of a script's refusal
+abbrev pub explanation_of : (text : List ℕ) → Finding → (sentence : Option (List ℕ)) → List ℕ
+explanation_of text f sentence = explanation (source_of text f) sentence (told_of f) (code_of (refusal_of f)).0
 
 -- of a refused plan, by its rule in this case
 abbrev pub IsPlanExplanation : (text : List ℕ) → PlanRule → PlanCase → List ℕ → Type 0

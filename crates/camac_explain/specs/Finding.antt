@@ -6,6 +6,6 @@ use Rattle.camac_lines.specs.declared.refusal.Refusal.TheVariants.{Plan, Text, L
 
 abbrev pub refusal_of : Finding → Refusal
 refusal_of (finding.Plan rule) = Plan rule
-refusal_of (finding.Text rule line left) = Text rule line
-refusal_of (finding.Link rule line case) = Link rule line
-refusal_of (finding.Check rule line case) = Check rule line
+refusal_of (finding.Text rule spot) = Text rule spot.line
+refusal_of (finding.Link rule spot case) = Link rule spot.line
+refusal_of (finding.Check rule spot case) = Check rule spot.line

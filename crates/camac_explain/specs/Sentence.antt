@@ -106,8 +106,8 @@ link_sentence_of s LamNotInstalled (link.Place c n) =
 link_sentence_of s rule (link.Place c n) =
     says (codes "The LAM " ∷ name (served_at s c n) ∷ codes " is at crate " ∷ decimal c ∷ codes ", station " ∷ decimal n
     ∷ codes ", which has no GL bit in the plan." ∷ [])
-link_sentence_of s rule (link.Served c n line) =
-    says (codes "Crate " ∷ decimal c ∷ codes ", station " ∷ decimal n ∷ codes " has a service already, on line " ∷ decimal line ∷ codes "." ∷ [])
+link_sentence_of s rule (link.Served c n spot) =
+    says (codes "Crate " ∷ decimal c ∷ codes ", station " ∷ decimal n ∷ codes " has a service already, on line " ∷ decimal spot.line ∷ codes "." ∷ [])
 link_sentence_of s rule (link.Words allowed buffer) =
     says (codes "The event may have " ∷ decimal allowed ∷ codes " words, and the plan's buffer holds " ∷ decimal buffer ∷ codes "." ∷ [])
 
@@ -155,6 +155,6 @@ check_sentence_of s rule (case.Argument procedure argument found wanted) =
 -- of a rule of linking or of the checker
 abbrev pub sentence_of : Script → Finding → Option (List ℕ)
 sentence_of s (finding.Plan rule) = None
-sentence_of s (finding.Text rule line left) = None
-sentence_of s (finding.Link rule line case) = link_sentence_of s rule case
-sentence_of s (finding.Check rule line case) = check_sentence_of s rule case
+sentence_of s (finding.Text rule spot) = None
+sentence_of s (finding.Link rule spot case) = link_sentence_of s rule case
+sentence_of s (finding.Check rule spot case) = check_sentence_of s rule case

@@ -1,6 +1,7 @@
 -- The line of a script as it is shown.
-use Rattle.std.specs.Prelude.{ℕ, zero, suc, ◌+◌, ◌-◌, Bool, ◌&&◌, ◌||◌, not, List, [], ◌∷◌, ◌++◌, codes, decimal, drop, take, take_while, length, map, min, nat_eq, nat_le, nat_lt, Option, Some, None, if◌then◌else◌}
+use Rattle.std.specs.Prelude.{ℕ, zero, suc, ◌+◌, ◌-◌, Bool, ◌&&◌, ◌||◌, not, List, [], ◌∷◌, ◌++◌, codes, decimal, drop, take, take_while, length, map, min, nat_eq, nat_le, nat_lt, if◌then◌else◌}
 use Rattle.std.specs.List.{flat_map}
+use Rattle.camac_lang.specs.declared.spot.Spot.{Spot}
 use Rattle.camac_tokens.specs.Scanning.{is_no_line_feed}
 use Rattle.camac_explain.specs.declared.finding.Finding.{Finding}
 use Rattle.camac_explain.specs.declared.finding.Finding.TheVariants.{Plan, Text, Link, Check}
@@ -23,6 +24,10 @@ after_lines (suc n) text = after_lines n (after_line text)
 -- the text from the line of this number on, from 1
 abbrev pub from_line : ℕ → List ℕ → List ℕ
 from_line n text = after_lines (n - 1) text
+
+-- how many bytes of its line stand before a spot of a text
+abbrev pub column_of : List ℕ → Spot → ℕ
+column_of text s = length (from_line s.line text) - s.left
 
 -- control bytes other than tabs are shown as `?`
 abbrev pub shown_byte : ℕ → ℕ
@@ -52,9 +57,9 @@ shown_or_end (b ∷ bs) column = shown_line (b ∷ bs) column
 abbrev pub number_column : ℕ → List ℕ
 number_column n = drop (min (length (decimal n)) 5) (codes "     ") ++ decimal n ++ codes " | "
 
--- the first line of a text, which has this number, with a token after so many of its bytes
-abbrev pub source_text : (text : List ℕ) → (number column : ℕ) → List ℕ
-source_text text n column = number_column n ++ shown_or_end (first_line text) column ++ codes "\n"
+-- the line of this number, with a token after so many of its bytes
+abbrev pub source_text : (line : List ℕ) → (number column : ℕ) → List ℕ
+source_text line n column = number_column n ++ shown_or_end line column ++ codes "\n"
 
 -- below a tab a tab, below the first byte of any other character a blank, below its others nothing
 abbrev pub blank_below : ℕ → List ℕ
@@ -72,14 +77,17 @@ mark_from line column begin =
 abbrev pub mark_line : (line : List ℕ) → (column : ℕ) → List ℕ
 mark_line line column = mark_from line column (begin_of line column)
 
--- a line that is shown, with a mark below the token from which on there are so many bytes of the text, if it is known
-abbrev pub marked_text : (text : List ℕ) → (number : ℕ) → (mark : Option ℕ) → List ℕ
-marked_text text n None = source_text text n 0
-marked_text text n (Some left) = source_text text n (length text - left) ++ mark_line (first_line text) (length text - left)
+-- a line that is shown, with a mark below it
+abbrev pub marked_line : (line : List ℕ) → (number column : ℕ) → List ℕ
+marked_line line n column = source_text line n column ++ mark_line line column
+
+-- the line of a spot, with the mark there
+abbrev pub marked_text : List ℕ → Spot → List ℕ
+marked_text text s = marked_line (first_line (from_line s.line text)) s.line (column_of text s)
 
 -- of a script's text
-abbrev pub source_of : List ℕ → Finding → (mark : Option ℕ) → List ℕ
-source_of text (Plan rule) mark = []
-source_of text (Text rule line left) mark = marked_text (from_line line text) line mark
-source_of text (Link rule line case) mark = marked_text (from_line line text) line mark
-source_of text (Check rule line case) mark = marked_text (from_line line text) line mark
+abbrev pub source_of : List ℕ → Finding → List ℕ
+source_of text (Plan rule) = []
+source_of text (Text rule spot) = marked_text text spot
+source_of text (Link rule spot case) = marked_text text spot
+source_of text (Check rule spot case) = marked_text text spot

@@ -30,19 +30,18 @@ pub fn explain_plan(
     Ok(lines)
 }
 
-/// Why a script's text is refused: the lines that follow the refusal, with a mark below the token from which on so many bytes of the text are
-/// left, if it is known, and with this sentence of what the rule knew.
+/// Why a script's text is refused: the lines that follow the refusal, with a mark where it is broken, and with this sentence of what the rule
+/// knew.
 pub fn explain_script(
     alloc: Global,
     text: &[u8],
     finding: Finding,
-    mark: Option<usize>,
     sentence: Option<String>,
 ) -> Result<Vec<u8>, AllocError>
-    ensures { IfOk result (λ v. v.items ≡ explanation_of text.now finding mark (option_map string_bytes sentence)) }
+    ensures { IfOk result (λ v. v.items ≡ explanation_of text.now finding (option_map string_bytes sentence)) }
 {
     let mut lines = Vec::new(alloc);
-    push_source(&mut lines, text, finding, mark)?;
+    push_source(&mut lines, text, finding)?;
     let code = finding.refusal().code();
     push_sentence(&mut lines, sentence)?;
     push_advice(&mut lines, code.name, advice_of(finding))?;

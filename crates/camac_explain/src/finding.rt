@@ -3,30 +3,29 @@
 ghost use Rattle.std.specs.Prelude.{◌≡◌};
 ghost use Rattle.camac_explain.specs.Finding.{refusal_of};
 
+use camac_lang::Spot;
 use camac_lines::Refusal;
 use camac_names::{LinkCase, LinkRule};
 use camac_plan::PlanRule;
 use camac_rules::{Case, CheckRule};
 use camac_text::TextRule;
 
-/// The first rule that a plan or a script breaks, its line in the script, and what the rule knew there.
+/// The first rule that a plan or a script breaks, where that is in the script, and what the rule knew there.
 #[derive(Clone, Copy, Debug, PartialEq, Eq)]
 pub enum Finding {
     Plan(PlanRule),
-    /// How many bytes of the text stand from the token on.
     Text {
         rule: TextRule,
-        line: u32,
-        left: usize,
+        spot: Spot,
     },
     Link {
         rule: LinkRule,
-        line: u32,
+        spot: Spot,
         case: LinkCase,
     },
     Check {
         rule: CheckRule,
-        line: u32,
+        spot: Spot,
         case: Case,
     },
 }
@@ -38,9 +37,18 @@ impl Finding {
     {
         match self {
             Finding::Plan(rule) => Refusal::Plan(rule),
-            Finding::Text { rule, line, .. } => Refusal::Text { rule, line },
-            Finding::Link { rule, line, .. } => Refusal::Link { rule, line },
-            Finding::Check { rule, line, .. } => Refusal::Check { rule, line },
+            Finding::Text { rule, spot } => Refusal::Text {
+                rule,
+                line: spot.line,
+            },
+            Finding::Link { rule, spot, .. } => Refusal::Link {
+                rule,
+                line: spot.line,
+            },
+            Finding::Check { rule, spot, .. } => Refusal::Check {
+                rule,
+                line: spot.line,
+            },
         }
     }
 }

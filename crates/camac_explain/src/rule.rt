@@ -1,17 +1,18 @@
 // The rules by their codes, and what is said of each without a case.
 
-ghost use Rattle.std.specs.Prelude.{◌≡◌, ◌++◌, ◌↔◌, IfNone, IfOk, IfSome, IsTrue, OnOk, codes};
+ghost use Rattle.std.specs.Prelude.{◌≡◌, ◌++◌, ◌↔◌, IfNone, IfOk, IfSome, IsTrue, OnOk, codes, map};
+ghost use Rattle.std.specs.List.{flat_map};
 ghost use Rattle.camac_explain.specs.Explanation.{line_of};
-ghost use Rattle.camac_explain.specs.Rule.{Grows, IsEarly, IsRuleOf, IsRuleText, Names, any_value, check_fixes, fix_line, fixes_of, judged, minus, moving, needing, of_service, rule_code, turns, why_of};
+ghost use Rattle.camac_explain.specs.Rule.{Grows, IsEarly, IsRuleOf, IsRuleText, Names, fix_line, fixes_of, rule_code, why_of};
 ghost use Rattle.camac_lines.specs.Codes.{check_code, link_code, plan_code, text_code};
 
-use crate::advice::{check_advice, link_advice, plan_advice, text_advice};
+use crate::advice::{check_page, link_advice, plan_advice, text_advice};
 use crate::example::{Example, check_example, link_example, plan_example, text_example};
-use camac_func::FunctionClass;
+use crate::pages::Fix;
 use camac_lines::{Code, Refusal};
 use camac_names::LinkRule;
 use camac_plan::PlanRule;
-use camac_rules::{Body, Case, CheckRule, Numbers, Operator};
+use camac_rules::CheckRule;
 use camac_text::TextRule;
 use std::alloc::{AllocError, Global};
 
@@ -219,7 +220,7 @@ fn why_of(rule: Rule) -> &'static str
         Rule::Plan(rule) => plan_advice(rule).why,
         Rule::Text(rule) => text_advice(rule).why,
         Rule::Link(rule) => link_advice(rule).why,
-        Rule::Check(rule) => check_advice(rule, Case::Malformed).why,
+        Rule::Check(rule) => check_page(rule).0,
     }
 }
 
@@ -230,239 +231,19 @@ fn push_fixes(lines: &mut Vec<u8>, rule: Rule) -> Result<(), AllocError>
         Rule::Plan(rule) => push_line(lines, "Fix", ": ", plan_advice(rule).fix),
         Rule::Text(rule) => push_line(lines, "Fix", ": ", text_advice(rule).fix),
         Rule::Link(rule) => push_line(lines, "Fix", ": ", link_advice(rule).fix),
-        Rule::Check(rule) => push_check_fixes(lines, rule),
+        Rule::Check(rule) => push_each(lines, check_page(rule).1),
     }
 }
 
-// The fix of a rule in a case, and what it is for.
-#[tactic(auto, unfolding(crate::specs::Rule::fix_line))]
-fn push_fix(
-    lines: &mut Vec<u8>,
-    rule: CheckRule,
-    purpose: &str,
-    case: Case,
-) -> Result<(), AllocError>
-    ensures { OnOk result (lines.new.items ≡ lines.old.items ++ fix_line rule purpose.now case) }
+// Each way to mend, behind what it is for.
+fn push_each(lines: &mut Vec<u8>, fixes: &[Fix]) -> Result<(), AllocError>
+    ensures { OnOk result (lines.new.items ≡ lines.old.items ++ flat_map fix_line (map (λ f. (f.0.now, f.1.now)) fixes.now)) }
 {
-    lines.extend_from_slice(b"Fix")?;
-    push_line(lines, purpose, ": ", check_advice(rule, case).fix)
-}
-
-// If the case decides what helps, a rule has several fixes.
-fn push_check_fixes(lines: &mut Vec<u8>, rule: CheckRule) -> Result<(), AllocError>
-    ensures { OnOk result (lines.new.items ≡ lines.old.items ++ check_fixes rule) }
-{
-    match rule {
-        CheckRule::WrongDirection => push_direction_fixes(lines),
-        CheckRule::ValueOutOfRange => push_operation_fixes(lines),
-        CheckRule::ValueTooWide => push_width_fixes(lines),
-        CheckRule::WordTooWide => push_word_fixes(lines),
-        CheckRule::TooManyTurns => push_turn_fixes(lines),
-        CheckRule::TooManyWords => push_event_fixes(lines),
-        CheckRule::TooManyCycles => push_cycle_fixes(lines),
-        CheckRule::TooManySteps => push_step_fixes(lines),
-        _ => push_fix(lines, rule, "", Case::Malformed),
+    'fixes: for (purpose, fix) in fixes {
+        lines.extend_from_slice(b"Fix")?;
+        push_line(lines, purpose, ": ", fix)?;
     }
-}
-
-fn push_direction_fixes(lines: &mut Vec<u8>) -> Result<(), AllocError>
-    ensures { OnOk result (lines.new.items ≡ lines.old.items ++ check_fixes CheckRule.WrongDirection) }
-{
-    let rule = CheckRule::WrongDirection;
-    push_fix(
-        lines,
-        rule,
-        ", a function that reads",
-        moving(FunctionClass::Read),
-    )?;
-    push_fix(
-        lines,
-        rule,
-        ", a function that writes",
-        moving(FunctionClass::Write),
-    )?;
-    push_fix(
-        lines,
-        rule,
-        ", a function that moves no data",
-        moving(FunctionClass::Control),
-    )
-}
-
-fn push_operation_fixes(lines: &mut Vec<u8>) -> Result<(), AllocError>
-    ensures { OnOk result (lines.new.items ≡ lines.old.items ++ check_fixes CheckRule.ValueOutOfRange) }
-{
-    let rule = CheckRule::ValueOutOfRange;
-    push_fix(lines, rule, ", of other results", minus((1, 1), (1, 1)))?;
-    push_fix(
-        lines,
-        rule,
-        ", of a difference of two variables",
-        minus((0, 1), (0, 1)),
-    )?;
-    push_fix(
-        lines,
-        rule,
-        ", of a difference whose right side may be any number",
-        minus((0, 1), (0, u32::MAX)),
-    )?;
-    push_fix(
-        lines,
-        rule,
-        ", of other results of a number that may be any",
-        minus((0, u32::MAX), (1, 1)),
-    )
-}
-
-fn push_width_fixes(lines: &mut Vec<u8>) -> Result<(), AllocError>
-    ensures { OnOk result (lines.new.items ≡ lines.old.items ++ check_fixes CheckRule.ValueTooWide) }
-{
-    let rule = CheckRule::ValueTooWide;
-    push_fix(lines, rule, "", Case::Malformed)?;
-    push_fix(lines, rule, ", of a value that may be any", any_value())
-}
-
-fn push_word_fixes(lines: &mut Vec<u8>) -> Result<(), AllocError>
-    ensures { OnOk result (lines.new.items ≡ lines.old.items ++ check_fixes CheckRule.WordTooWide) }
-{
-    let rule = CheckRule::WordTooWide;
-    push_fix(lines, rule, "", Case::Malformed)?;
-    push_fix(lines, rule, ", of a value that may be any", any_value())
-}
-
-fn push_turn_fixes(lines: &mut Vec<u8>) -> Result<(), AllocError>
-    ensures { OnOk result (lines.new.items ≡ lines.old.items ++ check_fixes CheckRule.TooManyTurns) }
-{
-    let rule = CheckRule::TooManyTurns;
-    push_fix(
-        lines,
-        rule,
-        ", where at most 65535 turns are needed",
-        turns(65_535),
-    )?;
-    push_fix(lines, rule, ", where more are needed", turns(65_536))?;
-    push_fix(
-        lines,
-        rule,
-        ", where the number after `turns` is above 65535",
-        Case::Malformed,
-    )?;
-    push_fix(
-        lines,
-        rule,
-        ", where all `each` judge more than 65536",
-        judged(),
-    )
-}
-
-fn push_event_fixes(lines: &mut Vec<u8>) -> Result<(), AllocError>
-    ensures { OnOk result (lines.new.items ≡ lines.old.items ++ check_fixes CheckRule.TooManyWords) }
-{
-    let rule = CheckRule::TooManyWords;
-    push_fix(lines, rule, ", up to 4,096 words", of_service(4096))?;
-    push_fix(lines, rule, ", above that", of_service(4097))
-}
-
-fn push_cycle_fixes(lines: &mut Vec<u8>) -> Result<(), AllocError>
-    ensures { OnOk result (lines.new.items ≡ lines.old.items ++ check_fixes CheckRule.TooManyCycles) }
-{
-    let rule = CheckRule::TooManyCycles;
-    push_fix(lines, rule, "", of_service(u64::from(u32::MAX)))?;
-    push_fix(
-        lines,
-        rule,
-        ", of a procedure",
-        of_procedure(u64::from(u32::MAX)),
-    )?;
-    push_fix(
-        lines,
-        rule,
-        ", where more than 4294967295 are needed",
-        of_service(u64::from(u32::MAX) + 1),
-    )
-}
-
-fn push_step_fixes(lines: &mut Vec<u8>) -> Result<(), AllocError>
-    ensures { OnOk result (lines.new.items ≡ lines.old.items ++ check_fixes CheckRule.TooManySteps) }
-{
-    let rule = CheckRule::TooManySteps;
-    push_fix(lines, rule, "", of_service(u64::from(u32::MAX)))?;
-    push_fix(
-        lines,
-        rule,
-        ", where more than 4294967295 are needed",
-        of_service(u64::from(u32::MAX) + 1),
-    )
-}
-
-// A case of each fix.
-
-fn moving(class: FunctionClass) -> Case
-    ensures { result ≡ moving class }
-{
-    Case::Direction {
-        function: 0,
-        class,
-        moves: class,
-    }
-}
-
-fn minus(left: (u32, u32), right: (u32, u32)) -> Case
-    ensures { result ≡ minus left right }
-{
-    Case::Operation {
-        operator: Operator::Sub,
-        left: Numbers {
-            low: left.0,
-            high: left.1,
-        },
-        right: Numbers {
-            low: right.0,
-            high: right.1,
-        },
-    }
-}
-
-fn any_value() -> Case
-    ensures { result ≡ any_value }
-{
-    Case::Word { greatest: u32::MAX }
-}
-
-fn turns(needed: u64) -> Case
-    ensures { result ≡ turns needed }
-{
-    Case::Turns { needed, allowed: 0 }
-}
-
-fn judged() -> Case
-    ensures { result ≡ judged }
-{
-    Case::Judged {
-        body: Body::Service(0),
-        needed: 65_537,
-        allowed: 0,
-    }
-}
-
-fn of_service(needed: u64) -> Case
-    ensures { result ≡ of_service needed }
-{
-    Case::Budget {
-        body: Body::Service(0),
-        needed,
-        allowed: 0,
-    }
-}
-
-fn of_procedure(needed: u64) -> Case
-    ensures { result ≡ needing (Body.Procedure 0) needed }
-{
-    Case::Budget {
-        body: Body::Procedure(0),
-        needed,
-        allowed: 0,
-    }
+    Ok(())
 }
 
 fn example_of(rule: Rule) -> Example {

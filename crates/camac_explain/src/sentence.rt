@@ -62,10 +62,13 @@ fn link_sentence(
         LinkCase::Served {
             crate_no,
             station,
-            line,
-        } => format!(in alloc;
-            "Crate {crate_no}, station {station} has a service already, on line {line}."
-        ).map(Some),
+            spot,
+        } => {
+            let line = spot.line;
+            format!(in alloc;
+                "Crate {crate_no}, station {station} has a service already, on line {line}."
+            ).map(Some)
+        }
         LinkCase::Words { allowed, buffer } => format!(in alloc;
             "The event may have {allowed} words, and the plan's buffer holds {buffer}."
         ).map(Some),

@@ -2,9 +2,10 @@
 
 ghost use Rattle.std.specs.Prelude.{◌≡◌, ◌≤◌, ◌++◌, length, map, take, OnOk};
 ghost use Rattle.std.specs.List.{flat_map};
-ghost use Rattle.camac_explain.specs.Source.{shown_byte, line_length, first_line, after_line, from_line, begin_of, dots, gap, blank_below, mark_line, marked_text, shown_line, shown_or_end, number_column, source_text, source_of};
+ghost use Rattle.camac_explain.specs.Source.{shown_byte, line_length, first_line, after_line, from_line, column_of, begin_of, dots, gap, blank_below, mark_line, marked_text, shown_line, shown_or_end, number_column, source_text, source_of};
 
 use crate::finding::Finding;
+use camac_lang::Spot;
 use itoa::Buffer;
 use std::alloc::AllocError;
 
@@ -12,49 +13,42 @@ use std::alloc::AllocError;
 const LONGEST_SHOWN: usize = 120;
 
 /// Puts the line of a finding at the end: its number in five columns, and at most 120 of its bytes, control bytes other than tabs as `?`.
-/// They are its first bytes; or, where a token is marked, those around it, and a `^` on a line below. The token begins where so many bytes of
-/// the text are left. `..` stands for the others. An empty line is told as the end of the script, since a rule is broken on no other.
-pub fn push_source(
-    lines: &mut Vec<u8>,
-    text: &[u8],
-    finding: Finding,
-    mark: Option<usize>,
-) -> Result<(), AllocError>
-    ensures { OnOk result (lines.new.items ≡ lines.old.items ++ source_of text.now finding mark) }
+/// They are those around the token where it stands, and a `^` is below that on a line of its own. `..` stands for the others. An empty line is
+/// told as the end of the script, since a rule is broken on no other.
+pub fn push_source(lines: &mut Vec<u8>, text: &[u8], finding: Finding) -> Result<(), AllocError>
+    ensures { OnOk result (lines.new.items ≡ lines.old.items ++ source_of text.now finding) }
 {
     match finding {
         Finding::Plan(_) => Ok(()),
-        Finding::Text { line, .. } | Finding::Link { line, .. } | Finding::Check { line, .. } => {
-            push_marked(lines, from_line(text, line), line, mark)
+        Finding::Text { spot, .. } | Finding::Link { spot, .. } | Finding::Check { spot, .. } => {
+            push_marked(lines, text, spot)
         }
     }
 }
 
-// Puts the first line of a text at the end, which has this number, and a mark below its token, if there is one.
-fn push_marked(
-    lines: &mut Vec<u8>,
-    text: &[u8],
-    line: u32,
-    mark: Option<usize>,
-) -> Result<(), AllocError>
-    ensures { OnOk result (lines.new.items ≡ lines.old.items ++ marked_text text.now line mark) }
+/// How many bytes of its line stand before a spot of a text.
+pub fn column_of(text: &[u8], spot: Spot) -> usize
+    ensures { result ≡ column_of text.now spot }
 {
-    match mark {
-        Some(left) => {
-            let column = text.len().saturating_sub(left);
-            push_line(lines, text, line, column)?;
-            push_mark(lines, first_line(text), column)
-        }
-        None => push_line(lines, text, line, 0),
-    }
+    from_line(text, spot.line).len().saturating_sub(spot.left)
 }
 
-// Puts the first line of a text at the end, which has this number, with a token after so many of its bytes.
-fn push_line(lines: &mut Vec<u8>, text: &[u8], line: u32, column: usize) -> Result<(), AllocError>
-    ensures { OnOk result (lines.new.items ≡ lines.old.items ++ source_text text.now line column) }
+// Puts the line of a spot at the end, and a mark below it.
+fn push_marked(lines: &mut Vec<u8>, text: &[u8], spot: Spot) -> Result<(), AllocError>
+    ensures { OnOk result (lines.new.items ≡ lines.old.items ++ marked_text text.now spot) }
 {
-    push_number(lines, line)?;
-    push_shown_line(lines, first_line(text), column)?;
+    let line = first_line(from_line(text, spot.line));
+    let column = column_of(text, spot);
+    push_line(lines, line, spot.line, column)?;
+    push_mark(lines, line, column)
+}
+
+// Puts a line at the end, which has this number, with a token after so many of its bytes.
+fn push_line(lines: &mut Vec<u8>, line: &[u8], number: u32, column: usize) -> Result<(), AllocError>
+    ensures { OnOk result (lines.new.items ≡ lines.old.items ++ source_text line.now number column) }
+{
+    push_number(lines, number)?;
+    push_shown_line(lines, line, column)?;
     lines.push(b'\n')?;
     Ok(())
 }

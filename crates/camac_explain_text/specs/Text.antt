@@ -34,12 +34,12 @@ fault_text false noted text case left = case_text (place_at noted left text) cas
 -- of a script nothing, else the sentence on its first fault, at whose place these choices were noted
 abbrev pub sentence_of : Choices → (text : List ℕ) → Result Script Fault → Option (List ℕ)
 sentence_of noted text (Ok s) = None
-sentence_of noted text (Err f) = Some (fault_text (begins_like_a_plan f.left text) noted text f.case f.left)
+sentence_of noted text (Err f) = Some (fault_text (begins_like_a_plan f.spot.left text) noted text f.case f.spot.left)
 
 -- Of a rule of the grammar, what the reader looked for at the fault was noted, if no token of the text has a fault.
 abbrev pub AreNoted : Choices → (text : List ℕ) → Result Script Fault → Type 0
 AreNoted noted text (Ok s) = Unit {0}
-AreNoted noted text (Err f) = TellsAfter (tokens_of text) (last_line text) (text_fault.Broken f.case f.line f.left) noted
+AreNoted noted text (Err f) = TellsAfter (tokens_of text) (last_line text) (text_fault.Broken f.case f.spot) noted
 
 abbrev pub IsTextSentence : (text : List ℕ) → Option (List ℕ) → Type 0
 IsTextSentence text told = (noted : Choices) × AreNoted noted text (script_of text) × (told ≡ sentence_of noted text (script_of text))

@@ -184,7 +184,7 @@ behind_token line k s = longer k s
 
 abbrev pub behind : List Token → Standing → Standing
 behind [] s = s
-behind (t ∷ ts) s = behind ts (behind_token t.line t.kind s)
+behind (t ∷ ts) s = behind ts (behind_token t.spot.line t.kind s)
 
 -- what stands before a place, by the tokens before it
 abbrev pub standing : List Token → Standing

@@ -39,7 +39,7 @@ opens _ _ _ = false
 abbrev pub first_line : NameKind → (name : List ℕ) → (is_open : Bool) → List Token → Option ℕ
 first_line wanted name is_open [] = None
 first_line wanted name is_open (t ∷ ts) =
-    if is_open && is_name name t.kind then Some t.line else first_line wanted name (opens wanted is_open t.kind) ts
+    if is_open && is_name name t.kind then Some t.spot.line else first_line wanted name (opens wanted is_open t.kind) ts
 
 abbrev pub is_heading : TokenKind → Bool
 is_heading (kind.Keyword word.Proc) = true

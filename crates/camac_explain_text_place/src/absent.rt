@@ -4,183 +4,116 @@ ghost use Rattle.std.specs.Prelude.{◌≡◌, map, option_map};
 ghost use Rattle.std.specs.Str.{str_eq_ignore_ascii_case};
 ghost use Rattle.camac_explain_text_place.specs.Absent.{absent_of, absent_sign, absent_table, absent_word, begins_before, is_around, is_no_word, is_sign_around, is_spelled, row_of, sign_at, sign_in, word_in};
 
-/// Words and signs of other languages, and what a script has in their place.
-#[derive(Clone, Copy)]
-struct Row {
-    spellings: &'static [&'static str],
-    write: &'static str,
-}
+// Words and signs of other languages, and what a script has in their place.
+type Row = (&'static [&'static str], &'static str);
 
 static ABSENT: [Row; 41] = [
-    Row {
-        spellings: &["print", "printf", "println", "echo"],
-        write: "`put v`, which makes `v` a word of the event",
-    },
-    Row {
-        spellings: &["read", "write"],
-        write: "`cfsa`, which reads from a module with `->` and writes to it with `<-`",
-    },
-    Row {
-        spellings: &["return", "stop"],
-        write: "an `if` around the rest of the body",
-    },
-    Row {
-        spellings: &["break", "exit"],
-        write: "a further part of the condition of a `while`, as `and not q`",
-    },
-    Row {
-        spellings: &["continue"],
-        write: "an `if` around the rest of the block",
-    },
-    Row {
-        spellings: &["goto", "gosub"],
-        write: "a loop, an `if` or a `call`",
-    },
-    Row {
-        spellings: &["delay", "wait", "sleep", "usleep", "pause"],
-        write: "a `while` that polls a module: no statement waits for a time",
-    },
-    Row {
-        spellings: &["unlock"],
-        write: "`lock c { .. }`, which unlocks at its `}`",
-    },
-    Row {
-        spellings: &["step"],
-        write: "`k * 2` in the body, since a `for` counts `k` by 1",
-    },
-    Row {
-        spellings: &["downto"],
-        write: "a `for` that counts up, and a difference in its body",
-    },
-    Row {
-        spellings: &["or", "||"],
-        write: "one `if` into the `else` of the other, or a variable that both set",
-    },
-    Row {
-        spellings: &["elif", "elseif", "elsif"],
-        write: "`else { if c { .. } }`",
-    },
-    Row {
-        spellings: &[
+    (
+        &["print", "printf", "println", "echo"],
+        "`put v`, which makes `v` a word of the event",
+    ),
+    (
+        &["read", "write"],
+        "`cfsa`, which reads from a module with `->` and writes to it with `<-`",
+    ),
+    (&["return", "stop"], "an `if` around the rest of the body"),
+    (
+        &["break", "exit"],
+        "a further part of the condition of a `while`, as `and not q`",
+    ),
+    (&["continue"], "an `if` around the rest of the block"),
+    (&["goto", "gosub"], "a loop, an `if` or a `call`"),
+    (
+        &["delay", "wait", "sleep", "usleep", "pause"],
+        "a `while` that polls a module: no statement waits for a time",
+    ),
+    (&["unlock"], "`lock c { .. }`, which unlocks at its `}`"),
+    (
+        &["step"],
+        "`k * 2` in the body, since a `for` counts `k` by 1",
+    ),
+    (
+        &["downto"],
+        "a `for` that counts up, and a difference in its body",
+    ),
+    (
+        &["or", "||"],
+        "one `if` into the `else` of the other, or a variable that both set",
+    ),
+    (&["elif", "elseif", "elsif"], "`else { if c { .. } }`"),
+    (
+        &[
             "then", "begin", "end", "endif", "enddo", "next", "wend", "done",
         ],
-        write: "`{` and `}` around a block",
-    },
-    Row {
-        spellings: &["do", "foreach", "repeat", "until", "loop", "forever"],
-        write: "`for i = A to B { .. }`, or `while c turns N by k { .. }`",
-    },
-    Row {
-        spellings: &["switch", "case", "select"],
-        write: "an `if` for each value",
-    },
-    Row {
-        spellings: &["pass"],
-        write: "an empty block",
-    },
-    Row {
-        spellings: &[
+        "`{` and `}` around a block",
+    ),
+    (
+        &["do", "foreach", "repeat", "until", "loop", "forever"],
+        "`for i = A to B { .. }`, or `while c turns N by k { .. }`",
+    ),
+    (&["switch", "case", "select"], "an `if` for each value"),
+    (&["pass"], "an empty block"),
+    (
+        &[
             "let", "const", "int", "uint", "unsigned", "long", "short", "char", "float", "double",
             "real", "integer", "dim",
         ],
-        write: "a `var` above the services: each variable is a number from 0 to 4294967295",
-    },
-    Row {
-        spellings: &["def", "function", "func", "fn", "void", "sub", "subroutine"],
-        write: "`proc p(a in A..B) within C cycles event W words steps S { .. }`",
-    },
-    Row {
-        spellings: &["import", "include"],
-        write: "all in one text: `cat` joins two",
-    },
-    Row {
-        spellings: &["true", "false"],
-        write: "1 and 0, and a comparison as in `v == 1`",
-    },
-    Row {
-        spellings: &["mod"],
-        write: "`%` between the two numbers",
-    },
-    Row {
-        spellings: &["&", "|", "^", "~", "<<", ">>", "xor", "shl", "shr"],
-        write: "`/` and `%` with powers of two: `v % 256` is the low byte of `v`, and `v * 4` shifts it left by two",
-    },
-    Row {
-        spellings: &["&H", "&h", "&B", "&b"],
-        write: "decimal digits: `255` for `0xff`",
-    },
-    Row {
-        spellings: &["&&"],
-        write: "`and`",
-    },
-    Row {
-        spellings: &["!"],
-        write: "`not` before a comparison or a flag",
-    },
-    Row {
-        spellings: &["<>", "≠"],
-        write: "`!=`",
-    },
-    Row {
-        spellings: &["/="],
-        write: "`!=` to compare, and the whole to divide, as in `v = v / 2`",
-    },
-    Row {
-        spellings: &[":="],
-        write: "`=`",
-    },
-    Row {
-        spellings: &["=>"],
-        write: "`>=`",
-    },
-    Row {
-        spellings: &["=<"],
-        write: "`<=`",
-    },
-    Row {
-        spellings: &["++", "--", "+=", "-=", "*=", "%="],
-        write: "the whole, as in `v = v + 1`",
-    },
-    Row {
-        spellings: &["**"],
-        write: "a product, as in `v * v`",
-    },
-    Row {
-        spellings: &["?"],
-        write: "`if c { .. } else { .. }`",
-    },
-    Row {
-        spellings: &[":"],
-        write: "`{` and `}` around a block",
-    },
-    Row {
-        spellings: &[";"],
-        write: "statements without a sign at their end",
-    },
-    Row {
-        spellings: &["//"],
-        write: "`#` before a comment, and `/` to divide: it rounds down",
-    },
-    Row {
-        spellings: &["/*", "*/", "rem"],
-        write: "`#` before each line of a comment",
-    },
-    Row {
-        spellings: &["\"", "'", "“", "”", "‘", "’"],
-        write: "text only in a comment, after `#`",
-    },
-    Row {
-        spellings: &["[", "]"],
-        write: "several variables, or a `table` for a block write",
-    },
-    Row {
-        spellings: &["."],
-        write: "whole numbers in a smaller unit, and `A..B` for a range",
-    },
-    Row {
-        spellings: &["→"],
-        write: "`->`",
-    },
+        "a `var` above the services: each variable is a number from 0 to 4294967295",
+    ),
+    (
+        &["def", "function", "func", "fn", "void", "sub", "subroutine"],
+        "`proc p(a in A..B) within C cycles event W words steps S { .. }`",
+    ),
+    (&["import", "include"], "all in one text: `cat` joins two"),
+    (
+        &["true", "false"],
+        "1 and 0, and a comparison as in `v == 1`",
+    ),
+    (&["mod"], "`%` between the two numbers"),
+    (
+        &["&", "|", "^", "~", "<<", ">>", "xor", "shl", "shr"],
+        "`/` and `%` with powers of two: `v % 256` is the low byte of `v`, and `v * 4` shifts it left by two",
+    ),
+    (
+        &["&H", "&h", "&B", "&b"],
+        "decimal digits: `255` for `0xff`",
+    ),
+    (&["&&"], "`and`"),
+    (&["!"], "`not` before a comparison or a flag"),
+    (&["<>", "≠"], "`!=`"),
+    (
+        &["/="],
+        "`!=` to compare, and the whole to divide, as in `v = v / 2`",
+    ),
+    (&[":="], "`=`"),
+    (&["=>"], "`>=`"),
+    (&["=<"], "`<=`"),
+    (
+        &["++", "--", "+=", "-=", "*=", "%="],
+        "the whole, as in `v = v + 1`",
+    ),
+    (&["**"], "a product, as in `v * v`"),
+    (&["?"], "`if c { .. } else { .. }`"),
+    (&[":"], "`{` and `}` around a block"),
+    (&[";"], "statements without a sign at their end"),
+    (
+        &["//"],
+        "`#` before a comment, and `/` to divide: it rounds down",
+    ),
+    (&["/*", "*/", "rem"], "`#` before each line of a comment"),
+    (
+        &["\"", "'", "“", "”", "‘", "’"],
+        "text only in a comment, after `#`",
+    ),
+    (
+        &["[", "]"],
+        "several variables, or a `table` for a block write",
+    ),
+    (
+        &["."],
+        "whole numbers in a smaller unit, and `A..B` for a range",
+    ),
+    (&["→"], "`->`"),
 ];
 
 #[tactic(auto, unfolding(crate::specs::Absent::absent_table))]
@@ -208,11 +141,10 @@ fn word_in<'a>(rows: &[Row], word: &'a [u8]) -> Option<Absent<'a>>
     ensures { option_map absent_of result ≡ word_in (map row_of rows.now) word.now }
 {
     'rows: for row in rows {
-        if is_spelled(row.spellings, word) {
-            return Some(Absent {
-                spelled: word,
-                write: row.write,
-            });
+        let (spellings, write) = *row;
+        if is_spelled(spellings, word) {
+            let spelled = word;
+            return Some(Absent { spelled, write });
         }
     }
     None
@@ -255,11 +187,10 @@ fn sign_in(rows: &'static [Row], size: usize, before: &[u8], rest: &[u8]) -> Opt
     ensures { option_map absent_of result ≡ sign_in (map row_of rows.now) size before.now rest.now }
 {
     'rows: for row in rows {
-        if let Some(sign) = sign_at(row.spellings, size, before, rest) {
-            return Some(Absent {
-                spelled: sign.as_bytes(),
-                write: row.write,
-            });
+        let (spellings, write) = *row;
+        if let Some(sign) = sign_at(spellings, size, before, rest) {
+            let spelled = sign.as_bytes();
+            return Some(Absent { spelled, write });
         }
     }
     None

@@ -47,7 +47,7 @@ impl Before {
             in_procedure: false,
         };
         'tokens: for token in tokens {
-            before.take(&token.kind, token.line)?;
+            before.take(&token.kind, token.spot.line)?;
         }
         Ok(before)
     }

@@ -46,7 +46,7 @@ fn first_line(tokens: &[Token], kind: NameKind, name: &[u8]) -> Option<u32>
     let mut is_open = false;
     'tokens: for token in tokens {
         if is_open && is_name(&token.kind, name) {
-            return Some(token.line);
+            return Some(token.spot.line);
         }
         is_open = opens(kind, is_open, &token.kind);
     }

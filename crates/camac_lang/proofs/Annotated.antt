@@ -103,7 +103,7 @@ one_procedure : (s : Script) (i c w k : ℕ) → is_number c ≡ true → is_num
     → Implies (declared s b item) (declared (record s { procedures = changed_at i (annotate c w k) s.procedures }) b item)
 one_procedure s i c w k hc hw hk b next_table m e = e
 one_procedure s i c w k hc hw hk b next_lam m e = e
-one_procedure s i c w k hc hw hk b (next_variables line n) m e = e
+one_procedure s i c w k hc hw hk b (next_variables spot n) m e = e
 one_procedure s i c w k hc hw hk b next_service m e = e
 one_procedure s i c w k hc hw hk b next_procedure m e =
     let rule : Procedure → Option Before = λ p. unless_broken (procedure_stands b p) (with_procedure p b) in
@@ -120,7 +120,7 @@ one_service : (s : Script) (i c w : ℕ) → is_number c ≡ true → is_number 
     → Implies (declared s b item) (declared (record s { services = changed_at i (annotate_service c w) s.services }) b item)
 one_service s i c w hc hw b next_table m e = e
 one_service s i c w hc hw b next_lam m e = e
-one_service s i c w hc hw b (next_variables line n) m e = e
+one_service s i c w hc hw b (next_variables spot n) m e = e
 one_service s i c w hc hw b next_procedure m e = e
 one_service s i c w hc hw b next_service m e =
     let rule : Service → Option Before = λ v. unless_broken (service_stands b v) (with_service b) in

@@ -8,6 +8,7 @@ use Rattle.camac_lang.specs.Scope.{Before, are_declarable, table_stands, lam_sta
 use Rattle.camac_lang.specs.Tests.{has, unless_broken}
 use Rattle.camac_lang.specs.Tree.{Text, Table, Lam, Procedure, Service, Item, next_table, next_lam, next_variables, next_procedure, next_service, Script}
 use Rattle.camac_lang.proofs.Options.{Implies, unless_parts, then_parts, then_implies, then_is, unless_is}
+use Rattle.camac_lang.specs.declared.spot.Spot.{Spot}
 
 -- all that one script has, another has too
 record Extends (s t : Script) : Type 0 where
@@ -42,7 +43,7 @@ declared_extends s t x b next_table k e =
     then_implies (λ r. unless_broken (table_stands b r) (with_table r.name b)) (λ r. unless_broken (table_stands b r) (with_table r.name b)) (slice_get s.tables b.tables) (slice_get t.tables b.tables) (x.tables b.tables) (λ r m h. h) k e
 declared_extends s t x b next_lam k e =
     then_implies (λ r. unless_broken (lam_stands b r) (with_lam r.name b)) (λ r. unless_broken (lam_stands b r) (with_lam r.name b)) (slice_get s.lams b.lams) (slice_get t.lams b.lams) (x.lams b.lams) (λ r m h. h) k e
-declared_extends s t x b (next_variables line n) k e =
+declared_extends s t x b (next_variables spot n) k e =
     let xs : List Text = take n (drop b.variables s.variables) in
     let ys : List Text = take n (drop b.variables t.variables) in
     let ok : List Text → Bool = λ zs. nat_le 1 n && (nat_eq (length zs) n && are_declarable zs b.names) in
@@ -150,10 +151,10 @@ one_service s e v d h =
       services = grows s.services v e.services d.services;
     }
 
-pub more_variables : (s : Script) (e : Before) (line : ℕ) (xs : List Text) → Declares s e → 1 ≤ length xs → are_declarable xs e.names ≡ true → Declares (record s { order = s.order ++ next_variables line (length xs) ∷ []; variables = s.variables ++ xs }) (with_variables xs e)
-more_variables s e line xs d some h =
+pub more_variables : (s : Script) (e : Before) (spot : Spot) (xs : List Text) → Declares s e → 1 ≤ length xs → are_declarable xs e.names ≡ true → Declares (record s { order = s.order ++ next_variables spot (length xs) ∷ []; variables = s.variables ++ xs }) (with_variables xs e)
+more_variables s e spot xs d some h =
     let n : ℕ = length xs in
-    let item : Item = next_variables line n in
+    let item : Item = next_variables spot n in
     let more : Script = record s { order = s.order ++ item ∷ []; variables = s.variables ++ xs } in
     let wide : Extends s more = record { tables = kept s.tables; lams = kept s.lams; variables = part s.variables xs; procedures = kept s.procedures; services = kept s.services } in
     let ok : List Text → Bool = λ zs. nat_le 1 n && (nat_eq (length zs) n && are_declarable zs e.names) in

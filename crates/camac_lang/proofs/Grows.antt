@@ -7,8 +7,8 @@ use Rattle.camac_lang.specs.Tree.{Statement, set_register, choose, choose_else, 
 use Rattle.camac_lang.proofs.Options.{unless_parts, then_parts}
 
 begun_grows : (c : Scope) (seen n : ℕ) (s : Statement) → begun c seen s ≡ Some n → seen ≤ n
-begun_grows c seen n (set_register line r k m a) h =
-    let e = (unless_parts (head_fits c seen (set_register line r k m a)) (max seen (suc r)) n h).1 in omega (arith, e)
+begun_grows c seen n (set_register spot r k m a) h =
+    let e = (unless_parts (head_fits c seen (set_register spot r k m a)) (max seen (suc r)) n h).1 in omega (arith, e)
 begun_grows c seen n s h = let e = (unless_parts (head_fits c seen s) seen n h).1 in omega (arith, e)
 
 inner_grows : (c : Scope) (seen n : ℕ) (s : Statement) (b : Block) → ((k : ℕ) → after_block c k b ≡ Some n → k ≤ n) → option_and_then (λ k. after_block c k b) (begun c seen s) ≡ Some n → seen ≤ n
@@ -20,17 +20,17 @@ inner_grows c seen n s b ih h =
 
 mutual
   pub statement_grows : (c : Scope) (seen n : ℕ) (s : Statement) → after c seen s ≡ Some n → seen ≤ n
-  statement_grows c seen n (choose line t a) h = inner_grows c seen n (choose line t a) a (λ k. block_grows c k n a) h
-  statement_grows c seen n (choose_else line t a b) h =
-      let o : Option ℕ = option_and_then (λ k. after_block c k a) (begun c seen (choose_else line t a b)) in
+  statement_grows c seen n (choose spot t a) h = inner_grows c seen n (choose spot t a) a (λ k. block_grows c k n a) h
+  statement_grows c seen n (choose_else spot t a b) h =
+      let o : Option ℕ = option_and_then (λ k. after_block c k a) (begun c seen (choose_else spot t a b)) in
       let p = then_parts (λ k. after_block c k b) o n h in
-      let f : seen ≤ p.0 = inner_grows c seen p.0 (choose_else line t a b) a (λ k. block_grows c k p.0 a) p.1 in
+      let f : seen ≤ p.0 = inner_grows c seen p.0 (choose_else spot t a b) a (λ k. block_grows c k p.0 a) p.1 in
       let g : p.0 ≤ n = block_grows c p.0 n b p.2 in
       omega (arith, f, g)
-  statement_grows c seen n (for_ line x e1 e2 ks body) h = inner_grows c seen n (for_ line x e1 e2 ks body) body (λ k. block_grows c k n body) h
-  statement_grows c seen n (for_each line x v last body) h = inner_grows c seen n (for_each line x v last body) body (λ k. block_grows c k n body) h
-  statement_grows c seen n (while_ line t turns x ks body) h = inner_grows c seen n (while_ line t turns x ks body) body (λ k. block_grows c k n body) h
-  statement_grows c seen n (locked line e body) h = inner_grows c seen n (locked line e body) body (λ k. block_grows c k n body) h
+  statement_grows c seen n (for_ spot x e1 e2 ks body) h = inner_grows c seen n (for_ spot x e1 e2 ks body) body (λ k. block_grows c k n body) h
+  statement_grows c seen n (for_each spot x v last body) h = inner_grows c seen n (for_each spot x v last body) body (λ k. block_grows c k n body) h
+  statement_grows c seen n (while_ spot t turns x ks body) h = inner_grows c seen n (while_ spot t turns x ks body) body (λ k. block_grows c k n body) h
+  statement_grows c seen n (locked spot e body) h = inner_grows c seen n (locked spot e body) body (λ k. block_grows c k n body) h
   statement_grows c seen n s h = begun_grows c seen n s h
 
   pub block_grows : (c : Scope) (seen n : ℕ) (b : Block) → after_block c seen b ≡ Some n → seen ≤ n

@@ -8,6 +8,7 @@ use Rattle.camac_lang.specs.Scope.{Before, are_declarable, table_stands, lam_sta
 use Rattle.camac_lang.specs.Tests.{has, unless_broken, total, most}
 use Rattle.camac_lang.specs.Tree.{Text, Table, Lam, Procedure, Service, Item, next_table, next_lam, next_variables, next_procedure, next_service, Script}
 use Rattle.camac_lang.proofs.Options.{unless_parts, then_parts}
+use Rattle.camac_lang.specs.declared.spot.Spot.{Spot}
 
 -- ---- lists by number
 
@@ -74,8 +75,8 @@ module _ (s : Script) where
       let p = then_parts (λ l. unless_broken (lam_stands b l) (with_lam l.name b)) (slice_get s.lams b.lams) m h in
       (p.0, (unless_parts (lam_stands b p.0) (with_lam p.0.name b) m p.2).1)
 
-  variables_parts : (b m : Before) (line n : ℕ) → declared s b (next_variables line n) ≡ Some m → (xs : List Text) × (with_variables xs b ≡ m)
-  variables_parts b m line n h =
+  variables_parts : (b m : Before) (spot : Spot) (n : ℕ) → declared s b (next_variables spot n) ≡ Some m → (xs : List Text) × (with_variables xs b ≡ m)
+  variables_parts b m spot n h =
       let xs : List Text = take n (drop b.variables s.variables) in
       (xs, (unless_parts (nat_le 1 n && (nat_eq (length xs) n && are_declarable xs b.names)) (with_variables xs b) m h).1)
 
@@ -100,8 +101,8 @@ module _ (s : Script) where
       let p = lam_parts b m h in
       let one : Between b (with_lam p.0.name b) = record { tables = omega arith; lams = omega arith; variables = omega arith; callables = λ i q k. k } in
       subst (Between b) p.1 one
-  declared_between b m (next_variables line n) h =
-      let p = variables_parts b m line n h in
+  declared_between b m (next_variables spot n) h =
+      let p = variables_parts b m spot n h in
       let one : Between b (with_variables p.0 b) = record { tables = omega arith; lams = omega arith; variables = omega arith; callables = λ i q k. k } in
       subst (Between b) p.1 one
   declared_between b m next_procedure h =
@@ -120,7 +121,7 @@ module _ (s : Script) where
   declared_filled : (b m : Before) (i : Item) → declared s b i ≡ Some m → Filled b → Filled m
   declared_filled b m next_table h f = let p = table_parts b m h in subst Filled p.1 f
   declared_filled b m next_lam h f = let p = lam_parts b m h in subst Filled p.1 f
-  declared_filled b m (next_variables line n) h f = let p = variables_parts b m line n h in subst Filled p.1 f
+  declared_filled b m (next_variables spot n) h f = let p = variables_parts b m spot n h in subst Filled p.1 f
   declared_filled b m next_procedure h f =
       let p = procedure_parts b m h in
       let before : List Procedure = take b.procedures s.procedures in
@@ -157,7 +158,7 @@ module _ (s : Script) where
   service_step : (b m : Before) (i : Item) → declared s b i ≡ Some m → (k : ℕ) → b.services ≤ k → (m.services ≤ k) ⊎ ((v : Service) → slice_get s.services k ≡ Some v → service_stands b v ≡ true)
   service_step b m next_table h k low = let p = table_parts b m h in inl (left k b.services m.services (ap (λ (x : Before). x.services) (sym p.1)) low)
   service_step b m next_lam h k low = let p = lam_parts b m h in inl (left k b.services m.services (ap (λ (x : Before). x.services) (sym p.1)) low)
-  service_step b m (next_variables line n) h k low = let p = variables_parts b m line n h in inl (left k b.services m.services (ap (λ (x : Before). x.services) (sym p.1)) low)
+  service_step b m (next_variables spot n) h k low = let p = variables_parts b m spot n h in inl (left k b.services m.services (ap (λ (x : Before). x.services) (sym p.1)) low)
   service_step b m next_procedure h k low = let p = procedure_parts b m h in inl (left k b.services m.services (ap (λ (x : Before). x.services) (sym p.3)) low)
   service_step b m next_service h k low =
       let p = service_parts b m h in
@@ -166,7 +167,7 @@ module _ (s : Script) where
   procedure_step : (b m : Before) (i : Item) → declared s b i ≡ Some m → (k : ℕ) → b.procedures ≤ k → (m.procedures ≤ k) ⊎ ((b.procedures ≡ k) × ((p : Procedure) → slice_get s.procedures k ≡ Some p → procedure_stands b p ≡ true))
   procedure_step b m next_table h k low = let p = table_parts b m h in inl (left k b.procedures m.procedures (ap (λ (x : Before). x.procedures) (sym p.1)) low)
   procedure_step b m next_lam h k low = let p = lam_parts b m h in inl (left k b.procedures m.procedures (ap (λ (x : Before). x.procedures) (sym p.1)) low)
-  procedure_step b m (next_variables line n) h k low = let p = variables_parts b m line n h in inl (left k b.procedures m.procedures (ap (λ (x : Before). x.procedures) (sym p.1)) low)
+  procedure_step b m (next_variables spot n) h k low = let p = variables_parts b m spot n h in inl (left k b.procedures m.procedures (ap (λ (x : Before). x.procedures) (sym p.1)) low)
   procedure_step b m next_service h k low = let p = service_parts b m h in inl (left k b.procedures m.procedures (ap (λ (x : Before). x.procedures) (sym p.3)) low)
   procedure_step b m next_procedure h k low =
       let p = procedure_parts b m h in

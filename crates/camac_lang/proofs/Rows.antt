@@ -6,7 +6,7 @@ use Rattle.camac_lang.specs.Example.{adc, adc_service, straight_line}
 use Rattle.camac_lang.specs.declared.word.WordSize.TheVariants.{Full}
 use Rattle.camac_lang.specs.declared.word.LamCall.TheVariants.{Clear}
 use Rattle.camac_lang.specs.Scope.{is_well_formed}
-use Rattle.camac_lang.specs.Tree.{Text, Expression, number, variable, group, add, subtract, multiply, divide, plain, flag_q, into, Statement, done, assign, set_register, single, q_stop, put, lam_call, choose, for_, while_, locked, call, Table, Lam, Procedure, Service, Item, next_table, next_lam, next_variables, next_procedure, next_service, Script}
+use Rattle.camac_lang.specs.Tree.{Text, Expression, number, variable, group, add, subtract, multiply, divide, plain, flag_q, into, Statement, done, assign, set_register, single, q_stop, put, lam_call, choose, for_, while_, locked, call, Table, Lam, Procedure, Service, Item, next_table, next_lam, next_variables, next_procedure, next_service, Script, on_line}
 use Rattle.camac_lang.specs.View.{block_of}
 
 abbrev served : List Text → List Statement → Service
@@ -15,7 +15,7 @@ served registers ss = record adc_service { registers = registers; body = block_o
 -- a script of the opening of the standard example, with one more variable
 abbrev script : List Text → List Procedure → List Item → List Statement → Script
 script registers procedures items ss = record {
-  order = next_lam ∷ next_variables 2 2 ∷ items;
+  order = next_lam ∷ next_variables (on_line 2) 2 ∷ items;
   tables = [];
   lams = adc ∷ [];
   variables = codes "v" ∷ codes "k" ∷ [];
@@ -27,10 +27,10 @@ abbrev fits : List Text → List Statement → Bool
 fits registers ss = is_well_formed (script registers [] (next_service ∷ []) ss)
 
 abbrev read : Statement
-read = single 5 Full 0 0 (into 0)
+read = single (on_line 5) Full 0 0 (into 0)
 
 abbrev set : ℕ → Statement
-set r = set_register 4 r (number 1) (number 5) (number 0)
+set r = set_register (on_line 4) r (number 1) (number 5) (number 0)
 
 -- the standard example
 pub example_stands : IsTrue (is_well_formed straight_line)
@@ -59,25 +59,25 @@ unfolding is_well_formed
 register_twice = refl
 
 -- a variable and a LAM that are not there; a divisor 0; a kept loop variable
-no_variable : fits [] (put 4 (variable 2) ∷ []) ≡ false
+no_variable : fits [] (put (on_line 4) (variable 2) ∷ []) ≡ false
 unfolding is_well_formed
 no_variable = refl
 
-no_lam : fits [] (lam_call 4 Clear 1 ∷ []) ≡ false
+no_lam : fits [] (lam_call (on_line 4) Clear 1 ∷ []) ≡ false
 unfolding is_well_formed
 no_lam = refl
 
-no_table : fits (codes "r" ∷ []) (set 0 ∷ q_stop 5 16 0 (Some 0) (number 1) 0 ∷ []) ≡ false
+no_table : fits (codes "r" ∷ []) (set 0 ∷ q_stop (on_line 5) 16 0 (Some 0) (number 1) 0 ∷ []) ≡ false
 unfolding is_well_formed
 no_table = refl
 
-by_zero : fits [] (put 4 (divide (number 1) 0) ∷ []) ≡ false
+by_zero : fits [] (put (on_line 4) (divide (number 1) 0) ∷ []) ≡ false
 unfolding is_well_formed
 by_zero = refl
 
 abbrev for_row : ℕ → ℕ → ℕ → Statement
 for_row x low high =
-    for_ 4 0 (number 0) (number 3) (record { variable = x; low = low; high = high } ∷ []) done
+    for_ (on_line 4) 0 (number 0) (number 3) (record { variable = x; low = low; high = high } ∷ []) done
 
 kept : fits [] (for_row 1 0 4294967295 ∷ []) ≡ true
 unfolding is_well_formed
@@ -92,56 +92,56 @@ unfolding is_well_formed
 kept_too_large = refl
 
 -- the largest number, and one more; the last function, and one more; the turns of a `while`
-largest : fits [] (put 4 (number 4294967295) ∷ []) ≡ true
+largest : fits [] (put (on_line 4) (number 4294967295) ∷ []) ≡ true
 unfolding is_well_formed
 largest = refl
 
-too_large : fits [] (put 4 (number 4294967296) ∷ []) ≡ false
+too_large : fits [] (put (on_line 4) (number 4294967296) ∷ []) ≡ false
 unfolding is_well_formed
 too_large = refl
 
-divisor_too_large : fits [] (put 4 (divide (number 1) 4294967296) ∷ []) ≡ false
+divisor_too_large : fits [] (put (on_line 4) (divide (number 1) 4294967296) ∷ []) ≡ false
 unfolding is_well_formed
 divisor_too_large = refl
 
-function_31 : fits (codes "r" ∷ []) (set 0 ∷ single 5 Full 31 0 (into 0) ∷ []) ≡ true
+function_31 : fits (codes "r" ∷ []) (set 0 ∷ single (on_line 5) Full 31 0 (into 0) ∷ []) ≡ true
 unfolding is_well_formed
 function_31 = refl
 
-function_32 : fits (codes "r" ∷ []) (set 0 ∷ single 5 Full 32 0 (into 0) ∷ []) ≡ false
+function_32 : fits (codes "r" ∷ []) (set 0 ∷ single (on_line 5) Full 32 0 (into 0) ∷ []) ≡ false
 unfolding is_well_formed
 function_32 = refl
 
-turns_too_large : fits [] (while_ 4 (plain flag_q ∷ []) 4294967296 0 [] done ∷ []) ≡ false
+turns_too_large : fits [] (while_ (on_line 4) (plain flag_q ∷ []) 4294967296 0 [] done ∷ []) ≡ false
 unfolding is_well_formed
 turns_too_large = refl
 
 -- `5 - 2 - 1` is grouped from the left, and a sum in a product stands in brackets
-from_the_left : fits [] (put 4 (subtract (subtract (number 5) (number 2)) (number 1)) ∷ []) ≡ true
+from_the_left : fits [] (put (on_line 4) (subtract (subtract (number 5) (number 2)) (number 1)) ∷ []) ≡ true
 unfolding is_well_formed
 from_the_left = refl
 
-from_the_right : fits [] (put 4 (subtract (number 5) (subtract (number 2) (number 1))) ∷ []) ≡ false
+from_the_right : fits [] (put (on_line 4) (subtract (number 5) (subtract (number 2) (number 1))) ∷ []) ≡ false
 unfolding is_well_formed
 from_the_right = refl
 
-in_brackets : fits [] (put 4 (subtract (number 5) (group (subtract (number 2) (number 1)))) ∷ []) ≡ true
+in_brackets : fits [] (put (on_line 4) (subtract (number 5) (group (subtract (number 2) (number 1)))) ∷ []) ≡ true
 unfolding is_well_formed
 in_brackets = refl
 
-product_of_sum : fits [] (put 4 (multiply (add (number 1) (number 1)) (number 1)) ∷ []) ≡ false
+product_of_sum : fits [] (put (on_line 4) (multiply (add (number 1) (number 1)) (number 1)) ∷ []) ≡ false
 unfolding is_well_formed
 product_of_sum = refl
 
-product_of_product : fits [] (put 4 (multiply (number 1) (multiply (number 1) (number 1))) ∷ []) ≡ false
+product_of_product : fits [] (put (on_line 4) (multiply (number 1) (multiply (number 1) (number 1))) ∷ []) ≡ false
 unfolding is_well_formed
 product_of_product = refl
 
-quotient_of_sum : fits [] (put 4 (divide (add (number 1) (number 1)) 2) ∷ []) ≡ false
+quotient_of_sum : fits [] (put (on_line 4) (divide (add (number 1) (number 1)) 2) ∷ []) ≡ false
 unfolding is_well_formed
 quotient_of_sum = refl
 
-sum_of_products : fits [] (put 4 (add (divide (number 8) 2) (multiply (multiply (number 1) (number 2)) (number 3))) ∷ []) ≡ true
+sum_of_products : fits [] (put (on_line 4) (add (divide (number 8) 2) (multiply (multiply (number 1) (number 2)) (number 3))) ∷ []) ≡ true
 unfolding is_well_formed
 sum_of_products = refl
 
@@ -150,17 +150,17 @@ abbrev sum_of : ℕ → Expression
 sum_of zero = number 1
 sum_of (suc n) = add (sum_of n) (number 1)
 
-operators_32 : fits [] (put 4 (sum_of 32) ∷ []) ≡ true
+operators_32 : fits [] (put (on_line 4) (sum_of 32) ∷ []) ≡ true
 unfolding is_well_formed
 operators_32 = refl
 
-operators_33 : fits [] (put 4 (sum_of 33) ∷ []) ≡ false
+operators_33 : fits [] (put (on_line 4) (sum_of 33) ∷ []) ≡ false
 unfolding is_well_formed
 operators_33 = refl
 
 -- conditions of no part, of 16 and of 17
 abbrev asking : ℕ → Statement
-asking n = choose 4 (replicate n (plain flag_q)) done
+asking n = choose (on_line 4) (replicate n (plain flag_q)) done
 
 no_part : fits [] (asking 0 ∷ []) ≡ false
 unfolding is_well_formed
@@ -179,18 +179,18 @@ abbrev brackets : ℕ → Expression
 brackets zero = number 1
 brackets (suc n) = group (brackets n)
 
-deep : fits [] (assign 4 0 (brackets 15) ∷ []) ≡ true
+deep : fits [] (assign (on_line 4) 0 (brackets 15) ∷ []) ≡ true
 unfolding is_well_formed
 deep = refl
 
-too_deep : fits [] (assign 4 0 (brackets 16) ∷ []) ≡ false
+too_deep : fits [] (assign (on_line 4) 0 (brackets 16) ∷ []) ≡ false
 unfolding is_well_formed
 too_deep = refl
 
 -- a procedure, and calls of it
 abbrev get : ℕ → List Statement → Procedure
 get high ss = record {
-  line = 3;
+  spot = on_line 3;
   name = codes "get";
   parameters = record { name = codes "s"; low = 0; high = high } ∷ [];
   cycles = 3;
@@ -203,23 +203,23 @@ get high ss = record {
 abbrev calls : List Statement → List Item → List Statement → Bool
 calls body items ss = is_well_formed (script [] (get 11 body ∷ []) items ss)
 
-called : calls (set 0 ∷ read ∷ []) (next_procedure ∷ next_service ∷ []) (call 9 0 (number 0 ∷ []) ∷ []) ≡ true
+called : calls (set 0 ∷ read ∷ []) (next_procedure ∷ next_service ∷ []) (call (on_line 9) 0 (number 0 ∷ []) ∷ []) ≡ true
 unfolding is_well_formed
 called = refl
 
-called_before : calls (set 0 ∷ read ∷ []) (next_service ∷ next_procedure ∷ []) (call 9 0 (number 0 ∷ []) ∷ []) ≡ false
+called_before : calls (set 0 ∷ read ∷ []) (next_service ∷ next_procedure ∷ []) (call (on_line 9) 0 (number 0 ∷ []) ∷ []) ≡ false
 unfolding is_well_formed
 called_before = refl
 
-called_without : calls (set 0 ∷ read ∷ []) (next_procedure ∷ next_service ∷ []) (call 9 0 [] ∷ []) ≡ false
+called_without : calls (set 0 ∷ read ∷ []) (next_procedure ∷ next_service ∷ []) (call (on_line 9) 0 [] ∷ []) ≡ false
 unfolding is_well_formed
 called_without = refl
 
-called_by_itself : calls (set 0 ∷ call 4 0 (number 0 ∷ []) ∷ []) (next_procedure ∷ next_service ∷ []) [] ≡ false
+called_by_itself : calls (set 0 ∷ call (on_line 4) 0 (number 0 ∷ []) ∷ []) (next_procedure ∷ next_service ∷ []) [] ≡ false
 unfolding is_well_formed
 called_by_itself = refl
 
-locks_inside : calls (set 0 ∷ locked 4 (number 1) done ∷ []) (next_procedure ∷ next_service ∷ []) [] ≡ false
+locks_inside : calls (set 0 ∷ locked (on_line 4) (number 1) done ∷ []) (next_procedure ∷ next_service ∷ []) [] ≡ false
 unfolding is_well_formed
 locks_inside = refl
 
@@ -228,18 +228,18 @@ unfolding is_well_formed
 range_too_large = refl
 
 -- one brace is open at the call, and the procedure is of depth 15 and 16
-deep_call : calls (set 0 ∷ assign 4 0 (brackets 14) ∷ []) (next_procedure ∷ next_service ∷ []) (call 9 0 (number 0 ∷ []) ∷ []) ≡ true
+deep_call : calls (set 0 ∷ assign (on_line 4) 0 (brackets 14) ∷ []) (next_procedure ∷ next_service ∷ []) (call (on_line 9) 0 (number 0 ∷ []) ∷ []) ≡ true
 unfolding is_well_formed
 deep_call = refl
 
-too_deep_call : calls (set 0 ∷ assign 4 0 (brackets 15) ∷ []) (next_procedure ∷ next_service ∷ []) (call 9 0 (number 0 ∷ []) ∷ []) ≡ false
+too_deep_call : calls (set 0 ∷ assign (on_line 4) 0 (brackets 15) ∷ []) (next_procedure ∷ next_service ∷ []) (call (on_line 9) 0 (number 0 ∷ []) ∷ []) ≡ false
 unfolding is_well_formed
 too_deep_call = refl
 
 -- declarations alone: tables, a LAM, variables and a service's heading
 abbrev declares : List Table → Lam → List Text → Service → Bool
 declares tables lam variables service = is_well_formed (record {
-  order = next_lam ∷ next_variables 2 2 ∷ next_table ∷ next_service ∷ [];
+  order = next_lam ∷ next_variables (on_line 2) 2 ∷ next_table ∷ next_service ∷ [];
   tables = tables;
   lams = lam ∷ [];
   variables = variables;
@@ -248,7 +248,7 @@ declares tables lam variables service = is_well_formed (record {
 })
 
 abbrev table : List ℕ → Table
-table words = record { line = 2; name = codes "t"; words = words }
+table words = record { spot = on_line 2; name = codes "t"; words = words }
 
 abbrev two : List Text
 two = codes "v" ∷ codes "k" ∷ []
@@ -310,5 +310,5 @@ heading_too_large = refl
 depth_1 : script_depth straight_line ≡ 1
 depth_1 = refl
 
-depth_3 : script_depth (script [] [] (next_service ∷ []) (assign 4 0 (brackets 2) ∷ [])) ≡ 3
+depth_3 : script_depth (script [] [] (next_service ∷ []) (assign (on_line 4) 0 (brackets 2) ∷ [])) ≡ 3
 depth_3 = refl

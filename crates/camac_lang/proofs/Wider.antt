@@ -77,37 +77,37 @@ module _ (c d : Scope) (wide : IsWider c d) where
   kind_wider e = rw wide.kind e
 
   pub head_wider : (seen : ℕ) (s : Statement) → head_fits c seen s ≡ true → head_fits d seen s ≡ true
-  head_wider seen (assign line x e) = and_implies _ _ _ _ (variable_wider x) (expression_wider e)
-  head_wider seen (set_register line r k n a) =
+  head_wider seen (assign spot x e) = and_implies _ _ _ _ (variable_wider x) (expression_wider e)
+  head_wider seen (set_register spot r k n a) =
       and_keeps (nat_le r seen) _ _ (and_implies _ _ _ _ (expression_wider k) (and_implies _ _ _ _ (expression_wider n) (expression_wider a)))
-  head_wider seen (single line size f r m) = and_keeps (is_function f) _ _ (and_keeps (nat_lt r seen) _ _ (move_wider m))
-  head_wider seen (address_scan line f r1 r2 e x) =
+  head_wider seen (single spot size f r m) = and_keeps (is_function f) _ _ (and_keeps (nat_lt r seen) _ _ (move_wider m))
+  head_wider seen (address_scan spot f r1 r2 e x) =
       and_keeps (is_function f) _ _ (and_keeps (nat_lt r1 seen) _ _ (and_keeps (nat_lt r2 seen) _ _
       (and_implies _ _ _ _ (expression_wider e) (variable_wider x))))
-  head_wider seen (q_stop line f r g e x) =
+  head_wider seen (q_stop spot f r g e x) =
       and_keeps (is_function f) _ _ (and_keeps (nat_lt r seen) _ _ (and_implies _ _ _ _ (table_wider g)
       (and_implies _ _ _ _ (expression_wider e) (variable_wider x))))
-  head_wider seen (q_repeat line f r g e l x) =
+  head_wider seen (q_repeat spot f r g e l x) =
       and_keeps (is_function f) _ _ (and_keeps (nat_lt r seen) _ _ (and_implies _ _ _ _ (table_wider g)
       (and_implies _ _ _ _ (expression_wider e) (and_implies _ _ _ _ (expression_wider l) (variable_wider x)))))
-  head_wider seen (put line e) = expression_wider e
-  head_wider seen (crate_call line k e) = expression_wider e
-  head_wider seen (lam_call line k l) = below l c.lams d.lams wide.lams
-  head_wider seen (choose line t a) = condition_wider t
-  head_wider seen (choose_else line t a b) = condition_wider t
-  head_wider seen (for_ line x e1 e2 ks body) =
+  head_wider seen (put spot e) = expression_wider e
+  head_wider seen (crate_call spot k e) = expression_wider e
+  head_wider seen (lam_call spot k l) = below l c.lams d.lams wide.lams
+  head_wider seen (choose spot t a) = condition_wider t
+  head_wider seen (choose_else spot t a b) = condition_wider t
+  head_wider seen (for_ spot x e1 e2 ks body) =
       and_implies _ _ _ _ (variable_wider x) (and_implies _ _ _ _ (expression_wider e1)
       (and_implies _ _ _ _ (expression_wider e2) (keeps_wider x ks)))
-  head_wider seen (for_each line x v last body) = and_implies _ _ _ _ (variable_wider x) (λ h. h)
-  head_wider seen (while_ line t turns x ks body) =
+  head_wider seen (for_each spot x v last body) = and_implies _ _ _ _ (variable_wider x) (λ h. h)
+  head_wider seen (while_ spot t turns x ks body) =
       and_implies _ _ _ _ (condition_wider t) (and_keeps (is_number turns) _ _ (and_implies _ _ _ _ (variable_wider x) (keeps_wider x ks)))
-  head_wider seen (locked line e body) = and_implies _ _ _ _ kind_wider (expression_wider e)
-  head_wider seen (call line p es) =
+  head_wider seen (locked spot e body) = and_implies _ _ _ _ kind_wider (expression_wider e)
+  head_wider seen (call spot p es) =
       and_implies _ _ _ _ (arity_wider p (length es)) (each_implies (expression_fits c) (expression_fits d) expression_wider es)
 
   begun_wider : (seen : ℕ) (s : Statement) → Implies (begun c seen s) (begun d seen s)
-  begun_wider seen (set_register line r k n a) =
-      unless_implies (head_fits c seen (set_register line r k n a)) (head_fits d seen (set_register line r k n a)) (max seen (suc r)) (head_wider seen (set_register line r k n a))
+  begun_wider seen (set_register spot r k n a) =
+      unless_implies (head_fits c seen (set_register spot r k n a)) (head_fits d seen (set_register spot r k n a)) (max seen (suc r)) (head_wider seen (set_register spot r k n a))
   begun_wider seen s = unless_implies (head_fits c seen s) (head_fits d seen s) seen (head_wider seen s)
 
   inner_wider : (seen : ℕ) (s : Statement) (b : Block) → ((k : ℕ) → Implies (after_block c k b) (after_block d k b)) → Implies (option_and_then (λ k. after_block c k b) (begun c seen s)) (option_and_then (λ k. after_block d k b) (begun d seen s))
@@ -115,13 +115,13 @@ module _ (c d : Scope) (wide : IsWider c d) where
 
   mutual
     pub statement_wider : (seen : ℕ) (s : Statement) → Implies (after c seen s) (after d seen s)
-    statement_wider seen (choose line t a) = inner_wider seen (choose line t a) a (λ k. block_wider k a)
-    statement_wider seen (choose_else line t a b) =
-        then_implies (λ k. after_block c k b) (λ k. after_block d k b) (option_and_then (λ k. after_block c k a) (begun c seen (choose_else line t a b))) (option_and_then (λ k. after_block d k a) (begun d seen (choose_else line t a b))) (inner_wider seen (choose_else line t a b) a (λ k. block_wider k a)) (λ k. block_wider k b)
-    statement_wider seen (for_ line x e1 e2 ks body) = inner_wider seen (for_ line x e1 e2 ks body) body (λ k. block_wider k body)
-    statement_wider seen (for_each line x v last body) = inner_wider seen (for_each line x v last body) body (λ k. block_wider k body)
-    statement_wider seen (while_ line t turns x ks body) = inner_wider seen (while_ line t turns x ks body) body (λ k. block_wider k body)
-    statement_wider seen (locked line e body) = inner_wider seen (locked line e body) body (λ k. block_wider k body)
+    statement_wider seen (choose spot t a) = inner_wider seen (choose spot t a) a (λ k. block_wider k a)
+    statement_wider seen (choose_else spot t a b) =
+        then_implies (λ k. after_block c k b) (λ k. after_block d k b) (option_and_then (λ k. after_block c k a) (begun c seen (choose_else spot t a b))) (option_and_then (λ k. after_block d k a) (begun d seen (choose_else spot t a b))) (inner_wider seen (choose_else spot t a b) a (λ k. block_wider k a)) (λ k. block_wider k b)
+    statement_wider seen (for_ spot x e1 e2 ks body) = inner_wider seen (for_ spot x e1 e2 ks body) body (λ k. block_wider k body)
+    statement_wider seen (for_each spot x v last body) = inner_wider seen (for_each spot x v last body) body (λ k. block_wider k body)
+    statement_wider seen (while_ spot t turns x ks body) = inner_wider seen (while_ spot t turns x ks body) body (λ k. block_wider k body)
+    statement_wider seen (locked spot e body) = inner_wider seen (locked spot e body) body (λ k. block_wider k body)
     statement_wider seen s = begun_wider seen s
 
     pub block_wider : (seen : ℕ) (b : Block) → Implies (after_block c seen b) (after_block d seen b)
@@ -146,23 +146,23 @@ module _ (c d : Scope) (wide : IsWider c d) where
   -- calls count the same depth in the wider scope
   mutual
     pub statement_depth_wider : (seen n : ℕ) (s : Statement) → after c seen s ≡ Some n → statement_depth c.callables s ≡ statement_depth d.callables s
-    statement_depth_wider seen n (choose line t a) h =
-        ap (λ k. max (most part_depth t) (suc k)) (inner_depth_wider n (begun c seen (choose line t a)) a (λ i m. block_depth_wider i m a) h)
-    statement_depth_wider seen n (choose_else line t a b) h =
-        let o : Option ℕ = option_and_then (λ k. after_block c k a) (begun c seen (choose_else line t a b)) in
+    statement_depth_wider seen n (choose spot t a) h =
+        ap (λ k. max (most part_depth t) (suc k)) (inner_depth_wider n (begun c seen (choose spot t a)) a (λ i m. block_depth_wider i m a) h)
+    statement_depth_wider seen n (choose_else spot t a b) h =
+        let o : Option ℕ = option_and_then (λ k. after_block c k a) (begun c seen (choose_else spot t a b)) in
         let p = then_parts (λ k. after_block c k b) o n h in
-        let e : inner_depth c.callables a ≡ inner_depth d.callables a = inner_depth_wider p.0 (begun c seen (choose_else line t a b)) a (λ i m. block_depth_wider i m a) p.1 in
+        let e : inner_depth c.callables a ≡ inner_depth d.callables a = inner_depth_wider p.0 (begun c seen (choose_else spot t a b)) a (λ i m. block_depth_wider i m a) p.1 in
         let g : inner_depth c.callables b ≡ inner_depth d.callables b = block_depth_wider p.0 n b p.2 in
         rw (e, g) refl
-    statement_depth_wider seen n (for_ line x e1 e2 ks body) h =
-        ap (λ k. max (expression_depth e1) (max (expression_depth e2) (suc k))) (inner_depth_wider n (begun c seen (for_ line x e1 e2 ks body)) body (λ i m. block_depth_wider i m body) h)
-    statement_depth_wider seen n (for_each line x v last body) h = ap suc (inner_depth_wider n (begun c seen (for_each line x v last body)) body (λ i m. block_depth_wider i m body) h)
-    statement_depth_wider seen n (while_ line t turns x ks body) h =
-        ap (λ k. max (most part_depth t) (suc k)) (inner_depth_wider n (begun c seen (while_ line t turns x ks body)) body (λ i m. block_depth_wider i m body) h)
-    statement_depth_wider seen n (locked line e body) h =
-        ap (λ k. max (expression_depth e) (suc k)) (inner_depth_wider n (begun c seen (locked line e body)) body (λ i m. block_depth_wider i m body) h)
-    statement_depth_wider seen n (call line p es) h =
-        let t = unless_parts (head_fits c seen (call line p es)) seen n h in
+    statement_depth_wider seen n (for_ spot x e1 e2 ks body) h =
+        ap (λ k. max (expression_depth e1) (max (expression_depth e2) (suc k))) (inner_depth_wider n (begun c seen (for_ spot x e1 e2 ks body)) body (λ i m. block_depth_wider i m body) h)
+    statement_depth_wider seen n (for_each spot x v last body) h = ap suc (inner_depth_wider n (begun c seen (for_each spot x v last body)) body (λ i m. block_depth_wider i m body) h)
+    statement_depth_wider seen n (while_ spot t turns x ks body) h =
+        ap (λ k. max (most part_depth t) (suc k)) (inner_depth_wider n (begun c seen (while_ spot t turns x ks body)) body (λ i m. block_depth_wider i m body) h)
+    statement_depth_wider seen n (locked spot e body) h =
+        ap (λ k. max (expression_depth e) (suc k)) (inner_depth_wider n (begun c seen (locked spot e body)) body (λ i m. block_depth_wider i m body) h)
+    statement_depth_wider seen n (call spot p es) h =
+        let t = unless_parts (head_fits c seen (call spot p es)) seen n h in
         let a = and_parts (has (slice_get c.callables p) (λ q. nat_eq q.parameters (length es))) (each (expression_fits c) es) t.0 in
         ap (max (suc (most expression_depth es))) (depth_wider p (length es) a.0)
     statement_depth_wider seen n s h = refl

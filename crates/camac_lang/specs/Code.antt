@@ -9,6 +9,7 @@ use Rattle.camac_lang.specs.contracts.word.CrateCall as crate_call_word
 use Rattle.camac_lang.specs.contracts.word.LamCall as lam_call_word
 use Rattle.camac_lang.specs.contracts.word.WordSize as word_size
 use Rattle.camac_lang.specs.Tree.{Text, Expression, number, variable, group, add, subtract, multiply, divide, remainder, Test, flag_q, flag_x, compare, Part, plain, negated, Move, no_data, into, from, Keep, Statement, assign, set_register, single, address_scan, q_stop, q_repeat, put, crate_call, lam_call, choose, choose_else, for_, for_each, while_, locked, call, Block, done, next, Table, Lam, Parameter, Procedure, Service, Item, next_table, next_lam, next_variables, next_procedure, next_service, Script}
+use Rattle.camac_lang.specs.declared.spot.Spot.{Spot}
 
 -- the number at the start of a code
 abbrev pub tag : Gv → ℕ
@@ -27,6 +28,9 @@ clash x y e h = let same : eqb (tag x) (tag y) ≡ true = eq-eqb (tag x) (tag y)
 
 abbrev pub text_coded : Coded Text
 text_coded = coded_list coded_ℕ
+
+abbrev pub spot_coded : Coded Spot
+spot_coded = code_by (ℕ × ℕ) (coded× coded_ℕ coded_ℕ) (λ s. (s.line, s.left)) (λ p. record { line = p.0; left = p.1 }) (λ _. refl)
 
 abbrev pub expression_code : Expression → Gv
 expression_code (number n) = gcons (gnum 0) (gnum n)
@@ -132,22 +136,22 @@ names_coded = coded_list text_coded
 
 abbrev mutual
   pub statement_code : Statement → Gv
-  statement_code (assign x0 x1 x2) = gcons (gnum 0) (gcons (gnum x0) (gcons (gnum x1) (gcons (expression_coded.code x2) gnil)))
-  statement_code (set_register x0 x1 x2 x3 x4) = gcons (gnum 1) (gcons (gnum x0) (gcons (gnum x1) (gcons (expression_coded.code x2) (gcons (expression_coded.code x3) (gcons (expression_coded.code x4) gnil)))))
-  statement_code (single x0 x1 x2 x3 x4) = gcons (gnum 2) (gcons (gnum x0) (gcons (word_size.the_row.coded.code x1) (gcons (gnum x2) (gcons (gnum x3) (gcons (move_coded.code x4) gnil)))))
-  statement_code (address_scan x0 x1 x2 x3 x4 x5) = gcons (gnum 3) (gcons (gnum x0) (gcons (gnum x1) (gcons (gnum x2) (gcons (gnum x3) (gcons (expression_coded.code x4) (gcons (gnum x5) gnil))))))
-  statement_code (q_stop x0 x1 x2 x3 x4 x5) = gcons (gnum 4) (gcons (gnum x0) (gcons (gnum x1) (gcons (gnum x2) (gcons (table_coded.code x3) (gcons (expression_coded.code x4) (gcons (gnum x5) gnil))))))
-  statement_code (q_repeat x0 x1 x2 x3 x4 x5 x6) = gcons (gnum 5) (gcons (gnum x0) (gcons (gnum x1) (gcons (gnum x2) (gcons (table_coded.code x3) (gcons (expression_coded.code x4) (gcons (expression_coded.code x5) (gcons (gnum x6) gnil)))))))
-  statement_code (put x0 x1) = gcons (gnum 6) (gcons (gnum x0) (gcons (expression_coded.code x1) gnil))
-  statement_code (crate_call x0 x1 x2) = gcons (gnum 7) (gcons (gnum x0) (gcons (crate_call_word.the_row.coded.code x1) (gcons (expression_coded.code x2) gnil)))
-  statement_code (lam_call x0 x1 x2) = gcons (gnum 8) (gcons (gnum x0) (gcons (lam_call_word.the_row.coded.code x1) (gcons (gnum x2) gnil)))
-  statement_code (choose x0 x1 x2) = gcons (gnum 9) (gcons (gnum x0) (gcons (condition_coded.code x1) (gcons (block_code x2) gnil)))
-  statement_code (choose_else x0 x1 x2 x3) = gcons (gnum 10) (gcons (gnum x0) (gcons (condition_coded.code x1) (gcons (block_code x2) (gcons (block_code x3) gnil))))
-  statement_code (for_ x0 x1 x2 x3 x4 x5) = gcons (gnum 11) (gcons (gnum x0) (gcons (gnum x1) (gcons (expression_coded.code x2) (gcons (expression_coded.code x3) (gcons (keeps_coded.code x4) (gcons (block_code x5) gnil))))))
-  statement_code (while_ x0 x1 x2 x3 x4 x5) = gcons (gnum 12) (gcons (gnum x0) (gcons (condition_coded.code x1) (gcons (gnum x2) (gcons (gnum x3) (gcons (keeps_coded.code x4) (gcons (block_code x5) gnil))))))
-  statement_code (locked x0 x1 x2) = gcons (gnum 13) (gcons (gnum x0) (gcons (expression_coded.code x1) (gcons (block_code x2) gnil)))
-  statement_code (call x0 x1 x2) = gcons (gnum 14) (gcons (gnum x0) (gcons (gnum x1) (gcons (expressions_coded.code x2) gnil)))
-  statement_code (for_each x0 x1 x2 x3 x4) = gcons (gnum 15) (gcons (gnum x0) (gcons (gnum x1) (gcons (gnum x2) (gcons (gnum x3) (gcons (block_code x4) gnil)))))
+  statement_code (assign x0 x1 x2) = gcons (gnum 0) (gcons (spot_coded.code x0) (gcons (gnum x1) (gcons (expression_coded.code x2) gnil)))
+  statement_code (set_register x0 x1 x2 x3 x4) = gcons (gnum 1) (gcons (spot_coded.code x0) (gcons (gnum x1) (gcons (expression_coded.code x2) (gcons (expression_coded.code x3) (gcons (expression_coded.code x4) gnil)))))
+  statement_code (single x0 x1 x2 x3 x4) = gcons (gnum 2) (gcons (spot_coded.code x0) (gcons (word_size.the_row.coded.code x1) (gcons (gnum x2) (gcons (gnum x3) (gcons (move_coded.code x4) gnil)))))
+  statement_code (address_scan x0 x1 x2 x3 x4 x5) = gcons (gnum 3) (gcons (spot_coded.code x0) (gcons (gnum x1) (gcons (gnum x2) (gcons (gnum x3) (gcons (expression_coded.code x4) (gcons (gnum x5) gnil))))))
+  statement_code (q_stop x0 x1 x2 x3 x4 x5) = gcons (gnum 4) (gcons (spot_coded.code x0) (gcons (gnum x1) (gcons (gnum x2) (gcons (table_coded.code x3) (gcons (expression_coded.code x4) (gcons (gnum x5) gnil))))))
+  statement_code (q_repeat x0 x1 x2 x3 x4 x5 x6) = gcons (gnum 5) (gcons (spot_coded.code x0) (gcons (gnum x1) (gcons (gnum x2) (gcons (table_coded.code x3) (gcons (expression_coded.code x4) (gcons (expression_coded.code x5) (gcons (gnum x6) gnil)))))))
+  statement_code (put x0 x1) = gcons (gnum 6) (gcons (spot_coded.code x0) (gcons (expression_coded.code x1) gnil))
+  statement_code (crate_call x0 x1 x2) = gcons (gnum 7) (gcons (spot_coded.code x0) (gcons (crate_call_word.the_row.coded.code x1) (gcons (expression_coded.code x2) gnil)))
+  statement_code (lam_call x0 x1 x2) = gcons (gnum 8) (gcons (spot_coded.code x0) (gcons (lam_call_word.the_row.coded.code x1) (gcons (gnum x2) gnil)))
+  statement_code (choose x0 x1 x2) = gcons (gnum 9) (gcons (spot_coded.code x0) (gcons (condition_coded.code x1) (gcons (block_code x2) gnil)))
+  statement_code (choose_else x0 x1 x2 x3) = gcons (gnum 10) (gcons (spot_coded.code x0) (gcons (condition_coded.code x1) (gcons (block_code x2) (gcons (block_code x3) gnil))))
+  statement_code (for_ x0 x1 x2 x3 x4 x5) = gcons (gnum 11) (gcons (spot_coded.code x0) (gcons (gnum x1) (gcons (expression_coded.code x2) (gcons (expression_coded.code x3) (gcons (keeps_coded.code x4) (gcons (block_code x5) gnil))))))
+  statement_code (while_ x0 x1 x2 x3 x4 x5) = gcons (gnum 12) (gcons (spot_coded.code x0) (gcons (condition_coded.code x1) (gcons (gnum x2) (gcons (gnum x3) (gcons (keeps_coded.code x4) (gcons (block_code x5) gnil))))))
+  statement_code (locked x0 x1 x2) = gcons (gnum 13) (gcons (spot_coded.code x0) (gcons (expression_coded.code x1) (gcons (block_code x2) gnil)))
+  statement_code (call x0 x1 x2) = gcons (gnum 14) (gcons (spot_coded.code x0) (gcons (gnum x1) (gcons (expressions_coded.code x2) gnil)))
+  statement_code (for_each x0 x1 x2 x3 x4) = gcons (gnum 15) (gcons (spot_coded.code x0) (gcons (gnum x1) (gcons (gnum x2) (gcons (gnum x3) (gcons (block_code x4) gnil)))))
 
   pub block_code : Block → Gv
   block_code done = gnil
@@ -156,69 +160,85 @@ abbrev mutual
 mutual
   pub same_statement : (s t : Statement) → statement_code s ≡ statement_code t → s ≡ t
   same_statement (assign x0 x1 x2) (assign y0 y1 y2) e =
+      let h0 : spot_coded.code x0 ≡ spot_coded.code y0 = cc in
       let h2 : expression_coded.code x2 ≡ expression_coded.code y2 = cc in
-      cc (expression_coded.inj x2 y2 h2)
+      cc (spot_coded.inj x0 y0 h0, expression_coded.inj x2 y2 h2)
   same_statement (set_register x0 x1 x2 x3 x4) (set_register y0 y1 y2 y3 y4) e =
+      let h0 : spot_coded.code x0 ≡ spot_coded.code y0 = cc in
       let h2 : expression_coded.code x2 ≡ expression_coded.code y2 = cc in
       let h3 : expression_coded.code x3 ≡ expression_coded.code y3 = cc in
       let h4 : expression_coded.code x4 ≡ expression_coded.code y4 = cc in
-      cc (expression_coded.inj x2 y2 h2, expression_coded.inj x3 y3 h3, expression_coded.inj x4 y4 h4)
+      cc (spot_coded.inj x0 y0 h0, expression_coded.inj x2 y2 h2, expression_coded.inj x3 y3 h3, expression_coded.inj x4 y4 h4)
   same_statement (single x0 x1 x2 x3 x4) (single y0 y1 y2 y3 y4) e =
+      let h0 : spot_coded.code x0 ≡ spot_coded.code y0 = cc in
       let h1 : word_size.the_row.coded.code x1 ≡ word_size.the_row.coded.code y1 = cc in
       let h4 : move_coded.code x4 ≡ move_coded.code y4 = cc in
-      cc (word_size.the_row.coded.inj x1 y1 h1, move_coded.inj x4 y4 h4)
+      cc (spot_coded.inj x0 y0 h0, word_size.the_row.coded.inj x1 y1 h1, move_coded.inj x4 y4 h4)
   same_statement (address_scan x0 x1 x2 x3 x4 x5) (address_scan y0 y1 y2 y3 y4 y5) e =
+      let h0 : spot_coded.code x0 ≡ spot_coded.code y0 = cc in
       let h4 : expression_coded.code x4 ≡ expression_coded.code y4 = cc in
-      cc (expression_coded.inj x4 y4 h4)
+      cc (spot_coded.inj x0 y0 h0, expression_coded.inj x4 y4 h4)
   same_statement (q_stop x0 x1 x2 x3 x4 x5) (q_stop y0 y1 y2 y3 y4 y5) e =
+      let h0 : spot_coded.code x0 ≡ spot_coded.code y0 = cc in
       let h3 : table_coded.code x3 ≡ table_coded.code y3 = cc in
       let h4 : expression_coded.code x4 ≡ expression_coded.code y4 = cc in
-      cc (table_coded.inj x3 y3 h3, expression_coded.inj x4 y4 h4)
+      cc (spot_coded.inj x0 y0 h0, table_coded.inj x3 y3 h3, expression_coded.inj x4 y4 h4)
   same_statement (q_repeat x0 x1 x2 x3 x4 x5 x6) (q_repeat y0 y1 y2 y3 y4 y5 y6) e =
+      let h0 : spot_coded.code x0 ≡ spot_coded.code y0 = cc in
       let h3 : table_coded.code x3 ≡ table_coded.code y3 = cc in
       let h4 : expression_coded.code x4 ≡ expression_coded.code y4 = cc in
       let h5 : expression_coded.code x5 ≡ expression_coded.code y5 = cc in
-      cc (table_coded.inj x3 y3 h3, expression_coded.inj x4 y4 h4, expression_coded.inj x5 y5 h5)
+      cc (spot_coded.inj x0 y0 h0, table_coded.inj x3 y3 h3, expression_coded.inj x4 y4 h4, expression_coded.inj x5 y5 h5)
   same_statement (put x0 x1) (put y0 y1) e =
+      let h0 : spot_coded.code x0 ≡ spot_coded.code y0 = cc in
       let h1 : expression_coded.code x1 ≡ expression_coded.code y1 = cc in
-      cc (expression_coded.inj x1 y1 h1)
+      cc (spot_coded.inj x0 y0 h0, expression_coded.inj x1 y1 h1)
   same_statement (crate_call x0 x1 x2) (crate_call y0 y1 y2) e =
+      let h0 : spot_coded.code x0 ≡ spot_coded.code y0 = cc in
       let h1 : crate_call_word.the_row.coded.code x1 ≡ crate_call_word.the_row.coded.code y1 = cc in
       let h2 : expression_coded.code x2 ≡ expression_coded.code y2 = cc in
-      cc (crate_call_word.the_row.coded.inj x1 y1 h1, expression_coded.inj x2 y2 h2)
+      cc (spot_coded.inj x0 y0 h0, crate_call_word.the_row.coded.inj x1 y1 h1, expression_coded.inj x2 y2 h2)
   same_statement (lam_call x0 x1 x2) (lam_call y0 y1 y2) e =
+      let h0 : spot_coded.code x0 ≡ spot_coded.code y0 = cc in
       let h1 : lam_call_word.the_row.coded.code x1 ≡ lam_call_word.the_row.coded.code y1 = cc in
-      cc (lam_call_word.the_row.coded.inj x1 y1 h1)
+      cc (spot_coded.inj x0 y0 h0, lam_call_word.the_row.coded.inj x1 y1 h1)
   same_statement (choose x0 x1 x2) (choose y0 y1 y2) e =
+      let h0 : spot_coded.code x0 ≡ spot_coded.code y0 = cc in
       let h1 : condition_coded.code x1 ≡ condition_coded.code y1 = cc in
       let h2 : block_code x2 ≡ block_code y2 = cc in
-      cc (condition_coded.inj x1 y1 h1, same_block x2 y2 h2)
+      cc (spot_coded.inj x0 y0 h0, condition_coded.inj x1 y1 h1, same_block x2 y2 h2)
   same_statement (choose_else x0 x1 x2 x3) (choose_else y0 y1 y2 y3) e =
+      let h0 : spot_coded.code x0 ≡ spot_coded.code y0 = cc in
       let h1 : condition_coded.code x1 ≡ condition_coded.code y1 = cc in
       let h2 : block_code x2 ≡ block_code y2 = cc in
       let h3 : block_code x3 ≡ block_code y3 = cc in
-      cc (condition_coded.inj x1 y1 h1, same_block x2 y2 h2, same_block x3 y3 h3)
+      cc (spot_coded.inj x0 y0 h0, condition_coded.inj x1 y1 h1, same_block x2 y2 h2, same_block x3 y3 h3)
   same_statement (for_ x0 x1 x2 x3 x4 x5) (for_ y0 y1 y2 y3 y4 y5) e =
+      let h0 : spot_coded.code x0 ≡ spot_coded.code y0 = cc in
       let h2 : expression_coded.code x2 ≡ expression_coded.code y2 = cc in
       let h3 : expression_coded.code x3 ≡ expression_coded.code y3 = cc in
       let h4 : keeps_coded.code x4 ≡ keeps_coded.code y4 = cc in
       let h5 : block_code x5 ≡ block_code y5 = cc in
-      cc (expression_coded.inj x2 y2 h2, expression_coded.inj x3 y3 h3, keeps_coded.inj x4 y4 h4, same_block x5 y5 h5)
+      cc (spot_coded.inj x0 y0 h0, expression_coded.inj x2 y2 h2, expression_coded.inj x3 y3 h3, keeps_coded.inj x4 y4 h4, same_block x5 y5 h5)
   same_statement (while_ x0 x1 x2 x3 x4 x5) (while_ y0 y1 y2 y3 y4 y5) e =
+      let h0 : spot_coded.code x0 ≡ spot_coded.code y0 = cc in
       let h1 : condition_coded.code x1 ≡ condition_coded.code y1 = cc in
       let h4 : keeps_coded.code x4 ≡ keeps_coded.code y4 = cc in
       let h5 : block_code x5 ≡ block_code y5 = cc in
-      cc (condition_coded.inj x1 y1 h1, keeps_coded.inj x4 y4 h4, same_block x5 y5 h5)
+      cc (spot_coded.inj x0 y0 h0, condition_coded.inj x1 y1 h1, keeps_coded.inj x4 y4 h4, same_block x5 y5 h5)
   same_statement (locked x0 x1 x2) (locked y0 y1 y2) e =
+      let h0 : spot_coded.code x0 ≡ spot_coded.code y0 = cc in
       let h1 : expression_coded.code x1 ≡ expression_coded.code y1 = cc in
       let h2 : block_code x2 ≡ block_code y2 = cc in
-      cc (expression_coded.inj x1 y1 h1, same_block x2 y2 h2)
+      cc (spot_coded.inj x0 y0 h0, expression_coded.inj x1 y1 h1, same_block x2 y2 h2)
   same_statement (call x0 x1 x2) (call y0 y1 y2) e =
+      let h0 : spot_coded.code x0 ≡ spot_coded.code y0 = cc in
       let h2 : expressions_coded.code x2 ≡ expressions_coded.code y2 = cc in
-      cc (expressions_coded.inj x2 y2 h2)
+      cc (spot_coded.inj x0 y0 h0, expressions_coded.inj x2 y2 h2)
   same_statement (for_each x0 x1 x2 x3 x4) (for_each y0 y1 y2 y3 y4) e =
+      let h0 : spot_coded.code x0 ≡ spot_coded.code y0 = cc in
       let h4 : block_code x4 ≡ block_code y4 = cc in
-      cc (same_block x4 y4 h4)
+      cc (spot_coded.inj x0 y0 h0, same_block x4 y4 h4)
   same_statement x y e = clash (statement_code x) (statement_code y) e refl
 
   pub same_block : (a b : Block) → block_code a ≡ block_code b → a ≡ b
@@ -235,14 +255,14 @@ block_coded = record { code = block_code; inj = same_block }
 abbrev pub item_code : Item → Gv
 item_code next_table = gcons (gnum 0) gnil
 item_code next_lam = gcons (gnum 1) gnil
-item_code (next_variables x0 x1) = gcons (gnum 2) (gcons (gnum x0) (gcons (gnum x1) gnil))
+item_code (next_variables x0 x1) = gcons (gnum 2) (gcons (spot_coded.code x0) (gcons (gnum x1) gnil))
 item_code next_procedure = gcons (gnum 3) gnil
 item_code next_service = gcons (gnum 4) gnil
 
 pub same_item : (a b : Item) → item_code a ≡ item_code b → a ≡ b
 same_item next_table next_table e = refl
 same_item next_lam next_lam e = refl
-same_item (next_variables x0 x1) (next_variables y0 y1) e = cc
+same_item (next_variables x0 x1) (next_variables y0 y1) e = let h : spot_coded.code x0 ≡ spot_coded.code y0 = cc in cc (spot_coded.inj x0 y0 h)
 same_item next_procedure next_procedure e = refl
 same_item next_service next_service e = refl
 same_item x y e = clash (item_code x) (item_code y) e refl
@@ -252,19 +272,19 @@ order_coded = coded_list (record { code = item_code; inj = same_item })
 
 abbrev pub tables_coded : Coded (List Table)
 tables_coded =
-    coded_list (code_by (ℕ × (Text × List ℕ)) (coded× coded_ℕ (coded× text_coded words_coded)) (λ r. (r.line, (r.name, r.words))) (λ p. record { line = p.0; name = p.1.0; words = p.1.1 }) (λ _. refl))
+    coded_list (code_by (Spot × (Text × List ℕ)) (coded× spot_coded (coded× text_coded words_coded)) (λ r. (r.spot, (r.name, r.words))) (λ p. record { spot = p.0; name = p.1.0; words = p.1.1 }) (λ _. refl))
 
 abbrev pub lams_coded : Coded (List Lam)
 lams_coded =
-    coded_list (code_by (ℕ × (Text × (ℕ × (ℕ × ℕ)))) (coded× coded_ℕ (coded× text_coded (coded× coded_ℕ (coded× coded_ℕ coded_ℕ)))) (λ r. (r.line, (r.name, (r.crate_no, (r.station, r.sub_address))))) (λ p. record { line = p.0; name = p.1.0; crate_no = p.1.1.0; station = p.1.1.1.0; sub_address = p.1.1.1.1 }) (λ _. refl))
+    coded_list (code_by (Spot × (Text × (ℕ × (ℕ × ℕ)))) (coded× spot_coded (coded× text_coded (coded× coded_ℕ (coded× coded_ℕ coded_ℕ)))) (λ r. (r.spot, (r.name, (r.crate_no, (r.station, r.sub_address))))) (λ p. record { spot = p.0; name = p.1.0; crate_no = p.1.1.0; station = p.1.1.1.0; sub_address = p.1.1.1.1 }) (λ _. refl))
 
 abbrev pub procedures_coded : Coded (List Procedure)
 procedures_coded =
-    coded_list (code_by (ℕ × (Text × (List Parameter × (ℕ × (ℕ × (ℕ × (List Text × Block))))))) (coded× coded_ℕ (coded× text_coded (coded× parameters_coded (coded× coded_ℕ (coded× coded_ℕ (coded× coded_ℕ (coded× names_coded block_coded))))))) (λ r. (r.line, (r.name, (r.parameters, (r.cycles, (r.words, (r.steps, (r.registers, r.body)))))))) (λ p. record { line = p.0; name = p.1.0; parameters = p.1.1.0; cycles = p.1.1.1.0; words = p.1.1.1.1.0; steps = p.1.1.1.1.1.0; registers = p.1.1.1.1.1.1.0; body = p.1.1.1.1.1.1.1 }) (λ _. refl))
+    coded_list (code_by (Spot × (Text × (List Parameter × (ℕ × (ℕ × (ℕ × (List Text × Block))))))) (coded× spot_coded (coded× text_coded (coded× parameters_coded (coded× coded_ℕ (coded× coded_ℕ (coded× coded_ℕ (coded× names_coded block_coded))))))) (λ r. (r.spot, (r.name, (r.parameters, (r.cycles, (r.words, (r.steps, (r.registers, r.body)))))))) (λ p. record { spot = p.0; name = p.1.0; parameters = p.1.1.0; cycles = p.1.1.1.0; words = p.1.1.1.1.0; steps = p.1.1.1.1.1.0; registers = p.1.1.1.1.1.1.0; body = p.1.1.1.1.1.1.1 }) (λ _. refl))
 
 abbrev pub services_coded : Coded (List Service)
 services_coded =
-    coded_list (code_by (ℕ × (ℕ × (ℕ × (ℕ × (List Text × Block))))) (coded× coded_ℕ (coded× coded_ℕ (coded× coded_ℕ (coded× coded_ℕ (coded× names_coded block_coded))))) (λ r. (r.line, (r.lam, (r.cycles, (r.words, (r.registers, r.body)))))) (λ p. record { line = p.0; lam = p.1.0; cycles = p.1.1.0; words = p.1.1.1.0; registers = p.1.1.1.1.0; body = p.1.1.1.1.1 }) (λ _. refl))
+    coded_list (code_by (Spot × (ℕ × (ℕ × (ℕ × (List Text × Block))))) (coded× spot_coded (coded× coded_ℕ (coded× coded_ℕ (coded× coded_ℕ (coded× names_coded block_coded))))) (λ r. (r.spot, (r.lam, (r.cycles, (r.words, (r.registers, r.body)))))) (λ p. record { spot = p.0; lam = p.1.0; cycles = p.1.1.0; words = p.1.1.1.0; registers = p.1.1.1.1.0; body = p.1.1.1.1.1 }) (λ _. refl))
 
 abbrev pub script_coded : Coded Script
 script_coded =

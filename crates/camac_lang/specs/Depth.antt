@@ -36,23 +36,23 @@ depth_of (Some q) = q.depth
 -- of a statement, and of a block from its brace on; a call counts the procedure called
 abbrev mutual
   pub statement_depth : List Callable → Statement → ℕ
-  statement_depth qs (assign line x e) = expression_depth e
-  statement_depth qs (set_register line r k n a) = max (expression_depth k) (max (expression_depth n) (expression_depth a))
-  statement_depth qs (single line size f r m) = move_depth m
-  statement_depth qs (address_scan line f r1 r2 e x) = expression_depth e
-  statement_depth qs (q_stop line f r g e x) = expression_depth e
-  statement_depth qs (q_repeat line f r g e l x) = max (expression_depth e) (expression_depth l)
-  statement_depth qs (put line e) = expression_depth e
-  statement_depth qs (crate_call line k e) = expression_depth e
-  statement_depth qs (lam_call line k l) = 0
-  statement_depth qs (choose line t a) = max (most part_depth t) (suc (inner_depth qs a))
-  statement_depth qs (choose_else line t a b) = max (most part_depth t) (max (suc (inner_depth qs a)) (suc (inner_depth qs b)))
-  statement_depth qs (for_ line x e1 e2 ks body) =
+  statement_depth qs (assign spot x e) = expression_depth e
+  statement_depth qs (set_register spot r k n a) = max (expression_depth k) (max (expression_depth n) (expression_depth a))
+  statement_depth qs (single spot size f r m) = move_depth m
+  statement_depth qs (address_scan spot f r1 r2 e x) = expression_depth e
+  statement_depth qs (q_stop spot f r g e x) = expression_depth e
+  statement_depth qs (q_repeat spot f r g e l x) = max (expression_depth e) (expression_depth l)
+  statement_depth qs (put spot e) = expression_depth e
+  statement_depth qs (crate_call spot k e) = expression_depth e
+  statement_depth qs (lam_call spot k l) = 0
+  statement_depth qs (choose spot t a) = max (most part_depth t) (suc (inner_depth qs a))
+  statement_depth qs (choose_else spot t a b) = max (most part_depth t) (max (suc (inner_depth qs a)) (suc (inner_depth qs b)))
+  statement_depth qs (for_ spot x e1 e2 ks body) =
       max (expression_depth e1) (max (expression_depth e2) (suc (inner_depth qs body)))
-  statement_depth qs (for_each line x v last body) = suc (inner_depth qs body)
-  statement_depth qs (while_ line t turns x ks body) = max (most part_depth t) (suc (inner_depth qs body))
-  statement_depth qs (locked line e body) = max (expression_depth e) (suc (inner_depth qs body))
-  statement_depth qs (call line p es) = max (suc (most expression_depth es)) (depth_of (slice_get qs p))
+  statement_depth qs (for_each spot x v last body) = suc (inner_depth qs body)
+  statement_depth qs (while_ spot t turns x ks body) = max (most part_depth t) (suc (inner_depth qs body))
+  statement_depth qs (locked spot e body) = max (expression_depth e) (suc (inner_depth qs body))
+  statement_depth qs (call spot p es) = max (suc (most expression_depth es)) (depth_of (slice_get qs p))
 
   pub inner_depth : List Callable → Block → ℕ
   inner_depth qs done = 0

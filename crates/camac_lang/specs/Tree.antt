@@ -5,6 +5,7 @@ use Rattle.camac_range.specs.declared.comparison.Cmp.{Cmp}
 use Rattle.camac_lang.specs.declared.word.CrateCall.{CrateCall}
 use Rattle.camac_lang.specs.declared.word.LamCall.{LamCall}
 use Rattle.camac_lang.specs.declared.word.WordSize.{WordSize}
+use Rattle.camac_lang.specs.declared.spot.Spot.{Spot}
 
 -- a name's bytes
 abbrev pub Text : Type 0
@@ -50,70 +51,70 @@ pub record Keep : Type 0 where
   pub low : ℕ
   pub high : ℕ
 
--- Each statement begins with the line of its first token.
+-- Each statement begins with the spot of its first token.
 mutual
   pub data Statement : Type 0 where
     -- a variable and its value
-    assign : (line : ℕ) → ℕ → Expression → Statement
+    assign : (spot : Spot) → ℕ → Expression → Statement
     -- a register, and its crate, station and sub-address
-    set_register : (line : ℕ) → ℕ → Expression → Expression → Expression → Statement
+    set_register : (spot : Spot) → ℕ → Expression → Expression → Expression → Statement
     -- one cycle: function, register and data
-    single : (line : ℕ) → WordSize → ℕ → ℕ → Move → Statement
+    single : (spot : Spot) → WordSize → ℕ → ℕ → Move → Statement
     -- function, first and final register, most words, tally
-    address_scan : (line : ℕ) → ℕ → ℕ → ℕ → Expression → ℕ → Statement
+    address_scan : (spot : Spot) → ℕ → ℕ → ℕ → Expression → ℕ → Statement
     -- function, register, table of a write, most cycles, tally
-    q_stop : (line : ℕ) → ℕ → ℕ → Option ℕ → Expression → ℕ → Statement
+    q_stop : (spot : Spot) → ℕ → ℕ → Option ℕ → Expression → ℕ → Statement
     -- function, register, table of a write, most words, most cycles, tally
-    q_repeat : (line : ℕ) → ℕ → ℕ → Option ℕ → Expression → Expression → ℕ → Statement
-    put : (line : ℕ) → Expression → Statement
+    q_repeat : (spot : Spot) → ℕ → ℕ → Option ℕ → Expression → Expression → ℕ → Statement
+    put : (spot : Spot) → Expression → Statement
     -- with the crate
-    crate_call : (line : ℕ) → CrateCall → Expression → Statement
+    crate_call : (spot : Spot) → CrateCall → Expression → Statement
     -- with the LAM
-    lam_call : (line : ℕ) → LamCall → ℕ → Statement
+    lam_call : (spot : Spot) → LamCall → ℕ → Statement
     -- `if`, without and with `else`
-    choose : (line : ℕ) → Condition → Block → Statement
-    choose_else : (line : ℕ) → Condition → Block → Block → Statement
+    choose : (spot : Spot) → Condition → Block → Statement
+    choose_else : (spot : Spot) → Condition → Block → Block → Statement
     -- `for`: variable, first and last value, kept ranges, body
-    for_ : (line : ℕ) → ℕ → Expression → Expression → List Keep → Block → Statement
+    for_ : (spot : Spot) → ℕ → Expression → Expression → List Keep → Block → Statement
     -- `for` with `each`, which is judged turn by turn: variable, first and last value, body
-    for_each : (line : ℕ) → (variable first last : ℕ) → Block → Statement
+    for_each : (spot : Spot) (variable first last : ℕ) → Block → Statement
     -- `while`: condition, annotated turns, measure, kept ranges, body
-    while_ : (line : ℕ) → Condition → ℕ → ℕ → List Keep → Block → Statement
+    while_ : (spot : Spot) → Condition → ℕ → ℕ → List Keep → Block → Statement
     -- `lock`: crate, body
-    locked : (line : ℕ) → Expression → Block → Statement
+    locked : (spot : Spot) → Expression → Block → Statement
     -- procedure, arguments
-    call : (line : ℕ) → ℕ → List Expression → Statement
+    call : (spot : Spot) → ℕ → List Expression → Statement
 
   pub data Block : Type 0 where
     done : Block
     next : Statement → Block → Block
 
 -- of its first token
-abbrev pub line_of : Statement → ℕ
-line_of (assign line x e) = line
-line_of (set_register line r c n a) = line
-line_of (single line size f r move) = line
-line_of (address_scan line f r1 r2 max x) = line
-line_of (q_stop line f r t max x) = line
-line_of (q_repeat line f r t max limit x) = line
-line_of (put line e) = line
-line_of (crate_call line which e) = line
-line_of (lam_call line which l) = line
-line_of (choose line test a) = line
-line_of (choose_else line test a b) = line
-line_of (for_ line x e1 e2 keeps body) = line
-line_of (for_each line x v last body) = line
-line_of (while_ line test most m keeps body) = line
-line_of (locked line e body) = line
-line_of (call line p es) = line
+abbrev pub spot_of : Statement → Spot
+spot_of (assign spot x e) = spot
+spot_of (set_register spot r c n a) = spot
+spot_of (single spot size f r move) = spot
+spot_of (address_scan spot f r1 r2 max x) = spot
+spot_of (q_stop spot f r t max x) = spot
+spot_of (q_repeat spot f r t max limit x) = spot
+spot_of (put spot e) = spot
+spot_of (crate_call spot which e) = spot
+spot_of (lam_call spot which l) = spot
+spot_of (choose spot test a) = spot
+spot_of (choose_else spot test a b) = spot
+spot_of (for_ spot x e1 e2 keeps body) = spot
+spot_of (for_each spot x v last body) = spot
+spot_of (while_ spot test most m keeps body) = spot
+spot_of (locked spot e body) = spot
+spot_of (call spot p es) = spot
 
 pub record Table : Type 0 where
-  pub line : ℕ
+  pub spot : Spot
   pub name : Text
   pub words : List ℕ
 
 pub record Lam : Type 0 where
-  pub line : ℕ
+  pub spot : Spot
   pub name : Text
   pub crate_no : ℕ
   pub station : ℕ
@@ -127,7 +128,7 @@ pub record Parameter : Type 0 where
 
 -- in its body a variable is its place among the parameters
 pub record Procedure : Type 0 where
-  pub line : ℕ
+  pub spot : Spot
   pub name : Text
   pub parameters : List Parameter
   -- annotated
@@ -140,7 +141,7 @@ pub record Procedure : Type 0 where
 
 -- in its body a variable is its place among those of the script
 pub record Service : Type 0 where
-  pub line : ℕ
+  pub spot : Spot
   pub lam : ℕ
   -- annotated
   pub cycles : ℕ
@@ -149,11 +150,15 @@ pub record Service : Type 0 where
   pub registers : List Text
   pub body : Block
 
+-- A spot on a line, for worked examples: they leave open how much text follows.
+abbrev pub on_line : ℕ → Spot
+on_line n = record { line = n; left = 0 }
+
 -- what stands next in the text: the next of its kind, or so many further variables
 pub data Item : Type 0 where
   next_table : Item
   next_lam : Item
-  next_variables : (line : ℕ) → (count : ℕ) → Item
+  next_variables : (spot : Spot) (count : ℕ) → Item
   next_procedure : Item
   next_service : Item
 

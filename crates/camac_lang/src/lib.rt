@@ -10,6 +10,7 @@ pub mod limits;
 mod name;
 mod room;
 mod script;
+mod spot;
 mod tree;
 mod word;
 
@@ -19,6 +20,7 @@ pub use laws::{limits_hold, procedures_stand, registers_grow, services_stand};
 pub use name::Name;
 pub use room::fits;
 pub use script::{Item, Lam, Parameter, Procedure, Script, Service, Table};
+pub use spot::Spot;
 pub use tree::{
     AddressScan, Assignment, BlockTransfer, Cond, CrateAction, Divisor, ForHead, Keep, LamAction,
     Move, Part, ProcedureCall, PutAction, RegisterSetting, SingleAction, Stmt, Test, WhileHead,

@@ -2,10 +2,11 @@
 // A variable, register, table, LAM or procedure is its number: see `script.rt`.
 
 ghost use Rattle.std.specs.Prelude.{◌≡◌, ◌≤◌, ◌↔◌, IfSome, IsSome};
-ghost use Rattle.camac_lang.specs.Tree.{line_of};
+ghost use Rattle.camac_lang.specs.Tree.{spot_of};
 ghost use Rattle.camac_lang.specs.View.{statement_of};
 
 use crate::expression::Expr;
+use crate::spot::Spot;
 use crate::word::{CrateCall, LamCall, WordSize};
 use camac_range::Cmp;
 use camac_word::Function;
@@ -99,7 +100,7 @@ pub struct Keep {
 /// `v = e`
 #[derive(Drop)]
 pub struct Assignment {
-    pub line: u32,
+    pub spot: Spot,
     pub variable: usize,
     pub value: Expr,
 }
@@ -107,7 +108,7 @@ pub struct Assignment {
 /// `cdreg`: a register's address (ESONE CDREG); branch 1 is left out.
 #[derive(Drop)]
 pub struct RegisterSetting {
-    pub line: u32,
+    pub spot: Spot,
     pub register: usize,
     pub crate_no: Expr,
     pub station: Expr,
@@ -117,7 +118,7 @@ pub struct RegisterSetting {
 /// `cfsa`, `cssa`: one cycle with 24 or 16 bits (ESONE CFSA, CSSA).
 #[derive(Drop)]
 pub struct SingleAction {
-    pub line: u32,
+    pub spot: Spot,
     pub size: WordSize,
     pub function: Function,
     pub register: usize,
@@ -127,7 +128,7 @@ pub struct SingleAction {
 /// `cfmad`: the address scan (ESONE CFMAD), of at most `max` words.
 #[derive(Drop)]
 pub struct AddressScan {
-    pub line: u32,
+    pub spot: Spot,
     pub function: Function,
     pub first: usize,
     pub last: usize,
@@ -138,7 +139,7 @@ pub struct AddressScan {
 /// A block transfer of at most `max` words, which a write takes from a table.
 #[derive(Drop)]
 pub struct BlockTransfer {
-    pub line: u32,
+    pub spot: Spot,
     pub function: Function,
     pub register: usize,
     pub table: Option<usize>,
@@ -149,14 +150,14 @@ pub struct BlockTransfer {
 /// `put`: a word of the event (own).
 #[derive(Drop)]
 pub struct PutAction {
-    pub line: u32,
+    pub spot: Spot,
     pub value: Expr,
 }
 
 /// A call of a crate's controller (ESONE CCCZ and others).
 #[derive(Drop)]
 pub struct CrateAction {
-    pub line: u32,
+    pub spot: Spot,
     pub call: CrateCall,
     pub crate_no: Expr,
 }
@@ -164,7 +165,7 @@ pub struct CrateAction {
 /// A call at a LAM's address (ESONE CCLM and others).
 #[derive(Drop)]
 pub struct LamAction {
-    pub line: u32,
+    pub spot: Spot,
     pub call: LamCall,
     pub lam: usize,
 }
@@ -172,7 +173,7 @@ pub struct LamAction {
 /// `call` of a procedure (own)
 #[derive(Drop)]
 pub struct ProcedureCall {
-    pub line: u32,
+    pub spot: Spot,
     pub procedure: usize,
     pub arguments: Vec<Expr>,
 }
@@ -180,7 +181,7 @@ pub struct ProcedureCall {
 /// What stands before the body of a `for`, from a number up to another.
 #[derive(Drop)]
 pub struct ForHead {
-    pub line: u32,
+    pub spot: Spot,
     pub variable: usize,
     pub from: Expr,
     pub to: Expr,
@@ -190,14 +191,14 @@ pub struct ForHead {
 /// What stands before the body of a `while`, annotated with its most turns and a variable that measures them.
 #[derive(Drop)]
 pub struct WhileHead {
-    pub line: u32,
+    pub spot: Spot,
     pub test: Cond,
     pub turns: u32,
     pub measure: usize,
     pub keeps: Vec<Keep>,
 }
 
-/// A statement, with the line of its first token. What each does is the language's meaning (camac_model).
+/// A statement, with the spot of its first token. What each does is the language's meaning (camac_model).
 #[derive(Drop)]
 pub enum Stmt {
     Assign(Assignment),
@@ -218,13 +219,13 @@ pub enum Stmt {
     LamCall(LamAction),
     /// `if` without `else`
     If {
-        line: u32,
+        spot: Spot,
         test: Cond,
         then: Vec<Stmt>,
     },
     /// `if` with `else`
     IfElse {
-        line: u32,
+        spot: Spot,
         test: Cond,
         then: Vec<Stmt>,
         otherwise: Vec<Stmt>,
@@ -235,7 +236,7 @@ pub enum Stmt {
     },
     /// `for` with `each`: from a number up to another, judged turn by turn (own)
     ForEach {
-        line: u32,
+        spot: Spot,
         variable: usize,
         first: u32,
         last: u32,
@@ -247,7 +248,7 @@ pub enum Stmt {
     },
     /// `lock`: a block with a crate to itself (own)
     Lock {
-        line: u32,
+        spot: Spot,
         crate_no: Expr,
         body: Vec<Stmt>,
     },
@@ -255,26 +256,26 @@ pub enum Stmt {
 }
 
 impl Stmt {
-    /// The line of its first token.
-    pub fn line(&self) -> u32
-        ensures { result ≡ line_of (statement_of self.now) }
+    /// Where its first token stands.
+    pub fn spot(&self) -> Spot
+        ensures { result ≡ spot_of (statement_of self.now) }
     {
         match self {
-            Stmt::Assign(assignment) => assignment.line,
-            Stmt::SetRegister(setting) => setting.line,
-            Stmt::Single(single) => single.line,
-            Stmt::Scan(scan) => scan.line,
-            Stmt::QStop { transfer } | Stmt::QRepeat { transfer, .. } => transfer.line,
-            Stmt::Put(put) => put.line,
-            Stmt::CrateCall(action) => action.line,
-            Stmt::LamCall(action) => action.line,
-            Stmt::For { head, .. } => head.line,
-            Stmt::While { head, .. } => head.line,
-            Stmt::Call(call) => call.line,
-            Stmt::If { line, .. }
-            | Stmt::IfElse { line, .. }
-            | Stmt::ForEach { line, .. }
-            | Stmt::Lock { line, .. } => *line,
+            Stmt::Assign(assignment) => assignment.spot,
+            Stmt::SetRegister(setting) => setting.spot,
+            Stmt::Single(single) => single.spot,
+            Stmt::Scan(scan) => scan.spot,
+            Stmt::QStop { transfer } | Stmt::QRepeat { transfer, .. } => transfer.spot,
+            Stmt::Put(put) => put.spot,
+            Stmt::CrateCall(action) => action.spot,
+            Stmt::LamCall(action) => action.spot,
+            Stmt::For { head, .. } => head.spot,
+            Stmt::While { head, .. } => head.spot,
+            Stmt::Call(call) => call.spot,
+            Stmt::If { spot, .. }
+            | Stmt::IfElse { spot, .. }
+            | Stmt::ForEach { spot, .. }
+            | Stmt::Lock { spot, .. } => *spot,
         }
     }
 }

@@ -12,6 +12,7 @@ use Rattle.camac_rules.specs.Known.{Region, region}
 use Rattle.camac_rules.specs.Refusal.{go_on, required, given}
 use Rattle.camac_rules.specs.Transfers.{words_fit}
 use Rattle.camac_rules.specs.Windows.{Window, window_of, is_installed, is_declared, window_size}
+use Rattle.camac_lang.specs.Tree.{on_line}
 
 -- in crate 1 stations n to m and sub-addresses up to a
 abbrev over : ℕ → ℕ → ℕ → Region
@@ -44,15 +45,15 @@ one_without : region_widths sample_plan 0 (over 5 6 1) ≡ None
 one_without = refl
 
 -- by which rule
-accepted : command_widths sample_plan 4 0 (over 5 6 0) ≡ Ok (interval 12 24)
+accepted : command_widths sample_plan (on_line 4) 0 (over 5 6 0) ≡ Ok (interval 12 24)
 unfolding go_on required given
 accepted = refl
 
-not_installed : command_widths sample_plan 4 0 (over 5 7 1) ≡ Err (broken StationNotInstalled 4 (NoModule 1 7))
+not_installed : command_widths sample_plan (on_line 4) 0 (over 5 7 1) ≡ Err (broken StationNotInstalled (on_line 4) (NoModule 1 7))
 unfolding go_on required given
 not_installed = refl
 
-not_declared : command_widths sample_plan 4 0 (over 5 6 1) ≡ Err (broken CommandNotDeclared 4 (NoCommand 0 1 6 1))
+not_declared : command_widths sample_plan (on_line 4) 0 (over 5 6 1) ≡ Err (broken CommandNotDeclared (on_line 4) (NoCommand 0 1 6 1))
 unfolding go_on required given
 not_declared = refl
 

@@ -2,7 +2,7 @@
 use Rattle.std.proofs.Common.{◌≡◌, ℕ, [], ◌∷◌, List, Some, None, true, refl}
 use Rattle.std.specs.Prelude.{codes}
 use Rattle.camac_func.specs.declared.data.DataMove.TheVariants as moved
-use Rattle.camac_lang.specs.Tree.{number, variable, add, call, Procedure, Script}
+use Rattle.camac_lang.specs.Tree.{number, variable, add, call, Procedure, Script, on_line}
 use Rattle.camac_lang.specs.View.{block_of}
 use Rattle.camac_lang.specs.Scope.{is_well_formed}
 use Rattle.camac_branch.specs.Branch.{Answer}
@@ -13,7 +13,7 @@ use Rattle.camac_laws.specs.Calls.{guarded_run}
 
 -- called for sub-address 0, and then for this one
 abbrev calls : ℕ → Script
-calls s = script_of opening [] (get ∷ []) 6 2 [] (call 9 0 (number 0 ∷ []) ∷ call 10 0 (number s ∷ []) ∷ [])
+calls s = script_of opening [] (get ∷ []) 6 2 [] (call (on_line 9) 0 (number 0 ∷ []) ∷ call (on_line 10) 0 (number s ∷ []) ∷ [])
 
 abbrev guarded_served : Script → List Answer → Behaviour (Unit {0})
 guarded_served script answers = guarded_run 65535 sample_plan script (demand 4 ∷ answers)
@@ -41,18 +41,18 @@ outside_done = refl
 -- a call in a body is guarded too: this one is of the sub-address after its own
 abbrev get_next : Procedure
 get_next = record {
-  line = 7;
+  spot = on_line 7;
   name = codes "get_next";
   parameters = record { name = codes "s"; low = 0; high = 11 } ∷ [];
   cycles = 3;
   words = 1;
   steps = 5;
   registers = [];
-  body = block_of (call 8 0 (add (variable 0) (number 1) ∷ []) ∷ []);
+  body = block_of (call (on_line 8) 0 (add (variable 0) (number 1) ∷ []) ∷ []);
 }
 
 abbrev calls_next : ℕ → Script
-calls_next s = script_of opening [] (get ∷ get_next ∷ []) 6 2 [] (call 11 1 (number s ∷ []) ∷ [])
+calls_next s = script_of opening [] (get ∷ get_next ∷ []) 6 2 [] (call (on_line 11) 1 (number s ∷ []) ∷ [])
 
 next_stands : is_well_formed (calls_next 11) ≡ true
 unfolding is_well_formed

@@ -30,13 +30,14 @@ use Rattle.camac_laws.specs.Shares.{total, IsBelow}
 use Rattle.camac_laws.specs.CostsBounds.{service_bounds, AreBounds, CostsAreBounds}
 use Rattle.camac_check.proofs.Capped.{in_code, in_rules, cut, cut_all, if_reached_cut, block_cut}
 use Rattle.camac_laws.proofs.Shares.{go_ok, ok_same, body_adds}
+use Rattle.camac_lang.specs.declared.spot.Spot.{Spot}
 
 -- ---- what is within a heading
 
-pub required_ok : (b : Bool) (rule : CheckRule) (line : ℕ) (case : Case) (u : Unit {0}) → required b rule line case ≡ Ok u → b ≡ true
+pub required_ok : (b : Bool) (rule : CheckRule) (spot : Spot) (case : Case) (u : Unit {0}) → required b rule spot case ≡ Ok u → b ≡ true
 unfolding required
-required_ok true rule line case u e = refl
-required_ok false rule line case u e = absurd (cc)
+required_ok true rule spot case u e = refl
+required_ok false rule spot case u e = absurd (cc)
 
 record Within (m found k : Bounds) : Type 0 where
   same : found ≡ k
@@ -44,16 +45,16 @@ record Within (m found k : Bounds) : Type 0 where
   words : found.words ≤ m.words
   steps : found.steps ≤ m.steps
 
-within_ok : (place : Body) (m found k : Bounds) (line : ℕ) → within place m found line ≡ Ok k → Within m found k
-within_ok place m found k line e =
-    let a = go_ok (required (nat_le found.words m.words) TooManyWords line _) _ k e in
-    let b = go_ok (required (nat_le found.cycles m.cycles) TooManyCycles line _) _ k a.2 in
-    let c = go_ok (required (nat_le found.steps m.steps) TooManySteps line _) _ k b.2 in
+within_ok : (place : Body) (m found k : Bounds) (spot : Spot) → within place m found spot ≡ Ok k → Within m found k
+within_ok place m found k spot e =
+    let a = go_ok (required (nat_le found.words m.words) TooManyWords spot _) _ k e in
+    let b = go_ok (required (nat_le found.cycles m.cycles) TooManyCycles spot _) _ k a.2 in
+    let c = go_ok (required (nat_le found.steps m.steps) TooManySteps spot _) _ k b.2 in
     record {
       same = ok_same found k c.2;
-      cycles = leb-true found.cycles m.cycles (required_ok (nat_le found.cycles m.cycles) TooManyCycles line _ b.0 b.1);
-      words = leb-true found.words m.words (required_ok (nat_le found.words m.words) TooManyWords line _ a.0 a.1);
-      steps = leb-true found.steps m.steps (required_ok (nat_le found.steps m.steps) TooManySteps line _ c.0 c.1);
+      cycles = leb-true found.cycles m.cycles (required_ok (nat_le found.cycles m.cycles) TooManyCycles spot _ b.0 b.1);
+      words = leb-true found.words m.words (required_ok (nat_le found.words m.words) TooManyWords spot _ a.0 a.1);
+      steps = leb-true found.steps m.steps (required_ok (nat_le found.steps m.steps) TooManySteps spot _ c.0 c.1);
     }
 
 same_costs : (a b c d e f : ℕ) → a ≡ d → b ≡ e → c ≡ f → costs a b c ≡ costs d e f
@@ -82,12 +83,12 @@ pub record InCode (r : Context) (around : Around) (b : Block) (k : Known) (bound
   pub same : whole.costs ≡ bound
   pub below : IsBelow whole.costs
 
-body_in_code : (r : Context) (around : Around) (b : Block) (k : Known) (place : Body) (m bound : Bounds) (line : ℕ) → m.cycles < 2 ^ 64 - 1 → m.words < 2 ^ 64 - 1 → m.steps < 2 ^ 64 - 1
-    → go_on (if_reached unreached k (accept_block (in_rules r) around b)) (λ v. within place m v.costs line) ≡ Ok bound → InCode r around b k bound
-body_in_code r around b k place m bound line hc hw hs e =
+body_in_code : (r : Context) (around : Around) (b : Block) (k : Known) (place : Body) (m bound : Bounds) (spot : Spot) → m.cycles < 2 ^ 64 - 1 → m.words < 2 ^ 64 - 1 → m.steps < 2 ^ 64 - 1
+    → go_on (if_reached unreached k (accept_block (in_rules r) around b)) (λ v. within place m v.costs spot) ≡ Ok bound → InCode r around b k bound
+body_in_code r around b k place m bound spot hc hw hs e =
     let judged : Result Verdict Fault = if_reached unreached k (accept_block (in_rules r) around b) in
-    let (v, is, inside) = go_ok judged (λ v. within place m v.costs line) bound e in
-    let w = within_ok place m v.costs bound line inside in
+    let (v, is, inside) = go_ok judged (λ v. within place m v.costs spot) bound e in
+    let w = within_ok place m v.costs bound spot inside in
     let low = below m v.costs bound hc hw hs w in
     let same = uncapped v.costs low in
     record {
@@ -101,14 +102,14 @@ pub procedure_in_code : (r : Context) (p : Procedure) (k : Bounds) → p.cycles 
     → InCode r (alone_in (own_body r)) p.body (at_entry p.parameters) k
 procedure_in_code r p k hc hw hs e =
     let counted = go_ok (count_block (own_body r) p.body 0) _ k e in
-    body_in_code r (alone_in (own_body r)) p.body (at_entry p.parameters) (own_body r) (annotated p) k p.line hc hw hs counted.2
+    body_in_code r (alone_in (own_body r)) p.body (at_entry p.parameters) (own_body r) (annotated p) k p.spot hc hw hs counted.2
 
 pub service_in_code : (r : Context) (v : Service) (k : Bounds) → v.cycles < 2 ^ 64 - 1 → v.words < 2 ^ 64 - 1 → accept_service (in_rules r) v ≡ Ok k
     → InCode r (alone_in (body.Service v.lam)) v.body (Some at_start) k
 unfolding if_reached
 service_in_code r v k hc hw e =
     let counted = go_ok (count_block (body.Service v.lam) v.body 0) _ k e in
-    body_in_code r (alone_in (body.Service v.lam)) v.body (Some at_start) (body.Service v.lam) (costs v.cycles v.words greatest) k v.line hc hw (lit< tt) counted.2
+    body_in_code r (alone_in (body.Service v.lam)) v.body (Some at_start) (body.Service v.lam) (costs v.cycles v.words greatest) k v.spot hc hw (lit< tt) counted.2
 
 body_bound : (r : Context) (whose : Owner) (around : Around) (b : Block) (k : Known) (bound : Bounds) → InCode r around b k bound → Bound (body_costs (in_code r) whose around b k) bound
 body_bound r whose around b k bound h =
@@ -139,7 +140,7 @@ items_bound : (r : Context) (i j : ℕ) (items : List Item) (ps : List Procedure
 items_bound r i j [] ps vs ks hp hv a = (ok_same [] ks a, tt)
 items_bound r i j (next_table ∷ rest) ps vs ks hp hv a = items_bound r i j rest ps vs ks hp hv a
 items_bound r i j (next_lam ∷ rest) ps vs ks hp hv a = items_bound r i j rest ps vs ks hp hv a
-items_bound r i j (next_variables line n ∷ rest) ps vs ks hp hv a = items_bound r i j rest ps vs ks hp hv a
+items_bound r i j (next_variables spot n ∷ rest) ps vs ks hp hv a = items_bound r i j rest ps vs ks hp hv a
 items_bound r i j (next_procedure ∷ rest) [] vs ks hp hv a = items_bound r i j rest [] vs ks hp hv a
 items_bound r i j (next_procedure ∷ rest) (p ∷ ps) vs ks hp hv a =
     let (k, accepted, others) = go_ok (accept_procedure (in_rules r) p) (λ k. accept_items (in_rules (with_procedure p r)) rest ps vs) ks a in

@@ -12,6 +12,7 @@ use Rattle.camac_names.specs.declared.fault.LinkRule.{LinkRule}
 use Rattle.camac_names.specs.declared.fault.LinkRule.TheVariants.{StationWithoutBit, StationServedTwice, EventAboveBuffer}
 use Rattle.camac_names.specs.Link.{unless, place_of, served_by, lams_fault, lam_bit, is_on, is_served, service_fault, served_fault, or_else, services_fault, link_fault}
 use Rattle.camac_check.proofs.Judged.{or_else_parts, unless_parts}
+use Rattle.camac_lang.specs.declared.spot.Spot.{Spot}
 
 abbrev emptied : List Service → List Service
 emptied vs = map (annotate_service 0 0) vs
@@ -24,8 +25,8 @@ emptied_more : (vs : List Service) (v : Service) → emptied vs ++ annotate_serv
 emptied_more [] v = refl
 emptied_more (w ∷ vs) v = ap (λ ws. annotate_service 0 0 w ∷ ws) (emptied_more vs v)
 
-unless_none : (test : Bool) (rule : LinkRule) (line : ℕ) (case : LinkCase) (next : Option LinkFault) → test ≡ true → next ≡ None → unless test rule line case next ≡ None
-unless_none test rule line case next e n = ap (λ b. unless b rule line case next) e ∙ n
+unless_none : (test : Bool) (rule : LinkRule) (spot : Spot) (case : LinkCase) (next : Option LinkFault) → test ≡ true → next ≡ None → unless test rule spot case next ≡ None
+unless_none test rule spot case next e n = ap (λ b. unless b rule spot case next) e ∙ n
 
 or_else_none : (o p : Option LinkFault) → o ≡ None → p ≡ None → or_else o p ≡ None
 or_else_none o p e n = ap (λ x. or_else x p) e ∙ n
@@ -33,13 +34,13 @@ or_else_none o p e n = ap (λ x. or_else x p) e ∙ n
 emptied_service : (plan : Layout) (lams : List Lam) (earlier : List Service) (v : Service) (o : Option Lam) → served_fault plan lams earlier v o ≡ None → served_fault plan lams (emptied earlier) (annotate_service 0 0 v) o ≡ None
 emptied_service plan lams earlier v None e = absurd (cc)
 emptied_service plan lams earlier v (Some l) e =
-    let third : Option LinkFault = unless (nat_le v.words plan.buffer) EventAboveBuffer v.line (Words v.words plan.buffer) None in
-    let second : Option LinkFault = unless (not (is_served lams l earlier)) StationServedTwice v.line (served_by lams l earlier) third in
-    let a = unless_parts (is_some (lam_bit plan l)) StationWithoutBit v.line (place_of l) second e in
-    let b = unless_parts (not (is_served lams l earlier)) StationServedTwice v.line (served_by lams l earlier) third a.1 in
-    unless_none (is_some (lam_bit plan l)) StationWithoutBit v.line _ _ a.0
-    (unless_none (not (is_served lams l (emptied earlier))) StationServedTwice v.line _ _ (ap not (same_served lams l earlier) ∙ b.0)
-    (unless_none (nat_le 0 plan.buffer) EventAboveBuffer v.line _ None (le-leb 0 plan.buffer (omega arith)) refl))
+    let third : Option LinkFault = unless (nat_le v.words plan.buffer) EventAboveBuffer v.spot (Words v.words plan.buffer) None in
+    let second : Option LinkFault = unless (not (is_served lams l earlier)) StationServedTwice v.spot (served_by lams l earlier) third in
+    let a = unless_parts (is_some (lam_bit plan l)) StationWithoutBit v.spot (place_of l) second e in
+    let b = unless_parts (not (is_served lams l earlier)) StationServedTwice v.spot (served_by lams l earlier) third a.1 in
+    unless_none (is_some (lam_bit plan l)) StationWithoutBit v.spot _ _ a.0
+    (unless_none (not (is_served lams l (emptied earlier))) StationServedTwice v.spot _ _ (ap not (same_served lams l earlier) ∙ b.0)
+    (unless_none (nat_le 0 plan.buffer) EventAboveBuffer v.spot _ None (le-leb 0 plan.buffer (omega arith)) refl))
 
 emptied_services : (plan : Layout) (lams : List Lam) (earlier vs : List Service) → services_fault plan lams earlier vs ≡ None → services_fault plan lams (emptied earlier) (emptied vs) ≡ None
 emptied_services plan lams earlier [] e = refl

@@ -24,6 +24,7 @@ use Rattle.camac_rules.specs.Accept.{bare}
 use Rattle.camac_laws.specs.Lower.{AtMost, ProcedureAtMost}
 use Rattle.camac_laws.specs.Grow.{CostsAtMost, CostsGrow}
 use Rattle.camac_laws.proofs.Costs.{itself, plus_grown, choice_grown, lock_grown, loop_grown, call_grown, each_grown, go_same, go_grown, if_reached_grown, same_grown}
+use Rattle.camac_lang.specs.declared.spot.Spot.{Spot}
 
 -- the same procedure but for the numbers of its heading, which are at most those of the second
 pub record IsLower (p q : Procedure) : Type 0 where
@@ -62,75 +63,75 @@ as_many (p ∷ ps) [] h = absurd h
 as_many (p ∷ ps) (q ∷ qs) (first, others) = ap suc (as_many ps qs others)
 
 -- the end of the rule of a call, by the heading that was found
-abbrev called : ℕ → ℕ → List Interval → Facts → Option Procedure → Result Verdict Fault
-called line number rs k o =
-    go_on (given o ArgumentOutOfRange line Malformed) (λ procedure.
-    go_on (required (arguments_fit rs procedure.parameters) ArgumentOutOfRange line (unfit number 0 rs procedure.parameters)) (λ _. Ok (verdict (Some k) (call_costs (annotated procedure)))))
+abbrev called : Spot → ℕ → List Interval → Facts → Option Procedure → Result Verdict Fault
+called spot number rs k o =
+    go_on (given o ArgumentOutOfRange spot Malformed) (λ procedure.
+    go_on (required (arguments_fit rs procedure.parameters) ArgumentOutOfRange spot (unfit number 0 rs procedure.parameters)) (λ _. Ok (verdict (Some k) (call_costs (annotated procedure)))))
 
-called_lower : (line number : ℕ) (rs : List Interval) (k : Facts) (o o' : Option Procedure) → BothLower o o' → CostsAtMost (called line number rs k o) (called line number rs k o')
+called_lower : (spot : Spot) (number : ℕ) (rs : List Interval) (k : Facts) (o o' : Option Procedure) → BothLower o o' → CostsAtMost (called spot number rs k o) (called spot number rs k o')
 unfolding go_on given
-called_lower line number rs k None None h = refl
-called_lower line number rs k None (Some q) h = absurd h
-called_lower line number rs k (Some p) None h = absurd h
-called_lower line number rs k (Some p) (Some q) h =
+called_lower spot number rs k None None h = refl
+called_lower spot number rs k None (Some q) h = absurd h
+called_lower spot number rs k (Some p) None h = absurd h
+called_lower spot number rs k (Some p) (Some q) h =
     let parameters : p.parameters ≡ q.parameters = ap (λ (x : Procedure). x.parameters) h.same in
     subst
-    (λ xs. CostsAtMost (called line number rs k (Some p)) (go_on (required (arguments_fit rs xs) ArgumentOutOfRange line (unfit number 0 rs xs)) (λ _. Ok (verdict (Some k) (call_costs (annotated q))))))
+    (λ xs. CostsAtMost (called spot number rs k (Some p)) (go_on (required (arguments_fit rs xs) ArgumentOutOfRange spot (unfit number 0 rs xs)) (λ _. Ok (verdict (Some k) (call_costs (annotated q))))))
     parameters
-    (go_same (required (arguments_fit rs p.parameters) ArgumentOutOfRange line (unfit number 0 rs p.parameters)) (λ _. Ok (verdict (Some k) (call_costs (annotated p)))) (λ _. Ok (verdict (Some k) (call_costs (annotated q))))
+    (go_same (required (arguments_fit rs p.parameters) ArgumentOutOfRange spot (unfit number 0 rs p.parameters)) (λ _. Ok (verdict (Some k) (call_costs (annotated p)))) (λ _. Ok (verdict (Some k) (call_costs (annotated q))))
     (λ _. (refl, call_grown (annotated p) (annotated q) h.numbers)))
 
-single_lower : (c : Context) (ps qs : List Procedure) (around : Around) (line : ℕ) (size : WordSize) (f r : ℕ) (m : Move) (k : Facts) → CostsAtMost (single_rule (calling c ps) around line size f r m k) (single_rule (calling c qs) around line size f r m k)
-single_lower c ps qs around line size f r no_data k = same_grown (single_rule (calling c ps) around line size f r no_data k)
-single_lower c ps qs around line size f r (into x) k = same_grown (single_rule (calling c ps) around line size f r (into x) k)
-single_lower c ps qs around line size f r (from e) k = same_grown (single_rule (calling c ps) around line size f r (from e) k)
+single_lower : (c : Context) (ps qs : List Procedure) (around : Around) (spot : Spot) (size : WordSize) (f r : ℕ) (m : Move) (k : Facts) → CostsAtMost (single_rule (calling c ps) around spot size f r m k) (single_rule (calling c qs) around spot size f r m k)
+single_lower c ps qs around spot size f r no_data k = same_grown (single_rule (calling c ps) around spot size f r no_data k)
+single_lower c ps qs around spot size f r (into x) k = same_grown (single_rule (calling c ps) around spot size f r (into x) k)
+single_lower c ps qs around spot size f r (from e) k = same_grown (single_rule (calling c ps) around spot size f r (from e) k)
 
 mutual
   statement_lower : (c : Context) (ps qs : List Procedure) → AreLower ps qs → (around : Around) (s : Statement) (k : Facts) → CostsAtMost (accept_statement (calling c ps) around s k) (accept_statement (calling c qs) around s k)
-  statement_lower c ps qs h around (assign line x e) k = same_grown (accept_statement (calling c ps) around (assign line x e) k)
-  statement_lower c ps qs h around (set_register line r e1 e2 e3) k = same_grown (accept_statement (calling c ps) around (set_register line r e1 e2 e3) k)
-  statement_lower c ps qs h around (single line size f r m) k = single_lower c ps qs around line size f r m k
-  statement_lower c ps qs h around (put line e) k = same_grown (accept_statement (calling c ps) around (put line e) k)
-  statement_lower c ps qs h around (crate_call line which e) k = same_grown (accept_statement (calling c ps) around (crate_call line which e) k)
-  statement_lower c ps qs h around (address_scan line f r1 r2 max x) k = same_grown (accept_statement (calling c ps) around (address_scan line f r1 r2 max x) k)
-  statement_lower c ps qs h around (q_stop line f r t max x) k = same_grown (accept_statement (calling c ps) around (q_stop line f r t max x) k)
-  statement_lower c ps qs h around (q_repeat line f r t max limit x) k = same_grown (accept_statement (calling c ps) around (q_repeat line f r t max limit x) k)
-  statement_lower c ps qs h around (lam_call line which l) k = same_grown (accept_statement (calling c ps) around (lam_call line which l) k)
-  statement_lower c ps qs h around (choose line test a) k =
-      go_same (split line test k) _ _ (λ ways.
+  statement_lower c ps qs h around (assign spot x e) k = same_grown (accept_statement (calling c ps) around (assign spot x e) k)
+  statement_lower c ps qs h around (set_register spot r e1 e2 e3) k = same_grown (accept_statement (calling c ps) around (set_register spot r e1 e2 e3) k)
+  statement_lower c ps qs h around (single spot size f r m) k = single_lower c ps qs around spot size f r m k
+  statement_lower c ps qs h around (put spot e) k = same_grown (accept_statement (calling c ps) around (put spot e) k)
+  statement_lower c ps qs h around (crate_call spot which e) k = same_grown (accept_statement (calling c ps) around (crate_call spot which e) k)
+  statement_lower c ps qs h around (address_scan spot f r1 r2 max x) k = same_grown (accept_statement (calling c ps) around (address_scan spot f r1 r2 max x) k)
+  statement_lower c ps qs h around (q_stop spot f r t max x) k = same_grown (accept_statement (calling c ps) around (q_stop spot f r t max x) k)
+  statement_lower c ps qs h around (q_repeat spot f r t max limit x) k = same_grown (accept_statement (calling c ps) around (q_repeat spot f r t max limit x) k)
+  statement_lower c ps qs h around (lam_call spot which l) k = same_grown (accept_statement (calling c ps) around (lam_call spot which l) k)
+  statement_lower c ps qs h around (choose spot test a) k =
+      go_same (split spot test k) _ _ (λ ways.
       go_grown (if_reached unreached ways.holds (accept_block (calling c ps) around a)) (if_reached unreached ways.holds (accept_block (calling c qs) around a)) _ _
       (if_reached_grown ways.holds (accept_block (calling c ps) around a) (accept_block (calling c qs) around a) (λ q. block_lower c ps qs h around a q))
       (λ after x y first. (refl, choice_grown x y no_costs no_costs first (itself no_costs))))
-  statement_lower c ps qs h around (choose_else line test a b) k =
-      go_same (split line test k) _ _ (λ ways.
+  statement_lower c ps qs h around (choose_else spot test a b) k =
+      go_same (split spot test k) _ _ (λ ways.
       go_grown (if_reached unreached ways.holds (accept_block (calling c ps) around a)) (if_reached unreached ways.holds (accept_block (calling c qs) around a)) _ _
       (if_reached_grown ways.holds (accept_block (calling c ps) around a) (accept_block (calling c qs) around a) (λ q. block_lower c ps qs h around a q))
       (λ after x y first.
       go_grown (if_reached unreached ways.fails (accept_block (calling c ps) around b)) (if_reached unreached ways.fails (accept_block (calling c qs) around b)) _ _
       (if_reached_grown ways.fails (accept_block (calling c ps) around b) (accept_block (calling c qs) around b) (λ q. block_lower c ps qs h around b q))
       (λ after' x' y' second. (refl, choice_grown x y x' y' first second))))
-  statement_lower c ps qs h around (for_ line x e1 e2 keeps body) k =
-      go_same (for_limits around line x e1 e2 keeps k) _ _ (λ l.
+  statement_lower c ps qs h around (for_ spot x e1 e2 keeps body) k =
+      go_same (for_limits around spot x e1 e2 keeps k) _ _ (λ l.
       go_grown (if_reached unreached (for_head x l keeps body k) (accept_block (calling c ps) (with_fixed x around) body)) (if_reached unreached (for_head x l keeps body k) (accept_block (calling c qs) (with_fixed x around) body)) _ _
       (if_reached_grown (for_head x l keeps body k) (accept_block (calling c ps) (with_fixed x around) body) (accept_block (calling c qs) (with_fixed x around) body) (λ q. block_lower c ps qs h (with_fixed x around) body q))
-      (λ after a b turn. go_same (required (keeps_hold_after keeps after) KeepFailsAfterTurn line _) _ _ (λ _. (refl, loop_grown (turns_between l) a b turn))))
-  statement_lower c ps qs h around (for_each line x v last body) k =
-      go_same (each_begins around line x v last) _ _ (λ turns.
+      (λ after a b turn. go_same (required (keeps_hold_after keeps after) KeepFailsAfterTurn spot _) _ _ (λ _. (refl, loop_grown (turns_between l) a b turn))))
+  statement_lower c ps qs h around (for_each spot x v last body) k =
+      go_same (each_begins around spot x v last) _ _ (λ turns.
       go_grown (each_from (λ k. k) turns x v last (accept_block (calling c ps) (with_fixed x around) body) k) (each_from (λ k. k) turns x v last (accept_block (calling c qs) (with_fixed x around) body) k) _ _
       (each_grown turns x v last (accept_block (calling c ps) (with_fixed x around) body) (accept_block (calling c qs) (with_fixed x around) body) (λ q. block_lower c ps qs h (with_fixed x around) body q) k)
       (λ after a b all. (refl, plus_grown (costs 0 0 1) (costs 0 0 1) a b (itself (costs 0 0 1)) all)))
-  statement_lower c ps qs h around (while_ line test most m keeps body) k =
-      go_same (while_head around.body line most m keeps body k) _ _ (λ top.
-      go_same (split line test top) _ _ (λ arms.
+  statement_lower c ps qs h around (while_ spot test most m keeps body) k =
+      go_same (while_head around.body spot most m keeps body k) _ _ (λ top.
+      go_same (split spot test top) _ _ (λ arms.
       go_grown (if_reached unreached arms.holds (accept_block (calling c ps) around body)) (if_reached unreached arms.holds (accept_block (calling c qs) around body)) _ _
       (if_reached_grown arms.holds (accept_block (calling c ps) around body) (accept_block (calling c qs) around body) (λ q. block_lower c ps qs h around body q))
-      (λ after a b turn. go_same (required (keeps_hold_after keeps after) KeepFailsAfterTurn line _) _ _ (λ _. (refl, loop_grown (turn_bound arms.holds most) a b turn)))))
-  statement_lower c ps qs h around (locked line e body) k =
-      go_same (lock_rule (calling c ps) around line e k) _ _ (λ n.
+      (λ after a b turn. go_same (required (keeps_hold_after keeps after) KeepFailsAfterTurn spot _) _ _ (λ _. (refl, loop_grown (turn_bound arms.holds most) a b turn)))))
+  statement_lower c ps qs h around (locked spot e body) k =
+      go_same (lock_rule (calling c ps) around spot e k) _ _ (λ n.
       go_grown (accept_block (calling c ps) (with_locked n around) body k) (accept_block (calling c qs) (with_locked n around) body k) _ _ (block_lower c ps qs h (with_locked n around) body k)
       (λ after a b inner. (refl, lock_grown (unwrap_or (crate_waits c.plan n) 0) a b inner)))
-  statement_lower c ps qs h around (call line p es) k =
-      go_same (ranges_of line es k.ranges) _ _ (λ rs. called_lower line p rs k (slice_get ps p) (slice_get qs p) (got ps qs h p))
+  statement_lower c ps qs h around (call spot p es) k =
+      go_same (ranges_of spot es k.ranges) _ _ (λ rs. called_lower spot p rs k (slice_get ps p) (slice_get qs p) (got ps qs h p))
 
   pub block_lower : (c : Context) (ps qs : List Procedure) → AreLower ps qs → (around : Around) (b : Block) (k : Facts) → CostsAtMost (accept_block (calling c ps) around b k) (accept_block (calling c qs) around b k)
   block_lower c ps qs h around done k = (refl, itself no_costs)

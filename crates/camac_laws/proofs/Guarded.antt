@@ -122,30 +122,30 @@ module _ (c : Context) (fs gs : List (ℕ → Action)) (alike : Alike fs gs) (n 
 
   mutual
     statement_same : (st : Statement) → SameAction (effect (calling c fs) n st) (effect (calling c gs) n st)
-    statement_same (assign line x e) s = λ r. refl
-    statement_same (set_register line r e1 e2 e3) s = λ r. refl
-    statement_same (single line size f r d) s = λ r. refl
-    statement_same (address_scan line f r1 r2 max x) s = λ r. refl
-    statement_same (q_stop line f r g max x) s = λ r. refl
-    statement_same (q_repeat line f r g max limit x) s = λ r. refl
-    statement_same (put line e) s = λ r. refl
-    statement_same (crate_call line which e) s = λ r. refl
-    statement_same (lam_call line which l) s = λ r. refl
-    statement_same (choose line test a) s =
+    statement_same (assign spot x e) s = λ r. refl
+    statement_same (set_register spot r e1 e2 e3) s = λ r. refl
+    statement_same (single spot size f r d) s = λ r. refl
+    statement_same (address_scan spot f r1 r2 max x) s = λ r. refl
+    statement_same (q_stop spot f r g max x) s = λ r. refl
+    statement_same (q_repeat spot f r g max limit x) s = λ r. refl
+    statement_same (put spot e) s = λ r. refl
+    statement_same (crate_call spot which e) s = λ r. refl
+    statement_same (lam_call spot which l) s = λ r. refl
+    statement_same (choose spot test a) s =
         decide_same (truth test s.variables s.q s.x) (block_meaning (calling c fs) n a) (block_meaning (calling c gs) n a) ends ends s (block_same a s) (λ r. refl)
-    statement_same (choose_else line test a b) s =
+    statement_same (choose_else spot test a b) s =
         decide_same (truth test s.variables s.q s.x) (block_meaning (calling c fs) n a) (block_meaning (calling c gs) n a) (block_meaning (calling c fs) n b) (block_meaning (calling c gs) n b) s (block_same a s) (block_same b s)
-    statement_same (for_ line x e1 e2 keeps body) s =
+    statement_same (for_ spot x e1 e2 keeps body) s =
         let turn : List (ℕ → Action) → ℕ → ℕ → Action = λ hs v w. for_from (w + 1 - v) n x v w (block_meaning (calling c hs) n body) in
         let last : List (ℕ → Action) → ℕ → Action = λ hs v. given (value e2 s.variables) (turn hs v) in
         given_same (value e1 s.variables) (last fs) (last gs) s (λ v.
         given_same (value e2 s.variables) (turn fs v) (turn gs v) s (λ w.
         count_same (w + 1 - v) n x v w (block_meaning (calling c fs) n body) (block_meaning (calling c gs) n body) (λ t. block_same body t) s))
-    statement_same (for_each line x v last body) s =
+    statement_same (for_each spot x v last body) s =
         count_same (last + 1 - v) n x v last (block_meaning (calling c fs) n body) (block_meaning (calling c gs) n body) (λ t. block_same body t) s
-    statement_same (while_ line test most m keeps body) s =
+    statement_same (while_ spot test most m keeps body) s =
         turns_same n test (block_meaning (calling c fs) n body) (block_meaning (calling c gs) n body) (λ t. block_same body t) s
-    statement_same (locked line e body) s =
+    statement_same (locked spot e body) s =
         let held : List (ℕ → Action) → ℕ → Action = λ hs d u. then_do (block_meaning (calling c hs) n body u) (release d) in
         let taken : List (ℕ → Action) → ℕ → ℕ → Action = λ hs d waits t. take_lock d waits (t.branch d).locked (held hs d) t in
         let at : List (ℕ → Action) → ℕ → Action = λ hs d. given (crate_waits c.plan d) (taken hs d) in
@@ -153,7 +153,7 @@ module _ (c : Context) (fs gs : List (ℕ → Action)) (alike : Alike fs gs) (n 
         given_same (crate_waits c.plan d) (taken fs d) (taken gs d) s (λ waits.
         lock_same d waits (s.branch d).locked (held fs d) (held gs d) (λ u.
         then_same (block_meaning (calling c fs) n body u) (block_meaning (calling c gs) n body u) (release d) (release d) (block_same body u) (λ t r. refl)) s))
-    statement_same (call line p es) s = called_same (slice_get fs p) (slice_get gs p) (alike_at fs gs alike p) (values es s.variables) s
+    statement_same (call spot p es) s = called_same (slice_get fs p) (slice_get gs p) (alike_at fs gs alike p) (values es s.variables) s
 
     pub block_same : (b : Block) → SameAction (block_meaning (calling c fs) n b) (block_meaning (calling c gs) n b)
     block_same done s = λ r. refl

@@ -79,7 +79,7 @@ all_guarded c gs before (p ∷ ps) h =
     (all_guarded c (gs ++ g ∷ []) (before ++ p ∷ []) ps (guarded_push gs before g p h (record { body = body; is = refl })))
 
 pub guards_stop : GuardsStop
-guards_stop plan script ps j p at n line es s vs is l out =
+guards_stop plan script ps j p at n spot es s vs is l out =
     let found = guarded_at (guarded_after plan script ps).routines ps j p (all_guarded (bare plan script) [] [] ps tt) at in
     ap (λ o. given o (λ r. given (values es s.variables) (λ us. enter (r n) us)) s) found.is
     ∙ ap (λ o. given o (λ us. enter (guarded p.parameters found.body n) us) s) is

@@ -19,23 +19,24 @@ use Rattle.camac_laws.proofs.Refused.{go_err, required_err, required_true, given
 use Rattle.camac_laws.proofs.Steps.{go_ok}
 use Rattle.camac_laws.proofs.ShownAddresses.{first_is, rest_fails}
 use Rattle.camac_laws.proofs.Regions.{low_end, crate_below, station_below, installed_at, installed_from, has_widths, first_undeclared, none_there, widths_from}
+use Rattle.camac_lang.specs.declared.spot.Spot.{Spot}
 
 -- a test that fails is the fault; after one that holds what comes next is judged
-pub failed : {B : Type 0} (b : Bool) (rule : CheckRule) (line : ℕ) (case : Case) (r : Result B Fault) → b ≡ false → go_on (required b rule line case) (λ u. r) ≡ Err (broken rule line case)
+pub failed : {B : Type 0} (b : Bool) (rule : CheckRule) (spot : Spot) (case : Case) (r : Result B Fault) → b ≡ false → go_on (required b rule spot case) (λ u. r) ≡ Err (broken rule spot case)
 unfolding go_on required
-failed b rule line case r e = ap (λ t. go_on (required t rule line case) (λ u. r)) e
+failed b rule spot case r e = ap (λ t. go_on (required t rule spot case) (λ u. r)) e
 
-pub passed : {B : Type 0} (b : Bool) (rule : CheckRule) (line : ℕ) (case : Case) (r : Result B Fault) → b ≡ true → go_on (required b rule line case) (λ u. r) ≡ r
+pub passed : {B : Type 0} (b : Bool) (rule : CheckRule) (spot : Spot) (case : Case) (r : Result B Fault) → b ≡ true → go_on (required b rule spot case) (λ u. r) ≡ r
 unfolding go_on required
-passed b rule line case r e = ap (λ t. go_on (required t rule line case) (λ u. r)) e
+passed b rule spot case r e = ap (λ t. go_on (required t rule spot case) (λ u. r)) e
 
-absent : {A : Type 0} (o : Option A) (rule : CheckRule) (line : ℕ) (case : Case) → o ≡ None → given o rule line case ≡ Err (broken rule line case)
+absent : {A : Type 0} (o : Option A) (rule : CheckRule) (spot : Spot) (case : Case) → o ≡ None → given o rule spot case ≡ Err (broken rule spot case)
 unfolding given
-absent o rule line case e = ap (λ p. given p rule line case) e
+absent o rule spot case e = ap (λ p. given p rule spot case) e
 
-present : {A : Type 0} (o : Option A) (x : A) (rule : CheckRule) (line : ℕ) (case : Case) → o ≡ Some x → given o rule line case ≡ Ok x
+present : {A : Type 0} (o : Option A) (x : A) (rule : CheckRule) (spot : Spot) (case : Case) → o ≡ Some x → given o rule spot case ≡ Ok x
 unfolding given
-present o x rule line case e = ap (λ p. given p rule line case) e
+present o x rule spot case e = ap (λ p. given p rule spot case) e
 
 first_missing : (plan : Layout) → IsPlan plan → (g : Region) → HasAddresses g → are_stations plan g ≡ false → HasMissing plan g
 first_missing plan is g has e = ⊎_elim below past (cases_lt c crate_end)
@@ -71,45 +72,45 @@ first_missing plan is g has e = ⊎_elim below past (cases_lt c crate_end)
               λ i. false≢true (sym (station.fails (station_below plan is c n i.station)) ∙ i.station),
             )
 
-module _ (plan : Layout) (is : IsPlan plan) (line f : ℕ) (g : Region) (has : HasAddresses g) where
-  to_missing : (case : Case) → command_widths plan line f g ≡ Err (broken StationNotInstalled line case) → HasMissing plan g
+module _ (plan : Layout) (is : IsPlan plan) (spot : Spot) (f : ℕ) (g : Region) (has : HasAddresses g) where
+  to_missing : (case : Case) → command_widths plan spot f g ≡ Err (broken StationNotInstalled spot case) → HasMissing plan g
   to_missing case e =
-      ⊎_elim (λ h. first_missing plan is g has (required_err (are_stations plan g) StationNotInstalled line (missing plan g) (broken StationNotInstalled line case) h).0)
-      (λ w. absurd (let r = given_err (region_widths plan f g) CommandNotDeclared line (undeclared plan f g) (broken StationNotInstalled line case) w.2 in let bad = r.1 in cc))
-      (go_err (required (are_stations plan g) StationNotInstalled line (missing plan g)) _ (broken StationNotInstalled line case) e)
+      ⊎_elim (λ h. first_missing plan is g has (required_err (are_stations plan g) StationNotInstalled spot (missing plan g) (broken StationNotInstalled spot case) h).0)
+      (λ w. absurd (let r = given_err (region_widths plan f g) CommandNotDeclared spot (undeclared plan f g) (broken StationNotInstalled spot case) w.2 in let bad = r.1 in cc))
+      (go_err (required (are_stations plan g) StationNotInstalled spot (missing plan g)) _ (broken StationNotInstalled spot case) e)
 
-  from_missing : (c n a : ℕ) → IsIn g c n a → (IsInstalled plan c n → ⊥) → command_widths plan line f g ≡ Err (broken StationNotInstalled line (missing plan g))
+  from_missing : (c n a : ℕ) → IsIn g c n a → (IsInstalled plan c n → ⊥) → command_widths plan spot f g ≡ Err (broken StationNotInstalled spot (missing plan g))
   from_missing c n a i not =
-      failed (are_stations plan g) StationNotInstalled line (missing plan g) (given (region_widths plan f g) CommandNotDeclared line (undeclared plan f g))
+      failed (are_stations plan g) StationNotInstalled spot (missing plan g) (given (region_widths plan f g) CommandNotDeclared spot (undeclared plan f g))
       (false_from_ne_true (are_stations plan g) (λ e. not (installed_at plan g e c n a i)))
 
-  to_undeclared : (case : Case) → command_widths plan line f g ≡ Err (broken CommandNotDeclared line case) → AreInstalled plan g × HasUndeclared plan f g
+  to_undeclared : (case : Case) → command_widths plan spot f g ≡ Err (broken CommandNotDeclared spot case) → AreInstalled plan g × HasUndeclared plan f g
   to_undeclared case e =
-      ⊎_elim (λ h. absurd (let r = required_err (are_stations plan g) StationNotInstalled line (missing plan g) (broken CommandNotDeclared line case) h in let bad = r.1 in cc))
-      (λ w. let there = required_true (are_stations plan g) StationNotInstalled line (missing plan g) w.0 w.1 in
-      let none = (given_err (region_widths plan f g) CommandNotDeclared line (undeclared plan f g) (broken CommandNotDeclared line case) w.2).0 in
+      ⊎_elim (λ h. absurd (let r = required_err (are_stations plan g) StationNotInstalled spot (missing plan g) (broken CommandNotDeclared spot case) h in let bad = r.1 in cc))
+      (λ w. let there = required_true (are_stations plan g) StationNotInstalled spot (missing plan g) w.0 w.1 in
+      let none = (given_err (region_widths plan f g) CommandNotDeclared spot (undeclared plan f g) (broken CommandNotDeclared spot case) w.2).0 in
       (installed_at plan g there, first_undeclared plan is f g has there none))
-      (go_err (required (are_stations plan g) StationNotInstalled line (missing plan g)) _ (broken CommandNotDeclared line case) e)
+      (go_err (required (are_stations plan g) StationNotInstalled spot (missing plan g)) _ (broken CommandNotDeclared spot case) e)
 
-  from_undeclared : AreInstalled plan g → (c n a : ℕ) → IsIn g c n a → allowed plan (address c n a) f ≡ None → command_widths plan line f g ≡ Err (broken CommandNotDeclared line (undeclared plan f g))
+  from_undeclared : AreInstalled plan g → (c n a : ℕ) → IsIn g c n a → allowed plan (address c n a) f ≡ None → command_widths plan spot f g ≡ Err (broken CommandNotDeclared spot (undeclared plan f g))
   from_undeclared all c n a i none =
       let there = installed_from plan is g has all in
-      passed (are_stations plan g) StationNotInstalled line (missing plan g) (given (region_widths plan f g) CommandNotDeclared line (undeclared plan f g)) there
-      ∙ absent (region_widths plan f g) CommandNotDeclared line (undeclared plan f g) (none_there plan f g there c n a i none)
+      passed (are_stations plan g) StationNotInstalled spot (missing plan g) (given (region_widths plan f g) CommandNotDeclared spot (undeclared plan f g)) there
+      ∙ absent (region_widths plan f g) CommandNotDeclared spot (undeclared plan f g) (none_there plan f g there c n a i none)
 
-  to_accepted : (w : Interval) → command_widths plan line f g ≡ Ok w → AreInstalled plan g × HasWidths plan f g w
+  to_accepted : (w : Interval) → command_widths plan spot f g ≡ Ok w → AreInstalled plan g × HasWidths plan f g w
   to_accepted w e =
-      let p = go_ok (required (are_stations plan g) StationNotInstalled line (missing plan g)) _ w e in
-      let there = required_true (are_stations plan g) StationNotInstalled line (missing plan g) p.0 p.1 in
-      (installed_at plan g there, has_widths plan f g w (given_ok (region_widths plan f g) CommandNotDeclared line (undeclared plan f g) w p.2) there)
+      let p = go_ok (required (are_stations plan g) StationNotInstalled spot (missing plan g)) _ w e in
+      let there = required_true (are_stations plan g) StationNotInstalled spot (missing plan g) p.0 p.1 in
+      (installed_at plan g there, has_widths plan f g w (given_ok (region_widths plan f g) CommandNotDeclared spot (undeclared plan f g) w p.2) there)
 
-  from_accepted : (w : Interval) → AreInstalled plan g → HasWidths plan f g w → command_widths plan line f g ≡ Ok w
+  from_accepted : (w : Interval) → AreInstalled plan g → HasWidths plan f g w → command_widths plan spot f g ≡ Ok w
   from_accepted w all h =
       let there = installed_from plan is g has all in
-      passed (are_stations plan g) StationNotInstalled line (missing plan g) (given (region_widths plan f g) CommandNotDeclared line (undeclared plan f g)) there
-      ∙ present (region_widths plan f g) w CommandNotDeclared line (undeclared plan f g) (widths_from plan is f g has there w h)
+      passed (are_stations plan g) StationNotInstalled spot (missing plan g) (given (region_widths plan f g) CommandNotDeclared spot (undeclared plan f g)) there
+      ∙ present (region_widths plan f g) w CommandNotDeclared spot (undeclared plan f g) (widths_from plan is f g has there w h)
 
-  pub is_judged : IsJudged plan line f g
+  pub is_judged : IsJudged plan spot f g
   is_judged = record {
     not_installed = (λ e. to_missing e.0 e.1, λ t. (missing plan g, from_missing t.0 t.1 t.2 t.3 t.4));
     not_declared = (λ e. to_undeclared e.0 e.1, λ t. (undeclared plan f g, from_undeclared t.0 t.1.0 t.1.1 t.1.2 t.1.3 t.1.4));
@@ -117,4 +118,4 @@ module _ (plan : Layout) (is : IsPlan plan) (line f : ℕ) (g : Region) (has : H
   }
 
 pub commands_are_judged : CommandsAreJudged
-commands_are_judged plan is line f g has = is_judged plan is line f g has
+commands_are_judged plan is spot f g has = is_judged plan is spot f g has

@@ -105,9 +105,9 @@ module _ (plan : Layout) (script : Script) (narrow : HasWidths plan) where
   service_kept done serves v =
       after_any (count_block (body.Service v.lam) v.body 0) (λ judged.
       then_allowed (block_sound (setting plan script all done) narrow serves (outermost (body.Service v.lam)) v.body (λ e c. refl) at_start) (λ found h.
-      required_allowed _ v.line _ (λ words.
-      required_allowed _ v.line _ (λ cycles.
-      required_allowed _ v.line _ (λ steps.
+      required_allowed _ v.spot _ (λ words.
+      required_allowed _ v.spot _ (λ cycles.
+      required_allowed _ v.spot _ (λ steps.
       allowed (λ n le b answers.
       sound_right plan (outermost (body.Service v.lam)) found.after found.costs (fresh b answers) (service_meaning (guarded_context plan script) n v b answers) (h.each n le (fresh b answers) (start_inside (body.Service v.lam) b answers))))))))
 
@@ -130,7 +130,7 @@ module _ (plan : Layout) (script : Script) (narrow : HasWidths plan) where
   items_kept [] rs done ps vs m e free = allowed (record { services = tt; procedures = λ n. none_left rs done ps m e n })
   items_kept (next_table ∷ rest) rs done ps vs m e free = items_kept rest rs done ps vs m e free
   items_kept (next_lam ∷ rest) rs done ps vs m e free = items_kept rest rs done ps vs m e free
-  items_kept (next_variables line n ∷ rest) rs done ps vs m e free = items_kept rest rs done ps vs m e free
+  items_kept (next_variables spot n ∷ rest) rs done ps vs m e free = items_kept rest rs done ps vs m e free
   items_kept (next_procedure ∷ rest) rs done [] vs m e free =
       allowed_more (items_kept rest rs done [] vs m e free) (λ ks h. record { services = h.services; procedures = λ n. absurd (omega arith) })
   items_kept (next_procedure ∷ rest) rs done (p ∷ ps) vs m e free =

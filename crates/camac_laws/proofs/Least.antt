@@ -52,9 +52,9 @@ procedure_least c low own h p found numbers e =
     let around : Around = alone_in place in
     let judged : Result Verdict Fault = if_reached unreached (at_entry p.parameters) (accept_block (calling c own) around p.body) in
     let lower : Result Verdict Fault = if_reached unreached (at_entry p.parameters) (accept_block (calling c low) around p.body) in
-    let counted = go_ok (count_block place p.body 0) (λ _. go_on judged (λ v. within place (annotated p) v.costs p.line)) found e in
-    let v = go_ok judged (λ v. within place (annotated p) v.costs p.line) found counted.2 in
-    let inside = within_ok place (annotated p) v.0.costs found p.line v.2 in
+    let counted = go_ok (count_block place p.body 0) (λ _. go_on judged (λ v. within place (annotated p) v.costs p.spot)) found e in
+    let v = go_ok judged (λ v. within place (annotated p) v.costs p.spot) found counted.2 in
+    let inside = within_ok place (annotated p) v.0.costs found p.spot v.2 in
     let w =
     lower_ok lower judged
     (if_reached_grown (at_entry p.parameters) (accept_block (calling c low) around p.body) (accept_block (calling c own) around p.body)
@@ -63,10 +63,10 @@ procedure_least c low own h p found numbers e =
     let below = w.2 in (
       w.0.costs,
       ap checked
-          (ap (λ n. go_on (count_block (body.Procedure n) p.body 0) (λ _. go_on (if_reached unreached (at_entry p.parameters) (accept_block (calling c low) (alone_in (body.Procedure n)) p.body)) (λ v. within (body.Procedure n) most v.costs p.line))) (as_many low own h)
-          ∙ go_is (count_block place p.body 0) counted.0 (λ _. go_on lower (λ v. within place most v.costs p.line)) counted.1
-          ∙ go_is lower w.0 (λ v. within place most v.costs p.line) w.1
-          ∙ within_is place most w.0.costs p.line (record {
+          (ap (λ n. go_on (count_block (body.Procedure n) p.body 0) (λ _. go_on (if_reached unreached (at_entry p.parameters) (accept_block (calling c low) (alone_in (body.Procedure n)) p.body)) (λ v. within (body.Procedure n) most v.costs p.spot))) (as_many low own h)
+          ∙ go_is (count_block place p.body 0) counted.0 (λ _. go_on lower (λ v. within place most v.costs p.spot)) counted.1
+          ∙ go_is lower w.0 (λ v. within place most v.costs p.spot) w.1
+          ∙ within_is place most w.0.costs p.spot (record {
             cycles = omega (arith, below.cycles, inside.cycles, numbers.cycles);
             words = omega (arith, below.words, inside.words, numbers.words);
             steps = omega (arith, below.steps, inside.steps, numbers.steps);
@@ -85,18 +85,18 @@ service_least c low own h v found fits e =
     let around : Around = alone_in place in
     let judged : Result Verdict Fault = accept_block (calling c own) around v.body at_start in
     let lower : Result Verdict Fault = accept_block (calling c low) around v.body at_start in
-    let counted = go_ok (count_block place v.body 0) (λ _. go_on judged (λ u. within place (costs v.cycles v.words greatest) u.costs v.line)) found e in
-    let u = go_ok judged (λ u. within place (costs v.cycles v.words greatest) u.costs v.line) found counted.2 in
-    let inside = within_ok place (costs v.cycles v.words greatest) u.0.costs found v.line u.2 in
+    let counted = go_ok (count_block place v.body 0) (λ _. go_on judged (λ u. within place (costs v.cycles v.words greatest) u.costs v.spot)) found e in
+    let u = go_ok judged (λ u. within place (costs v.cycles v.words greatest) u.costs v.spot) found counted.2 in
+    let inside = within_ok place (costs v.cycles v.words greatest) u.0.costs found v.spot u.2 in
     let w = lower_ok lower judged (block_lower c low own h around v.body at_start) u.0 u.1 in
     let below = w.2 in (
       w.0.costs,
-      then_is (checked (count_block place v.body 0)) counted.0 (λ _. and_then (checked lower) (λ found. and_then (event_fits place c.plan found.costs.words v.line) (λ _. checked (within place most found.costs v.line)))) (ap checked counted.1)
-          ∙ then_is (checked lower) w.0 (λ found. and_then (event_fits place c.plan found.costs.words v.line) (λ _. checked (within place most found.costs v.line))) (ap checked w.1)
-          ∙ then_is (event_fits place c.plan w.0.costs.words v.line) tt (λ _. checked (within place most w.0.costs v.line))
-          (event_is place c.plan w.0.costs.words v.line (omega (arith, below.words, inside.words, fits.words)) (omega (arith, below.words, inside.words, fits.buffer)))
+      then_is (checked (count_block place v.body 0)) counted.0 (λ _. and_then (checked lower) (λ found. and_then (event_fits place c.plan found.costs.words v.spot) (λ _. checked (within place most found.costs v.spot)))) (ap checked counted.1)
+          ∙ then_is (checked lower) w.0 (λ found. and_then (event_fits place c.plan found.costs.words v.spot) (λ _. checked (within place most found.costs v.spot))) (ap checked w.1)
+          ∙ then_is (event_fits place c.plan w.0.costs.words v.spot) tt (λ _. checked (within place most w.0.costs v.spot))
+          (event_is place c.plan w.0.costs.words v.spot (omega (arith, below.words, inside.words, fits.words)) (omega (arith, below.words, inside.words, fits.buffer)))
           ∙ ap checked
-          (within_is place most w.0.costs v.line (record {
+          (within_is place most w.0.costs v.spot (record {
             cycles = omega (arith, below.cycles, inside.cycles, fits.cycles);
             words = omega (arith, below.words, inside.words, fits.words);
             steps = omega (arith, below.steps, inside.steps);
@@ -155,7 +155,7 @@ items_least c low own h [] ps vs ks numbers fits e = record {
 }
 items_least c low own h (next_table ∷ rest) ps vs ks numbers fits e = items_least c low own h rest ps vs ks numbers fits e
 items_least c low own h (next_lam ∷ rest) ps vs ks numbers fits e = items_least c low own h rest ps vs ks numbers fits e
-items_least c low own h (next_variables line n ∷ rest) ps vs ks numbers fits e = items_least c low own h rest ps vs ks numbers fits e
+items_least c low own h (next_variables spot n ∷ rest) ps vs ks numbers fits e = items_least c low own h rest ps vs ks numbers fits e
 items_least c low own h (next_procedure ∷ rest) [] vs ks numbers fits e = items_least c low own h rest [] vs ks numbers fits e
 items_least c low own h (next_procedure ∷ rest) (p ∷ ps) vs ks numbers fits e =
     let x = go_ok (accept_procedure (calling c own) p) (λ _. accept_items (with_procedure p (calling c own)) rest ps vs) ks e in
@@ -264,5 +264,5 @@ checked_have_least l c found formed link judged finds =
         let same : t ≡ d.script = cc in
         subst (λ x. HasAtMost x l.script) same at_most
     go (Err OutOfMemory) t is at_most finds = tt
-    go (Err (Link rule line case)) t is at_most finds = absurd (cc)
-    go (Err (Check rule line case)) t is at_most finds = absurd (cc)
+    go (Err (Link rule spot case)) t is at_most finds = absurd (cc)
+    go (Err (Check rule spot case)) t is at_most finds = absurd (cc)

@@ -85,20 +85,20 @@ module _ (commands : Commands) (f : ℕ) where
 
   -- ---- the lines of a function
 
-  abbrev line : ℕ → Entry → CommandLine
-  line a e = record { function = f; first = a; last = last_same commands f a e; entry = e }
+  abbrev spot : ℕ → Entry → CommandLine
+  spot a e = record { function = f; first = a; last = last_same commands f a e; entry = e }
 
   abbrev line_if : Bool → ℕ → Entry → List CommandLine
   line_if true a e = []
-  line_if false a e = line a e ∷ []
+  line_if false a e = spot a e ∷ []
 
-  abbrev line_of : ℕ → Option Entry → List CommandLine
-  line_of a None = []
-  line_of a (Some e) = line_if (goes_on commands f a e) a e
+  abbrev spot_of : ℕ → Option Entry → List CommandLine
+  spot_of a None = []
+  spot_of a (Some e) = line_if (goes_on commands f a e) a e
 
   abbrev lines_from : (first count : ℕ) → List CommandLine
   lines_from a zero = []
-  lines_from a (suc n) = line_of a (at a) ++ lines_from (a + 1) n
+  lines_from a (suc n) = spot_of a (at a) ++ lines_from (a + 1) n
 
   abbrev texts_of : List CommandLine → List ℕ
   texts_of ls = flat_map line_text ls
@@ -107,7 +107,7 @@ module _ (commands : Commands) (f : ℕ) where
   flat_both [] ys = refl
   flat_both (x ∷ xs) ys = ap (λ l. line_text x ++ l) (flat_both xs ys) ∙ sym (append_assoc (line_text x) (texts_of xs) (texts_of ys))
 
-  text_here : (a : ℕ) (o : Option Entry) → text_at commands f a o ≡ texts_of (line_of a o)
+  text_here : (a : ℕ) (o : Option Entry) → text_at commands f a o ≡ texts_of (spot_of a o)
   text_here a None = refl
   text_here a (Some e) = go (goes_on commands f a e)
     where
@@ -118,7 +118,7 @@ module _ (commands : Commands) (f : ℕ) where
   pub text_is : (a n : ℕ) → texts (command_text commands f) a n ≡ texts_of (lines_from a n)
   unfolding texts
   text_is a zero = refl
-  text_is a (suc n) = ap₂ (λ x y. x ++ y) (text_here a (at a)) (text_is (a + 1) n) ∙ sym (flat_both (line_of a (at a)) (lines_from (a + 1) n))
+  text_is a (suc n) = ap₂ (λ x y. x ++ y) (text_here a (at a)) (text_is (a + 1) n) ∙ sym (flat_both (spot_of a (at a)) (lines_from (a + 1) n))
 
   -- ---- where a line begins
 
@@ -145,7 +145,7 @@ module _ (commands : Commands) (f : ℕ) where
       go zero is = let same : a ≡ c = omega arith in subst (λ x. at x ≡ Some e) same here
       go (suc k) is = let same : (a + 1) + k ≡ c = omega arith in subst (λ x. at x ≡ Some e) same (run_all (16 - (a + 1)) e (a + 1) (omega arith) k (omega arith))
 
-  pub declared : (a : ℕ) (e : Entry) → f < 32 → a < 16 → Begins a e → IsDeclared commands (line a e)
+  pub declared : (a : ℕ) (e : Entry) → f < 32 → a < 16 → Begins a e → IsDeclared commands (spot a e)
   declared a e few below b =
       let n : ℕ = 16 - (a + 1) in
       let most = run_below n e (a + 1) (omega arith) in
@@ -159,7 +159,7 @@ module _ (commands : Commands) (f : ℕ) where
       }
 
   -- further lines are behind this one
-  behind_here : (a : ℕ) (e : Entry) → a < 16 → Begins a e → (b : ℕ) (d : Entry) → a < b → Begins b d → IsBehind (line a e) (line b d)
+  behind_here : (a : ℕ) (e : Entry) → a < 16 → Begins a e → (b : ℕ) (d : Entry) → a < b → Begins b d → IsBehind (spot a e) (spot b d)
   behind_here a e below begins b d less later = inr (refl, go (nat_lt (a + run e (a + 1)) b) refl)
     where
       go : (t : Bool) → nat_lt (a + run e (a + 1)) b ≡ t → a + run e (a + 1) < b
@@ -182,11 +182,11 @@ module _ (commands : Commands) (f : ℕ) where
   holds_both P (x ∷ xs) ys h g = (h.0, holds_both P xs ys h.1 g)
 
   -- what holds of each line that begins somewhere from here on
-  from_here : (P : CommandLine → Type 0) (a n : ℕ) → a + n ≤ 16 → ((b : ℕ) (e : Entry) → a ≤ b → b < 16 → Begins b e → P (line b e)) → LineHolds P (lines_from a n)
+  from_here : (P : CommandLine → Type 0) (a n : ℕ) → a + n ≤ 16 → ((b : ℕ) (e : Entry) → a ≤ b → b < 16 → Begins b e → P (spot b e)) → LineHolds P (lines_from a n)
   from_here P a zero le h = tt
-  from_here P a (suc n) le h = holds_both P (line_of a (at a)) (lines_from (a + 1) n) (here (at a) refl) (from_here P (a + 1) n (omega arith) (λ b e low high g. h b e (omega arith) high g))
+  from_here P a (suc n) le h = holds_both P (spot_of a (at a)) (lines_from (a + 1) n) (here (at a) refl) (from_here P (a + 1) n (omega arith) (λ b e low high g. h b e (omega arith) high g))
     where
-      here : (o : Option Entry) → at a ≡ o → LineHolds P (line_of a o)
+      here : (o : Option Entry) → at a ≡ o → LineHolds P (spot_of a o)
       here None is = tt
       here (Some e) is = go (goes_on commands f a e) refl
         where
@@ -202,7 +202,7 @@ module _ (commands : Commands) (f : ℕ) where
       behind l [] h = tt
       behind l (m ∷ ms) h = (h.0, behind l ms h.1)
 
-      here : AreInOrder (lines_from (a + 1) n) → (o : Option Entry) → at a ≡ o → AreInOrder (line_of a o ++ lines_from (a + 1) n)
+      here : AreInOrder (lines_from (a + 1) n) → (o : Option Entry) → at a ≡ o → AreInOrder (spot_of a o ++ lines_from (a + 1) n)
       here others None is = others
       here others (Some e) is = go (goes_on commands f a e) refl
         where
@@ -210,7 +210,7 @@ module _ (commands : Commands) (f : ℕ) where
           go true t = others
           go false t =
               let begins = (begins_or_not a e is).0 t in
-              (behind (line a e) (lines_from (a + 1) n) (from_here (IsBehind (line a e)) (a + 1) n (omega arith) (λ b d low high later. behind_here a e (omega arith) begins b d (omega arith) later)), others)
+              (behind (spot a e) (lines_from (a + 1) n) (from_here (IsBehind (spot a e)) (a + 1) n (omega arith) (λ b d low high later. behind_here a e (omega arith) begins b d (omega arith) later)), others)
 
   -- where the line of a command begins
   record BeginsAt (a : ℕ) (e : Entry) : Type 0 where
@@ -254,11 +254,11 @@ module _ (commands : Commands) (f : ℕ) where
   in_lines a zero b c e low high begins l h = absurd (omega arith)
   in_lines a (suc n) b c e low high begins l h = go (λ lower higher. in_lines (a + 1) n b c e lower higher begins l h) (nat_eq a b) refl
     where
-      here : (o : Option Entry) → o ≡ Some e → goes_on commands f b e ≡ false → OneTells (line_of b o) f c
+      here : (o : Option Entry) → o ≡ Some e → goes_on commands f b e ≡ false → OneTells (spot_of b o) f c
       here None is t = absurd (cc)
       here (Some d) is t =
           let same : d ≡ e = cc in
-          subst (λ x. OneTells (line_of b (Some x)) f c) (sym same) (subst (λ s. OneTells (line_if s b e) f c) (sym t) (inl (refl, l, h)))
+          subst (λ x. OneTells (spot_of b (Some x)) f c) (sym same) (subst (λ s. OneTells (line_if s b e) f c) (sym t) (inl (refl, l, h)))
 
       starts : goes_on commands f b e ≡ false
       starts = when (goes_on commands f b e) refl
@@ -267,13 +267,13 @@ module _ (commands : Commands) (f : ℕ) where
           when false t = t
           when true t = let prior = (begins_or_not b e begins.here).1 t in absurd (begins.before prior.0 prior.1 prior.2)
 
-      go : (a + 1 ≤ b → b < (a + 1) + n → OneTells (lines_from (a + 1) n) f c) → (t : Bool) → nat_eq a b ≡ t → OneTells (line_of a (at a) ++ lines_from (a + 1) n) f c
+      go : (a + 1 ≤ b → b < (a + 1) + n → OneTells (lines_from (a + 1) n) f c) → (t : Bool) → nat_eq a b ≡ t → OneTells (spot_of a (at a) ++ lines_from (a + 1) n) f c
       go others true t =
           let same : a ≡ b = eqb-true a b t in
-          subst (λ x. OneTells (line_of x (at x) ++ lines_from (a + 1) n) f c) (sym same) (one_first (line_of b (at b)) (lines_from (a + 1) n) f c (here (at b) begins.here starts))
+          subst (λ x. OneTells (spot_of x (at x) ++ lines_from (a + 1) n) f c) (sym same) (one_first (spot_of b (at b)) (lines_from (a + 1) n) f c (here (at b) begins.here starts))
       go others false t =
           let other : a ≢ b = eqb-false a b t in
-          one_there (line_of a (at a)) (lines_from (a + 1) n) f c (others (omega arith) (omega arith))
+          one_there (spot_of a (at a)) (lines_from (a + 1) n) f c (others (omega arith) (omega arith))
 
   pub one_tells : (a : ℕ) (e : Entry) → a < 16 → at a ≡ Some e → OneTells (lines_from 0 16) f a
   one_tells a e below here =

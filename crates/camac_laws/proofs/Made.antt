@@ -56,6 +56,7 @@ use Rattle.camac_laws.proofs.Shares.{go_ok, ok_same}
 use Rattle.camac_laws.proofs.Sums.{if_below, choice_below, lock_below, then_below, loop_low, loop_room, turn_then_below}
 use Rattle.camac_laws.proofs.Times.{no_more_up, no_more_merged, block_never, block_in_steps, turns_from_in_steps}
 use Rattle.camac_laws.proofs.Turned.{begun}
+use Rattle.camac_lang.specs.declared.spot.Spot.{Spot}
 
 -- ---- what is not made
 
@@ -66,19 +67,19 @@ mutual
   unfolding if_reached
 
   unmade_statement : (r : Context) (around : Around) (s : Statement) (k : Known) → AllIn 0 (statement_rows (in_code r) around s k) ([] ∷ unmade_in s)
-  unmade_statement r around (assign line x e) k = (none_row _, tt)
-  unmade_statement r around (set_register line p e1 e2 e3) k = (none_row _, tt)
-  unmade_statement r around (single line size f p move) k = (none_row _, tt)
-  unmade_statement r around (address_scan line f r1 r2 max x) k = (none_row _, tt)
-  unmade_statement r around (q_stop line f p t max x) k = (none_row _, tt)
-  unmade_statement r around (q_repeat line f p t max limit x) k = (none_row _, tt)
-  unmade_statement r around (put line e) k = (none_row _, tt)
-  unmade_statement r around (crate_call line which e) k = (none_row _, tt)
-  unmade_statement r around (lam_call line which l) k = (none_row _, tt)
-  unmade_statement r around (call line p es) k = (none_row _, tt)
-  unmade_statement r around (choose line test a) k = (none_row _, none_inside once _ (unmade a) (unmade_block r around a (ways line test k).holds))
-  unmade_statement r around (choose_else line test a b) k =
-      let arms = ways line test k in
+  unmade_statement r around (assign spot x e) k = (none_row _, tt)
+  unmade_statement r around (set_register spot p e1 e2 e3) k = (none_row _, tt)
+  unmade_statement r around (single spot size f p move) k = (none_row _, tt)
+  unmade_statement r around (address_scan spot f r1 r2 max x) k = (none_row _, tt)
+  unmade_statement r around (q_stop spot f p t max x) k = (none_row _, tt)
+  unmade_statement r around (q_repeat spot f p t max limit x) k = (none_row _, tt)
+  unmade_statement r around (put spot e) k = (none_row _, tt)
+  unmade_statement r around (crate_call spot which e) k = (none_row _, tt)
+  unmade_statement r around (lam_call spot which l) k = (none_row _, tt)
+  unmade_statement r around (call spot p es) k = (none_row _, tt)
+  unmade_statement r around (choose spot test a) k = (none_row _, none_inside once _ (unmade a) (unmade_block r around a (ways spot test k).holds))
+  unmade_statement r around (choose_else spot test a b) k =
+      let arms = ways spot test k in
       let first = (block_verdict (in_code r) around a arms.holds).costs in
       let second = (block_verdict (in_code r) around b arms.fails).costs in (
         none_row _,
@@ -86,20 +87,20 @@ mutual
             (none_inside (first_arm first second) _ (unmade a) (unmade_block r around a arms.holds))
             (none_row _, none_inside (second_arm first second) _ (unmade b) (unmade_block r around b arms.fails)),
       )
-  unmade_statement r around (for_ line x e1 e2 keeps body) k =
-      let turn = for_turning around line x e1 e2 keeps body k in
+  unmade_statement r around (for_ spot x e1 e2 keeps body) k =
+      let turn = for_turning around spot x e1 e2 keeps body k in
       (none_row _, none_inside (turning turn.turns) _ (unmade body) (unmade_block r (with_fixed x around) body turn.head))
-  unmade_statement r around (for_each line x v last body) k =
+  unmade_statement r around (for_each spot x v last body) k =
       let rows = block_rows (in_code r) (with_fixed x around) body in (
         none_row _,
         none_inside once _ (unmade body)
             (turns_none (block_verdict (in_code r) (with_fixed x around) body) rows (unmade body) (λ q. unmade_block r (with_fixed x around) body q) (last + 1 - v) x v k (turned 0 (rows None)) (unmade_block r (with_fixed x around) body None)),
       )
-  unmade_statement r around (while_ line test most m keeps body) k =
-      let turn = while_turning around line test most m keeps body k in
+  unmade_statement r around (while_ spot test most m keeps body) k =
+      let turn = while_turning around spot test most m keeps body k in
       (none_row _, none_inside (turning turn.turns) _ (unmade body) (unmade_block r around body turn.head))
-  unmade_statement r around (locked line e body) k =
-      let o = taken (in_code r) around line e k in
+  unmade_statement r around (locked spot e body) k =
+      let o = taken (in_code r) around spot e k in
       (none_row _, none_inside once _ (unmade body) (unmade_block r (lock_inside o around) body (lock_head o k)))
 
   unmade_block : (r : Context) (around : Around) (b : Block) (k : Known) → AllIn 0 (block_rows (in_code r) around b k) (unmade b)
@@ -339,47 +340,47 @@ module _ (c : Setting) (narrow : HasWidths c.plan) (serves : Serves c) (n : ℕ)
         (each_turns_keep (suc count) n v (omega (arith, is)) (Some k) (turned 0 (Rows None)) 0 w e low (omega (arith, low.2))
         (no_more_up 0 (in_64_bits 0) (Rows None) (omega arith) (block_never (seen c) (with_fixed x (around_of around)) body)) (unmade_at None) t i)
 
-  each_keeps : (around : Place) (line x v last : ℕ) (body : Block) → MayLock around (block_has_lock body) → (k : Facts) (w : Verdict) → BlockKeeps (fixing x around) body
-      → accept_statement Code (around_of around) (for_each line x v last body) k ≡ Ok w → IsBelow w.costs → (s : State) → Inside around k s
+  each_keeps : (around : Place) (spot : Spot) (x v last : ℕ) (body : Block) → MayLock around (block_has_lock body) → (k : Facts) (w : Verdict) → BlockKeeps (fixing x around) body
+      → accept_statement Code (around_of around) (for_each spot x v last body) k ≡ Ok w → IsBelow w.costs → (s : State) → Inside around k s
       → AllIn 1 (inside Code once (each_turned capped x v last (block_verdict Code (with_fixed x (around_of around)) body) (block_rows Code (with_fixed x (around_of around)) body) (Some k)).rows)
-      (made_in (of c) n (for_each line x v last body) (stepped s))
+      (made_in (of c) n (for_each spot x v last body) (stepped s))
   unfolding go_on if_reached
-  each_keeps around line x v last body may k w keeps e below s i =
+  each_keeps around spot x v last body may k w keeps e below s i =
       let A = with_fixed x (around_of around) in
-      let count' = go_ok (each_begins (around_of around) line x v last) _ w e in
+      let count' = go_ok (each_begins (around_of around) spot x v last) _ w e in
       let turns' = go_ok (each_from capped count'.0 x v last (accept_block Code A body) k) _ w count'.2 in
       let turns = turns'.0 in
       let same : capped (plus (costs 0 0 1) turns.costs) ≡ w.costs = ap (λ u. u.costs) (ok_same _ _ turns'.2) in
       let low = then_below (costs 0 0 1) turns.costs (subst IsBelow (sym same) below) in
-      let b = begun (around_of around) line x v last count'.0 count'.1 in
+      let b = begun (around_of around) spot x v last count'.0 count'.1 in
       let rows : ℕ → List Row = λ j. (turns_over capped j x v (block_verdict Code A body) (block_rows Code A body) (Some k) (turned 0 (block_rows Code A body None))).rows in
       subst (λ j. AllIn 1 (inside Code once (rows j)) (for_made j n x v (run body) (made (of c) n body) (unmade body) (stepped s))) b.is
       (all_inside once (in_64_bits turns.costs.steps) (rows count'.0) _ (omega arith)
       (turns_from_in_steps (seen c) A body (λ q u f. block_in_steps (seen c) A body q u f) count'.0 x v last k turns turns'.1)
       (each_from_keeps around x last b.small body may keeps count'.0 v b.is k turns turns'.1 low.1 (stepped s) (stepped_inside around k s i)))
 
-  if_keeps_to : (around : Place) (line : ℕ) (test : Condition) (a : Block) (k : Facts) (v : Verdict) → BlockKeeps around a → accept_statement Code (around_of around) (choose line test a) k ≡ Ok v → IsBelow v.costs
-      → (s : State) → Inside around k s → AllIn 1 (inside Code once (block_rows Code (around_of around) a (ways line test (Some k)).holds)) (made_in (of c) n (choose line test a) (stepped s))
+  if_keeps_to : (around : Place) (spot : Spot) (test : Condition) (a : Block) (k : Facts) (v : Verdict) → BlockKeeps around a → accept_statement Code (around_of around) (choose spot test a) k ≡ Ok v → IsBelow v.costs
+      → (s : State) → Inside around k s → AllIn 1 (inside Code once (block_rows Code (around_of around) a (ways spot test (Some k)).holds)) (made_in (of c) n (choose spot test a) (stepped s))
   unfolding go_on if_reached
-  if_keeps_to around line test a k v keeps e below s i =
-      let split' = go_ok (split line test k) _ v e in
+  if_keeps_to around spot test a k v keeps e below s i =
+      let split' = go_ok (split spot test k) _ v e in
       let arms = split'.0 in
       let first' = go_ok (if_reached unreached arms.holds (accept_block Code (around_of around) a)) _ v split'.2 in
       let first = first'.0 in
       let same : capped (choice_costs first.costs no_costs) ≡ v.costs = ap (λ w. w.costs) (ok_same _ _ first'.2) in
       let low = if_below first.costs (subst IsBelow (sym same) below) in
-      let d = allowed_at arms (split_each around line test k) split'.1 (stepped s) (stepped_inside around k s i) in
-      subst (λ (w : Branches). AllIn 1 (inside Code once (block_rows Code (around_of around) a w.holds)) (made_in (of c) n (choose line test a) (stepped s)))
+      let d = allowed_at arms (split_each around spot test k) split'.1 (stepped s) (stepped_inside around k s i) in
+      subst (λ (w : Branches). AllIn 1 (inside Code once (block_rows Code (around_of around) a w.holds)) (made_in (of c) n (choose spot test a) (stepped s)))
       (sym (ap (λ q. found (branches None None) q) split'.1))
       (block_inside once around a arms.holds first _ first'.1 (omega arith)
       (test_keeps 1 (block_rows Code (around_of around) a arms.holds) around (truth test s.variables s.q s.x) arms (stepped s) (made (of c) n a (stepped s)) (unmade a) (unmade a) d
       (λ r. keeps arms.holds first first'.1 low.0 (stepped s) r) (λ r. none_of around a arms.holds)))
 
   -- the second arm, which has a row of its own
-  else_keeps : (around : Place) (line : ℕ) (b : Block) → MayLock around (block_has_lock b) → (k : Known) (v : Verdict) → if_reached unreached k (accept_block Code (around_of around) b) ≡ Ok v → IsBelow v.costs
-      → (s : State) → Reaches around k s → KeepsIn 1 (else_row Code (around_of around) line b k) (spent s (reached (run b s)) ∷ [])
-  else_keeps around line b may None v e low s r = absurd r
-  else_keeps around line b may (Some k) v e low s r =
+  else_keeps : (around : Place) (spot : Spot) (b : Block) → MayLock around (block_has_lock b) → (k : Known) (v : Verdict) → if_reached unreached k (accept_block Code (around_of around) b) ≡ Ok v → IsBelow v.costs
+      → (s : State) → Reaches around k s → KeepsIn 1 (else_row Code (around_of around) spot b k) (spent s (reached (run b s)) ∷ [])
+  else_keeps around spot b may None v e low s r = absurd r
+  else_keeps around spot b may (Some k) v e low s r =
       let j = judged_block around b may (Some k) v e in
       let t : State = reached (run b s) in
       let paid : Paid j.whole.costs s t = sound_paid c.plan around j.whole.after j.whole.costs s (run b s) (j.sound.each n le s r) in
@@ -390,18 +391,18 @@ module _ (c : Setting) (narrow : HasWidths c.plan) (serves : Serves c) (n : ℕ)
   no_else : (r : Row) → KeepsIn 1 r []
   no_else r = record { few = omega arith; each = tt }
 
-  choice_keeps : (around : Place) (line : ℕ) (test : Condition) (a b : Block) → MayLock around (block_has_lock b) → (k : Facts) (v : Verdict) → BlockKeeps around a → BlockKeeps around b
-      → accept_statement Code (around_of around) (choose_else line test a b) k ≡ Ok v → IsBelow v.costs → (s : State) → Inside around k s
-      → (let arms = ways line test (Some k) in
+  choice_keeps : (around : Place) (spot : Spot) (test : Condition) (a b : Block) → MayLock around (block_has_lock b) → (k : Facts) (v : Verdict) → BlockKeeps around a → BlockKeeps around b
+      → accept_statement Code (around_of around) (choose_else spot test a b) k ≡ Ok v → IsBelow v.costs → (s : State) → Inside around k s
+      → (let arms = ways spot test (Some k) in
       let first = (block_verdict Code (around_of around) a arms.holds).costs in
       let second = (block_verdict Code (around_of around) b arms.fails).costs in
       AllIn 1 (inside Code (first_arm first second) (block_rows Code (around_of around) a arms.holds)
-      ++ else_row Code (around_of around) line b arms.fails ∷ inside Code (second_arm first second) (block_rows Code (around_of around) b arms.fails))
-      (made_in (of c) n (choose_else line test a b) (stepped s)))
+      ++ else_row Code (around_of around) spot b arms.fails ∷ inside Code (second_arm first second) (block_rows Code (around_of around) b arms.fails))
+      (made_in (of c) n (choose_else spot test a b) (stepped s)))
   unfolding go_on if_reached
-  choice_keeps around line test a b may k v keeps others e below s i =
+  choice_keeps around spot test a b may k v keeps others e below s i =
       let A = around_of around in
-      let split' = go_ok (split line test k) _ v e in
+      let split' = go_ok (split spot test k) _ v e in
       let arms = split'.0 in
       let first' = go_ok (if_reached unreached arms.holds (accept_block Code A a)) _ v split'.2 in
       let first = first'.0 in
@@ -410,34 +411,34 @@ module _ (c : Setting) (narrow : HasWidths c.plan) (serves : Serves c) (n : ℕ)
       let same : capped (choice_costs first.costs second.costs) ≡ v.costs = ap (λ w. w.costs) (ok_same _ _ second'.2) in
       let low = choice_below first.costs second.costs (subst IsBelow (sym same) below) in
       let t : State = stepped s in
-      let d = allowed_at arms (split_each around line test k) split'.1 t (stepped_inside around k s i) in
+      let d = allowed_at arms (split_each around spot test k) split'.1 t (stepped_inside around k s i) in
       let Rows : Branches → Bounds → Bounds → List Row = λ w x y.
-      inside Code (first_arm x y) (block_rows Code A a w.holds) ++ else_row Code A line b w.fails ∷ inside Code (second_arm x y) (block_rows Code A b w.fails) in
-      let arm : (x y : Bounds) (one two : Made) (other : List Bounds) → AllIn 1 (block_rows Code A a arms.holds) one → KeepsIn 1 (else_row Code A line b arms.fails) other
+      inside Code (first_arm x y) (block_rows Code A a w.holds) ++ else_row Code A spot b w.fails ∷ inside Code (second_arm x y) (block_rows Code A b w.fails) in
+      let arm : (x y : Bounds) (one two : Made) (other : List Bounds) → AllIn 1 (block_rows Code A a arms.holds) one → KeepsIn 1 (else_row Code A spot b arms.fails) other
       → AllIn 1 (block_rows Code A b arms.fails) two → AllIn 1 (Rows arms x y) (one ++ other ∷ two) = λ x y one two other f m g.
       in_append 1 (inside Code (first_arm x y) (block_rows Code A a arms.holds)) _ one (other ∷ two)
       (block_inside (first_arm x y) around a arms.holds first one first'.1 (omega arith) f)
       (m, block_inside (second_arm x y) around b arms.fails second two second'.1 (omega arith) g) in
       let Keeps : Branches → Type 0 = λ w.
-      AllIn 1 (Rows w (block_verdict Code A a w.holds).costs (block_verdict Code A b w.fails).costs) (made_in (of c) n (choose_else line test a b) t) in
+      AllIn 1 (Rows w (block_verdict Code A a w.holds).costs (block_verdict Code A b w.fails).costs) (made_in (of c) n (choose_else spot test a b) t) in
       subst Keeps (sym (ap (λ q. found (branches None None) q) split'.1))
       (test_keeps 1 (Rows arms (block_verdict Code A a arms.holds).costs (block_verdict Code A b arms.fails).costs) around (truth test s.variables s.q s.x) arms t _ _ _ d
       (λ r. arm _ _ (made (of c) n a t) (unmade b) [] (keeps arms.holds first first'.1 low.0.0 t r) (no_else _) (none_of around b arms.fails))
-      (λ r. arm _ _ (unmade a) (made (of c) n b t) _ (none_of around a arms.holds) (else_keeps around line b may arms.fails second second'.1 low.0.1 t r) (others arms.fails second second'.1 low.0.1 t r)))
+      (λ r. arm _ _ (unmade a) (made (of c) n b t) _ (none_of around a arms.holds) (else_keeps around spot b may arms.fails second second'.1 low.0.1 t r) (others arms.fails second second'.1 low.0.1 t r)))
 
-  lock_keeps_to : (around : Place) (line : ℕ) (e1 : Expression) (body : Block) (k : Facts) (v : Verdict) → ((m : ℕ) → BlockKeeps (holding m around) body) → accept_statement Code (around_of around) (locked line e1 body) k ≡ Ok v
+  lock_keeps_to : (around : Place) (spot : Spot) (e1 : Expression) (body : Block) (k : Facts) (v : Verdict) → ((m : ℕ) → BlockKeeps (holding m around) body) → accept_statement Code (around_of around) (locked spot e1 body) k ≡ Ok v
       → IsBelow v.costs → (s : State) → Inside around k s
-      → (let o = taken Code (around_of around) line e1 (Some k) in
-      AllIn 1 (inside Code once (block_rows Code (lock_inside o (around_of around)) body (lock_head o (Some k)))) (made_in (of c) n (locked line e1 body) (stepped s)))
+      → (let o = taken Code (around_of around) spot e1 (Some k) in
+      AllIn 1 (inside Code once (block_rows Code (lock_inside o (around_of around)) body (lock_head o (Some k)))) (made_in (of c) n (locked spot e1 body) (stepped s)))
   unfolding go_on if_reached
-  lock_keeps_to around line e1 body k v keeps e below s i =
-      let crate' = go_ok (lock_rule Code (around_of around) line e1 k) _ v e in
+  lock_keeps_to around spot e1 body k v keeps e below s i =
+      let crate' = go_ok (lock_rule Code (around_of around) spot e1 k) _ v e in
       let m = crate'.0 in
       let inner' = go_ok (accept_block Code (with_locked m (around_of around)) body k) _ v crate'.2 in
       let inner = inner'.0 in
       let same : capped (lock_costs (unwrap_or (crate_waits c.plan m) 0) inner.costs) ≡ v.costs = ap (λ w. w.costs) (ok_same _ _ inner'.2) in
       let low = lock_below (unwrap_or (crate_waits c.plan m) 0) inner.costs (subst IsBelow (sym same) below) in
-      let can = allowed_at m (lock_allowed c around line e1 k) crate'.1 in
+      let can = allowed_at m (lock_allowed c around spot e1 k) crate'.1 in
       let t : State = stepped s in
       let rows = block_rows Code (with_locked m (around_of around)) body (Some k) in
       let go : ℕ → Made = λ j. if (t.branch j).locked then unmade body else lock_made j (outcome (crate_waits c.plan j) false t.answers) (made (of c) n body) (unmade body) t in
@@ -446,23 +447,23 @@ module _ (c : Setting) (narrow : HasWidths c.plan) (serves : Serves c) (n : ℕ)
       if_keeps 1 rows (t.branch m).locked (unmade body) _ none
       (lock_keeps 1 rows m (outcome (crate_waits c.plan m) false t.answers) (made (of c) n body) (unmade body) t
       (λ wait rest. keeps m (Some k) inner inner'.1 low.0 (after_lock m wait rest t) (record { variables = i.variables; registers = i.registers; locks = lock_taken around s.branch m i.locks })) none) in
-      subst (λ (o : Option ℕ). AllIn 1 (inside Code once (block_rows Code (lock_inside o (around_of around)) body (lock_head o (Some k)))) (made_in (of c) n (locked line e1 body) t))
+      subst (λ (o : Option ℕ). AllIn 1 (inside Code once (block_rows Code (lock_inside o (around_of around)) body (lock_head o (Some k)))) (made_in (of c) n (locked spot e1 body) t))
       (sym (ap (λ q. found None (go_on q (λ j. Ok (Some j)))) crate'.1))
       (block_inside once (holding m around) body (Some k) inner _ inner'.1 (omega arith)
       (subst (λ (o : Option ℕ). AllIn 1 rows (where_some o go (unmade body))) (sym (can.is s i)) one))
 
-  some_turns : (around : Place) (line x : ℕ) (e1 e2 : Expression) (qs : List Keep) (body : Block) → MayLock around (block_has_lock body) → (k : Facts) (l : Limits) (turn : Verdict) → BlockKeeps (fixing x around) body
+  some_turns : (around : Place) (spot : Spot) (x : ℕ) (e1 e2 : Expression) (qs : List Keep) (body : Block) → MayLock around (block_has_lock body) → (k : Facts) (l : Limits) (turn : Verdict) → BlockKeeps (fixing x around) body
       → IsBelow (capped (loop_costs (turns_between l) turn.costs)) → (s : State) → Inside around k s → counting.MayCount around x e1 e2 qs k l → (v w : ℕ) → Fits l.first v → Fits l.last w → keeps_hold_after qs turn.after ≡ true
       → (b : Bool) → nat_lt l.last.hi l.first.lo ≡ b → if_reached unreached (if b then None else Some (with_range x (values_between l) (head body qs k))) (accept_block Code (with_fixed x (around_of around)) body) ≡ Ok turn
       → AllIn (turns_between l) (block_rows Code (with_fixed x (around_of around)) body (if b then None else Some (with_range x (values_between l) (head body qs k))))
       (for_made (w + 1 - v) n x v (run body) (made (of c) n body) (unmade body) (stepped s))
-  some_turns around line x e1 e2 qs body may k l turn keeps low s i m v w f g kept true b e =
+  some_turns around spot x e1 e2 qs body may k l turn keeps low s i m v w f g kept true b e =
       let less : l.last.hi < l.first.lo = ltb-true l.last.hi l.first.lo b in
       let none : 0 ≡ w + 1 - v = omega (arith, f.within, g.within) in
       let rows = block_rows Code (with_fixed x (around_of around)) body None in
       subst (λ j. AllIn (turns_between l) rows (for_made j n x v (run body) (made (of c) n body) (unmade body) (stepped s))) none
       (in_more 0 (turns_between l) rows (unmade body) (omega arith) (unmade_block (seen c) (with_fixed x (around_of around)) body None))
-  some_turns around line x e1 e2 qs body may k l turn keeps low s i m v w f g kept false b e =
+  some_turns around spot x e1 e2 qs body may k l turn keeps low s i m v w f g kept false b e =
       let more : l.first.lo ≤ l.last.hi = ltb-false l.last.hi l.first.lo b in
       let some_turn : 1 ≤ turns_between l = omega arith in
       let fewer : w + 1 - v ≤ turns_between l = omega (arith, f.within, g.within) in
@@ -470,105 +471,105 @@ module _ (c : Setting) (narrow : HasWidths c.plan) (serves : Serves c) (n : ℕ)
       let rows = block_rows Code (with_fixed x (around_of around)) body (Some H) in
       let j = judged_block (fixing x around) body may (Some H) turn e in
       let keep : keeps_hold_after qs j.whole.after ≡ true = ap (λ y. keeps_hold_after qs y.after) j.is ∙ kept in
-      let h = counting.checked c around line x e1 e2 qs body k l j.whole m keep n le j.sound in
+      let h = counting.checked c around spot x e1 e2 qs body k l j.whole m keep n le j.sound in
       in_more (w + 1 - v) (turns_between l) rows _ fewer
       (for_turns_keep around x qs body k l j.whole h s i v w f g rows (λ t r. keeps (Some H) turn e (loop_low (turns_between l) turn.costs some_turn low) t r)
       (unmade_block (seen c) (with_fixed x (around_of around)) body (Some H)) (w + 1 - v) n v (stepped s)
-      (counting.before_turns c.plan around x body qs k l j.whole (run body) h s i v w f g (w + 1 - v) refl (counting.entered c around line x e1 e2 qs body k l j.whole m keep s i)))
+      (counting.before_turns c.plan around x body qs k l j.whole (run body) h s i v w f g (w + 1 - v) refl (counting.entered c around spot x e1 e2 qs body k l j.whole m keep s i)))
 
-  for_keeps : (around : Place) (line x : ℕ) (e1 e2 : Expression) (qs : List Keep) (body : Block) → MayLock around (block_has_lock body) → (k : Facts) (v : Verdict) → BlockKeeps (fixing x around) body
-      → accept_statement Code (around_of around) (for_ line x e1 e2 qs body) k ≡ Ok v → IsBelow v.costs → (s : State) → Inside around k s
-      → (let turn = for_turning (around_of around) line x e1 e2 qs body (Some k) in
-      AllIn 1 (inside Code (turning turn.turns) (block_rows Code (with_fixed x (around_of around)) body turn.head)) (made_in (of c) n (for_ line x e1 e2 qs body) (stepped s)))
+  for_keeps : (around : Place) (spot : Spot) (x : ℕ) (e1 e2 : Expression) (qs : List Keep) (body : Block) → MayLock around (block_has_lock body) → (k : Facts) (v : Verdict) → BlockKeeps (fixing x around) body
+      → accept_statement Code (around_of around) (for_ spot x e1 e2 qs body) k ≡ Ok v → IsBelow v.costs → (s : State) → Inside around k s
+      → (let turn = for_turning (around_of around) spot x e1 e2 qs body (Some k) in
+      AllIn 1 (inside Code (turning turn.turns) (block_rows Code (with_fixed x (around_of around)) body turn.head)) (made_in (of c) n (for_ spot x e1 e2 qs body) (stepped s)))
   unfolding go_on if_reached
-  for_keeps around line x e1 e2 qs body may k v keeps e below s i =
+  for_keeps around spot x e1 e2 qs body may k v keeps e below s i =
       let A = around_of around in
-      let limits' = go_ok (for_limits A line x e1 e2 qs k) _ v e in
+      let limits' = go_ok (for_limits A spot x e1 e2 qs k) _ v e in
       let l = limits'.0 in
       let turn' = go_ok (if_reached unreached (for_head x l qs body k) (accept_block Code (with_fixed x A) body)) _ v limits'.2 in
       let turn = turn'.0 in
-      let keeps' = go_ok (required (keeps_hold_after qs turn.after) _ line _) _ v turn'.2 in
+      let keeps' = go_ok (required (keeps_hold_after qs turn.after) _ spot _) _ v turn'.2 in
       let same : capped (loop_costs (turns_between l) turn.costs) ≡ v.costs = ap (λ w. w.costs) (ok_same _ _ keeps'.2) in
       let low = subst IsBelow (sym same) below in
-      let m = allowed_at l (limits_allowed around line x e1 e2 qs k) limits'.1 in
+      let m = allowed_at l (limits_allowed around spot x e1 e2 qs k) limits'.1 in
       let first = value_of (value e1 s.variables) l.first (m.first s i) in
       let last = value_of (value e2 s.variables) l.last (m.last s i) in
       let t : State = stepped s in
       let turns : ℕ → ℕ → Made = λ a b. for_made (b + 1 - a) n x a (run body) (made (of c) n body) (unmade body) t in
-      let kept : keeps_hold_after qs turn.after ≡ true = required_ok (keeps_hold_after qs turn.after) _ line _ keeps'.0 keeps'.1 in
+      let kept : keeps_hold_after qs turn.after ≡ true = required_ok (keeps_hold_after qs turn.after) _ spot _ keeps'.0 keeps'.1 in
       let by_head : (b : Bool) → nat_lt l.last.hi l.first.lo ≡ b → if_reached unreached (if b then None else Some (with_range x (values_between l) (head body qs k))) (accept_block Code (with_fixed x A) body) ≡ Ok turn
       → AllIn (turns_between l) (block_rows Code (with_fixed x A) body (if b then None else Some (with_range x (values_between l) (head body qs k)))) (turns first.number last.number) =
-      some_turns around line x e1 e2 qs body may k l turn keeps low s i m first.number last.number first.fits last.fits kept in
-      subst (λ (w : Turning). AllIn 1 (inside Code (turning w.turns) (block_rows Code (with_fixed x A) body w.head)) (made_in (of c) n (for_ line x e1 e2 qs body) t))
+      some_turns around spot x e1 e2 qs body may k l turn keeps low s i m first.number last.number first.fits last.fits kept in
+      subst (λ (w : Turning). AllIn 1 (inside Code (turning w.turns) (block_rows Code (with_fixed x A) body w.head)) (made_in (of c) n (for_ spot x e1 e2 qs body) t))
       (sym (ap (λ q. found (turning_from 0 None) (go_on q (λ j. Ok (turning_from (turns_between j) (for_head x j qs body k))))) limits'.1))
       (block_inside (turning (turns_between l)) (fixing x around) body (for_head x l qs body k) turn _ turn'.1 (loop_room (turns_between l) turn.costs low)
       (subst (λ (o : Option ℕ). AllIn (turns_between l) (block_rows Code (with_fixed x A) body (for_head x l qs body k)) (where_some o (λ a. where_some (value e2 s.variables) (turns a) (unmade body)) (unmade body))) (sym first.is)
       (subst (λ (o : Option ℕ). AllIn (turns_between l) (block_rows Code (with_fixed x A) body (for_head x l qs body k)) (where_some o (turns first.number) (unmade body))) (sym last.is)
       (by_head (nat_lt l.last.hi l.first.lo) refl turn'.1))))
 
-  while_keeps : (around : Place) (line : ℕ) (test : Condition) (most m : ℕ) (qs : List Keep) (body : Block) → MayLock around (block_has_lock body) → (k : Facts) (v : Verdict) → BlockKeeps around body
-      → accept_statement Code (around_of around) (while_ line test most m qs body) k ≡ Ok v → IsBelow v.costs → (s : State) → Inside around k s
-      → (let turn = while_turning (around_of around) line test most m qs body (Some k) in
-      AllIn 1 (inside Code (turning turn.turns) (block_rows Code (around_of around) body turn.head)) (made_in (of c) n (while_ line test most m qs body) (stepped s)))
+  while_keeps : (around : Place) (spot : Spot) (test : Condition) (most m : ℕ) (qs : List Keep) (body : Block) → MayLock around (block_has_lock body) → (k : Facts) (v : Verdict) → BlockKeeps around body
+      → accept_statement Code (around_of around) (while_ spot test most m qs body) k ≡ Ok v → IsBelow v.costs → (s : State) → Inside around k s
+      → (let turn = while_turning (around_of around) spot test most m qs body (Some k) in
+      AllIn 1 (inside Code (turning turn.turns) (block_rows Code (around_of around) body turn.head)) (made_in (of c) n (while_ spot test most m qs body) (stepped s)))
   unfolding go_on if_reached
-  while_keeps around line test most m qs body may k v keeps e below s i =
+  while_keeps around spot test most m qs body may k v keeps e below s i =
       let A = around_of around in
-      let top' = go_ok (while_head A.body line most m qs body k) _ v e in
+      let top' = go_ok (while_head A.body spot most m qs body k) _ v e in
       let top = top'.0 in
-      let split' = go_ok (split line test top) _ v top'.2 in
+      let split' = go_ok (split spot test top) _ v top'.2 in
       let arms = split'.0 in
       let turn' = go_ok (if_reached unreached arms.holds (accept_block Code A body)) _ v split'.2 in
       let turn = turn'.0 in
-      let keeps' = go_ok (required (keeps_hold_after qs turn.after) _ line _) _ v turn'.2 in
+      let keeps' = go_ok (required (keeps_hold_after qs turn.after) _ spot _) _ v turn'.2 in
       let T : ℕ = turn_bound arms.holds most in
       let same : capped (loop_costs T turn.costs) ≡ v.costs = ap (λ w. w.costs) (ok_same _ _ keeps'.2) in
       let low = subst IsBelow (sym same) below in
-      let begins = allowed_at top (head_allowed around.body line most m qs body k) top'.1 in
-      let d = allowed_at arms (split_each around line test top) split'.1 in
+      let begins = allowed_at top (head_allowed around.body spot most m qs body k) top'.1 in
+      let d = allowed_at arms (split_each around spot test top) split'.1 in
       let j = judged_block around body may arms.holds turn turn'.1 in
-      let kept : keeps_hold_after qs j.whole.after ≡ true = ap (λ y. keeps_hold_after qs y.after) j.is ∙ required_ok (keeps_hold_after qs turn.after) _ line _ keeps'.0 keeps'.1 in
-      let h = turning_while.checked c around line test most m qs body k top arms j.whole begins d j.sound kept n le in
+      let kept : keeps_hold_after qs j.whole.after ≡ true = ap (λ y. keeps_hold_after qs y.after) j.is ∙ required_ok (keeps_hold_after qs turn.after) _ spot _ keeps'.0 keeps'.1 in
+      let h = turning_while.checked c around spot test most m qs body k top arms j.whole begins d j.sound kept n le in
       let rows = block_rows Code A body arms.holds in
-      subst (λ (w : Turning). AllIn 1 (inside Code (turning w.turns) (block_rows Code A body w.head)) (made_in (of c) n (while_ line test most m qs body) (stepped s)))
+      subst (λ (w : Turning). AllIn 1 (inside Code (turning w.turns) (block_rows Code A body w.head)) (made_in (of c) n (while_ spot test most m qs body) (stepped s)))
       (sym (
-      ap (λ q. found (turning_from 0 None) (go_on q (λ r. go_on (split line test r) (λ w. Ok (turning_from (turn_bound w.holds most) w.holds))))) top'.1
+      ap (λ q. found (turning_from 0 None) (go_on q (λ r. go_on (split spot test r) (λ w. Ok (turning_from (turn_bound w.holds most) w.holds))))) top'.1
       ∙ ap (λ q. found (turning_from 0 None) (go_on q (λ w. Ok (turning_from (turn_bound w.holds most) w.holds)))) split'.1
       ))
       (block_inside (turning T) around body arms.holds turn _ turn'.1 (loop_room T turn.costs low)
       (while_turns_keep around test most m begins.fall qs body k arms j.whole h s i rows (λ some_turn t r. keeps arms.holds turn turn'.1 (loop_low T turn.costs some_turn low) t r)
       (unmade_block (seen c) A body arms.holds) T n (stepped s)
-      (turning_while.before_turns c around line test most m qs body k top arms j.whole begins d j.sound kept n le s i)))
+      (turning_while.before_turns c around spot test most m qs body k top arms j.whole begins d j.sound kept n le s i)))
 
   mutual
     unfolding go_on if_reached
 
     statement_keeps : (around : Place) (st : Statement) → MayLock around (has_lock st) → (k : Facts) (v : Verdict) → accept_statement Code (around_of around) st k ≡ Ok v → IsBelow v.costs → (s : State) → Inside around k s
         → AllIn 1 (statement_rows Code (around_of around) st (Some k)) ((spent s (reached (meaning (of c) n st s)) ∷ []) ∷ made_in (of c) n st (stepped s))
-    statement_keeps around (assign line x e1) may k v e low s i = (own_keeps around (assign line x e1) may k v _ _ e low s i, tt)
-    statement_keeps around (set_register line p e1 e2 e3) may k v e low s i = (own_keeps around (set_register line p e1 e2 e3) may k v _ _ e low s i, tt)
-    statement_keeps around (single line size f p move) may k v e low s i = (own_keeps around (single line size f p move) may k v _ _ e low s i, tt)
-    statement_keeps around (address_scan line f r1 r2 max x) may k v e low s i = (own_keeps around (address_scan line f r1 r2 max x) may k v _ _ e low s i, tt)
-    statement_keeps around (q_stop line f p t max x) may k v e low s i = (own_keeps around (q_stop line f p t max x) may k v _ _ e low s i, tt)
-    statement_keeps around (q_repeat line f p t max limit x) may k v e low s i = (own_keeps around (q_repeat line f p t max limit x) may k v _ _ e low s i, tt)
-    statement_keeps around (put line e1) may k v e low s i = (own_keeps around (put line e1) may k v _ _ e low s i, tt)
-    statement_keeps around (crate_call line which e1) may k v e low s i = (own_keeps around (crate_call line which e1) may k v _ _ e low s i, tt)
-    statement_keeps around (lam_call line which l) may k v e low s i = (own_keeps around (lam_call line which l) may k v _ _ e low s i, tt)
-    statement_keeps around (call line p es) may k v e low s i = (own_keeps around (call line p es) may k v _ _ e low s i, tt)
-    statement_keeps around (choose line test a) may k v e low s i =
-        (own_keeps around (choose line test a) may k v _ _ e low s i, if_keeps_to around line test a k v (block_keeps around a may) e low s i)
-    statement_keeps around (choose_else line test a b) may k v e low s i = (
-      own_keeps around (choose_else line test a b) may k v _ _ e low s i,
-      choice_keeps around line test a b (may_second (block_has_lock a) (block_has_lock b) around may) k v (block_keeps around a (may_first (block_has_lock a) (block_has_lock b) around may))
+    statement_keeps around (assign spot x e1) may k v e low s i = (own_keeps around (assign spot x e1) may k v _ _ e low s i, tt)
+    statement_keeps around (set_register spot p e1 e2 e3) may k v e low s i = (own_keeps around (set_register spot p e1 e2 e3) may k v _ _ e low s i, tt)
+    statement_keeps around (single spot size f p move) may k v e low s i = (own_keeps around (single spot size f p move) may k v _ _ e low s i, tt)
+    statement_keeps around (address_scan spot f r1 r2 max x) may k v e low s i = (own_keeps around (address_scan spot f r1 r2 max x) may k v _ _ e low s i, tt)
+    statement_keeps around (q_stop spot f p t max x) may k v e low s i = (own_keeps around (q_stop spot f p t max x) may k v _ _ e low s i, tt)
+    statement_keeps around (q_repeat spot f p t max limit x) may k v e low s i = (own_keeps around (q_repeat spot f p t max limit x) may k v _ _ e low s i, tt)
+    statement_keeps around (put spot e1) may k v e low s i = (own_keeps around (put spot e1) may k v _ _ e low s i, tt)
+    statement_keeps around (crate_call spot which e1) may k v e low s i = (own_keeps around (crate_call spot which e1) may k v _ _ e low s i, tt)
+    statement_keeps around (lam_call spot which l) may k v e low s i = (own_keeps around (lam_call spot which l) may k v _ _ e low s i, tt)
+    statement_keeps around (call spot p es) may k v e low s i = (own_keeps around (call spot p es) may k v _ _ e low s i, tt)
+    statement_keeps around (choose spot test a) may k v e low s i =
+        (own_keeps around (choose spot test a) may k v _ _ e low s i, if_keeps_to around spot test a k v (block_keeps around a may) e low s i)
+    statement_keeps around (choose_else spot test a b) may k v e low s i = (
+      own_keeps around (choose_else spot test a b) may k v _ _ e low s i,
+      choice_keeps around spot test a b (may_second (block_has_lock a) (block_has_lock b) around may) k v (block_keeps around a (may_first (block_has_lock a) (block_has_lock b) around may))
           (block_keeps around b (may_second (block_has_lock a) (block_has_lock b) around may)) e low s i,
     )
-    statement_keeps around (locked line e1 body) may k v e low s i =
-        (own_keeps around (locked line e1 body) may k v _ _ e low s i, lock_keeps_to around line e1 body k v (λ m. block_keeps (holding m around) body (λ h. may refl)) e low s i)
-    statement_keeps around (for_ line x e1 e2 qs body) may k v e low s i =
-        (own_keeps around (for_ line x e1 e2 qs body) may k v _ _ e low s i, for_keeps around line x e1 e2 qs body may k v (block_keeps (fixing x around) body may) e low s i)
-    statement_keeps around (for_each line x first last body) may k v e low s i =
-        (own_keeps around (for_each line x first last body) may k v _ _ e low s i, each_keeps around line x first last body may k v (block_keeps (fixing x around) body may) e low s i)
-    statement_keeps around (while_ line test most m qs body) may k v e low s i =
-        (own_keeps around (while_ line test most m qs body) may k v _ _ e low s i, while_keeps around line test most m qs body may k v (block_keeps around body may) e low s i)
+    statement_keeps around (locked spot e1 body) may k v e low s i =
+        (own_keeps around (locked spot e1 body) may k v _ _ e low s i, lock_keeps_to around spot e1 body k v (λ m. block_keeps (holding m around) body (λ h. may refl)) e low s i)
+    statement_keeps around (for_ spot x e1 e2 qs body) may k v e low s i =
+        (own_keeps around (for_ spot x e1 e2 qs body) may k v _ _ e low s i, for_keeps around spot x e1 e2 qs body may k v (block_keeps (fixing x around) body may) e low s i)
+    statement_keeps around (for_each spot x first last body) may k v e low s i =
+        (own_keeps around (for_each spot x first last body) may k v _ _ e low s i, each_keeps around spot x first last body may k v (block_keeps (fixing x around) body may) e low s i)
+    statement_keeps around (while_ spot test most m qs body) may k v e low s i =
+        (own_keeps around (while_ spot test most m qs body) may k v _ _ e low s i, while_keeps around spot test most m qs body may k v (block_keeps around body may) e low s i)
 
     pub block_keeps : (around : Place) (b : Block) → MayLock around (block_has_lock b) → BlockKeeps around b
     block_keeps around b may None v e low s r = absurd r

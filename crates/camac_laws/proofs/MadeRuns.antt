@@ -96,7 +96,7 @@ module _ (plan : Layout) (script : Script) (narrow : HasWidths plan) (all : Matc
   items_keep i j [] done' ps vs ks e hp hv a = tt
   items_keep i j (next_table ∷ rest) done' ps vs ks e hp hv a = items_keep i j rest done' ps vs ks e hp hv a
   items_keep i j (next_lam ∷ rest) done' ps vs ks e hp hv a = items_keep i j rest done' ps vs ks e hp hv a
-  items_keep i j (next_variables line n ∷ rest) done' ps vs ks e hp hv a = items_keep i j rest done' ps vs ks e hp hv a
+  items_keep i j (next_variables spot n ∷ rest) done' ps vs ks e hp hv a = items_keep i j rest done' ps vs ks e hp hv a
   items_keep i j (next_procedure ∷ rest) done' [] vs ks e hp hv a = items_keep i j rest done' [] vs ks e hp hv a
   items_keep i j (next_procedure ∷ rest) done' (p ∷ ps) vs ks e hp hv a =
       let (k, accepted, others) = go_ok (accept_procedure (seen (after done')) p) (λ k. accept_items (seen (after (done' ++ p ∷ []))) rest ps vs) ks a in (

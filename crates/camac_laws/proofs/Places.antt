@@ -37,6 +37,7 @@ use Rattle.camac_rules.proofs.Joined.{range_at-hulls, region_at-join}
 use Rattle.camac_rules.proofs.Values.{some_if}
 use Rattle.camac_laws.specs.Places.{Place, at_turn, HasPlace, BlockHasPlace, IsStart, RegistersHaveAddresses}
 use Rattle.camac_laws.specs.ShownAddresses.{HasAddresses}
+use Rattle.camac_lang.specs.declared.spot.Spot.{Spot}
 
 -- ---- what is ordered
 
@@ -127,20 +128,20 @@ rest_ordered r i d a e =
     let p = none_unless (nat_eq d 0) (if nat_lt r.hi d then r else interval 0 (d - 1)) i e in
     subst (λ j. j.lo ≤ j.hi) p.1 (cond_both (nat_lt r.hi d) r (interval 0 (d - 1)) (λ j. j.lo ≤ j.hi) (λ t. a) (λ t. omega arith))
 
-range_ordered : (line : ℕ) (e : Expression) (rs : List Interval) → AreRanges rs → Allows (range_of line e rs) (λ r. r.lo ≤ r.hi)
-range_ordered line (number n) rs h = required_allowed _ line _ (λ t. allowed (omega arith))
-range_ordered line (variable x) rs h = allowed (h x)
-range_ordered line (group e) rs h = range_ordered line e rs h
-range_ordered line (add a b) rs h =
-    then_allowed (range_ordered line a rs h) (λ r p. then_allowed (range_ordered line b rs h) (λ s q. given_then (range.add r s) _ line _ (λ i e. sum_ordered r s i p q e)))
-range_ordered line (subtract a b) rs h =
-    then_allowed (range_ordered line a rs h) (λ r p. then_allowed (range_ordered line b rs h) (λ s q. given_then (range.sub r s) _ line _ (λ i e. difference_ordered r s i p q e)))
-range_ordered line (multiply a b) rs h =
-    then_allowed (range_ordered line a rs h) (λ r p. then_allowed (range_ordered line b rs h) (λ s q. given_then (range.mul r s) _ line _ (λ i e. product_ordered r s i p q e)))
-range_ordered line (divide a d) rs h =
-    then_allowed (range_ordered line a rs h) (λ r p. given_then (range.div r d) _ line _ (λ i e. quotient_ordered r i d p e))
-range_ordered line (remainder a d) rs h =
-    then_allowed (range_ordered line a rs h) (λ r p. given_then (range.rem r d) _ line _ (λ i e. rest_ordered r i d p e))
+range_ordered : (spot : Spot) (e : Expression) (rs : List Interval) → AreRanges rs → Allows (range_of spot e rs) (λ r. r.lo ≤ r.hi)
+range_ordered spot (number n) rs h = required_allowed _ spot _ (λ t. allowed (omega arith))
+range_ordered spot (variable x) rs h = allowed (h x)
+range_ordered spot (group e) rs h = range_ordered spot e rs h
+range_ordered spot (add a b) rs h =
+    then_allowed (range_ordered spot a rs h) (λ r p. then_allowed (range_ordered spot b rs h) (λ s q. given_then (range.add r s) _ spot _ (λ i e. sum_ordered r s i p q e)))
+range_ordered spot (subtract a b) rs h =
+    then_allowed (range_ordered spot a rs h) (λ r p. then_allowed (range_ordered spot b rs h) (λ s q. given_then (range.sub r s) _ spot _ (λ i e. difference_ordered r s i p q e)))
+range_ordered spot (multiply a b) rs h =
+    then_allowed (range_ordered spot a rs h) (λ r p. then_allowed (range_ordered spot b rs h) (λ s q. given_then (range.mul r s) _ spot _ (λ i e. product_ordered r s i p q e)))
+range_ordered spot (divide a d) rs h =
+    then_allowed (range_ordered spot a rs h) (λ r p. given_then (range.div r d) _ spot _ (λ i e. quotient_ordered r i d p e))
+range_ordered spot (remainder a d) rs h =
+    then_allowed (range_ordered spot a rs h) (λ r p. given_then (range.rem r d) _ spot _ (λ i e. rest_ordered r i d p e))
 
 -- ---- conditions
 
@@ -170,27 +171,27 @@ assumed a b c r s k h =
     after_range (narrow c r s) _ (λ i. after_range (narrow (turned c) s r) _ (λ j.
     after_known (refine (sole_variable a) i k) (refine (sole_variable b) j) (refined (sole_variable a) i k h) (λ l m. refined (sole_variable b) j l m)))
 
-test_ordered : (line : ℕ) (t : Test) (k : Facts) → IsOrdered k → Allows (split_test line t k) AreOrdered
-test_ordered line flag_q k h = allowed (record { holds = h; fails = h })
-test_ordered line flag_x k h = allowed (record { holds = h; fails = h })
-test_ordered line (compare a c b) k h =
-    then_allowed (range_ordered line a k.ranges h.ranges) (λ r p. then_allowed (range_ordered line b k.ranges h.ranges) (λ s q.
+test_ordered : (spot : Spot) (t : Test) (k : Facts) → IsOrdered k → Allows (split_test spot t k) AreOrdered
+test_ordered spot flag_q k h = allowed (record { holds = h; fails = h })
+test_ordered spot flag_x k h = allowed (record { holds = h; fails = h })
+test_ordered spot (compare a c b) k h =
+    then_allowed (range_ordered spot a k.ranges h.ranges) (λ r p. then_allowed (range_ordered spot b k.ranges h.ranges) (λ s q.
     allowed (record { holds = assumed a b c r s k h; fails = assumed a b (opposite c) r s k h })))
 
-part_ordered : (line : ℕ) (p : Part) (k : Facts) → IsOrdered k → Allows (split_part line p k) AreOrdered
-part_ordered line (plain t) k h = test_ordered line t k h
-part_ordered line (negated t) k h = then_allowed (test_ordered line t k h) (λ b o. allowed (record { holds = o.fails; fails = o.holds }))
+part_ordered : (spot : Spot) (p : Part) (k : Facts) → IsOrdered k → Allows (split_part spot p k) AreOrdered
+part_ordered spot (plain t) k h = test_ordered spot t k h
+part_ordered spot (negated t) k h = then_allowed (test_ordered spot t k h) (λ b o. allowed (record { holds = o.fails; fails = o.holds }))
 
 reached_ordered : {A : Type 0} (nothing : A) (o : Known) (check : Facts → Result A Fault) (P : A → Type 0) → IfKnown o → P nothing → ((k : Facts) → IsOrdered k → Allows (check k) P) → Allows (if_reached nothing o check) P
 unfolding if_reached
 reached_ordered nothing None check P h n each = record { holds = n }
 reached_ordered nothing (Some k) check P h n each = each k h
 
-split_ordered : (line : ℕ) (ps : Condition) (k : Facts) → IsOrdered k → Allows (split line ps k) AreOrdered
-split_ordered line [] k h = allowed (record { holds = h; fails = tt })
-split_ordered line (p ∷ ps) k h =
-    then_allowed (part_ordered line p k h) (λ first o.
-    then_allowed (reached_ordered (branches None None) first.holds (split line ps) AreOrdered o.holds (record { holds = tt; fails = tt }) (λ l m. split_ordered line ps l m)) (λ others q.
+split_ordered : (spot : Spot) (ps : Condition) (k : Facts) → IsOrdered k → Allows (split spot ps k) AreOrdered
+split_ordered spot [] k h = allowed (record { holds = h; fails = tt })
+split_ordered spot (p ∷ ps) k h =
+    then_allowed (part_ordered spot p k h) (λ first o.
+    then_allowed (reached_ordered (branches None None) first.holds (split spot ps) AreOrdered o.holds (record { holds = tt; fails = tt }) (λ l m. split_ordered spot ps l m)) (λ others q.
     allowed (record { holds = q.holds; fails = joined first.fails others.fails o.fails q.fails })))
 
 -- ---- loops
@@ -206,22 +207,22 @@ forgotten_move (from e) k h = h
 
 mutual
   forgotten_by : (s : Statement) (k : Facts) → IsOrdered k → IsOrdered (forget s k)
-  forgotten_by (assign line x e) k h = ordered_with k x any_range h (omega arith)
-  forgotten_by (set_register line r c n a) k h = record { ranges = h.ranges; registers = set_with k.registers r None h.registers tt }
-  forgotten_by (single line size f r move) k h = forgotten_move move k h
-  forgotten_by (address_scan line f r1 r2 max x) k h = ordered_with k x any_range h (omega arith)
-  forgotten_by (q_stop line f r t max x) k h = ordered_with k x any_range h (omega arith)
-  forgotten_by (q_repeat line f r t max limit x) k h = ordered_with k x any_range h (omega arith)
-  forgotten_by (put line e) k h = h
-  forgotten_by (crate_call line which e) k h = h
-  forgotten_by (lam_call line which l) k h = h
-  forgotten_by (choose line test a) k h = forgotten a k h
-  forgotten_by (choose_else line test a b) k h = forgotten b (forget_block a k) (forgotten a k h)
-  forgotten_by (for_ line x e1 e2 keeps body) k h = ordered_with (forget_block body k) x any_range (forgotten body k h) (omega arith)
-  forgotten_by (for_each line x v last body) k h = ordered_with (forget_block body k) x any_range (forgotten body k h) (omega arith)
-  forgotten_by (while_ line test most m keeps body) k h = forgotten body k h
-  forgotten_by (locked line e body) k h = forgotten body k h
-  forgotten_by (call line p es) k h = h
+  forgotten_by (assign spot x e) k h = ordered_with k x any_range h (omega arith)
+  forgotten_by (set_register spot r c n a) k h = record { ranges = h.ranges; registers = set_with k.registers r None h.registers tt }
+  forgotten_by (single spot size f r move) k h = forgotten_move move k h
+  forgotten_by (address_scan spot f r1 r2 max x) k h = ordered_with k x any_range h (omega arith)
+  forgotten_by (q_stop spot f r t max x) k h = ordered_with k x any_range h (omega arith)
+  forgotten_by (q_repeat spot f r t max limit x) k h = ordered_with k x any_range h (omega arith)
+  forgotten_by (put spot e) k h = h
+  forgotten_by (crate_call spot which e) k h = h
+  forgotten_by (lam_call spot which l) k h = h
+  forgotten_by (choose spot test a) k h = forgotten a k h
+  forgotten_by (choose_else spot test a b) k h = forgotten b (forget_block a k) (forgotten a k h)
+  forgotten_by (for_ spot x e1 e2 keeps body) k h = ordered_with (forget_block body k) x any_range (forgotten body k h) (omega arith)
+  forgotten_by (for_each spot x v last body) k h = ordered_with (forget_block body k) x any_range (forgotten body k h) (omega arith)
+  forgotten_by (while_ spot test most m keeps body) k h = forgotten body k h
+  forgotten_by (locked spot e body) k h = forgotten body k h
+  forgotten_by (call spot p es) k h = h
 
   forgotten : (b : Block) (k : Facts) → IsOrdered k → IsOrdered (forget_block b k)
   forgotten done k h = h
@@ -244,10 +245,10 @@ head_ordered : (body : Block) (qs : List Keep) (k : Facts) → IsOrdered k → k
 head_ordered body qs k h e = kept qs k (forget_block body k) h e (forgotten body k h)
 
 -- the limits of a `for` that may begin
-for_may : (around : Around) (line x : ℕ) (e1 e2 : Expression) (qs : List Keep) (k : Facts) → Allows (for_limits around line x e1 e2 qs k) (λ l. keeps_hold qs k ≡ true)
-for_may around line x e1 e2 qs k =
-    then_allowed (anyway (range_of line e1 k.ranges)) (λ r u. then_allowed (anyway (range_of line e2 k.ranges)) (λ s w.
-    required_allowed _ line _ (λ a. required_allowed _ line _ (λ b. required_allowed _ line _ (λ e. allowed e)))))
+for_may : (around : Around) (spot : Spot) (x : ℕ) (e1 e2 : Expression) (qs : List Keep) (k : Facts) → Allows (for_limits around spot x e1 e2 qs k) (λ l. keeps_hold qs k ≡ true)
+for_may around spot x e1 e2 qs k =
+    then_allowed (anyway (range_of spot e1 k.ranges)) (λ r u. then_allowed (anyway (range_of spot e2 k.ranges)) (λ s w.
+    required_allowed _ spot _ (λ a. required_allowed _ spot _ (λ b. required_allowed _ spot _ (λ e. allowed e)))))
 
 for_head_ordered : (x : ℕ) (l : Limits) (qs : List Keep) (body : Block) (k : Facts) → IsOrdered k → keeps_hold qs k ≡ true → IfKnown (for_head x l qs body k)
 for_head_ordered x l qs body k h e =
@@ -260,9 +261,9 @@ for_after_ordered x l qs body k h e =
     (λ t. let some : l.first.lo ≤ l.last.hi = ltb-false l.last.hi l.first.lo t in
     ordered_with (head body qs k) x (hull (range_at k.ranges x) (values_between l)) (head_ordered body qs k h e) (hull_ordered (range_at k.ranges x) (values_between l) (h.ranges x) some))
 
-while_ordered : (around : Around) (line most m : ℕ) (qs : List Keep) (body : Block) (k : Facts) → IsOrdered k → Allows (while_head around.body line most m qs body k) IsOrdered
-while_ordered around line most m qs body k h =
-    then_allowed (given_allowed (fall_of m body) _ line _) (λ d u. required_allowed _ line _ (λ a. required_allowed _ line _ (λ e.
+while_ordered : (around : Around) (spot : Spot) (most m : ℕ) (qs : List Keep) (body : Block) (k : Facts) → IsOrdered k → Allows (while_head around.body spot most m qs body k) IsOrdered
+while_ordered around spot most m qs body k h =
+    then_allowed (given_allowed (fall_of m body) _ spot _) (λ d u. required_allowed _ spot _ (λ a. required_allowed _ spot _ (λ e.
     allowed (from_0 (head body qs k) m (range_at k.ranges m).hi (head_ordered body qs k h e)))))
 
 -- ---- statements
@@ -270,15 +271,15 @@ while_ordered around line most m qs body k h =
 abbrev LeavesOrdered : Verdict → Type 0
 LeavesOrdered v = IfKnown v.after
 
-single_ordered : (c : Context) (around : Around) (line : ℕ) (size : WordSize) (f r : ℕ) (move : Move) (k : Facts) → IsOrdered k → Allows (single_rule c around line size f r move k) LeavesOrdered
-single_ordered c around line size f r no_data k h =
-    then_allowed (given_allowed (region_at k.registers r) _ line _) (λ g u. then_allowed (anyway (command_widths c.plan line f g)) (λ w v. required_allowed _ line _ (λ t. allowed h)))
-single_ordered c around line size f r (into x) k h =
-    required_allowed _ line _ (λ a. then_allowed (given_allowed (region_at k.registers r) _ line _) (λ g u. then_allowed (anyway (command_widths c.plan line f g)) (λ w v.
-    required_allowed _ line _ (λ t. allowed (from_0 k x (2 ^ sized size w.hi - 1) h)))))
-single_ordered c around line size f r (from e) k h =
-    then_allowed (anyway (range_of line e k.ranges)) (λ v q. then_allowed (given_allowed (region_at k.registers r) _ line _) (λ g u. then_allowed (anyway (command_widths c.plan line f g)) (λ w p.
-    required_allowed _ line _ (λ t. required_allowed _ line _ (λ b. allowed h)))))
+single_ordered : (c : Context) (around : Around) (spot : Spot) (size : WordSize) (f r : ℕ) (move : Move) (k : Facts) → IsOrdered k → Allows (single_rule c around spot size f r move k) LeavesOrdered
+single_ordered c around spot size f r no_data k h =
+    then_allowed (given_allowed (region_at k.registers r) _ spot _) (λ g u. then_allowed (anyway (command_widths c.plan spot f g)) (λ w v. required_allowed _ spot _ (λ t. allowed h)))
+single_ordered c around spot size f r (into x) k h =
+    required_allowed _ spot _ (λ a. then_allowed (given_allowed (region_at k.registers r) _ spot _) (λ g u. then_allowed (anyway (command_widths c.plan spot f g)) (λ w v.
+    required_allowed _ spot _ (λ t. allowed (from_0 k x (2 ^ sized size w.hi - 1) h)))))
+single_ordered c around spot size f r (from e) k h =
+    then_allowed (anyway (range_of spot e k.ranges)) (λ v q. then_allowed (given_allowed (region_at k.registers r) _ spot _) (λ g u. then_allowed (anyway (command_widths c.plan spot f g)) (λ w p.
+    required_allowed _ spot _ (λ t. required_allowed _ spot _ (λ b. allowed h)))))
 
 -- one number alone
 alone : (k : Facts) (x n : ℕ) → IsOrdered k → IsOrdered (with_range x (only n) k)
@@ -306,48 +307,48 @@ turn_ordered (suc turn) x v check each k h =
 
 mutual
   statement_ordered : (c : Context) (around : Around) (s : Statement) (k : Facts) → IsOrdered k → Allows (accept_statement c around s k) LeavesOrdered
-  statement_ordered c around (assign line x e) k h =
-      then_allowed (range_ordered line e k.ranges h.ranges) (λ r p. required_allowed _ line _ (λ t. allowed (ordered_with k x r h p)))
-  statement_ordered c around (set_register line r e1 e2 e3) k h =
-      then_allowed (range_ordered line e1 k.ranges h.ranges) (λ a p. then_allowed (range_ordered line e2 k.ranges h.ranges) (λ b q. then_allowed (range_ordered line e3 k.ranges h.ranges) (λ d s.
+  statement_ordered c around (assign spot x e) k h =
+      then_allowed (range_ordered spot e k.ranges h.ranges) (λ r p. required_allowed _ spot _ (λ t. allowed (ordered_with k x r h p)))
+  statement_ordered c around (set_register spot r e1 e2 e3) k h =
+      then_allowed (range_ordered spot e1 k.ranges h.ranges) (λ a p. then_allowed (range_ordered spot e2 k.ranges h.ranges) (λ b q. then_allowed (range_ordered spot e3 k.ranges h.ranges) (λ d s.
       allowed (record { ranges = h.ranges; registers = set_with k.registers r (Some (region a b d)) h.registers (record { crates = p; stations = q; sub_addresses = s }) }))))
-  statement_ordered c around (single line size f r move) k h = single_ordered c around line size f r move k h
-  statement_ordered c around (address_scan line f r1 r2 max x) k h =
-      then_allowed (anyway (range_of line max k.ranges)) (λ most u. required_allowed _ line _ (λ a. then_allowed (given_allowed (region_at k.registers r1) _ line _) (λ g v. then_allowed (given_allowed (region_at k.registers r2) _ line _) (λ i w.
-      required_allowed _ line _ (λ b. required_allowed _ line _ (λ d. required_allowed _ line _ (λ e. required_allowed _ line _ (λ t. allowed (from_0 k x (scan_kept (window_of g i) most.hi) h)))))))))
-  statement_ordered c around (q_stop line f r t max x) k h =
-      then_allowed (anyway (range_of line max k.ranges)) (λ most u. then_allowed (anyway (block_region c around line f r t most.hi x k)) (λ g v. allowed (from_0 k x most.hi h)))
-  statement_ordered c around (q_repeat line f r t max limit x) k h =
-      then_allowed (anyway (range_of line max k.ranges)) (λ most u. then_allowed (anyway (range_of line limit k.ranges)) (λ last w. then_allowed (anyway (block_region c around line f r t most.hi x k)) (λ g v.
+  statement_ordered c around (single spot size f r move) k h = single_ordered c around spot size f r move k h
+  statement_ordered c around (address_scan spot f r1 r2 max x) k h =
+      then_allowed (anyway (range_of spot max k.ranges)) (λ most u. required_allowed _ spot _ (λ a. then_allowed (given_allowed (region_at k.registers r1) _ spot _) (λ g v. then_allowed (given_allowed (region_at k.registers r2) _ spot _) (λ i w.
+      required_allowed _ spot _ (λ b. required_allowed _ spot _ (λ d. required_allowed _ spot _ (λ e. required_allowed _ spot _ (λ t. allowed (from_0 k x (scan_kept (window_of g i) most.hi) h)))))))))
+  statement_ordered c around (q_stop spot f r t max x) k h =
+      then_allowed (anyway (range_of spot max k.ranges)) (λ most u. then_allowed (anyway (block_region c around spot f r t most.hi x k)) (λ g v. allowed (from_0 k x most.hi h)))
+  statement_ordered c around (q_repeat spot f r t max limit x) k h =
+      then_allowed (anyway (range_of spot max k.ranges)) (λ most u. then_allowed (anyway (range_of spot limit k.ranges)) (λ last w. then_allowed (anyway (block_region c around spot f r t most.hi x k)) (λ g v.
       allowed (from_0 k x (min most.hi last.hi) h))))
-  statement_ordered c around (put line e) k h =
-      then_allowed (anyway (range_of line e k.ranges)) (λ r u. required_allowed _ line _ (λ t. allowed h))
-  statement_ordered c around (crate_call line which e) k h =
-      then_allowed (anyway (range_of line e k.ranges)) (λ r u. required_allowed _ line _ (λ t. allowed h))
-  statement_ordered c around (lam_call line which l) k h =
-      then_allowed (given_allowed (lam_region c l) _ line _) (λ g u. then_allowed (anyway (command_widths c.plan line _ g)) (λ w v. allowed h))
-  statement_ordered c around (choose line test a) k h =
-      then_allowed (split_ordered line test k h) (λ arms o.
+  statement_ordered c around (put spot e) k h =
+      then_allowed (anyway (range_of spot e k.ranges)) (λ r u. required_allowed _ spot _ (λ t. allowed h))
+  statement_ordered c around (crate_call spot which e) k h =
+      then_allowed (anyway (range_of spot e k.ranges)) (λ r u. required_allowed _ spot _ (λ t. allowed h))
+  statement_ordered c around (lam_call spot which l) k h =
+      then_allowed (given_allowed (lam_region c l) _ spot _) (λ g u. then_allowed (anyway (command_widths c.plan spot _ g)) (λ w v. allowed h))
+  statement_ordered c around (choose spot test a) k h =
+      then_allowed (split_ordered spot test k h) (λ arms o.
       then_allowed (reached_ordered unreached arms.holds (accept_block c around a) LeavesOrdered o.holds tt (λ l m. block_ordered c around a l m)) (λ first p.
       allowed (joined first.after arms.fails p o.fails)))
-  statement_ordered c around (choose_else line test a b) k h =
-      then_allowed (split_ordered line test k h) (λ arms o.
+  statement_ordered c around (choose_else spot test a b) k h =
+      then_allowed (split_ordered spot test k h) (λ arms o.
       then_allowed (reached_ordered unreached arms.holds (accept_block c around a) LeavesOrdered o.holds tt (λ l m. block_ordered c around a l m)) (λ first p.
       then_allowed (reached_ordered unreached arms.fails (accept_block c around b) LeavesOrdered o.fails tt (λ l m. block_ordered c around b l m)) (λ second q.
       allowed (joined first.after second.after p q))))
-  statement_ordered c around (for_ line x e1 e2 keeps body) k h =
-      then_allowed (for_may around line x e1 e2 keeps k) (λ l e. then_allowed (anyway (if_reached unreached (for_head x l keeps body k) (accept_block c (with_fixed x around) body))) (λ turn u.
-      required_allowed _ line _ (λ t. allowed (for_after_ordered x l keeps body k h e))))
-  statement_ordered c around (for_each line x v last body) k h =
-      then_allowed (anyway (each_begins around line x v last)) (λ n u.
+  statement_ordered c around (for_ spot x e1 e2 keeps body) k h =
+      then_allowed (for_may around spot x e1 e2 keeps k) (λ l e. then_allowed (anyway (if_reached unreached (for_head x l keeps body k) (accept_block c (with_fixed x around) body))) (λ turn u.
+      required_allowed _ spot _ (λ t. allowed (for_after_ordered x l keeps body k h e))))
+  statement_ordered c around (for_each spot x v last body) k h =
+      then_allowed (anyway (each_begins around spot x v last)) (λ n u.
       then_allowed (each_ordered c.limit n x v last (accept_block c (with_fixed x around) body) (λ q o. block_ordered c (with_fixed x around) body q o) k h) (λ turns o. allowed o))
-  statement_ordered c around (while_ line test most m keeps body) k h =
-      then_allowed (while_ordered around line most m keeps body k h) (λ top o. then_allowed (split_ordered line test top o) (λ arms q.
-      then_allowed (anyway (if_reached unreached arms.holds (accept_block c around body))) (λ turn u. required_allowed _ line _ (λ t. allowed q.fails))))
-  statement_ordered c around (locked line e body) k h =
-      then_allowed (anyway (lock_rule c around line e k)) (λ n u. then_allowed (block_ordered c (with_locked n around) body k h) (λ inner i. allowed i))
-  statement_ordered c around (call line p es) k h =
-      then_allowed (anyway (ranges_of line es k.ranges)) (λ rs u. then_allowed (given_allowed (slice_get c.procedures p) _ line _) (λ q v. required_allowed _ line _ (λ t. allowed h)))
+  statement_ordered c around (while_ spot test most m keeps body) k h =
+      then_allowed (while_ordered around spot most m keeps body k h) (λ top o. then_allowed (split_ordered spot test top o) (λ arms q.
+      then_allowed (anyway (if_reached unreached arms.holds (accept_block c around body))) (λ turn u. required_allowed _ spot _ (λ t. allowed q.fails))))
+  statement_ordered c around (locked spot e body) k h =
+      then_allowed (anyway (lock_rule c around spot e k)) (λ n u. then_allowed (block_ordered c (with_locked n around) body k h) (λ inner i. allowed i))
+  statement_ordered c around (call spot p es) k h =
+      then_allowed (anyway (ranges_of spot es k.ranges)) (λ rs u. then_allowed (given_allowed (slice_get c.procedures p) _ spot _) (λ q v. required_allowed _ spot _ (λ t. allowed h)))
 
   block_ordered : (c : Context) (around : Around) (b : Block) (k : Facts) → IsOrdered k → Allows (accept_block c around b k) LeavesOrdered
   block_ordered c around done k h = allowed h
@@ -365,33 +366,33 @@ known_so o k h e = subst IfKnown e h
 
 mutual
   inside : (c : Context) (p : Place) (around : Around) (s : Statement) (k : Facts) → IsOrdered k → HasPlace c p around s k → IsOrdered p.known
-  inside c p around (choose line test a) k h i =
+  inside c p around (choose spot test a) k h i =
       let arms : Branches = i.0 in
-      let o = found_so (split line test k) arms AreOrdered (split_ordered line test k h) i.1 in
+      let o = found_so (split spot test k) arms AreOrdered (split_ordered spot test k h) i.1 in
       let t = i.2 in
       block_inside c p around a t.0 (known_so arms.holds t.0 o.holds t.1) t.2
-  inside c p around (choose_else line test a b) k h i =
+  inside c p around (choose_else spot test a b) k h i =
       let arms : Branches = i.0 in
-      let o = found_so (split line test k) arms AreOrdered (split_ordered line test k h) i.1 in
+      let o = found_so (split spot test k) arms AreOrdered (split_ordered spot test k h) i.1 in
       ⊎_elim (λ t. block_inside c p around a t.0 (known_so arms.holds t.0 o.holds t.1) t.2)
       (λ t. block_inside c p around b t.0 (known_so arms.fails t.0 o.fails t.1) t.2) i.2
-  inside c p around (locked line e body) k h i = block_inside c p (with_locked i.0 around) body k h i.2
-  inside c p around (for_ line x e1 e2 keeps body) k h i =
+  inside c p around (locked spot e body) k h i = block_inside c p (with_locked i.0 around) body k h i.2
+  inside c p around (for_ spot x e1 e2 keeps body) k h i =
       let l : Limits = i.0 in
-      let e = found_so (for_limits around line x e1 e2 keeps k) l (λ m. keeps_hold keeps k ≡ true) (for_may around line x e1 e2 keeps k) i.1 in
+      let e = found_so (for_limits around spot x e1 e2 keeps k) l (λ m. keeps_hold keeps k ≡ true) (for_may around spot x e1 e2 keeps k) i.1 in
       let t = i.2 in
       block_inside c p (with_fixed x around) body t.0 (known_so (for_head x l keeps body k) t.0 (for_head_ordered x l keeps body k h e) t.1) t.2
-  inside c p around (for_each line x v last body) k h i =
+  inside c p around (for_each spot x v last body) k h i =
       let check : Facts → Result Verdict Fault = accept_block c (with_fixed x around) body in
       let turn = i.2 in
       let t = turn.2 in
       let o = found_so (at_turn check x v turn.0 k) (Some t.0) IfKnown (turn_ordered turn.0 x v check (λ q m. block_ordered c (with_fixed x around) body q m) k h) t.1 in
       block_inside c p (with_fixed x around) body t.0 o t.2
-  inside c p around (while_ line test most m keeps body) k h i =
+  inside c p around (while_ spot test most m keeps body) k h i =
       let top : Facts = i.0 in
-      let o = found_so (while_head around.body line most m keeps body k) top IsOrdered (while_ordered around line most m keeps body k h) i.1 in
+      let o = found_so (while_head around.body spot most m keeps body k) top IsOrdered (while_ordered around spot most m keeps body k h) i.1 in
       let arms : Branches = i.2.0 in
-      let q = found_so (split line test top) arms AreOrdered (split_ordered line test top o) i.2.1 in
+      let q = found_so (split spot test top) arms AreOrdered (split_ordered spot test top o) i.2.1 in
       let t = i.2.2 in
       block_inside c p around body t.0 (known_so arms.holds t.0 q.holds t.1) t.2
   inside c p around s k h i = absurd i

@@ -2,7 +2,7 @@
 use Rattle.std.proofs.Common.{◌≡◌, ℕ, ◌<◌, Bool, true, false, List, [], ◌∷◌, Option, Some, None, Result, Ok, Err, refl, sym, ap, ◌∙◌, subst, arith, ◌⊎◌, inl, inr, ⊎_elim}
 use Rattle.std.specs.Prelude.{nat_le, slice_get}
 use Rattle.std.proofs.lemmas.Bool.{leb-false}
-use Rattle.camac_lang.specs.Tree.{Expression, number, variable, group, add, subtract, multiply, divide, remainder, Test, flag_q, flag_x, compare, Part, plain, negated, Condition, Move, no_data, into, from, Keep, Statement, assign, set_register, single, address_scan, q_stop, q_repeat, put, crate_call, lam_call, choose, choose_else, for_, for_each, while_, locked, call, Block, done, next, line_of}
+use Rattle.camac_lang.specs.Tree.{Expression, number, variable, group, add, subtract, multiply, divide, remainder, Test, flag_q, flag_x, compare, Part, plain, negated, Condition, Move, no_data, into, from, Keep, Statement, assign, set_register, single, address_scan, q_stop, q_repeat, put, crate_call, lam_call, choose, choose_else, for_, for_each, while_, locked, call, Block, done, next, spot_of}
 use Rattle.camac_lang.specs.declared.word.WordSize.{WordSize}
 use Rattle.camac_branch.specs.Plan.{Layout}
 use Rattle.camac_model.specs.Fine.{Bounds}
@@ -28,101 +28,102 @@ use Rattle.camac_rules.specs.Statements.{accept_statement, accept_block}
 use Rattle.camac_rules.specs.Transfers.{block_region}
 use Rattle.camac_rules.specs.Writes.{fall_of}
 use Rattle.camac_laws.specs.Places.{Place, place, HasPlace, BlockHasPlace}
-use Rattle.camac_laws.specs.Refused.{named, body_of, start_of, heading_line, heading_of, found_in, accept_section, number_of, HeadingsAreShown, IsOverLimit, IsAccepted, IsRefusedInside, IsRefusedByHeading, ComesTo, RefusedAtPlaces}
+use Rattle.camac_laws.specs.Refused.{named, body_of, start_of, heading_spot, heading_of, found_in, accept_section, number_of, HeadingsAreShown, IsOverLimit, IsAccepted, IsRefusedInside, IsRefusedByHeading, ComesTo, RefusedAtPlaces}
 use Rattle.camac_laws.proofs.EachTurns.{each_refused, each_accepted}
 use Rattle.camac_laws.proofs.OverLimit.{over_limit}
 use Rattle.camac_laws.proofs.Refused.{go_err, required_err, reached_err, reached_is}
 use Rattle.camac_laws.proofs.Steps.{go_ok, go_is}
+use Rattle.camac_lang.specs.declared.spot.Spot.{Spot}
 
--- ---- the line of a fault
+-- ---- the spot of a fault
 
-abbrev line_in : Fault → ℕ
-line_in (broken rule line case) = line
+abbrev spot_in : Fault → Spot
+spot_in (broken rule spot case) = spot
 
--- each fault is on this line; a record, so that its arguments are found
-record OnLine {A : Type 0} (r : Result A Fault) (line : ℕ) : Type 0 where
-  on : (fault : Fault) → r ≡ Err fault → line_in fault ≡ line
+-- each fault is at this spot; a record, so that its arguments are found
+record AtSpot {A : Type 0} (r : Result A Fault) (spot : Spot) : Type 0 where
+  on : (fault : Fault) → r ≡ Err fault → spot_in fault ≡ spot
 
-fine_on : {A : Type 0} {x : A} {line : ℕ} → OnLine (Ok x) line
+fine_on : {A : Type 0} {x : A} {spot : Spot} → AtSpot (Ok x) spot
 fine_on = record { on = λ fault e. absurd (cc) }
 
-then_on : {A B : Type 0} {r : Result A Fault} {f : A → Result B Fault} {line : ℕ} → OnLine r line → ((x : A) → OnLine (f x) line) → OnLine (r >>= f) line
+then_on : {A B : Type 0} {r : Result A Fault} {f : A → Result B Fault} {spot : Spot} → AtSpot r spot → ((x : A) → AtSpot (f x) spot) → AtSpot (r >>= f) spot
 unfolding go_on
 then_on {r = Ok x} h k = k x
 then_on {r = Err e} h k = record { on = λ fault t. h.on fault (let same : e ≡ fault = cc in ap Err same) }
 
-given_on : {A : Type 0} (o : Option A) (rule : CheckRule) (line : ℕ) (case : Case) → OnLine (given o rule line case) line
+given_on : {A : Type 0} (o : Option A) (rule : CheckRule) (spot : Spot) (case : Case) → AtSpot (given o rule spot case) spot
 unfolding given
-given_on None rule line case = record { on = λ fault e. let same : broken rule line case ≡ fault = cc in sym (ap line_in same) }
-given_on (Some x) rule line case = record { on = λ fault e. absurd (cc) }
+given_on None rule spot case = record { on = λ fault e. let same : broken rule spot case ≡ fault = cc in sym (ap spot_in same) }
+given_on (Some x) rule spot case = record { on = λ fault e. absurd (cc) }
 
-required_on : {B : Type 0} {b : Bool} (rule : CheckRule) (line : ℕ) (case : Case) {r : Result B Fault} → (b ≡ true → OnLine r line) → OnLine (required b rule line case >> r) line
+required_on : {B : Type 0} {b : Bool} (rule : CheckRule) (spot : Spot) (case : Case) {r : Result B Fault} → (b ≡ true → AtSpot r spot) → AtSpot (required b rule spot case >> r) spot
 unfolding go_on required
-required_on {b = true} rule line case h = h refl
-required_on {b = false} rule line case h = record { on = λ fault e. let same : broken rule line case ≡ fault = cc in sym (ap line_in same) }
+required_on {b = true} rule spot case h = h refl
+required_on {b = false} rule spot case h = record { on = λ fault e. let same : broken rule spot case ≡ fault = cc in sym (ap spot_in same) }
 
-reached_on : {A S : Type 0} (nothing : A) (o : Option S) (check : S → Result A Fault) {line : ℕ} → ((s : S) → OnLine (check s) line) → OnLine (if_reached nothing o check) line
+reached_on : {A S : Type 0} (nothing : A) (o : Option S) (check : S → Result A Fault) {spot : Spot} → ((s : S) → AtSpot (check s) spot) → AtSpot (if_reached nothing o check) spot
 unfolding if_reached
 reached_on nothing None check h = record { on = λ fault e. absurd (cc) }
 reached_on nothing (Some s) check h = h s
 
-range_on : (line : ℕ) (e : Expression) (k : Facts) → OnLine (range_of line e k.ranges) line
-range_on line (number n) k = required_on _ line _ (λ t. fine_on)
-range_on line (variable x) k = fine_on
-range_on line (group e) k = range_on line e k
-range_on line (add a b) k = then_on (range_on line a k) (λ r. then_on (range_on line b k) (λ s. given_on _ _ line _))
-range_on line (subtract a b) k = then_on (range_on line a k) (λ r. then_on (range_on line b k) (λ s. given_on _ _ line _))
-range_on line (multiply a b) k = then_on (range_on line a k) (λ r. then_on (range_on line b k) (λ s. given_on _ _ line _))
-range_on line (divide a d) k = then_on (range_on line a k) (λ r. given_on _ _ line _)
-range_on line (remainder a d) k = then_on (range_on line a k) (λ r. given_on _ _ line _)
+range_on : (spot : Spot) (e : Expression) (k : Facts) → AtSpot (range_of spot e k.ranges) spot
+range_on spot (number n) k = required_on _ spot _ (λ t. fine_on)
+range_on spot (variable x) k = fine_on
+range_on spot (group e) k = range_on spot e k
+range_on spot (add a b) k = then_on (range_on spot a k) (λ r. then_on (range_on spot b k) (λ s. given_on _ _ spot _))
+range_on spot (subtract a b) k = then_on (range_on spot a k) (λ r. then_on (range_on spot b k) (λ s. given_on _ _ spot _))
+range_on spot (multiply a b) k = then_on (range_on spot a k) (λ r. then_on (range_on spot b k) (λ s. given_on _ _ spot _))
+range_on spot (divide a d) k = then_on (range_on spot a k) (λ r. given_on _ _ spot _)
+range_on spot (remainder a d) k = then_on (range_on spot a k) (λ r. given_on _ _ spot _)
 
-ranges_on : (line : ℕ) (es : List Expression) (k : Facts) → OnLine (ranges_of line es k.ranges) line
-ranges_on line [] k = fine_on
-ranges_on line (e ∷ es) k = then_on (range_on line e k) (λ r. then_on (ranges_on line es k) (λ rs. fine_on))
+ranges_on : (spot : Spot) (es : List Expression) (k : Facts) → AtSpot (ranges_of spot es k.ranges) spot
+ranges_on spot [] k = fine_on
+ranges_on spot (e ∷ es) k = then_on (range_on spot e k) (λ r. then_on (ranges_on spot es k) (λ rs. fine_on))
 
-widths_on : (plan : Layout) (line f : ℕ) (g : Region) → OnLine (command_widths plan line f g) line
-widths_on plan line f g = required_on _ line _ (λ t. given_on _ _ line _)
+widths_on : (plan : Layout) (spot : Spot) (f : ℕ) (g : Region) → AtSpot (command_widths plan spot f g) spot
+widths_on plan spot f g = required_on _ spot _ (λ t. given_on _ _ spot _)
 
-test_on : (line : ℕ) (t : Test) (k : Facts) → OnLine (split_test line t k) line
-test_on line flag_q k = fine_on
-test_on line flag_x k = fine_on
-test_on line (compare a c b) k = then_on (range_on line a k) (λ r. then_on (range_on line b k) (λ s. fine_on))
+test_on : (spot : Spot) (t : Test) (k : Facts) → AtSpot (split_test spot t k) spot
+test_on spot flag_q k = fine_on
+test_on spot flag_x k = fine_on
+test_on spot (compare a c b) k = then_on (range_on spot a k) (λ r. then_on (range_on spot b k) (λ s. fine_on))
 
-part_on : (line : ℕ) (p : Part) (k : Facts) → OnLine (split_part line p k) line
-part_on line (plain t) k = test_on line t k
-part_on line (negated t) k = then_on (test_on line t k) (λ b. fine_on)
+part_on : (spot : Spot) (p : Part) (k : Facts) → AtSpot (split_part spot p k) spot
+part_on spot (plain t) k = test_on spot t k
+part_on spot (negated t) k = then_on (test_on spot t k) (λ b. fine_on)
 
-split_on : (line : ℕ) (ps : Condition) (k : Facts) → OnLine (split line ps k) line
-split_on line [] k = fine_on
-split_on line (p ∷ ps) k =
-    then_on (part_on line p k) (λ first. then_on (reached_on (branches None None) first.holds (split line ps) (λ s. split_on line ps s)) (λ others. fine_on))
+split_on : (spot : Spot) (ps : Condition) (k : Facts) → AtSpot (split spot ps k) spot
+split_on spot [] k = fine_on
+split_on spot (p ∷ ps) k =
+    then_on (part_on spot p k) (λ first. then_on (reached_on (branches None None) first.holds (split spot ps) (λ s. split_on spot ps s)) (λ others. fine_on))
 
-region_on : (c : Context) (around : Around) (line f r : ℕ) (t : Option ℕ) (most x : ℕ) (k : Facts) → OnLine (block_region c around line f r t most x k) line
-region_on c around line f r t most x k =
-    required_on _ line _ (λ t. then_on (given_on (region_at k.registers r) _ line _) (λ g. then_on (widths_on c.plan line f g) (λ w.
-    required_on _ line _ (λ t. required_on _ line _ (λ t. required_on _ line _ (λ t. fine_on))))))
+region_on : (c : Context) (around : Around) (spot : Spot) (f r : ℕ) (t : Option ℕ) (most x : ℕ) (k : Facts) → AtSpot (block_region c around spot f r t most x k) spot
+region_on c around spot f r t most x k =
+    required_on _ spot _ (λ t. then_on (given_on (region_at k.registers r) _ spot _) (λ g. then_on (widths_on c.plan spot f g) (λ w.
+    required_on _ spot _ (λ t. required_on _ spot _ (λ t. required_on _ spot _ (λ t. fine_on))))))
 
-lock_on : (c : Context) (around : Around) (line : ℕ) (e : Expression) (k : Facts) → OnLine (lock_rule c around line e k) line
-lock_on c around line e k = then_on (range_on line e k) (λ r. required_on _ line _ (λ t. fine_on))
+lock_on : (c : Context) (around : Around) (spot : Spot) (e : Expression) (k : Facts) → AtSpot (lock_rule c around spot e k) spot
+lock_on c around spot e k = then_on (range_on spot e k) (λ r. required_on _ spot _ (λ t. fine_on))
 
-for_on : (around : Around) (line x : ℕ) (e1 e2 : Expression) (qs : List Keep) (k : Facts) → OnLine (for_limits around line x e1 e2 qs k) line
-for_on around line x e1 e2 qs k =
-    then_on (range_on line e1 k) (λ r. then_on (range_on line e2 k) (λ s. required_on _ line _ (λ t. required_on _ line _ (λ t. required_on _ line _ (λ t. fine_on)))))
+for_on : (around : Around) (spot : Spot) (x : ℕ) (e1 e2 : Expression) (qs : List Keep) (k : Facts) → AtSpot (for_limits around spot x e1 e2 qs k) spot
+for_on around spot x e1 e2 qs k =
+    then_on (range_on spot e1 k) (λ r. then_on (range_on spot e2 k) (λ s. required_on _ spot _ (λ t. required_on _ spot _ (λ t. required_on _ spot _ (λ t. fine_on)))))
 
-each_on : (around : Around) (line x v last : ℕ) → OnLine (each_begins around line x v last) line
-each_on around line x v last = required_on _ line _ (λ t. required_on _ line _ (λ t. required_on _ line _ (λ t. fine_on)))
+each_on : (around : Around) (spot : Spot) (x v last : ℕ) → AtSpot (each_begins around spot x v last) spot
+each_on around spot x v last = required_on _ spot _ (λ t. required_on _ spot _ (λ t. required_on _ spot _ (λ t. fine_on)))
 
-while_on : (around : Around) (line most m : ℕ) (qs : List Keep) (body : Block) (k : Facts) → OnLine (while_head around.body line most m qs body k) line
-while_on around line most m qs body k = then_on (given_on (fall_of m body) _ line _) (λ d. required_on _ line _ (λ t. required_on _ line _ (λ t. fine_on)))
+while_on : (around : Around) (spot : Spot) (most m : ℕ) (qs : List Keep) (body : Block) (k : Facts) → AtSpot (while_head around.body spot most m qs body k) spot
+while_on around spot most m qs body k = then_on (given_on (fall_of m body) _ spot _) (λ d. required_on _ spot _ (λ t. required_on _ spot _ (λ t. fine_on)))
 
-single_on : (c : Context) (around : Around) (line : ℕ) (size : WordSize) (f r : ℕ) (move : Move) (k : Facts) → OnLine (single_rule c around line size f r move k) line
-single_on c around line size f r no_data k =
-    then_on (given_on (region_at k.registers r) _ line _) (λ g. then_on (widths_on c.plan line f g) (λ w. required_on _ line _ (λ t. fine_on)))
-single_on c around line size f r (into x) k =
-    required_on _ line _ (λ t. then_on (given_on (region_at k.registers r) _ line _) (λ g. then_on (widths_on c.plan line f g) (λ w. required_on _ line _ (λ t. fine_on))))
-single_on c around line size f r (from e) k =
-    then_on (range_on line e k) (λ v. then_on (given_on (region_at k.registers r) _ line _) (λ g. then_on (widths_on c.plan line f g) (λ w.
-    required_on _ line _ (λ t. required_on _ line _ (λ t. fine_on)))))
+single_on : (c : Context) (around : Around) (spot : Spot) (size : WordSize) (f r : ℕ) (move : Move) (k : Facts) → AtSpot (single_rule c around spot size f r move k) spot
+single_on c around spot size f r no_data k =
+    then_on (given_on (region_at k.registers r) _ spot _) (λ g. then_on (widths_on c.plan spot f g) (λ w. required_on _ spot _ (λ t. fine_on)))
+single_on c around spot size f r (into x) k =
+    required_on _ spot _ (λ t. then_on (given_on (region_at k.registers r) _ spot _) (λ g. then_on (widths_on c.plan spot f g) (λ w. required_on _ spot _ (λ t. fine_on))))
+single_on c around spot size f r (from e) k =
+    then_on (range_on spot e k) (λ v. then_on (given_on (region_at k.registers r) _ spot _) (λ g. then_on (widths_on c.plan spot f g) (λ w.
+    required_on _ spot _ (λ t. required_on _ spot _ (λ t. fine_on)))))
 
 -- ---- what is accepted
 
@@ -134,27 +135,27 @@ reached_ok : {A S : Type 0} (nothing : A) (o : Option S) (check : S → Result A
 reached_ok nothing o check s x e is = sym (ap (λ p. if_reached nothing p check) is ∙ reached_is nothing s check) ∙ e
 
 -- what was found of the body of a `for`, at what is known where it begins
-turn_ok : (line x : ℕ) (e1 e2 : Expression) (keeps : List Keep) (body : Block) (around : Around) (k : Facts) (l m : Limits) (check : Facts → Result Verdict Fault)
-    → for_limits around line x e1 e2 keeps k ≡ Ok l → for_limits around line x e1 e2 keeps k ≡ Ok m
+turn_ok : (spot : Spot) (x : ℕ) (e1 e2 : Expression) (keeps : List Keep) (body : Block) (around : Around) (k : Facts) (l m : Limits) (check : Facts → Result Verdict Fault)
+    → for_limits around spot x e1 e2 keeps k ≡ Ok l → for_limits around spot x e1 e2 keeps k ≡ Ok m
     → (turn : Verdict) → if_reached unreached (for_head x m keeps body k) check ≡ Ok turn → (t : Facts) → for_head x l keeps body k ≡ Some t → check t ≡ Ok turn
-turn_ok line x e1 e2 keeps body around k l m check h j turn e t head =
-    let same = one_ok m l (for_limits around line x e1 e2 keeps k) j h in
+turn_ok spot x e1 e2 keeps body around k l m check h j turn e t head =
+    let same = one_ok m l (for_limits around spot x e1 e2 keeps k) j h in
     reached_ok unreached (for_head x m keeps body k) check t turn e (ap (λ n. for_head x n keeps body k) same ∙ head)
 
 mutual
   accepted_inside : (c : Context) (q : Place) (around : Around) (s : Statement) (k : Facts) (v : Verdict) → accept_statement c around s k ≡ Ok v → HasPlace c q around s k → IsAccepted c q
-  accepted_inside c q around (choose line test a) k v e i =
+  accepted_inside c q around (choose spot test a) k v e i =
       let arms : Branches = i.0 in
       let t = i.2 in
-      let r = go_ok (split line test k) _ v e in
-      let same = one_ok r.0 arms (split line test k) r.1 i.1 in
+      let r = go_ok (split spot test k) _ v e in
+      let same = one_ok r.0 arms (split spot test k) r.1 i.1 in
       let first = go_ok (if_reached unreached r.0.holds (accept_block c around a)) _ v r.2 in
       block_accepted c q around a t.0 first.0
       (reached_ok unreached r.0.holds (accept_block c around a) t.0 first.0 first.1 (ap (λ (b : Branches). b.holds) same ∙ t.1)) t.2
-  accepted_inside c q around (choose_else line test a b) k v e i =
+  accepted_inside c q around (choose_else spot test a b) k v e i =
       let arms : Branches = i.0 in
-      let r = go_ok (split line test k) _ v e in
-      let same = one_ok r.0 arms (split line test k) r.1 i.1 in
+      let r = go_ok (split spot test k) _ v e in
+      let same = one_ok r.0 arms (split spot test k) r.1 i.1 in
       let first = go_ok (if_reached unreached r.0.holds (accept_block c around a)) _ v r.2 in
       let second = go_ok (if_reached unreached r.0.fails (accept_block c around b)) _ v first.2 in
       ⊎_elim
@@ -162,36 +163,36 @@ mutual
       (reached_ok unreached r.0.holds (accept_block c around a) t.0 first.0 first.1 (ap (λ (b : Branches). b.holds) same ∙ t.1)) t.2)
       (λ t. block_accepted c q around b t.0 second.0
       (reached_ok unreached r.0.fails (accept_block c around b) t.0 second.0 second.1 (ap (λ (b : Branches). b.fails) same ∙ t.1)) t.2) i.2
-  accepted_inside c q around (locked line e body) k v is i =
-      let r = go_ok (lock_rule c around line e k) _ v is in
-      let same = one_ok r.0 i.0 (lock_rule c around line e k) r.1 i.1 in
+  accepted_inside c q around (locked spot e body) k v is i =
+      let r = go_ok (lock_rule c around spot e k) _ v is in
+      let same = one_ok r.0 i.0 (lock_rule c around spot e k) r.1 i.1 in
       let inner = go_ok (accept_block c (with_locked r.0 around) body k) _ v r.2 in
       block_accepted c q (with_locked i.0 around) body k inner.0 (subst (λ n. accept_block c (with_locked n around) body k ≡ Ok inner.0) same inner.1) i.2
-  accepted_inside c q around (for_ line x e1 e2 keeps body) k v e i =
+  accepted_inside c q around (for_ spot x e1 e2 keeps body) k v e i =
       let l : Limits = i.0 in
       let t = i.2 in
-      let r = go_ok (for_limits around line x e1 e2 keeps k) _ v e in
+      let r = go_ok (for_limits around spot x e1 e2 keeps k) _ v e in
       let turn = go_ok (if_reached unreached (for_head x r.0 keeps body k) (accept_block c (with_fixed x around) body)) _ v r.2 in
       block_accepted c q (with_fixed x around) body t.0 turn.0
-      (turn_ok line x e1 e2 keeps body around k l r.0 (accept_block c (with_fixed x around) body) i.1 r.1 turn.0 turn.1 t.0 t.1) t.2
-  accepted_inside c q around (for_each line x v last body) k w e i =
+      (turn_ok spot x e1 e2 keeps body around k l r.0 (accept_block c (with_fixed x around) body) i.1 r.1 turn.0 turn.1 t.0 t.1) t.2
+  accepted_inside c q around (for_each spot x v last body) k w e i =
       let check : Facts → Result Verdict Fault = accept_block c (with_fixed x around) body in
       let turn = i.2 in
-      let r = go_ok (each_begins around line x v last) _ w e in
-      let same = one_ok i.0 r.0 (each_begins around line x v last) i.1 r.1 in
+      let r = go_ok (each_begins around spot x v last) _ w e in
+      let same = one_ok i.0 r.0 (each_begins around spot x v last) i.1 r.1 in
       let all = go_ok (each_from c.limit r.0 x v last check k) _ w r.2 in
       let t = turn.2 in
       let found = each_accepted c.limit r.0 x v last check k all.0 all.1 turn.0 (subst (λ n. turn.0 < n) same turn.1) t.0 t.1 in
       block_accepted c q (with_fixed x around) body t.0 found.0 found.1 t.2
-  accepted_inside c q around (while_ line test most m keeps body) k v e i =
+  accepted_inside c q around (while_ spot test most m keeps body) k v e i =
       let top : Facts = i.0 in
       let arms : Branches = i.2.0 in
       let t = i.2.2 in
-      let r = go_ok (while_head around.body line most m keeps body k) _ v e in
-      let w = go_ok (split line test r.0) _ v r.2 in
+      let r = go_ok (while_head around.body spot most m keeps body k) _ v e in
+      let w = go_ok (split spot test r.0) _ v r.2 in
       let turn = go_ok (if_reached unreached w.0.holds (accept_block c around body)) _ v w.2 in
-      let head = one_ok r.0 top (while_head around.body line most m keeps body k) r.1 i.1 in
-      let same = one_ok w.0 arms (split line test r.0) w.1 (ap (split line test) head ∙ i.2.1) in
+      let head = one_ok r.0 top (while_head around.body spot most m keeps body k) r.1 i.1 in
+      let same = one_ok w.0 arms (split spot test r.0) w.1 (ap (split spot test) head ∙ i.2.1) in
       block_accepted c q around body t.0 turn.0
       (reached_ok unreached w.0.holds (accept_block c around body) t.0 turn.0 turn.1 (ap (λ (b : Branches). b.holds) same ∙ t.1)) t.2
   accepted_inside c q around s k v e i = absurd i
@@ -214,23 +215,23 @@ mutual
 record IsFound (c : Context) (fault : Fault) (Has : Place → Type 0) : Type 0 where
   at : Place
   has : Has at
-  line_is : line_in fault ≡ line_of at.statement
+  spot_is : spot_in fault ≡ spot_of at.statement
   refused : accept_statement c at.around at.statement at.known ≡ Err fault
   own : (q : Place) → HasPlace c q at.around at.statement at.known → IsAccepted c q
 
 found_so : (c : Context) (fault : Fault) (P Q : Place → Type 0) → ((p : Place) → P p → Q p) → IsFound c fault P → IsFound c fault Q
-found_so c fault P Q more h = record { at = h.at; has = more h.at h.has; line_is = h.line_is; refused = h.refused; own = h.own }
+found_so c fault P Q more h = record { at = h.at; has = more h.at h.has; spot_is = h.spot_is; refused = h.refused; own = h.own }
 
 -- a statement, or a place in it
 abbrev Here : Context → Around → Statement → Facts → Place → Type 0
 Here c around s k p = (p ≡ place around s k) ⊎ HasPlace c p around s k
 
-here : (c : Context) (around : Around) (s : Statement) (k : Facts) (fault : Fault) → accept_statement c around s k ≡ Err fault → line_in fault ≡ line_of s
+here : (c : Context) (around : Around) (s : Statement) (k : Facts) (fault : Fault) → accept_statement c around s k ≡ Err fault → spot_in fault ≡ spot_of s
     → ((q : Place) → HasPlace c q around s k → IsAccepted c q) → IsFound c fault (Here c around s k)
-here c around s k fault e line own = record { at = place around s k; has = inl refl; line_is = line; refused = e; own = own }
+here c around s k fault e spot own = record { at = place around s k; has = inl refl; spot_is = spot; refused = e; own = own }
 
 -- of a statement that holds no others
-simple : (c : Context) (around : Around) (s : Statement) (k : Facts) (fault : Fault) → accept_statement c around s k ≡ Err fault → OnLine (accept_statement c around s k) (line_of s)
+simple : (c : Context) (around : Around) (s : Statement) (k : Facts) (fault : Fault) → accept_statement c around s k ≡ Err fault → AtSpot (accept_statement c around s k) (spot_of s)
     → ((q : Place) → HasPlace c q around s k → ⊥) → IsFound c fault (Here c around s k)
 simple c around s k fault e on none = here c around s k fault e (on.on fault e) (λ q i. absurd (none q i))
 
@@ -238,117 +239,117 @@ refused_and_ok : {A : Type 0} (r : Result A Fault) (x : A) (fault : Fault) → r
 refused_and_ok {A = A} r x fault h k = let both : ◌≡◌ {A = Result A Fault} (Err fault) (Ok x) = sym h ∙ k in absurd (cc)
 
 -- the last test of a loop
-after_turn : {B : Type 0} (b : Bool) (line : ℕ) (case : Case) (r : B) (fault : Fault) → go_on (required b KeepFailsAfterTurn line case) (λ u. Ok r) ≡ Err fault → line_in fault ≡ line
+after_turn : {B : Type 0} (b : Bool) (spot : Spot) (case : Case) (r : B) (fault : Fault) → go_on (required b KeepFailsAfterTurn spot case) (λ u. Ok r) ≡ Err fault → spot_in fault ≡ spot
 unfolding go_on required
-after_turn true line case r fault e = absurd (cc)
-after_turn false line case r fault e = let same : broken KeepFailsAfterTurn line case ≡ fault = cc in sym (ap line_in same)
+after_turn true spot case r fault e = absurd (cc)
+after_turn false spot case r fault e = let same : broken KeepFailsAfterTurn spot case ≡ fault = cc in sym (ap spot_in same)
 
 mutual
   statement_refused : (c : Context) (around : Around) (s : Statement) (k : Facts) (fault : Fault) → accept_statement c around s k ≡ Err fault → IsFound c fault (Here c around s k)
-  statement_refused c around (assign line x e) k fault is =
-      simple c around (assign line x e) k fault is (then_on (range_on line e k) (λ r. required_on _ line _ (λ t. fine_on))) (λ q i. i)
-  statement_refused c around (set_register line r e1 e2 e3) k fault is =
-      simple c around (set_register line r e1 e2 e3) k fault is
-      (then_on (range_on line e1 k) (λ a. then_on (range_on line e2 k) (λ b. then_on (range_on line e3 k) (λ d. fine_on)))) (λ q i. i)
-  statement_refused c around (single line size f r move) k fault is =
-      simple c around (single line size f r move) k fault is (single_on c around line size f r move k) (λ q i. i)
-  statement_refused c around (address_scan line f r1 r2 max x) k fault is =
-      simple c around (address_scan line f r1 r2 max x) k fault is
-      (then_on (range_on line max k) (λ most. required_on _ line _ (λ t. then_on (given_on (region_at k.registers r1) _ line _) (λ g. then_on (given_on (region_at k.registers r2) _ line _) (λ h.
-      required_on _ line _ (λ t. required_on _ line _ (λ t. required_on _ line _ (λ t. required_on _ line _ (λ t. fine_on))))))))) (λ q i. i)
-  statement_refused c around (q_stop line f r t max x) k fault is =
-      simple c around (q_stop line f r t max x) k fault is
-      (then_on (range_on line max k) (λ most. then_on (region_on c around line f r t most.hi x k) (λ g. fine_on))) (λ q i. i)
-  statement_refused c around (q_repeat line f r t max limit x) k fault is =
-      simple c around (q_repeat line f r t max limit x) k fault is
-      (then_on (range_on line max k) (λ most. then_on (range_on line limit k) (λ last. then_on (region_on c around line f r t most.hi x k) (λ g. fine_on)))) (λ q i. i)
-  statement_refused c around (put line e) k fault is =
-      simple c around (put line e) k fault is (then_on (range_on line e k) (λ r. required_on _ line _ (λ t. fine_on))) (λ q i. i)
-  statement_refused c around (crate_call line which e) k fault is =
-      simple c around (crate_call line which e) k fault is (then_on (range_on line e k) (λ r. required_on _ line _ (λ t. fine_on))) (λ q i. i)
-  statement_refused c around (lam_call line which l) k fault is =
-      simple c around (lam_call line which l) k fault is (then_on (given_on (lam_region c l) _ line _) (λ g. then_on (widths_on c.plan line _ g) (λ w. fine_on))) (λ q i. i)
-  statement_refused c around (call line p es) k fault is =
-      simple c around (call line p es) k fault is (then_on (ranges_on line es k) (λ rs. then_on (given_on (slice_get c.procedures p) _ line _) (λ q. required_on _ line _ (λ t. fine_on)))) (λ q i. i)
-  statement_refused c around (choose line test a) k fault is =
+  statement_refused c around (assign spot x e) k fault is =
+      simple c around (assign spot x e) k fault is (then_on (range_on spot e k) (λ r. required_on _ spot _ (λ t. fine_on))) (λ q i. i)
+  statement_refused c around (set_register spot r e1 e2 e3) k fault is =
+      simple c around (set_register spot r e1 e2 e3) k fault is
+      (then_on (range_on spot e1 k) (λ a. then_on (range_on spot e2 k) (λ b. then_on (range_on spot e3 k) (λ d. fine_on)))) (λ q i. i)
+  statement_refused c around (single spot size f r move) k fault is =
+      simple c around (single spot size f r move) k fault is (single_on c around spot size f r move k) (λ q i. i)
+  statement_refused c around (address_scan spot f r1 r2 max x) k fault is =
+      simple c around (address_scan spot f r1 r2 max x) k fault is
+      (then_on (range_on spot max k) (λ most. required_on _ spot _ (λ t. then_on (given_on (region_at k.registers r1) _ spot _) (λ g. then_on (given_on (region_at k.registers r2) _ spot _) (λ h.
+      required_on _ spot _ (λ t. required_on _ spot _ (λ t. required_on _ spot _ (λ t. required_on _ spot _ (λ t. fine_on))))))))) (λ q i. i)
+  statement_refused c around (q_stop spot f r t max x) k fault is =
+      simple c around (q_stop spot f r t max x) k fault is
+      (then_on (range_on spot max k) (λ most. then_on (region_on c around spot f r t most.hi x k) (λ g. fine_on))) (λ q i. i)
+  statement_refused c around (q_repeat spot f r t max limit x) k fault is =
+      simple c around (q_repeat spot f r t max limit x) k fault is
+      (then_on (range_on spot max k) (λ most. then_on (range_on spot limit k) (λ last. then_on (region_on c around spot f r t most.hi x k) (λ g. fine_on)))) (λ q i. i)
+  statement_refused c around (put spot e) k fault is =
+      simple c around (put spot e) k fault is (then_on (range_on spot e k) (λ r. required_on _ spot _ (λ t. fine_on))) (λ q i. i)
+  statement_refused c around (crate_call spot which e) k fault is =
+      simple c around (crate_call spot which e) k fault is (then_on (range_on spot e k) (λ r. required_on _ spot _ (λ t. fine_on))) (λ q i. i)
+  statement_refused c around (lam_call spot which l) k fault is =
+      simple c around (lam_call spot which l) k fault is (then_on (given_on (lam_region c l) _ spot _) (λ g. then_on (widths_on c.plan spot _ g) (λ w. fine_on))) (λ q i. i)
+  statement_refused c around (call spot p es) k fault is =
+      simple c around (call spot p es) k fault is (then_on (ranges_on spot es k) (λ rs. then_on (given_on (slice_get c.procedures p) _ spot _) (λ q. required_on _ spot _ (λ t. fine_on)))) (λ q i. i)
+  statement_refused c around (choose spot test a) k fault is =
       ⊎_elim
-      (λ h. here c around (choose line test a) k fault is ((split_on line test k).on fault h) (λ q i. absurd (refused_and_ok (split line test k) i.0 fault h i.1)))
+      (λ h. here c around (choose spot test a) k fault is ((split_on spot test k).on fault h) (λ q i. absurd (refused_and_ok (split spot test k) i.0 fault h i.1)))
       (λ arms. ⊎_elim
       (λ h. let t = reached_err unreached arms.0.holds (accept_block c around a) fault h in
-      found_so c fault (λ p. BlockHasPlace c p around a t.0) (Here c around (choose line test a) k) (λ p i. inr (arms.0, arms.1, (t.0, t.1, i))) (block_refused c around a t.0 fault t.2))
+      found_so c fault (λ p. BlockHasPlace c p around a t.0) (Here c around (choose spot test a) k) (λ p i. inr (arms.0, arms.1, (t.0, t.1, i))) (block_refused c around a t.0 fault t.2))
       (λ v. absurd (let bad = v.2 in cc))
       (go_err (if_reached unreached arms.0.holds (accept_block c around a)) _ fault arms.2))
-      (go_err (split line test k) _ fault is)
-  statement_refused c around (choose_else line test a b) k fault is =
+      (go_err (split spot test k) _ fault is)
+  statement_refused c around (choose_else spot test a b) k fault is =
       ⊎_elim
-      (λ h. here c around (choose_else line test a b) k fault is ((split_on line test k).on fault h) (λ q i. absurd (refused_and_ok (split line test k) i.0 fault h i.1)))
+      (λ h. here c around (choose_else spot test a b) k fault is ((split_on spot test k).on fault h) (λ q i. absurd (refused_and_ok (split spot test k) i.0 fault h i.1)))
       (λ arms. ⊎_elim
       (λ h. let t = reached_err unreached arms.0.holds (accept_block c around a) fault h in
-      found_so c fault (λ p. BlockHasPlace c p around a t.0) (Here c around (choose_else line test a b) k) (λ p i. inr (arms.0, arms.1, inl (t.0, t.1, i))) (block_refused c around a t.0 fault t.2))
+      found_so c fault (λ p. BlockHasPlace c p around a t.0) (Here c around (choose_else spot test a b) k) (λ p i. inr (arms.0, arms.1, inl (t.0, t.1, i))) (block_refused c around a t.0 fault t.2))
       (λ v. ⊎_elim
       (λ h. let t = reached_err unreached arms.0.fails (accept_block c around b) fault h in
-      found_so c fault (λ p. BlockHasPlace c p around b t.0) (Here c around (choose_else line test a b) k) (λ p i. inr (arms.0, arms.1, inr (t.0, t.1, i))) (block_refused c around b t.0 fault t.2))
+      found_so c fault (λ p. BlockHasPlace c p around b t.0) (Here c around (choose_else spot test a b) k) (λ p i. inr (arms.0, arms.1, inr (t.0, t.1, i))) (block_refused c around b t.0 fault t.2))
       (λ w. absurd (let bad = w.2 in cc))
       (go_err (if_reached unreached arms.0.fails (accept_block c around b)) _ fault v.2))
       (go_err (if_reached unreached arms.0.holds (accept_block c around a)) _ fault arms.2))
-      (go_err (split line test k) _ fault is)
-  statement_refused c around (locked line e body) k fault is =
+      (go_err (split spot test k) _ fault is)
+  statement_refused c around (locked spot e body) k fault is =
       ⊎_elim
-      (λ h. here c around (locked line e body) k fault is ((lock_on c around line e k).on fault h) (λ q i. absurd (refused_and_ok (lock_rule c around line e k) i.0 fault h i.1)))
+      (λ h. here c around (locked spot e body) k fault is ((lock_on c around spot e k).on fault h) (λ q i. absurd (refused_and_ok (lock_rule c around spot e k) i.0 fault h i.1)))
       (λ n. ⊎_elim
-      (λ h. found_so c fault (λ p. BlockHasPlace c p (with_locked n.0 around) body k) (Here c around (locked line e body) k) (λ p i. inr (n.0, n.1, i)) (block_refused c (with_locked n.0 around) body k fault h))
+      (λ h. found_so c fault (λ p. BlockHasPlace c p (with_locked n.0 around) body k) (Here c around (locked spot e body) k) (λ p i. inr (n.0, n.1, i)) (block_refused c (with_locked n.0 around) body k fault h))
       (λ v. absurd (let bad = v.2 in cc))
       (go_err (accept_block c (with_locked n.0 around) body k) _ fault n.2))
-      (go_err (lock_rule c around line e k) _ fault is)
-  statement_refused c around (for_ line x e1 e2 keeps body) k fault is =
+      (go_err (lock_rule c around spot e k) _ fault is)
+  statement_refused c around (for_ spot x e1 e2 keeps body) k fault is =
       ⊎_elim
-      (λ h. here c around (for_ line x e1 e2 keeps body) k fault is ((for_on around line x e1 e2 keeps k).on fault h)
-      (λ q i. absurd (refused_and_ok (for_limits around line x e1 e2 keeps k) i.0 fault h i.1)))
+      (λ h. here c around (for_ spot x e1 e2 keeps body) k fault is ((for_on around spot x e1 e2 keeps k).on fault h)
+      (λ q i. absurd (refused_and_ok (for_limits around spot x e1 e2 keeps k) i.0 fault h i.1)))
       (λ l. ⊎_elim
       (λ h. let t = reached_err unreached (for_head x l.0 keeps body k) (accept_block c (with_fixed x around) body) fault h in
-      found_so c fault (λ p. BlockHasPlace c p (with_fixed x around) body t.0) (Here c around (for_ line x e1 e2 keeps body) k) (λ p i. inr (l.0, l.1, (t.0, t.1, i)))
+      found_so c fault (λ p. BlockHasPlace c p (with_fixed x around) body t.0) (Here c around (for_ spot x e1 e2 keeps body) k) (λ p i. inr (l.0, l.1, (t.0, t.1, i)))
       (block_refused c (with_fixed x around) body t.0 fault t.2))
-      (λ turn. here c around (for_ line x e1 e2 keeps body) k fault is
-      (after_turn (keeps_hold_after keeps turn.0.after) line (unkept_after around.body keeps turn.0.after) _ fault turn.2)
+      (λ turn. here c around (for_ spot x e1 e2 keeps body) k fault is
+      (after_turn (keeps_hold_after keeps turn.0.after) spot (unkept_after around.body keeps turn.0.after) _ fault turn.2)
       (λ q i. let t = i.2 in block_accepted c q (with_fixed x around) body t.0 turn.0
-      (turn_ok line x e1 e2 keeps body around k i.0 l.0 (accept_block c (with_fixed x around) body) i.1 l.1 turn.0 turn.1 t.0 t.1) t.2))
+      (turn_ok spot x e1 e2 keeps body around k i.0 l.0 (accept_block c (with_fixed x around) body) i.1 l.1 turn.0 turn.1 t.0 t.1) t.2))
       (go_err (if_reached unreached (for_head x l.0 keeps body k) (accept_block c (with_fixed x around) body)) _ fault l.2))
-      (go_err (for_limits around line x e1 e2 keeps k) _ fault is)
-  statement_refused c around (for_each line x v last body) k fault is =
+      (go_err (for_limits around spot x e1 e2 keeps k) _ fault is)
+  statement_refused c around (for_each spot x v last body) k fault is =
       let check : Facts → Result Verdict Fault = accept_block c (with_fixed x around) body in
       ⊎_elim
-      (λ h. here c around (for_each line x v last body) k fault is ((each_on around line x v last).on fault h)
-      (λ q i. absurd (refused_and_ok (each_begins around line x v last) i.0 fault h i.1)))
+      (λ h. here c around (for_each spot x v last body) k fault is ((each_on around spot x v last).on fault h)
+      (λ q i. absurd (refused_and_ok (each_begins around spot x v last) i.0 fault h i.1)))
       (λ n. ⊎_elim
       (λ h. let turn = each_refused c.limit n.0 x v last check k fault h in
       let t = turn.2 in
-      found_so c fault (λ p. BlockHasPlace c p (with_fixed x around) body t.0) (Here c around (for_each line x v last body) k)
+      found_so c fault (λ p. BlockHasPlace c p (with_fixed x around) body t.0) (Here c around (for_each spot x v last body) k)
       (λ p i. inr (n.0, n.1, (turn.0, turn.1, (t.0, t.1, i)))) (block_refused c (with_fixed x around) body t.0 fault t.2))
       (λ all. absurd (let bad = all.2 in cc))
       (go_err (each_from c.limit n.0 x v last check k) _ fault n.2))
-      (go_err (each_begins around line x v last) _ fault is)
-  statement_refused c around (while_ line test most m keeps body) k fault is =
+      (go_err (each_begins around spot x v last) _ fault is)
+  statement_refused c around (while_ spot test most m keeps body) k fault is =
       ⊎_elim
-      (λ h. here c around (while_ line test most m keeps body) k fault is ((while_on around line most m keeps body k).on fault h)
-      (λ q i. absurd (refused_and_ok (while_head around.body line most m keeps body k) i.0 fault h i.1)))
+      (λ h. here c around (while_ spot test most m keeps body) k fault is ((while_on around spot most m keeps body k).on fault h)
+      (λ q i. absurd (refused_and_ok (while_head around.body spot most m keeps body k) i.0 fault h i.1)))
       (λ top. ⊎_elim
-      (λ h. here c around (while_ line test most m keeps body) k fault is ((split_on line test top.0).on fault h)
-      (λ q i. let same = one_ok top.0 i.0 (while_head around.body line most m keeps body k) top.1 i.1 in
-      absurd (refused_and_ok (split line test top.0) i.2.0 fault h (ap (split line test) same ∙ i.2.1))))
+      (λ h. here c around (while_ spot test most m keeps body) k fault is ((split_on spot test top.0).on fault h)
+      (λ q i. let same = one_ok top.0 i.0 (while_head around.body spot most m keeps body k) top.1 i.1 in
+      absurd (refused_and_ok (split spot test top.0) i.2.0 fault h (ap (split spot test) same ∙ i.2.1))))
       (λ arms. ⊎_elim
       (λ h. let t = reached_err unreached arms.0.holds (accept_block c around body) fault h in
-      found_so c fault (λ p. BlockHasPlace c p around body t.0) (Here c around (while_ line test most m keeps body) k)
+      found_so c fault (λ p. BlockHasPlace c p around body t.0) (Here c around (while_ spot test most m keeps body) k)
       (λ p i. inr (top.0, top.1, (arms.0, arms.1, (t.0, t.1, i)))) (block_refused c around body t.0 fault t.2))
-      (λ turn. here c around (while_ line test most m keeps body) k fault is
-      (after_turn (keeps_hold_after keeps turn.0.after) line (unkept_after around.body keeps turn.0.after) _ fault turn.2)
+      (λ turn. here c around (while_ spot test most m keeps body) k fault is
+      (after_turn (keeps_hold_after keeps turn.0.after) spot (unkept_after around.body keeps turn.0.after) _ fault turn.2)
       (λ q i. let t = i.2.2 in
-      let same = one_ok top.0 i.0 (while_head around.body line most m keeps body k) top.1 i.1 in
-      let ways = one_ok arms.0 i.2.0 (split line test top.0) arms.1 (ap (split line test) same ∙ i.2.1) in
+      let same = one_ok top.0 i.0 (while_head around.body spot most m keeps body k) top.1 i.1 in
+      let ways = one_ok arms.0 i.2.0 (split spot test top.0) arms.1 (ap (split spot test) same ∙ i.2.1) in
       block_accepted c q around body t.0 turn.0
       (reached_ok unreached arms.0.holds (accept_block c around body) t.0 turn.0 turn.1 (ap (λ (b : Branches). b.holds) ways ∙ t.1)) t.2))
       (go_err (if_reached unreached arms.0.holds (accept_block c around body)) _ fault arms.2))
-      (go_err (split line test top.0) _ fault top.2))
-      (go_err (while_head around.body line most m keeps body k) _ fault is)
+      (go_err (split spot test top.0) _ fault top.2))
+      (go_err (while_head around.body spot most m keeps body k) _ fault is)
 
   block_refused : (c : Context) (around : Around) (b : Block) (k : Facts) (fault : Fault) → accept_block c around b k ≡ Err fault → IsFound c fault (λ p. BlockHasPlace c p around b k)
   block_refused c around done k fault e = absurd (cc)
@@ -366,23 +367,23 @@ mutual
 -- ---- headings
 
 -- the number that is too small, without the fix
-record IsOver (c : Context) (s : Section) (found : Verdict) (rule : CheckRule) (line : ℕ) (case : Case) : Type 0 where
+record IsOver (c : Context) (s : Section) (found : Verdict) (rule : CheckRule) (spot : Spot) (case : Case) : Type 0 where
   needed : ℕ
   allowed : ℕ
   is_needed : number_of rule found.costs ≡ Some needed
   is_allowed : number_of rule (heading_of s) ≡ Some allowed
   above : allowed < needed
   shown : case ≡ budget (named c s) needed allowed
-  line_is : line ≡ heading_line s
+  spot_is : spot ≡ heading_spot s
 
-over : (c : Context) (s : Section) (found : Verdict) (own rule : CheckRule) (needed allowed line : ℕ) (case : Case)
+over : (c : Context) (s : Section) (found : Verdict) (own rule : CheckRule) (needed allowed : ℕ) (spot : Spot) (case : Case)
     → number_of own found.costs ≡ Some needed → number_of own (heading_of s) ≡ Some allowed
-    → required (nat_le needed allowed) own (heading_line s) (budget (named c s) needed allowed) ≡ Err (broken rule line case) → IsOver c s found rule line case
-over c s found own rule needed allowed line case is_needed is_allowed e =
-    let h = required_err (nat_le needed allowed) own (heading_line s) (budget (named c s) needed allowed) (broken rule line case) e in
+    → required (nat_le needed allowed) own (heading_spot s) (budget (named c s) needed allowed) ≡ Err (broken rule spot case) → IsOver c s found rule spot case
+over c s found own rule needed allowed spot case is_needed is_allowed e =
+    let h = required_err (nat_le needed allowed) own (heading_spot s) (budget (named c s) needed allowed) (broken rule spot case) e in
     let same : own ≡ rule = cc in
     let shown : budget (named c s) needed allowed ≡ case = cc in
-    let there : heading_line s ≡ line = cc in
+    let there : heading_spot s ≡ spot = cc in
     record {
       needed = needed;
       allowed = allowed;
@@ -390,25 +391,25 @@ over c s found own rule needed allowed line case is_needed is_allowed e =
       is_allowed = ap (λ r. number_of r (heading_of s)) (sym same) ∙ is_allowed;
       above = leb-false needed allowed h.0;
       shown = sym shown;
-      line_is = sym there;
+      spot_is = sym there;
     }
 
-refused_over : (c : Context) (s : Section) (found : Verdict) (rule : CheckRule) (line : ℕ) (case : Case)
-    → within (named c s) (heading_of s) found.costs (heading_line s) ≡ Err (broken rule line case) → IsOver c s found rule line case
-refused_over c s found rule line case e =
+refused_over : (c : Context) (s : Section) (found : Verdict) (rule : CheckRule) (spot : Spot) (case : Case)
+    → within (named c s) (heading_of s) found.costs (heading_spot s) ≡ Err (broken rule spot case) → IsOver c s found rule spot case
+refused_over c s found rule spot case e =
     let most : Bounds = heading_of s in
     let costs : Bounds = found.costs in
-    let at : ℕ = heading_line s in
+    let at : Spot = heading_spot s in
     ⊎_elim
-    (λ h. over c s found TooManyWords rule costs.words most.words line case refl refl h)
+    (λ h. over c s found TooManyWords rule costs.words most.words spot case refl refl h)
     (λ w. ⊎_elim
-    (λ h. over c s found TooManyCycles rule costs.cycles most.cycles line case refl refl h)
+    (λ h. over c s found TooManyCycles rule costs.cycles most.cycles spot case refl refl h)
     (λ d. ⊎_elim
-    (λ h. over c s found TooManySteps rule costs.steps most.steps line case refl refl h)
+    (λ h. over c s found TooManySteps rule costs.steps most.steps spot case refl refl h)
     (λ t. absurd (let bad = t.2 in cc))
-    (go_err (required (nat_le costs.steps most.steps) TooManySteps at _) _ (broken rule line case) d.2))
-    (go_err (required (nat_le costs.cycles most.cycles) TooManyCycles at _) _ (broken rule line case) w.2))
-    (go_err (required (nat_le costs.words most.words) TooManyWords at _) _ (broken rule line case) e)
+    (go_err (required (nat_le costs.steps most.steps) TooManySteps at _) _ (broken rule spot case) d.2))
+    (go_err (required (nat_le costs.cycles most.cycles) TooManyCycles at _) _ (broken rule spot case) w.2))
+    (go_err (required (nat_le costs.words most.words) TooManyWords at _) _ (broken rule spot case) e)
 
 one_after_the_other : {A B D : Type 0} (r : Result A Fault) (f : A → Result B Fault) (g : B → Result D Fault) → go_on r (λ x. go_on (f x) g) ≡ go_on (go_on r f) g
 unfolding go_on
@@ -416,23 +417,23 @@ one_after_the_other (Ok x) f g = refl
 one_after_the_other (Err e) f g = refl
 
 -- a body, and then its heading
-section_is : (c : Context) (s : Section) → accept_section c s ≡ go_on (found_in c s) (λ v. within (named c s) (heading_of s) v.costs (heading_line s))
+section_is : (c : Context) (s : Section) → accept_section c s ≡ go_on (found_in c s) (λ v. within (named c s) (heading_of s) v.costs (heading_spot s))
 section_is c (of_procedure p) =
     one_after_the_other (count_block (named c (of_procedure p)) p.body 0) (λ counted. if_reached unreached (start_of (of_procedure p)) (accept_block c (alone_in (named c (of_procedure p))) p.body)) _
 section_is c (of_service v) =
-    ap (λ r. go_on (count_block (named c (of_service v)) v.body 0) (λ counted. go_on r (λ (o : Verdict). within (named c (of_service v)) (heading_of (of_service v)) o.costs v.line)))
+    ap (λ r. go_on (count_block (named c (of_service v)) v.body 0) (λ counted. go_on r (λ (o : Verdict). within (named c (of_service v)) (heading_of (of_service v)) o.costs v.spot)))
     (sym (reached_is unreached at_start (accept_block c (alone_in (named c (of_service v))) v.body)))
     ∙ one_after_the_other (count_block (named c (of_service v)) v.body 0) (λ counted. if_reached unreached (start_of (of_service v)) (accept_block c (alone_in (named c (of_service v))) v.body)) _
 
-heading_refused : (c : Context) (s : Section) (found : Verdict) (rule : CheckRule) (line : ℕ) (case : Case) → found_in c s ≡ Ok found
-    → accept_section c s ≡ Err (broken rule line case) → IsOver c s found rule line case
-heading_refused c s found rule line case is e =
-    refused_over c s found rule line case
-    (sym (section_is c s ∙ go_is (found_in c s) found (λ v. within (named c s) (heading_of s) v.costs (heading_line s)) is) ∙ e)
+heading_refused : (c : Context) (s : Section) (found : Verdict) (rule : CheckRule) (spot : Spot) (case : Case) → found_in c s ≡ Ok found
+    → accept_section c s ≡ Err (broken rule spot case) → IsOver c s found rule spot case
+heading_refused c s found rule spot case is e =
+    refused_over c s found rule spot case
+    (sym (section_is c s ∙ go_is (found_in c s) found (λ v. within (named c s) (heading_of s) v.costs (heading_spot s)) is) ∙ e)
 
 pub headings_are_shown : HeadingsAreShown
-headings_are_shown c s found rule line case is e =
-    let h = heading_refused c s found rule line case is e in
+headings_are_shown c s found rule spot case is e =
+    let h = heading_refused c s found rule spot case is e in
     record {
       needed = h.needed;
       allowed = h.allowed;
@@ -440,7 +441,7 @@ headings_are_shown c s found rule line case is e =
       is_allowed = h.is_allowed;
       above = h.above;
       shown = h.shown;
-      line_is = h.line_is;
+      spot_is = h.spot_is;
       fixed = λ other n same_body number le at shown e'.
           let g = heading_refused c other found rule at shown same_body e' in
           let one : ◌≡◌ {A = Option ℕ} (Some g.needed) (Some h.needed) = sym g.is_needed ∙ h.is_needed in
@@ -453,42 +454,42 @@ headings_are_shown c s found rule line case is e =
 
 -- ---- procedures and services
 
-abbrev IsRefused : Context → Section → CheckRule → ℕ → Case → Type 0
-IsRefused c s rule line case = IsOverLimit c s rule line case ⊎ (IsRefusedInside c s rule line case ⊎ IsRefusedByHeading c s rule line case)
+abbrev IsRefused : Context → Section → CheckRule → Spot → Case → Type 0
+IsRefused c s rule spot case = IsOverLimit c s rule spot case ⊎ (IsRefusedInside c s rule spot case ⊎ IsRefusedByHeading c s rule spot case)
 
-section_refused : (c : Context) (s : Section) (rule : CheckRule) (line : ℕ) (case : Case) → accept_section c s ≡ Err (broken rule line case) → IsRefused c s rule line case
-section_refused c s rule line case e =
+section_refused : (c : Context) (s : Section) (rule : CheckRule) (spot : Spot) (case : Case) → accept_section c s ≡ Err (broken rule spot case) → IsRefused c s rule spot case
+section_refused c s rule spot case e =
     ⊎_elim
-    (λ r. ⊎_elim (λ h. inl (over_limit c s rule line case h))
-    (λ counted. let t = reached_err unreached (start_of s) (accept_block c (alone_in (named c s)) (body_of s)) (broken rule line case) counted.2 in
-    let f = block_refused c (alone_in (named c s)) (body_of s) t.0 (broken rule line case) t.2 in
+    (λ r. ⊎_elim (λ h. inl (over_limit c s rule spot case h))
+    (λ counted. let t = reached_err unreached (start_of s) (accept_block c (alone_in (named c s)) (body_of s)) (broken rule spot case) counted.2 in
+    let f = block_refused c (alone_in (named c s)) (body_of s) t.0 (broken rule spot case) t.2 in
     inr (inl (record {
       start = t.0;
       is_start = t.1;
       place = f.at;
       inside = f.has;
-      refused = record { refused = f.refused; line_is = f.line_is; own = f.own };
+      refused = record { refused = f.refused; spot_is = f.spot_is; own = f.own };
     })))
-    (go_err (count_block (named c s) (body_of s) 0) _ (broken rule line case) r))
-    (λ v. inr (inr (v.0, v.1, headings_are_shown c s v.0 rule line case v.1 e)))
-    (go_err (found_in c s) (λ v. within (named c s) (heading_of s) v.costs (heading_line s)) (broken rule line case) (sym (section_is c s) ∙ e))
+    (go_err (count_block (named c s) (body_of s) 0) _ (broken rule spot case) r))
+    (λ v. inr (inr (v.0, v.1, headings_are_shown c s v.0 rule spot case v.1 e)))
+    (go_err (found_in c s) (λ v. within (named c s) (heading_of s) v.costs (heading_spot s)) (broken rule spot case) (sym (section_is c s) ∙ e))
 
-sections_refused : (first : Context) (ss : List Section) (rule : CheckRule) (line : ℕ) (case : Case) → accept_sections first ss ≡ Err (broken rule line case)
-    → (c : Context) × (s : Section) × ComesTo c s first ss × IsRefused c s rule line case
-sections_refused first [] rule line case e = absurd (cc)
-sections_refused first (of_procedure p ∷ rest) rule line case e =
+sections_refused : (first : Context) (ss : List Section) (rule : CheckRule) (spot : Spot) (case : Case) → accept_sections first ss ≡ Err (broken rule spot case)
+    → (c : Context) × (s : Section) × ComesTo c s first ss × IsRefused c s rule spot case
+sections_refused first [] rule spot case e = absurd (cc)
+sections_refused first (of_procedure p ∷ rest) rule spot case e =
     ⊎_elim
-    (λ h. (first, of_procedure p, inl (refl, refl), section_refused first (of_procedure p) rule line case h))
-    (λ k. let t = sections_refused (with_procedure p first) rest rule line case k.2 in (t.0, t.1, inr (k.0, k.1, t.2), t.3))
-    (go_err (accept_procedure first p) (λ _. accept_sections (with_procedure p first) rest) (broken rule line case) e)
-sections_refused first (of_service v ∷ rest) rule line case e =
+    (λ h. (first, of_procedure p, inl (refl, refl), section_refused first (of_procedure p) rule spot case h))
+    (λ k. let t = sections_refused (with_procedure p first) rest rule spot case k.2 in (t.0, t.1, inr (k.0, k.1, t.2), t.3))
+    (go_err (accept_procedure first p) (λ _. accept_sections (with_procedure p first) rest) (broken rule spot case) e)
+sections_refused first (of_service v ∷ rest) rule spot case e =
     ⊎_elim
-    (λ h. (first, of_service v, inl (refl, refl), section_refused first (of_service v) rule line case h))
+    (λ h. (first, of_service v, inl (refl, refl), section_refused first (of_service v) rule spot case h))
     (λ k. ⊎_elim
-    (λ h. let t = sections_refused first rest rule line case h in (t.0, t.1, inr (k.0, k.1, t.2), t.3))
+    (λ h. let t = sections_refused first rest rule spot case h in (t.0, t.1, inr (k.0, k.1, t.2), t.3))
     (λ others. absurd (let bad = others.2 in cc))
-    (go_err (accept_sections first rest) _ (broken rule line case) k.2))
-    (go_err (accept_service first v) _ (broken rule line case) e)
+    (go_err (accept_sections first rest) _ (broken rule spot case) k.2))
+    (go_err (accept_service first v) _ (broken rule spot case) e)
 
 pub refused_at_places : RefusedAtPlaces
-refused_at_places plan script rule line case e = sections_refused _ _ rule line case e
+refused_at_places plan script rule spot case e = sections_refused _ _ rule spot case e

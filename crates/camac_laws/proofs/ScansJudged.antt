@@ -35,6 +35,7 @@ use Rattle.camac_laws.proofs.ShownWindows.{of_station, over_is, fails_at, after_
 use Rattle.camac_laws.proofs.Regions.{crate_below, station_below, none_allowed}
 use Rattle.camac_laws.proofs.Judged.{passed, failed}
 use Rattle.camac_laws.proofs.Windows.{last_has, first_at, windows_are_installed, windows_are_declared}
+use Rattle.camac_lang.specs.declared.spot.Spot.{Spot}
 
 -- ---- where a test fails over a window
 
@@ -98,7 +99,7 @@ module _ (plan : Layout) (is : IsPlan plan) (w : Window) (last : w.last_sub_addr
 
 -- ---- the lines of the rule
 
-module _ (c : Context) (is : IsPlan c.plan) (around : Around) (line f r1 r2 : ℕ) (max : Expression) (x : ℕ) (k : Facts) (g h : Region) (comes : ComesToWindow c around line r1 r2 max x k g h) where
+module _ (c : Context) (is : IsPlan c.plan) (around : Around) (spot : Spot) (f r1 r2 : ℕ) (max : Expression) (x : ℕ) (k : Facts) (g h : Region) (comes : ComesToWindow c around spot r1 r2 max x k g h) where
   abbrev w : Window
   w = window_of g h
 
@@ -109,41 +110,41 @@ module _ (c : Context) (is : IsPlan c.plan) (around : Around) (line f r1 r2 : �
   Declared = has_sub_addresses g && (has_sub_addresses h && is_declared c.plan f w)
 
   abbrev third : Result Verdict Fault
-  third = go_on (required (same_class Read (class_of f)) WrongDirection line (direction f Read)) (λ _. Ok (scan_verdict c around w comes.most.hi x k))
+  third = go_on (required (same_class Read (class_of f)) WrongDirection spot (direction f Read)) (λ _. Ok (scan_verdict c around w comes.most.hi x k))
 
   abbrev second : Result Verdict Fault
-  second = go_on (required Declared CommandNotDeclared line (undeclared_by c.plan f g h)) (λ _. third)
+  second = go_on (required Declared CommandNotDeclared spot (undeclared_by c.plan f g h)) (λ _. third)
 
   abbrev first : Result Verdict Fault
-  first = go_on (required (is_installed c.plan w) StationNotInstalled line (missing_over c.plan w)) (λ _. second)
+  first = go_on (required (is_installed c.plan w) StationNotInstalled spot (missing_over c.plan w)) (λ _. second)
 
-  scan_is : scan_rule c around line f r1 r2 max x k ≡ first
+  scan_is : scan_rule c around spot f r1 r2 max x k ≡ first
   scan_is =
-      go_is (range_of line max k.ranges) comes.most _ comes.range
-      ∙ passed (may_write around x) LoopVariableAssigned line (Counted around.body x) _ comes.writes
-      ∙ after_given (region_at k.registers r1) g RegisterUnset line (Unset around.body r1) _ comes.first
-      ∙ after_given (region_at k.registers r2) h RegisterUnset line (Unset around.body r2) _ comes.last
-      ∙ passed (is_one_crate g h) ScanCratesDiffer line (crates_of g.crates h.crates) _ comes.one_crate
+      go_is (range_of spot max k.ranges) comes.most _ comes.range
+      ∙ passed (may_write around x) LoopVariableAssigned spot (Counted around.body x) _ comes.writes
+      ∙ after_given (region_at k.registers r1) g RegisterUnset spot (Unset around.body r1) _ comes.first
+      ∙ after_given (region_at k.registers r2) h RegisterUnset spot (Unset around.body r2) _ comes.last
+      ∙ passed (is_one_crate g h) ScanCratesDiffer spot (crates_of g.crates h.crates) _ comes.one_crate
 
   abbrev Without : Type 0
   Without = IsPastLast g ⊎ (IsPastLast h ⊎ HasUndeclaredOver c.plan f w)
 
-  no_third : (rule : CheckRule) (case : Case) → (rule ≡ StationNotInstalled) ⊎ (rule ≡ CommandNotDeclared) → third ≡ Err (broken rule line case) → ⊥
+  no_third : (rule : CheckRule) (case : Case) → (rule ≡ StationNotInstalled) ⊎ (rule ≡ CommandNotDeclared) → third ≡ Err (broken rule spot case) → ⊥
   no_third rule case which e =
       ⊎_elim (λ t. let bad = t.1 in ⊎_elim (λ s. absurd (cc)) (λ s. absurd (cc)) which) (λ t. absurd (let bad = t.1 in cc))
-      (after_test (same_class Read (class_of f)) WrongDirection line (direction f Read) (Ok (scan_verdict c around w comes.most.hi x k)) (broken rule line case) e)
+      (after_test (same_class Read (class_of f)) WrongDirection spot (direction f Read) (Ok (scan_verdict c around w comes.most.hi x k)) (broken rule spot case) e)
 
-  to_missing : (case : Case) → scan_rule c around line f r1 r2 max x k ≡ Err (broken StationNotInstalled line case) → HasMissingOver c.plan w
+  to_missing : (case : Case) → scan_rule c around spot f r1 r2 max x k ≡ Err (broken StationNotInstalled spot case) → HasMissingOver c.plan w
   to_missing case e =
       ⊎_elim (λ t. some_missing c.plan is w last t.0)
       (λ t. ⊎_elim (λ s. absurd (let bad = s.1 in cc)) (λ s. absurd (no_third StationNotInstalled case (inl refl) s.1))
-      (after_test Declared CommandNotDeclared line (undeclared_by c.plan f g h) third (broken StationNotInstalled line case) t.1))
-      (after_test (is_installed c.plan w) StationNotInstalled line (missing_over c.plan w) second (broken StationNotInstalled line case) (sym scan_is ∙ e))
+      (after_test Declared CommandNotDeclared spot (undeclared_by c.plan f g h) third (broken StationNotInstalled spot case) t.1))
+      (after_test (is_installed c.plan w) StationNotInstalled spot (missing_over c.plan w) second (broken StationNotInstalled spot case) (sym scan_is ∙ e))
 
-  from_missing : (n a : ℕ) → IsInWindow w n a → (IsInstalled c.plan g.crates.lo n → ⊥) → scan_rule c around line f r1 r2 max x k ≡ Err (broken StationNotInstalled line (missing_over c.plan w))
+  from_missing : (n a : ℕ) → IsInWindow w n a → (IsInstalled c.plan g.crates.lo n → ⊥) → scan_rule c around spot f r1 r2 max x k ≡ Err (broken StationNotInstalled spot (missing_over c.plan w))
   from_missing n a i not =
       scan_is
-      ∙ failed (is_installed c.plan w) StationNotInstalled line (missing_over c.plan w) second
+      ∙ failed (is_installed c.plan w) StationNotInstalled spot (missing_over c.plan w) second
       (false_from_ne_true (is_installed c.plan w) (λ e. not ((windows_are_installed c.plan is w last).0 e n a i)))
 
   without : Declared ≡ false → Without
@@ -167,24 +168,24 @@ module _ (c : Context) (is : IsPlan c.plan) (around : Around) (line f r1 r2 : �
       t))
       s
 
-  to_undeclared : (case : Case) → scan_rule c around line f r1 r2 max x k ≡ Err (broken CommandNotDeclared line case) → AreInstalledOver c.plan w × Without
+  to_undeclared : (case : Case) → scan_rule c around spot f r1 r2 max x k ≡ Err (broken CommandNotDeclared spot case) → AreInstalledOver c.plan w × Without
   to_undeclared case e =
       ⊎_elim (λ t. absurd (let bad = t.1 in cc))
       (λ t. ⊎_elim (λ s. ((windows_are_installed c.plan is w last).0 t.0, without s.0)) (λ s. absurd (no_third CommandNotDeclared case (inr refl) s.1))
-      (after_test Declared CommandNotDeclared line (undeclared_by c.plan f g h) third (broken CommandNotDeclared line case) t.1))
-      (after_test (is_installed c.plan w) StationNotInstalled line (missing_over c.plan w) second (broken CommandNotDeclared line case) (sym scan_is ∙ e))
+      (after_test Declared CommandNotDeclared spot (undeclared_by c.plan f g h) third (broken CommandNotDeclared spot case) t.1))
+      (after_test (is_installed c.plan w) StationNotInstalled spot (missing_over c.plan w) second (broken CommandNotDeclared spot case) (sym scan_is ∙ e))
 
-  from_undeclared : AreInstalledOver c.plan w → Without → scan_rule c around line f r1 r2 max x k ≡ Err (broken CommandNotDeclared line (undeclared_by c.plan f g h))
+  from_undeclared : AreInstalledOver c.plan w → Without → scan_rule c around spot f r1 r2 max x k ≡ Err (broken CommandNotDeclared spot (undeclared_by c.plan f g h))
   from_undeclared all out =
       scan_is
-      ∙ passed (is_installed c.plan w) StationNotInstalled line (missing_over c.plan w) second ((windows_are_installed c.plan is w last).1 all)
-      ∙ failed Declared CommandNotDeclared line (undeclared_by c.plan f g h) third (not_declared out)
+      ∙ passed (is_installed c.plan w) StationNotInstalled spot (missing_over c.plan w) second ((windows_are_installed c.plan is w last).1 all)
+      ∙ failed Declared CommandNotDeclared spot (undeclared_by c.plan f g h) third (not_declared out)
 
-  pub is_scan_judged : IsScanJudged c.plan line f g h (scan_rule c around line f r1 r2 max x k)
+  pub is_scan_judged : IsScanJudged c.plan spot f g h (scan_rule c around spot f r1 r2 max x k)
   is_scan_judged = record {
     not_installed = (λ e. to_missing e.0 e.1, λ t. (missing_over c.plan w, from_missing t.0 t.1 t.2 t.3));
     not_declared = (λ e. to_undeclared e.0 e.1, λ t. (undeclared_by c.plan f g h, from_undeclared t.0 t.1));
   }
 
 pub scans_are_judged : ScansAreJudged
-scans_are_judged c is around line f r1 r2 max x k g h comes = is_scan_judged c is around line f r1 r2 max x k g h comes
+scans_are_judged c is around spot f r1 r2 max x k g h comes = is_scan_judged c is around spot f r1 r2 max x k g h comes

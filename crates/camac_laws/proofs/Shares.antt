@@ -30,6 +30,7 @@ use Rattle.camac_check_costs.specs.Bodies.{rows_if, body_costs, costs_over, sect
 use Rattle.camac_laws.specs.Shares.{total, IsBelow, AddUp, SharesAddUp}
 use Rattle.camac_laws.proofs.Sums.{same_costs, plus_none, none_plus, total_append, total_arms, total_inside, total_of_none, if_sum, if_below, choice_sum, choice_below, lock_sum, lock_below, loop_sum, no_turns, loop_weighed, turn_below, then_sum, then_below, total_merged, turn_sum, turns_sum, turns_below, each_sum, each_below}
 use Rattle.camac_laws.proofs.Turned.{begun, no_turn}
+use Rattle.camac_lang.specs.declared.spot.Spot.{Spot}
 
 -- these costs stay at the greatest number of 64 bits
 abbrev pub in_code : Context → Context
@@ -59,35 +60,35 @@ mutual
   unfolding if_reached
 
   statement_none : (r : Context) (around : Around) (s : Statement) → total (statement_rows (in_code r) around s None) ≡ no_costs
-  statement_none r around (assign line x e) = refl
-  statement_none r around (set_register line p e1 e2 e3) = refl
-  statement_none r around (single line size f p move) = refl
-  statement_none r around (address_scan line f r1 r2 max x) = refl
-  statement_none r around (q_stop line f p t max x) = refl
-  statement_none r around (q_repeat line f p t max limit x) = refl
-  statement_none r around (put line e) = refl
-  statement_none r around (crate_call line which e) = refl
-  statement_none r around (lam_call line which l) = refl
-  statement_none r around (call line p es) = refl
-  statement_none r around (choose line test a) =
+  statement_none r around (assign spot x e) = refl
+  statement_none r around (set_register spot p e1 e2 e3) = refl
+  statement_none r around (single spot size f p move) = refl
+  statement_none r around (address_scan spot f r1 r2 max x) = refl
+  statement_none r around (q_stop spot f p t max x) = refl
+  statement_none r around (q_repeat spot f p t max limit x) = refl
+  statement_none r around (put spot e) = refl
+  statement_none r around (crate_call spot which e) = refl
+  statement_none r around (lam_call spot which l) = refl
+  statement_none r around (call spot p es) = refl
+  statement_none r around (choose spot test a) =
       none_plus _ ∙ none_inside once (block_rows (in_code r) around a None) (block_none r around a)
-  statement_none r around (choose_else line test a b) =
+  statement_none r around (choose_else spot test a b) =
       none_plus _
       ∙ total_append (inside (in_code r) (first_arm no_costs no_costs) (block_rows (in_code r) around a None)) _
       ∙ ap (λ t. plus t (plus no_costs (total (inside (in_code r) (second_arm no_costs no_costs) (block_rows (in_code r) around b None))))) (none_inside (first_arm no_costs no_costs) (block_rows (in_code r) around a None) (block_none r around a))
       ∙ none_plus _ ∙ none_plus _
       ∙ none_inside (second_arm no_costs no_costs) (block_rows (in_code r) around b None) (block_none r around b)
-  statement_none r around (for_ line x e1 e2 keeps body) =
+  statement_none r around (for_ spot x e1 e2 keeps body) =
       none_plus _ ∙ none_inside (turning 0) (block_rows (in_code r) (with_fixed x around) body None) (block_none r (with_fixed x around) body)
-  statement_none r around (for_each line x v last body) =
+  statement_none r around (for_each spot x v last body) =
       let judge = block_verdict (in_code r) (with_fixed x around) body in
       let rows = block_rows (in_code r) (with_fixed x around) body in
       none_plus _
       ∙ none_inside once (each_turned capped x v last judge rows None).rows
       (ap (λ (t : Turned). total t.rows) (no_turn (last + 1 - v) x v judge rows (turned 0 (rows None))) ∙ block_none r (with_fixed x around) body)
-  statement_none r around (while_ line test most m keeps body) =
+  statement_none r around (while_ spot test most m keeps body) =
       none_plus _ ∙ none_inside (turning 0) (block_rows (in_code r) around body None) (block_none r around body)
-  statement_none r around (locked line e body) =
+  statement_none r around (locked spot e body) =
       none_plus _ ∙ none_inside once (block_rows (in_code r) around body None) (block_none r around body)
 
   block_none : (r : Context) (around : Around) (b : Block) → total (block_rows (in_code r) around b None) ≡ no_costs
@@ -108,12 +109,12 @@ simple_adds c around s k v e = plus_none _ ∙ ap (λ q. (found unreached q).cos
 abbrev BlockAdds : Context → Around → Block → Type 0
 BlockAdds r around b = (k : Known) (v : Verdict) → if_reached unreached k (accept_block (in_code r) around b) ≡ Ok v → IsBelow v.costs → total (block_rows (in_code r) around b k) ≡ v.costs
 
-if_adds : (r : Context) (around : Around) (line : ℕ) (test : Condition) (a : Block) (k : Facts) (v : Verdict)
-    → BlockAdds r around a → accept_statement (in_code r) around (choose line test a) k ≡ Ok v → IsBelow v.costs
-    → total (statement_rows (in_code r) around (choose line test a) (Some k)) ≡ v.costs
+if_adds : (r : Context) (around : Around) (spot : Spot) (test : Condition) (a : Block) (k : Facts) (v : Verdict)
+    → BlockAdds r around a → accept_statement (in_code r) around (choose spot test a) k ≡ Ok v → IsBelow v.costs
+    → total (statement_rows (in_code r) around (choose spot test a) (Some k)) ≡ v.costs
 unfolding go_on if_reached
-if_adds r around line test a k v adds e below =
-    let split' = go_ok (split line test k) _ v e in
+if_adds r around spot test a k v adds e below =
+    let split' = go_ok (split spot test k) _ v e in
     let arms = split'.0 in
     let first' = go_ok (if_reached unreached arms.holds (accept_block (in_code r) around a)) _ v split'.2 in
     let first = first'.0 in
@@ -125,13 +126,13 @@ if_adds r around line test a k v adds e below =
     (sym (ap (λ q. found (branches None None) q) split'.1))
     (ap (λ t. plus (costs 0 0 1) t) (total_inside once (block_rows (in_code r) around a arms.holds) first.costs rows parts.1) ∙ if_sum first.costs low ∙ same)
 
-choice_adds : (r : Context) (around : Around) (line : ℕ) (test : Condition) (a b : Block) (k : Facts) (v : Verdict)
-    → BlockAdds r around a → BlockAdds r around b → accept_statement (in_code r) around (choose_else line test a b) k ≡ Ok v → IsBelow v.costs
-    → total (statement_rows (in_code r) around (choose_else line test a b) (Some k)) ≡ v.costs
+choice_adds : (r : Context) (around : Around) (spot : Spot) (test : Condition) (a b : Block) (k : Facts) (v : Verdict)
+    → BlockAdds r around a → BlockAdds r around b → accept_statement (in_code r) around (choose_else spot test a b) k ≡ Ok v → IsBelow v.costs
+    → total (statement_rows (in_code r) around (choose_else spot test a b) (Some k)) ≡ v.costs
 unfolding go_on if_reached
-choice_adds r around line test a b k v adds others e below =
+choice_adds r around spot test a b k v adds others e below =
     let c = in_code r in
-    let split' = go_ok (split line test k) _ v e in
+    let split' = go_ok (split spot test k) _ v e in
     let arms = split'.0 in
     let first' = go_ok (if_reached unreached arms.holds (accept_block c around a)) _ v split'.2 in
     let first = first'.0 in
@@ -146,25 +147,25 @@ choice_adds r around line test a b k v adds others e below =
     let second_is : (block_verdict c around b arms.fails).costs ≡ second.costs = ap (λ q. (found unreached q).costs) second'.1 in
     let Adds : Branches → Bounds → Bounds → Type 0 = λ w x y.
     plus (costs 0 0 1) (total (inside c (first_arm x y) (block_rows c around a w.holds)
-    ++ else_row c around line b w.fails ∷ inside c (second_arm x y) (block_rows c around b w.fails))) ≡ v.costs in
+    ++ else_row c around spot b w.fails ∷ inside c (second_arm x y) (block_rows c around b w.fails))) ≡ v.costs in
     let one = total_inside (first_arm first.costs second.costs) (block_rows c around a arms.holds) first.costs first_rows parts.1.0 in
     let two = total_inside (second_arm first.costs second.costs) (block_rows c around b arms.fails) second.costs second_rows parts.1.1 in
     let main : Adds arms first.costs second.costs =
     ap (λ t. plus (costs 0 0 1) t)
     (total_arms (inside c (first_arm first.costs second.costs) (block_rows c around a arms.holds)) (inside c (second_arm first.costs second.costs) (block_rows c around b arms.fails))
-    (else_row c around line b arms.fails) (weighed (first_arm first.costs second.costs) first.costs) (weighed (second_arm first.costs second.costs) second.costs) one two refl)
+    (else_row c around spot b arms.fails) (weighed (first_arm first.costs second.costs) first.costs) (weighed (second_arm first.costs second.costs) second.costs) one two refl)
     ∙ choice_sum first.costs second.costs low ∙ same in
     subst (λ w. Adds w (block_verdict c around a w.holds).costs (block_verdict c around b w.fails).costs)
     (sym (ap (λ q. found (branches None None) q) split'.1))
     (subst (λ x. Adds arms x (block_verdict c around b arms.fails).costs) (sym first_is) (subst (λ y. Adds arms first.costs y) (sym second_is) main))
 
-lock_adds : (r : Context) (around : Around) (line : ℕ) (e1 : Expression) (body : Block) (k : Facts) (v : Verdict)
-    → ((around' : Around) → BlockAdds r around' body) → accept_statement (in_code r) around (locked line e1 body) k ≡ Ok v → IsBelow v.costs
-    → total (statement_rows (in_code r) around (locked line e1 body) (Some k)) ≡ v.costs
+lock_adds : (r : Context) (around : Around) (spot : Spot) (e1 : Expression) (body : Block) (k : Facts) (v : Verdict)
+    → ((around' : Around) → BlockAdds r around' body) → accept_statement (in_code r) around (locked spot e1 body) k ≡ Ok v → IsBelow v.costs
+    → total (statement_rows (in_code r) around (locked spot e1 body) (Some k)) ≡ v.costs
 unfolding go_on if_reached
-lock_adds r around line e1 body k v adds e below =
+lock_adds r around spot e1 body k v adds e below =
     let c = in_code r in
-    let crate' = go_ok (lock_rule c around line e1 k) _ v e in
+    let crate' = go_ok (lock_rule c around spot e1 k) _ v e in
     let n = crate'.0 in
     let inner' = go_ok (accept_block c (with_locked n around) body k) _ v crate'.2 in
     let inner = inner'.0 in
@@ -188,41 +189,41 @@ loop_adds r around body head (suc t) turn adds e low =
     let rows = adds head turn e (turn_below t turn.costs all) in
     ap (λ x. plus (costs 0 0 (suc t + 1)) x) (total_inside (turning (suc t)) (block_rows (in_code r) around body head) turn.costs rows all) ∙ loop_sum (suc t) turn.costs low
 
-for_adds : (r : Context) (around : Around) (line x : ℕ) (e1 e2 : Expression) (keeps : List Keep) (body : Block) (k : Facts) (v : Verdict)
-    → BlockAdds r (with_fixed x around) body → accept_statement (in_code r) around (for_ line x e1 e2 keeps body) k ≡ Ok v → IsBelow v.costs
-    → total (statement_rows (in_code r) around (for_ line x e1 e2 keeps body) (Some k)) ≡ v.costs
+for_adds : (r : Context) (around : Around) (spot : Spot) (x : ℕ) (e1 e2 : Expression) (keeps : List Keep) (body : Block) (k : Facts) (v : Verdict)
+    → BlockAdds r (with_fixed x around) body → accept_statement (in_code r) around (for_ spot x e1 e2 keeps body) k ≡ Ok v → IsBelow v.costs
+    → total (statement_rows (in_code r) around (for_ spot x e1 e2 keeps body) (Some k)) ≡ v.costs
 unfolding go_on if_reached
-for_adds r around line x e1 e2 keeps body k v adds e below =
+for_adds r around spot x e1 e2 keeps body k v adds e below =
     let c = in_code r in
-    let limits' = go_ok (for_limits around line x e1 e2 keeps k) _ v e in
+    let limits' = go_ok (for_limits around spot x e1 e2 keeps k) _ v e in
     let l = limits'.0 in
     let turn' = go_ok (if_reached unreached (for_head x l keeps body k) (accept_block c (with_fixed x around) body)) _ v limits'.2 in
     let turn = turn'.0 in
-    let keeps' = go_ok (required (keeps_hold_after keeps turn.after) _ line _) _ v turn'.2 in
+    let keeps' = go_ok (required (keeps_hold_after keeps turn.after) _ spot _) _ v turn'.2 in
     let same : capped (loop_costs (turns_between l) turn.costs) ≡ v.costs = ap (λ w. w.costs) (ok_same _ _ keeps'.2) in
     let low = subst IsBelow (sym same) below in
     subst (λ (t : Turning). plus (loop_share (Some k) t.turns) (total (inside c (turning t.turns) (block_rows c (with_fixed x around) body t.head))) ≡ v.costs)
     (sym (ap (λ q. found (turning_from 0 None) (go_on q (λ m. Ok (turning_from (turns_between m) (for_head x m keeps body k))))) limits'.1))
     (loop_adds r (with_fixed x around) body (for_head x l keeps body k) (turns_between l) turn adds turn'.1 low ∙ same)
 
-while_adds : (r : Context) (around : Around) (line : ℕ) (test : Condition) (most m : ℕ) (keeps : List Keep) (body : Block) (k : Facts) (v : Verdict)
-    → BlockAdds r around body → accept_statement (in_code r) around (while_ line test most m keeps body) k ≡ Ok v → IsBelow v.costs
-    → total (statement_rows (in_code r) around (while_ line test most m keeps body) (Some k)) ≡ v.costs
+while_adds : (r : Context) (around : Around) (spot : Spot) (test : Condition) (most m : ℕ) (keeps : List Keep) (body : Block) (k : Facts) (v : Verdict)
+    → BlockAdds r around body → accept_statement (in_code r) around (while_ spot test most m keeps body) k ≡ Ok v → IsBelow v.costs
+    → total (statement_rows (in_code r) around (while_ spot test most m keeps body) (Some k)) ≡ v.costs
 unfolding go_on if_reached
-while_adds r around line test most m keeps body k v adds e below =
+while_adds r around spot test most m keeps body k v adds e below =
     let c = in_code r in
-    let top' = go_ok (while_head around.body line most m keeps body k) _ v e in
+    let top' = go_ok (while_head around.body spot most m keeps body k) _ v e in
     let top = top'.0 in
-    let split' = go_ok (split line test top) _ v top'.2 in
+    let split' = go_ok (split spot test top) _ v top'.2 in
     let arms = split'.0 in
     let turn' = go_ok (if_reached unreached arms.holds (accept_block c around body)) _ v split'.2 in
     let turn = turn'.0 in
-    let keeps' = go_ok (required (keeps_hold_after keeps turn.after) _ line _) _ v turn'.2 in
+    let keeps' = go_ok (required (keeps_hold_after keeps turn.after) _ spot _) _ v turn'.2 in
     let same : capped (loop_costs (turn_bound arms.holds most) turn.costs) ≡ v.costs = ap (λ w. w.costs) (ok_same _ _ keeps'.2) in
     let low = subst IsBelow (sym same) below in
     subst (λ (t : Turning). plus (loop_share (Some k) t.turns) (total (inside c (turning t.turns) (block_rows c around body t.head))) ≡ v.costs)
     (sym (
-    ap (λ q. found (turning_from 0 None) (go_on q (λ h. go_on (split line test h) (λ w. Ok (turning_from (turn_bound w.holds most) w.holds))))) top'.1
+    ap (λ q. found (turning_from 0 None) (go_on q (λ h. go_on (split spot test h) (λ w. Ok (turning_from (turn_bound w.holds most) w.holds))))) top'.1
     ∙ ap (λ q. found (turning_from 0 None) (go_on q (λ w. Ok (turning_from (turn_bound w.holds most) w.holds)))) split'.1
     ))
     (loop_adds r around body arms.holds (turn_bound arms.holds most) turn adds turn'.1 low ∙ same)
@@ -273,13 +274,13 @@ turns_from_add r around body adds (suc n) x v last k w e below =
     let all : plus (turned_total (turned 0 (block_rows (in_code r) around body None))) w.costs ≡ w.costs = ap (λ b. plus b w.costs) none ∙ none_plus w.costs in
     turns_add r around body adds (suc n) x v last (Some k) (turned 0 (block_rows (in_code r) around body None)) w e (subst IsBelow (sym all) below) ∙ all
 
-each_adds : (r : Context) (around : Around) (line x v last : ℕ) (body : Block) (k : Facts) (w : Verdict)
-    → BlockAdds r (with_fixed x around) body → accept_statement (in_code r) around (for_each line x v last body) k ≡ Ok w → IsBelow w.costs
-    → total (statement_rows (in_code r) around (for_each line x v last body) (Some k)) ≡ w.costs
+each_adds : (r : Context) (around : Around) (spot : Spot) (x v last : ℕ) (body : Block) (k : Facts) (w : Verdict)
+    → BlockAdds r (with_fixed x around) body → accept_statement (in_code r) around (for_each spot x v last body) k ≡ Ok w → IsBelow w.costs
+    → total (statement_rows (in_code r) around (for_each spot x v last body) (Some k)) ≡ w.costs
 unfolding go_on if_reached
-each_adds r around line x v last body k w adds e below =
+each_adds r around spot x v last body k w adds e below =
     let c = in_code r in
-    let count' = go_ok (each_begins around line x v last) _ w e in
+    let count' = go_ok (each_begins around spot x v last) _ w e in
     let turns' = go_ok (each_from capped count'.0 x v last (accept_block c (with_fixed x around) body) k) _ w count'.2 in
     let turns = turns'.0 in
     let same : capped (plus (costs 0 0 1) turns.costs) ≡ w.costs = ap (λ u. u.costs) (ok_same _ _ turns'.2) in
@@ -288,7 +289,7 @@ each_adds r around line x v last body k w adds e below =
     let t : Turned = each_turned capped x v last (block_verdict c (with_fixed x around) body) (block_rows c (with_fixed x around) body) (Some k) in
     let sum : turned_total t ≡ turns.costs =
     subst (λ n. turned_total (turns_over capped n x v (block_verdict c (with_fixed x around) body) (block_rows c (with_fixed x around) body) (Some k) (turned 0 (block_rows c (with_fixed x around) body None))) ≡ turns.costs)
-    (begun around line x v last count'.0 count'.1).is
+    (begun around spot x v last count'.0 count'.1).is
     (turns_from_add r (with_fixed x around) body adds count'.0 x v last k turns turns'.1 parts.1) in
     ap (λ b. plus (costs 0 0 (t.turns + 1)) b) (total_inside once t.rows (total t.rows) refl (each_below t.turns (total t.rows) (subst IsBelow (sym sum) parts.1)))
     ∙ each_sum t.turns (total t.rows) ∙ ap (λ b. plus (costs 0 0 1) b) sum ∙ then_sum (costs 0 0 1) turns.costs low ∙ same
@@ -298,22 +299,22 @@ mutual
 
   statement_adds : (r : Context) (around : Around) (s : Statement) (k : Facts) (v : Verdict) → accept_statement (in_code r) around s k ≡ Ok v → IsBelow v.costs
       → total (statement_rows (in_code r) around s (Some k)) ≡ v.costs
-  statement_adds r around (assign line x e1) k v e below = simple_adds (in_code r) around (assign line x e1) k v e
-  statement_adds r around (set_register line p e1 e2 e3) k v e below = simple_adds (in_code r) around (set_register line p e1 e2 e3) k v e
-  statement_adds r around (single line size f p move) k v e below = simple_adds (in_code r) around (single line size f p move) k v e
-  statement_adds r around (address_scan line f r1 r2 max x) k v e below = simple_adds (in_code r) around (address_scan line f r1 r2 max x) k v e
-  statement_adds r around (q_stop line f p t max x) k v e below = simple_adds (in_code r) around (q_stop line f p t max x) k v e
-  statement_adds r around (q_repeat line f p t max limit x) k v e below = simple_adds (in_code r) around (q_repeat line f p t max limit x) k v e
-  statement_adds r around (put line e1) k v e below = simple_adds (in_code r) around (put line e1) k v e
-  statement_adds r around (crate_call line which e1) k v e below = simple_adds (in_code r) around (crate_call line which e1) k v e
-  statement_adds r around (lam_call line which l) k v e below = simple_adds (in_code r) around (lam_call line which l) k v e
-  statement_adds r around (call line p es) k v e below = simple_adds (in_code r) around (call line p es) k v e
-  statement_adds r around (choose line test a) k v e below = if_adds r around line test a k v (block_adds r around a) e below
-  statement_adds r around (choose_else line test a b) k v e below = choice_adds r around line test a b k v (block_adds r around a) (block_adds r around b) e below
-  statement_adds r around (for_ line x e1 e2 keeps body) k v e below = for_adds r around line x e1 e2 keeps body k v (block_adds r (with_fixed x around) body) e below
-  statement_adds r around (for_each line x first last body) k v e below = each_adds r around line x first last body k v (block_adds r (with_fixed x around) body) e below
-  statement_adds r around (while_ line test most m keeps body) k v e below = while_adds r around line test most m keeps body k v (block_adds r around body) e below
-  statement_adds r around (locked line e1 body) k v e below = lock_adds r around line e1 body k v (λ around'. block_adds r around' body) e below
+  statement_adds r around (assign spot x e1) k v e below = simple_adds (in_code r) around (assign spot x e1) k v e
+  statement_adds r around (set_register spot p e1 e2 e3) k v e below = simple_adds (in_code r) around (set_register spot p e1 e2 e3) k v e
+  statement_adds r around (single spot size f p move) k v e below = simple_adds (in_code r) around (single spot size f p move) k v e
+  statement_adds r around (address_scan spot f r1 r2 max x) k v e below = simple_adds (in_code r) around (address_scan spot f r1 r2 max x) k v e
+  statement_adds r around (q_stop spot f p t max x) k v e below = simple_adds (in_code r) around (q_stop spot f p t max x) k v e
+  statement_adds r around (q_repeat spot f p t max limit x) k v e below = simple_adds (in_code r) around (q_repeat spot f p t max limit x) k v e
+  statement_adds r around (put spot e1) k v e below = simple_adds (in_code r) around (put spot e1) k v e
+  statement_adds r around (crate_call spot which e1) k v e below = simple_adds (in_code r) around (crate_call spot which e1) k v e
+  statement_adds r around (lam_call spot which l) k v e below = simple_adds (in_code r) around (lam_call spot which l) k v e
+  statement_adds r around (call spot p es) k v e below = simple_adds (in_code r) around (call spot p es) k v e
+  statement_adds r around (choose spot test a) k v e below = if_adds r around spot test a k v (block_adds r around a) e below
+  statement_adds r around (choose_else spot test a b) k v e below = choice_adds r around spot test a b k v (block_adds r around a) (block_adds r around b) e below
+  statement_adds r around (for_ spot x e1 e2 keeps body) k v e below = for_adds r around spot x e1 e2 keeps body k v (block_adds r (with_fixed x around) body) e below
+  statement_adds r around (for_each spot x first last body) k v e below = each_adds r around spot x first last body k v (block_adds r (with_fixed x around) body) e below
+  statement_adds r around (while_ spot test most m keeps body) k v e below = while_adds r around spot test most m keeps body k v (block_adds r around body) e below
+  statement_adds r around (locked spot e1 body) k v e below = lock_adds r around spot e1 body k v (λ around'. block_adds r around' body) e below
 
   pub block_adds : (r : Context) (around : Around) (b : Block) (k : Known) (v : Verdict) → if_reached unreached k (accept_block (in_code r) around b) ≡ Ok v → IsBelow v.costs
       → total (block_rows (in_code r) around b k) ≡ v.costs

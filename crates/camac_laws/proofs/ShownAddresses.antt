@@ -105,16 +105,16 @@ missing_at plan g c some first = go (nat_lt c crate_end && in_plan plan c) refl
     go false is = (first, λ below. rest_fails (nat_lt c crate_end) (in_plan plan c) (lt-ltb c crate_end below) is)
 
 pub missing_are_shown : MissingAreShown
-missing_are_shown plan line f g has at case e =
+missing_are_shown plan spot f g has at case e =
     ⊎_elim
-    (λ h. let r = required_err (are_stations plan g) StationNotInstalled line (missing plan g) (broken StationNotInstalled at case) h in
+    (λ h. let r = required_err (are_stations plan g) StationNotInstalled spot (missing plan g) (broken StationNotInstalled at case) h in
     let one = r.1 in
     let same : missing plan g ≡ case = cc in
     subst (MissingShown plan g) same
     (missing_at plan g (first_outside crate_end g.crates (are_stations_in plan g.stations)) has.stations
     (first_is crate_end g.crates (are_stations_in plan g.stations) has.crates r.0)))
-    (λ w. absurd (let r = given_err (region_widths plan f g) CommandNotDeclared line _ (broken StationNotInstalled at case) w.2 in let bad = r.1 in cc))
-    (go_err (required (are_stations plan g) StationNotInstalled line (missing plan g)) _ (broken StationNotInstalled at case) e)
+    (λ w. absurd (let r = given_err (region_widths plan f g) CommandNotDeclared spot _ (broken StationNotInstalled at case) w.2 in let bad = r.1 in cc))
+    (go_err (required (are_stations plan g) StationNotInstalled spot (missing plan g)) _ (broken StationNotInstalled at case) e)
 
 -- ---- commands
 
@@ -289,12 +289,12 @@ undeclared_shown plan f g has there e =
     )
 
 pub undeclared_are_shown : UndeclaredAreShown
-undeclared_are_shown plan line f g has at case e =
+undeclared_are_shown plan spot f g has at case e =
     ⊎_elim
-    (λ h. absurd (let r = required_err (are_stations plan g) StationNotInstalled line _ (broken CommandNotDeclared at case) h in let bad = r.1 in cc))
-    (λ w. let r = given_err (region_widths plan f g) CommandNotDeclared line (undeclared plan f g) (broken CommandNotDeclared at case) w.2 in
+    (λ h. absurd (let r = required_err (are_stations plan g) StationNotInstalled spot _ (broken CommandNotDeclared at case) h in let bad = r.1 in cc))
+    (λ w. let r = given_err (region_widths plan f g) CommandNotDeclared spot (undeclared plan f g) (broken CommandNotDeclared at case) w.2 in
     let one = r.1 in
     let same : undeclared plan f g ≡ case = cc in
     subst (UndeclaredShown plan f g) same
-    (undeclared_shown plan f g has (required_true (are_stations plan g) StationNotInstalled line (missing plan g) w.0 w.1) r.0))
-    (go_err (required (are_stations plan g) StationNotInstalled line (missing plan g)) _ (broken CommandNotDeclared at case) e)
+    (undeclared_shown plan f g has (required_true (are_stations plan g) StationNotInstalled spot (missing plan g) w.0 w.1) r.0))
+    (go_err (required (are_stations plan g) StationNotInstalled spot (missing plan g)) _ (broken CommandNotDeclared at case) e)

@@ -22,6 +22,7 @@ use Rattle.camac_rules.specs.Refusal.{go_on, required, given, if_reached}
 use Rattle.camac_laws.specs.ShownExpressions.{HasPart, applied, result_of, IsOfNoText, ExpressionShown, ExpressionsAreShown, IsRefusedThere, ConditionsAreShown, IsSide, PartsAreShown}
 use Rattle.camac_laws.proofs.Refused.{go_err, required_err, given_err, reached_err, reached_is}
 use Rattle.camac_laws.proofs.Steps.{go_is}
+use Rattle.camac_lang.specs.declared.spot.Spot.{Spot}
 
 -- ---- a part of an expression is a part of what it stands in
 
@@ -30,8 +31,8 @@ text_more e e' in_whole h =
     ⊎_elim (λ n. inl (n.0, in_whole (number n.0) n.1, n.2))
     (λ d. ⊎_elim (λ a. inr (inl (a.0, in_whole (divide a.0 0) a.1))) (λ a. inr (inr (a.0, in_whole (remainder a.0 0) a.1))) d) h
 
-shown_more : (line : ℕ) (e e' : Expression) (rs : List Interval) → ((p : Expression) → HasPart p e → HasPart p e') → (case : Case) → ExpressionShown line e rs case → ExpressionShown line e' rs case
-shown_more line e e' rs in_whole (Operation operator l h) t = record {
+shown_more : (spot : Spot) (e e' : Expression) (rs : List Interval) → ((p : Expression) → HasPart p e → HasPart p e') → (case : Case) → ExpressionShown spot e rs case → ExpressionShown spot e' rs case
+shown_more spot e e' rs in_whole (Operation operator l h) t = record {
   left = t.left;
   right = t.right;
   part = in_whole (applied operator t.left t.right) t.part;
@@ -43,38 +44,38 @@ shown_more line e e' rs in_whole (Operation operator l h) t = record {
   is_right = t.is_right;
   none = t.none;
 }
-shown_more line e e' rs in_whole Malformed t = text_more e e' in_whole t
-shown_more line e e' rs in_whole case t = absurd t
+shown_more spot e e' rs in_whole Malformed t = text_more e e' in_whole t
+shown_more spot e e' rs in_whole case t = absurd t
 
 -- ---- each form
 
-abbrev Shown : ℕ → Expression → List Interval → CheckRule → ℕ → Case → Type 0
-Shown line e rs rule at case = (rule ≡ ValueOutOfRange) × ((at ≡ line) × ExpressionShown line e rs case)
+abbrev Shown : Spot → Expression → List Interval → CheckRule → Spot → Case → Type 0
+Shown spot e rs rule at case = (rule ≡ ValueOutOfRange) × ((at ≡ spot) × ExpressionShown spot e rs case)
 
-more : (line : ℕ) (e e' : Expression) (rs : List Interval) (rule : CheckRule) (at : ℕ) (case : Case) → ((p : Expression) → HasPart p e → HasPart p e') → Shown line e rs rule at case → Shown line e' rs rule at case
-more line e e' rs rule at case in_whole t = (t.0, (t.1.0, shown_more line e e' rs in_whole case t.1.1))
+more : (spot : Spot) (e e' : Expression) (rs : List Interval) (rule : CheckRule) (at : Spot) (case : Case) → ((p : Expression) → HasPart p e → HasPart p e') → Shown spot e rs rule at case → Shown spot e' rs rule at case
+more spot e e' rs rule at case in_whole t = (t.0, (t.1.0, shown_more spot e e' rs in_whole case t.1.1))
 
 -- this case, on this line
-here : (line : ℕ) (e : Expression) (rs : List Interval) (own : Case) (rule : CheckRule) (at : ℕ) (case : Case) → broken ValueOutOfRange line own ≡ broken rule at case → ExpressionShown line e rs own → Shown line e rs rule at case
-here line e rs own rule at case f t =
+here : (spot : Spot) (e : Expression) (rs : List Interval) (own : Case) (rule : CheckRule) (at : Spot) (case : Case) → broken ValueOutOfRange spot own ≡ broken rule at case → ExpressionShown spot e rs own → Shown spot e rs rule at case
+here spot e rs own rule at case f t =
     let one : ValueOutOfRange ≡ rule = cc in
-    let two : line ≡ at = cc in
+    let two : spot ≡ at = cc in
     let three : own ≡ case = cc in
-    (sym one, (sym two, subst (ExpressionShown line e rs) three t))
+    (sym one, (sym two, subst (ExpressionShown spot e rs) three t))
 
-two_sides : (line : ℕ) (operator : Operator) (a b whole : Expression) (rs : List Interval) (rule : CheckRule) (at : ℕ) (case : Case)
+two_sides : (spot : Spot) (operator : Operator) (a b whole : Expression) (rs : List Interval) (rule : CheckRule) (at : Spot) (case : Case)
     → ((p : Expression) → HasPart p a → HasPart p whole) → ((p : Expression) → HasPart p b → HasPart p whole) → HasPart (applied operator a b) whole
-    → (range_of line a rs ≡ Err (broken rule at case) → Shown line a rs rule at case)
-    → (range_of line b rs ≡ Err (broken rule at case) → Shown line b rs rule at case)
-    → go_on (range_of line a rs) (λ r. go_on (range_of line b rs) (λ s. given (result_of operator r s) ValueOutOfRange line (operation operator r s))) ≡ Err (broken rule at case)
-    → Shown line whole rs rule at case
-two_sides line operator a b whole rs rule at case of_a of_b own left right e =
+    → (range_of spot a rs ≡ Err (broken rule at case) → Shown spot a rs rule at case)
+    → (range_of spot b rs ≡ Err (broken rule at case) → Shown spot b rs rule at case)
+    → go_on (range_of spot a rs) (λ r. go_on (range_of spot b rs) (λ s. given (result_of operator r s) ValueOutOfRange spot (operation operator r s))) ≡ Err (broken rule at case)
+    → Shown spot whole rs rule at case
+two_sides spot operator a b whole rs rule at case of_a of_b own left right e =
     ⊎_elim
-    (λ h. more line a whole rs rule at case of_a (left h))
+    (λ h. more spot a whole rs rule at case of_a (left h))
     (λ r. ⊎_elim
-    (λ h. more line b whole rs rule at case of_b (right h))
-    (λ s. let g = given_err (result_of operator r.0 s.0) ValueOutOfRange line (operation operator r.0 s.0) (broken rule at case) s.2 in
-    here line whole rs (operation operator r.0 s.0) rule at case g.1
+    (λ h. more spot b whole rs rule at case of_b (right h))
+    (λ s. let g = given_err (result_of operator r.0 s.0) ValueOutOfRange spot (operation operator r.0 s.0) (broken rule at case) s.2 in
+    here spot whole rs (operation operator r.0 s.0) rule at case g.1
     (record {
       left = a;
       right = b;
@@ -87,20 +88,20 @@ two_sides line operator a b whole rs rule at case of_a of_b own left right e =
       is_right = refl;
       none = g.0;
     }))
-    (go_err (range_of line b rs) (λ s. given (result_of operator r.0 s) ValueOutOfRange line (operation operator r.0 s)) (broken rule at case) r.2))
-    (go_err (range_of line a rs) (λ r. go_on (range_of line b rs) (λ s. given (result_of operator r s) ValueOutOfRange line (operation operator r s))) (broken rule at case) e)
+    (go_err (range_of spot b rs) (λ s. given (result_of operator r.0 s) ValueOutOfRange spot (operation operator r.0 s)) (broken rule at case) r.2))
+    (go_err (range_of spot a rs) (λ r. go_on (range_of spot b rs) (λ s. given (result_of operator r s) ValueOutOfRange spot (operation operator r s))) (broken rule at case) e)
 
-by_literal : (line : ℕ) (a whole : Expression) (o : Interval → Option Interval) (rs : List Interval) (rule : CheckRule) (at : ℕ) (case : Case)
+by_literal : (spot : Spot) (a whole : Expression) (o : Interval → Option Interval) (rs : List Interval) (rule : CheckRule) (at : Spot) (case : Case)
     → ((p : Expression) → HasPart p a → HasPart p whole) → ((r : Interval) → o r ≡ None → IsOfNoText whole)
-    → (range_of line a rs ≡ Err (broken rule at case) → Shown line a rs rule at case)
-    → go_on (range_of line a rs) (λ r. given (o r) ValueOutOfRange line Malformed) ≡ Err (broken rule at case)
-    → Shown line whole rs rule at case
-by_literal line a whole o rs rule at case of_a none left e =
+    → (range_of spot a rs ≡ Err (broken rule at case) → Shown spot a rs rule at case)
+    → go_on (range_of spot a rs) (λ r. given (o r) ValueOutOfRange spot Malformed) ≡ Err (broken rule at case)
+    → Shown spot whole rs rule at case
+by_literal spot a whole o rs rule at case of_a none left e =
     ⊎_elim
-    (λ h. more line a whole rs rule at case of_a (left h))
-    (λ r. let g = given_err (o r.0) ValueOutOfRange line Malformed (broken rule at case) r.2 in
-    here line whole rs Malformed rule at case g.1 (none r.0 g.0))
-    (go_err (range_of line a rs) (λ r. given (o r) ValueOutOfRange line Malformed) (broken rule at case) e)
+    (λ h. more spot a whole rs rule at case of_a (left h))
+    (λ r. let g = given_err (o r.0) ValueOutOfRange spot Malformed (broken rule at case) r.2 in
+    here spot whole rs Malformed rule at case g.1 (none r.0 g.0))
+    (go_err (range_of spot a rs) (λ r. given (o r) ValueOutOfRange spot Malformed) (broken rule at case) e)
 
 -- there is no result where the literal is 0
 zero_literal : (d : ℕ) (r : Interval) → (if nat_eq d 0 then None else Some r) ≡ None → d ≡ 0
@@ -111,72 +112,72 @@ zero_literal d r e = go (nat_eq d 0) refl e
     go false is f = absurd (cc)
 
 pub expressions_are_shown : ExpressionsAreShown
-expressions_are_shown line (number n) rs rule at case e =
+expressions_are_shown spot (number n) rs rule at case e =
     ⊎_elim
-    (λ h. let g = required_err (nat_le n greatest) ValueOutOfRange line Malformed (broken rule at case) h in
-    here line (number n) rs Malformed rule at case g.1 (inl (n, refl, leb-false n greatest g.0)))
+    (λ h. let g = required_err (nat_le n greatest) ValueOutOfRange spot Malformed (broken rule at case) h in
+    here spot (number n) rs Malformed rule at case g.1 (inl (n, refl, leb-false n greatest g.0)))
     (λ u. absurd (let bad = u.2 in cc))
-    (go_err (required (nat_le n greatest) ValueOutOfRange line Malformed) _ (broken rule at case) e)
-expressions_are_shown line (variable x) rs rule at case e = absurd (cc)
-expressions_are_shown line (group a) rs rule at case e =
-    more line a (group a) rs rule at case (λ p h. inr h) (expressions_are_shown line a rs rule at case e)
-expressions_are_shown line (add a b) rs rule at case e =
-    two_sides line Add a b (add a b) rs rule at case (λ p h. inr (inl h)) (λ p h. inr (inr h)) (inl refl)
-    (λ h. expressions_are_shown line a rs rule at case h) (λ h. expressions_are_shown line b rs rule at case h) e
-expressions_are_shown line (subtract a b) rs rule at case e =
-    two_sides line Sub a b (subtract a b) rs rule at case (λ p h. inr (inl h)) (λ p h. inr (inr h)) (inl refl)
-    (λ h. expressions_are_shown line a rs rule at case h) (λ h. expressions_are_shown line b rs rule at case h) e
-expressions_are_shown line (multiply a b) rs rule at case e =
-    two_sides line Mul a b (multiply a b) rs rule at case (λ p h. inr (inl h)) (λ p h. inr (inr h)) (inl refl)
-    (λ h. expressions_are_shown line a rs rule at case h) (λ h. expressions_are_shown line b rs rule at case h) e
-expressions_are_shown line (divide a d) rs rule at case e =
-    by_literal line a (divide a d) (λ r. range.div r d) rs rule at case (λ p h. inr h)
+    (go_err (required (nat_le n greatest) ValueOutOfRange spot Malformed) _ (broken rule at case) e)
+expressions_are_shown spot (variable x) rs rule at case e = absurd (cc)
+expressions_are_shown spot (group a) rs rule at case e =
+    more spot a (group a) rs rule at case (λ p h. inr h) (expressions_are_shown spot a rs rule at case e)
+expressions_are_shown spot (add a b) rs rule at case e =
+    two_sides spot Add a b (add a b) rs rule at case (λ p h. inr (inl h)) (λ p h. inr (inr h)) (inl refl)
+    (λ h. expressions_are_shown spot a rs rule at case h) (λ h. expressions_are_shown spot b rs rule at case h) e
+expressions_are_shown spot (subtract a b) rs rule at case e =
+    two_sides spot Sub a b (subtract a b) rs rule at case (λ p h. inr (inl h)) (λ p h. inr (inr h)) (inl refl)
+    (λ h. expressions_are_shown spot a rs rule at case h) (λ h. expressions_are_shown spot b rs rule at case h) e
+expressions_are_shown spot (multiply a b) rs rule at case e =
+    two_sides spot Mul a b (multiply a b) rs rule at case (λ p h. inr (inl h)) (λ p h. inr (inr h)) (inl refl)
+    (λ h. expressions_are_shown spot a rs rule at case h) (λ h. expressions_are_shown spot b rs rule at case h) e
+expressions_are_shown spot (divide a d) rs rule at case e =
+    by_literal spot a (divide a d) (λ r. range.div r d) rs rule at case (λ p h. inr h)
     (λ r none. inr (inl (a, inl (ap (divide a) (sym (zero_literal d (interval (r.lo / d) (r.hi / d)) none))))))
-    (λ h. expressions_are_shown line a rs rule at case h) e
-expressions_are_shown line (remainder a d) rs rule at case e =
-    by_literal line a (remainder a d) (λ r. range.rem r d) rs rule at case (λ p h. inr h)
+    (λ h. expressions_are_shown spot a rs rule at case h) e
+expressions_are_shown spot (remainder a d) rs rule at case e =
+    by_literal spot a (remainder a d) (λ r. range.rem r d) rs rule at case (λ p h. inr h)
     (λ r none. inr (inr (a, inl (ap (remainder a) (sym (zero_literal d (if nat_lt r.hi d then r else interval 0 (d - 1)) none))))))
-    (λ h. expressions_are_shown line a rs rule at case h) e
+    (λ h. expressions_are_shown spot a rs rule at case h) e
 
 -- ---- conditions
 
-later_refused : (line : ℕ) (p : Part) (ps : Condition) (k there : Facts) (first : Branches) (fault : Fault) → split_part line p k ≡ Ok first → first.holds ≡ Some there
-    → IsRefusedThere line ps there fault → IsRefusedThere line (p ∷ ps) k fault
-later_refused line p ps k there first fault judged holds h = record {
+later_refused : (spot : Spot) (p : Part) (ps : Condition) (k there : Facts) (first : Branches) (fault : Fault) → split_part spot p k ≡ Ok first → first.holds ≡ Some there
+    → IsRefusedThere spot ps there fault → IsRefusedThere spot (p ∷ ps) k fault
+later_refused spot p ps k there first fault judged holds h = record {
   earlier = p ∷ h.earlier;
   part = h.part;
   later = h.later;
   is = ap (λ xs. p ∷ xs) h.is;
   ways = branches h.ways.holds (join first.fails h.ways.fails);
   there = h.there;
-  judged = go_is (split_part line p k) first
-      (λ (one : Branches). go_on (if_reached (branches None None) one.holds (split line h.earlier)) (λ (others : Branches). Ok (branches others.holds (join one.fails others.fails))))
+  judged = go_is (split_part spot p k) first
+      (λ (one : Branches). go_on (if_reached (branches None None) one.holds (split spot h.earlier)) (λ (others : Branches). Ok (branches others.holds (join one.fails others.fails))))
       judged
-      ∙ go_is (if_reached (branches None None) first.holds (split line h.earlier)) h.ways
+      ∙ go_is (if_reached (branches None None) first.holds (split spot h.earlier)) h.ways
       (λ (others : Branches). Ok (branches others.holds (join first.fails others.fails)))
-      (ap (λ o. if_reached (branches None None) o (split line h.earlier)) holds ∙ (reached_is (branches None None) there (split line h.earlier) ∙ h.judged));
+      (ap (λ o. if_reached (branches None None) o (split spot h.earlier)) holds ∙ (reached_is (branches None None) there (split spot h.earlier) ∙ h.judged));
   hold = h.hold;
   refused = h.refused;
 }
 
 -- ---- the two sides of a comparison
 
-test_refused : (line : ℕ) (t : Test) (k : Facts) (fault : Fault) → split_test line t k ≡ Err fault → (e : Expression) × IsSide e t × (range_of line e k.ranges ≡ Err fault)
-test_refused line flag_q k fault e = absurd (cc)
-test_refused line flag_x k fault e = absurd (cc)
-test_refused line (compare a c b) k fault e =
+test_refused : (spot : Spot) (t : Test) (k : Facts) (fault : Fault) → split_test spot t k ≡ Err fault → (e : Expression) × IsSide e t × (range_of spot e k.ranges ≡ Err fault)
+test_refused spot flag_q k fault e = absurd (cc)
+test_refused spot flag_x k fault e = absurd (cc)
+test_refused spot (compare a c b) k fault e =
     ⊎_elim (λ h. (a, inl refl, h))
-    (λ r. ⊎_elim (λ h. (b, inr refl, h)) (λ s. absurd (let bad = s.2 in cc)) (go_err (range_of line b k.ranges) _ fault r.2))
-    (go_err (range_of line a k.ranges) _ fault e)
+    (λ r. ⊎_elim (λ h. (b, inr refl, h)) (λ s. absurd (let bad = s.2 in cc)) (go_err (range_of spot b k.ranges) _ fault r.2))
+    (go_err (range_of spot a k.ranges) _ fault e)
 
 pub parts_are_shown : PartsAreShown
-parts_are_shown line (plain t) k fault e = test_refused line t k fault e
-parts_are_shown line (negated t) k fault e =
-    ⊎_elim (λ h. test_refused line t k fault h) (λ b. absurd (let bad = b.2 in cc)) (go_err (split_test line t k) _ fault e)
+parts_are_shown spot (plain t) k fault e = test_refused spot t k fault e
+parts_are_shown spot (negated t) k fault e =
+    ⊎_elim (λ h. test_refused spot t k fault h) (λ b. absurd (let bad = b.2 in cc)) (go_err (split_test spot t k) _ fault e)
 
 pub conditions_are_shown : ConditionsAreShown
-conditions_are_shown line [] k fault e = absurd (cc)
-conditions_are_shown line (p ∷ ps) k fault e =
+conditions_are_shown spot [] k fault e = absurd (cc)
+conditions_are_shown spot (p ∷ ps) k fault e =
     ⊎_elim
     (λ h. record {
       earlier = [];
@@ -190,8 +191,8 @@ conditions_are_shown line (p ∷ ps) k fault e =
       refused = h;
     })
     (λ first. ⊎_elim
-    (λ h. let r = reached_err (branches None None) first.0.holds (split line ps) fault h in
-    later_refused line p ps k r.0 first.0 fault first.1 r.1 (conditions_are_shown line ps r.0 fault r.2))
+    (λ h. let r = reached_err (branches None None) first.0.holds (split spot ps) fault h in
+    later_refused spot p ps k r.0 first.0 fault first.1 r.1 (conditions_are_shown spot ps r.0 fault r.2))
     (λ others. absurd (let bad = others.2 in cc))
-    (go_err (if_reached (branches None None) first.0.holds (split line ps)) _ fault first.2))
-    (go_err (split_part line p k) _ fault e)
+    (go_err (if_reached (branches None None) first.0.holds (split spot ps)) _ fault first.2))
+    (go_err (split_part spot p k) _ fault e)

@@ -18,6 +18,7 @@ use Rattle.camac_rules.specs.Writes.{fall_of}
 use Rattle.camac_laws.specs.Shown.{WhileShown, WhileTurnsAreShown, ForTurnsAreShown, EachTurnsAreShown}
 use Rattle.camac_laws.proofs.Refused.{go_err, required_err, given_err, given_ok}
 use Rattle.camac_laws.proofs.ShownExpressions.{expressions_are_shown}
+use Rattle.camac_lang.specs.declared.spot.Spot.{Spot}
 
 -- the test that fails
 record IsLongWhile (most m : ℕ) (body : Block) (k : Facts) (case : Case) : Type 0 where
@@ -26,30 +27,30 @@ record IsLongWhile (most m : ℕ) (body : Block) (k : Facts) (case : Case) : Typ
   test : (nat_le most turn_limit && nat_le ((range_at k.ranges m).hi / step) most) ≡ false
   shown : turns_case ((range_at k.ranges m).hi / step) most ≡ case
 
-while_refused : (place : Body) (line most m : ℕ) (keeps : List Keep) (body : Block) (k : Facts) (at : ℕ) (case : Case)
-    → while_head place line most m keeps body k ≡ Err (broken TooManyTurns at case) → IsLongWhile most m body k case
-while_refused place line most m keeps body k at case e =
+while_refused : (place : Body) (spot : Spot) (most m : ℕ) (keeps : List Keep) (body : Block) (k : Facts) (at : Spot) (case : Case)
+    → while_head place spot most m keeps body k ≡ Err (broken TooManyTurns at case) → IsLongWhile most m body k case
+while_refused place spot most m keeps body k at case e =
     ⊎_elim
-    (λ h. absurd (let g = given_err (fall_of m body) MeasureBroken line (Measure place m) (broken TooManyTurns at case) h in let bad = g.1 in cc))
+    (λ h. absurd (let g = given_err (fall_of m body) MeasureBroken spot (Measure place m) (broken TooManyTurns at case) h in let bad = g.1 in cc))
     (λ w. ⊎_elim
     (λ h. let g =
-    required_err (nat_le most turn_limit && nat_le ((range_at k.ranges m).hi / w.0) most) TooManyTurns line (turns_case ((range_at k.ranges m).hi / w.0) most)
+    required_err (nat_le most turn_limit && nat_le ((range_at k.ranges m).hi / w.0) most) TooManyTurns spot (turns_case ((range_at k.ranges m).hi / w.0) most)
     (broken TooManyTurns at case) h in
     let same = g.1 in
-    record { step = w.0; is_step = given_ok (fall_of m body) MeasureBroken line (Measure place m) w.0 w.1; test = g.0; shown = cc })
+    record { step = w.0; is_step = given_ok (fall_of m body) MeasureBroken spot (Measure place m) w.0 w.1; test = g.0; shown = cc })
     (λ t. ⊎_elim
-    (λ h. absurd (let g = required_err (keeps_hold keeps k) KeepFailsAtEntry line _ (broken TooManyTurns at case) h in let bad = g.1 in cc))
+    (λ h. absurd (let g = required_err (keeps_hold keeps k) KeepFailsAtEntry spot _ (broken TooManyTurns at case) h in let bad = g.1 in cc))
     (λ s. absurd (let bad = s.2 in cc))
-    (go_err (required (keeps_hold keeps k) KeepFailsAtEntry line _) _ (broken TooManyTurns at case) t.2))
-    (go_err (required (nat_le most turn_limit && nat_le ((range_at k.ranges m).hi / w.0) most) TooManyTurns line _) _ (broken TooManyTurns at case) w.2))
-    (go_err (given (fall_of m body) MeasureBroken line _) _ (broken TooManyTurns at case) e)
+    (go_err (required (keeps_hold keeps k) KeepFailsAtEntry spot _) _ (broken TooManyTurns at case) t.2))
+    (go_err (required (nat_le most turn_limit && nat_le ((range_at k.ranges m).hi / w.0) most) TooManyTurns spot _) _ (broken TooManyTurns at case) w.2))
+    (go_err (given (fall_of m body) MeasureBroken spot _) _ (broken TooManyTurns at case) e)
 
 -- enough turns are not too many
-enough : (place : Body) (line m : ℕ) (keeps : List Keep) (body : Block) (k : Facts) (step : ℕ) → fall_of m body ≡ Some step
+enough : (place : Body) (spot : Spot) (m : ℕ) (keeps : List Keep) (body : Block) (k : Facts) (step : ℕ) → fall_of m body ≡ Some step
     → (n : ℕ) → (range_at k.ranges m).hi / step ≤ n → n ≤ turn_limit
-    → (at : ℕ) (c : Case) → while_head place line n m keeps body k ≡ Err (broken TooManyTurns at c) → ⊥
-enough place line m keeps body k step is n le few at c e =
-    let h = while_refused place line n m keeps body k at c e in
+    → (at : Spot) (c : Case) → while_head place spot n m keeps body k ≡ Err (broken TooManyTurns at c) → ⊥
+enough place spot m keeps body k step is n le few at c e =
+    let h = while_refused place spot n m keeps body k at c e in
     let one : ◌≡◌ {A = Option ℕ} (Some h.step) (Some step) = sym h.is_step ∙ is in
     let same : h.step ≡ step = cc in
     let test : (nat_le n turn_limit && nat_le ((range_at k.ranges m).hi / step) n) ≡ false = subst (λ s. (nat_le n turn_limit && nat_le ((range_at k.ranges m).hi / s) n) ≡ false) same h.test in
@@ -64,44 +65,44 @@ above_most true b e h = e
 above_most false b e h = absurd (cc)
 
 pub while_turns_are_shown : WhileTurnsAreShown
-while_turns_are_shown place line most m keeps body k at case e =
-    go (while_refused place line most m keeps body k at case e)
+while_turns_are_shown place spot most m keeps body k at case e =
+    go (while_refused place spot most m keeps body k at case e)
   where
     by : (h : IsLongWhile most m body k case) (b : Bool) → nat_le most turn_limit ≡ b
-        → (if b then Turns ((range_at k.ranges m).hi / h.step) most else Annotation most turn_limit) ≡ case → WhileShown place line most m keeps body k case
+        → (if b then Turns ((range_at k.ranges m).hi / h.step) most else Annotation most turn_limit) ≡ case → WhileShown place spot most m keeps body k case
     by h true is f =
-        subst (WhileShown place line most m keeps body k) f (
+        subst (WhileShown place spot most m keeps body k) f (
           refl,
           record {
             step = h.step;
             is_step = h.is_step;
             is_needed = refl;
             above = leb-false ((range_at k.ranges m).hi / h.step) most (above_most (nat_le most turn_limit) (nat_le ((range_at k.ranges m).hi / h.step) most) h.test is);
-            fixed = enough place line m keeps body k h.step h.is_step;
+            fixed = enough place spot m keeps body k h.step h.is_step;
           },
         )
-    by h false is f = subst (WhileShown place line most m keeps body k) f (refl, (refl, leb-false most turn_limit is))
+    by h false is f = subst (WhileShown place spot most m keeps body k) f (refl, (refl, leb-false most turn_limit is))
 
-    go : IsLongWhile most m body k case → WhileShown place line most m keeps body k case
+    go : IsLongWhile most m body k case → WhileShown place spot most m keeps body k case
     go h = by h (nat_le most turn_limit) refl h.shown
 
 -- an expression is not refused by this rule
-not_by_range : (line : ℕ) (e : Expression) (k : Facts) (at : ℕ) (case : Case) → range_of line e k.ranges ≡ Err (broken TooManyTurns at case) → ⊥
-not_by_range line e k at case f =
-    let h = expressions_are_shown line e k.ranges TooManyTurns at case f in
+not_by_range : (spot : Spot) (e : Expression) (k : Facts) (at : Spot) (case : Case) → range_of spot e k.ranges ≡ Err (broken TooManyTurns at case) → ⊥
+not_by_range spot e k at case f =
+    let h = expressions_are_shown spot e k.ranges TooManyTurns at case f in
     let bad : TooManyTurns ≡ ValueOutOfRange = h.0 in
     cc
 
 pub for_turns_are_shown : ForTurnsAreShown
-for_turns_are_shown around line x e1 e2 keeps k at case e =
+for_turns_are_shown around spot x e1 e2 keeps k at case e =
     ⊎_elim
-    (λ h. absurd (not_by_range line e1 k at case h))
+    (λ h. absurd (not_by_range spot e1 k at case h))
     (λ r. ⊎_elim
-    (λ h. absurd (not_by_range line e2 k at case h))
+    (λ h. absurd (not_by_range spot e2 k at case h))
     (λ s. ⊎_elim
-    (λ h. absurd (let g = required_err (may_write around x) LoopVariableAssigned line _ (broken TooManyTurns at case) h in let bad = g.1 in cc))
+    (λ h. absurd (let g = required_err (may_write around x) LoopVariableAssigned spot _ (broken TooManyTurns at case) h in let bad = g.1 in cc))
     (λ w. ⊎_elim
-    (λ h. let g = required_err (nat_le (turns_between (limits r.0 s.0)) turn_limit) TooManyTurns line (Turns (turns_between (limits r.0 s.0)) turn_limit) (broken TooManyTurns at case) h in
+    (λ h. let g = required_err (nat_le (turns_between (limits r.0 s.0)) turn_limit) TooManyTurns spot (Turns (turns_between (limits r.0 s.0)) turn_limit) (broken TooManyTurns at case) h in
     let same = g.1 in
     record {
       first = r.0;
@@ -112,25 +113,25 @@ for_turns_are_shown around line x e1 e2 keeps k at case e =
       shown = cc;
     })
     (λ t. ⊎_elim
-    (λ h. absurd (let g = required_err (keeps_hold keeps k) KeepFailsAtEntry line _ (broken TooManyTurns at case) h in let bad = g.1 in cc))
+    (λ h. absurd (let g = required_err (keeps_hold keeps k) KeepFailsAtEntry spot _ (broken TooManyTurns at case) h in let bad = g.1 in cc))
     (λ u. absurd (let bad = u.2 in cc))
-    (go_err (required (keeps_hold keeps k) KeepFailsAtEntry line _) _ (broken TooManyTurns at case) t.2))
-    (go_err (required (nat_le (turns_between (limits r.0 s.0)) turn_limit) TooManyTurns line _) _ (broken TooManyTurns at case) w.2))
-    (go_err (required (may_write around x) LoopVariableAssigned line _) _ (broken TooManyTurns at case) s.2))
-    (go_err (range_of line e2 k.ranges) _ (broken TooManyTurns at case) r.2))
-    (go_err (range_of line e1 k.ranges) _ (broken TooManyTurns at case) e)
+    (go_err (required (keeps_hold keeps k) KeepFailsAtEntry spot _) _ (broken TooManyTurns at case) t.2))
+    (go_err (required (nat_le (turns_between (limits r.0 s.0)) turn_limit) TooManyTurns spot _) _ (broken TooManyTurns at case) w.2))
+    (go_err (required (may_write around x) LoopVariableAssigned spot _) _ (broken TooManyTurns at case) s.2))
+    (go_err (range_of spot e2 k.ranges) _ (broken TooManyTurns at case) r.2))
+    (go_err (range_of spot e1 k.ranges) _ (broken TooManyTurns at case) e)
 
 pub each_turns_are_shown : EachTurnsAreShown
-each_turns_are_shown around line x v last at case e =
+each_turns_are_shown around spot x v last at case e =
     ⊎_elim
-    (λ h. absurd (let g = required_err (nat_le v greatest && nat_le last greatest) ValueOutOfRange line Malformed (broken TooManyTurns at case) h in let bad = g.1 in cc))
+    (λ h. absurd (let g = required_err (nat_le v greatest && nat_le last greatest) ValueOutOfRange spot Malformed (broken TooManyTurns at case) h in let bad = g.1 in cc))
     (λ w. ⊎_elim
-    (λ h. absurd (let g = required_err (may_write around x) LoopVariableAssigned line _ (broken TooManyTurns at case) h in let bad = g.1 in cc))
+    (λ h. absurd (let g = required_err (may_write around x) LoopVariableAssigned spot _ (broken TooManyTurns at case) h in let bad = g.1 in cc))
     (λ t. ⊎_elim
-    (λ h. let g = required_err (nat_le (last + 1 - v) turn_limit) TooManyTurns line (Turns (last + 1 - v) turn_limit) (broken TooManyTurns at case) h in
+    (λ h. let g = required_err (nat_le (last + 1 - v) turn_limit) TooManyTurns spot (Turns (last + 1 - v) turn_limit) (broken TooManyTurns at case) h in
     let same = g.1 in
     (leb-false (last + 1 - v) turn_limit g.0, cc))
     (λ u. absurd (let bad = u.2 in cc))
-    (go_err (required (nat_le (last + 1 - v) turn_limit) TooManyTurns line _) _ (broken TooManyTurns at case) t.2))
-    (go_err (required (may_write around x) LoopVariableAssigned line _) _ (broken TooManyTurns at case) w.2))
-    (go_err (required (nat_le v greatest && nat_le last greatest) ValueOutOfRange line Malformed) _ (broken TooManyTurns at case) e)
+    (go_err (required (nat_le (last + 1 - v) turn_limit) TooManyTurns spot _) _ (broken TooManyTurns at case) t.2))
+    (go_err (required (may_write around x) LoopVariableAssigned spot _) _ (broken TooManyTurns at case) w.2))
+    (go_err (required (nat_le v greatest && nat_le last greatest) ValueOutOfRange spot Malformed) _ (broken TooManyTurns at case) e)

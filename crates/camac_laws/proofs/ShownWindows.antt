@@ -27,6 +27,7 @@ use Rattle.camac_laws.specs.ShownWindows.{IsUpTo, IsInWindow, MissingOverShown, 
 use Rattle.camac_laws.proofs.Refused.{go_err}
 use Rattle.camac_laws.proofs.ShownAddresses.{first_is, rest_fails, station_same}
 use Rattle.camac_laws.proofs.ShownExpressions.{expressions_are_shown}
+use Rattle.camac_lang.specs.declared.spot.Spot.{Spot}
 
 -- ---- the addresses of a window at one of its stations
 
@@ -233,46 +234,46 @@ undeclared_by_at plan f g h has_g has_h there e = go (has_sub_addresses g) refl 
 -- ---- the lines of the rule
 
 -- a test that fails is the fault, or the lines after it are
-pub after_test : {B : Type 0} (b : Bool) (rule : CheckRule) (line : ℕ) (case : Case) (r : Result B Fault) (e : Fault) → go_on (required b rule line case) (λ u. r) ≡ Err e → ((b ≡ false) × (broken rule line case ≡ e)) ⊎ ((b ≡ true) × (r ≡ Err e))
+pub after_test : {B : Type 0} (b : Bool) (rule : CheckRule) (spot : Spot) (case : Case) (r : Result B Fault) (e : Fault) → go_on (required b rule spot case) (λ u. r) ≡ Err e → ((b ≡ false) × (broken rule spot case ≡ e)) ⊎ ((b ≡ true) × (r ≡ Err e))
 unfolding go_on required
-after_test true rule line case r e h = inr (refl, h)
-after_test false rule line case r e h = inl (refl, cc)
+after_test true rule spot case r e h = inr (refl, h)
+after_test false rule spot case r e h = inl (refl, cc)
 
 -- what is there goes on
-pub after_given : {A B : Type 0} (o : Option A) (x : A) (rule : CheckRule) (line : ℕ) (case : Case) (f : A → Result B Fault) → o ≡ Some x → go_on (given o rule line case) f ≡ f x
+pub after_given : {A B : Type 0} (o : Option A) (x : A) (rule : CheckRule) (spot : Spot) (case : Case) (f : A → Result B Fault) → o ≡ Some x → go_on (given o rule spot case) f ≡ f x
 unfolding go_on given
-after_given o x rule line case f e = ap (λ p. go_on (given p rule line case) f) e
+after_given o x rule spot case f e = ap (λ p. go_on (given p rule spot case) f) e
 
 -- after the first tests of a scan
-record ScanRefused (c : Context) (line f : ℕ) (g h : Region) (fault : Fault) : Type 0 where
-  tail : ((is_installed c.plan (window_of g h) ≡ false) × (broken StationNotInstalled line (missing_over c.plan (window_of g h)) ≡ fault))
+record ScanRefused (c : Context) (spot : Spot) (f : ℕ) (g h : Region) (fault : Fault) : Type 0 where
+  tail : ((is_installed c.plan (window_of g h) ≡ false) × (broken StationNotInstalled spot (missing_over c.plan (window_of g h)) ≡ fault))
       ⊎ ((is_installed c.plan (window_of g h) ≡ true)
       × (((has_sub_addresses g && (has_sub_addresses h && is_declared c.plan f (window_of g h))) ≡ false)
-      × (broken CommandNotDeclared line (undeclared_by c.plan f g h) ≡ fault)))
+      × (broken CommandNotDeclared spot (undeclared_by c.plan f g h) ≡ fault)))
 
 -- the rules before and after those two
 abbrev IsOther : CheckRule → Type 0
 IsOther rule = ((rule ≡ ValueOutOfRange) ⊎ (rule ≡ LoopVariableAssigned)) ⊎ ((rule ≡ ScanCratesDiffer) ⊎ (rule ≡ WrongDirection))
 
-scan_refused : (c : Context) (around : Around) (line f r1 r2 : ℕ) (e : Expression) (x : ℕ) (k : Facts) (g h : Region) (rule : CheckRule) (at : ℕ) (case : Case)
+scan_refused : (c : Context) (around : Around) (spot : Spot) (f r1 r2 : ℕ) (e : Expression) (x : ℕ) (k : Facts) (g h : Region) (rule : CheckRule) (at : Spot) (case : Case)
     → region_at k.registers r1 ≡ Some g → region_at k.registers r2 ≡ Some h
-    → scan_rule c around line f r1 r2 e x k ≡ Err (broken rule at case) → IsOther rule ⊎ ScanRefused c line f g h (broken rule at case)
-scan_refused c around line f r1 r2 e x k g h rule at case is_g is_h refused =
-    ⊎_elim (λ s. inl (inl (inl (expressions_are_shown line e k.ranges rule at case s).0)))
+    → scan_rule c around spot f r1 r2 e x k ≡ Err (broken rule at case) → IsOther rule ⊎ ScanRefused c spot f g h (broken rule at case)
+scan_refused c around spot f r1 r2 e x k g h rule at case is_g is_h refused =
+    ⊎_elim (λ s. inl (inl (inl (expressions_are_shown spot e k.ranges rule at case s).0)))
     (λ most. ⊎_elim (λ s. let bad = s.1 in let one : rule ≡ LoopVariableAssigned = cc in inl (inl (inr one)))
-    (λ s. let t = sym (after_given (region_at k.registers r1) g RegisterUnset line (Unset around.body r1) _ is_g) ∙ s.1 in
-    let u = sym (after_given (region_at k.registers r2) h RegisterUnset line (Unset around.body r2) _ is_h) ∙ t in
+    (λ s. let t = sym (after_given (region_at k.registers r1) g RegisterUnset spot (Unset around.body r1) _ is_g) ∙ s.1 in
+    let u = sym (after_given (region_at k.registers r2) h RegisterUnset spot (Unset around.body r2) _ is_h) ∙ t in
     ⊎_elim (λ v. let bad = v.1 in let one : rule ≡ ScanCratesDiffer = cc in inl (inr (inl one)))
     (λ v. ⊎_elim (λ w. inr (record { tail = inl w }))
     (λ w. ⊎_elim (λ y. inr (record { tail = inr (w.0, y) }))
     (λ y. ⊎_elim (λ z. let bad = z.1 in let one : rule ≡ WrongDirection = cc in inl (inr (inr one)))
     (λ z. absurd (let bad = z.1 in cc))
-    (after_test (same_class Read (class_of f)) WrongDirection line (direction f Read) _ (broken rule at case) y.1))
-    (after_test (has_sub_addresses g && (has_sub_addresses h && is_declared c.plan f (window_of g h))) CommandNotDeclared line (undeclared_by c.plan f g h) _ (broken rule at case) w.1))
-    (after_test (is_installed c.plan (window_of g h)) StationNotInstalled line (missing_over c.plan (window_of g h)) _ (broken rule at case) v.1))
-    (after_test (is_one_crate g h) ScanCratesDiffer line (crates_of g.crates h.crates) _ (broken rule at case) u))
-    (after_test (may_write around x) LoopVariableAssigned line (Counted around.body x) _ (broken rule at case) most.2))
-    (go_err (range_of line e k.ranges) _ (broken rule at case) refused)
+    (after_test (same_class Read (class_of f)) WrongDirection spot (direction f Read) _ (broken rule at case) y.1))
+    (after_test (has_sub_addresses g && (has_sub_addresses h && is_declared c.plan f (window_of g h))) CommandNotDeclared spot (undeclared_by c.plan f g h) _ (broken rule at case) w.1))
+    (after_test (is_installed c.plan (window_of g h)) StationNotInstalled spot (missing_over c.plan (window_of g h)) _ (broken rule at case) v.1))
+    (after_test (is_one_crate g h) ScanCratesDiffer spot (crates_of g.crates h.crates) _ (broken rule at case) u))
+    (after_test (may_write around x) LoopVariableAssigned spot (Counted around.body x) _ (broken rule at case) most.2))
+    (go_err (range_of spot e k.ranges) _ (broken rule at case) refused)
 
 not_other : (rule : CheckRule) → (rule ≡ StationNotInstalled) ⊎ (rule ≡ CommandNotDeclared) → IsOther rule → ⊥
 not_other rule is o =
@@ -282,7 +283,7 @@ not_other rule is o =
     is
 
 pub missing_over_are_shown : MissingOverAreShown
-missing_over_are_shown c around line f r1 r2 max x k g h is_g is_h at case refused =
+missing_over_are_shown c around spot f r1 r2 max x k g h is_g is_h at case refused =
     ⊎_elim (λ o. absurd (not_other StationNotInstalled (inl refl) o))
     (λ s. ⊎_elim
     (λ t. let one = t.1 in
@@ -290,10 +291,10 @@ missing_over_are_shown c around line f r1 r2 max x k g h is_g is_h at case refus
     subst (MissingOverShown c.plan (window_of g h)) same (missing_over_at c.plan (window_of g h) (omega arith) t.0))
     (λ t. absurd (let bad = t.1.1 in cc))
     s.tail)
-    (scan_refused c around line f r1 r2 max x k g h StationNotInstalled at case is_g is_h refused)
+    (scan_refused c around spot f r1 r2 max x k g h StationNotInstalled at case is_g is_h refused)
 
 pub undeclared_over_are_shown : UndeclaredOverAreShown
-undeclared_over_are_shown c around line f r1 r2 max x k g h is_g is_h has_g has_h at case refused =
+undeclared_over_are_shown c around spot f r1 r2 max x k g h is_g is_h has_g has_h at case refused =
     ⊎_elim (λ o. absurd (not_other CommandNotDeclared (inr refl) o))
     (λ s. ⊎_elim
     (λ t. absurd (let bad = t.1 in cc))
@@ -301,4 +302,4 @@ undeclared_over_are_shown c around line f r1 r2 max x k g h is_g is_h has_g has_
     let same : undeclared_by c.plan f g h ≡ case = cc in
     subst (UndeclaredOverShown c.plan f g h) same (undeclared_by_at c.plan f g h has_g has_h t.0 t.1.0))
     s.tail)
-    (scan_refused c around line f r1 r2 max x k g h CommandNotDeclared at case is_g is_h refused)
+    (scan_refused c around spot f r1 r2 max x k g h CommandNotDeclared at case is_g is_h refused)

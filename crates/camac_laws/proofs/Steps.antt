@@ -21,6 +21,7 @@ use Rattle.camac_check.specs.declared.fault.LeastFault.{LeastFault}
 use Rattle.camac_check.specs.declared.fault.LeastFault.TheVariants.{Link, Check}
 use Rattle.camac_laws.specs.Lower.{AtMost}
 use Rattle.camac_laws.specs.Grow.{CostsAtMost}
+use Rattle.camac_lang.specs.declared.spot.Spot.{Spot}
 
 pub go_ok : {A B : Type 0} (r : Result A Fault) (f : A → Result B Fault) (y : B) → go_on r f ≡ Ok y → (x : A) × (r ≡ Ok x) × (f x ≡ Ok y)
 unfolding go_on
@@ -35,36 +36,36 @@ pub then_is : {A B : Type 0} (r : Result A LeastFault) (x : A) (f : A → Result
 unfolding and_then
 then_is r x f e = ap (λ q. and_then q f) e
 
-pub required_ok : (b : Bool) (rule : CheckRule) (line : ℕ) (case : Case) (u : Unit {0}) → required b rule line case ≡ Ok u → b ≡ true
+pub required_ok : (b : Bool) (rule : CheckRule) (spot : Spot) (case : Case) (u : Unit {0}) → required b rule spot case ≡ Ok u → b ≡ true
 unfolding required
-required_ok true rule line case u e = refl
-required_ok false rule line case u e = absurd (cc)
+required_ok true rule spot case u e = refl
+required_ok false rule spot case u e = absurd (cc)
 
-required_is : (b : Bool) (rule : CheckRule) (line : ℕ) (case : Case) → b ≡ true → required b rule line case ≡ Ok tt
+required_is : (b : Bool) (rule : CheckRule) (spot : Spot) (case : Case) → b ≡ true → required b rule spot case ≡ Ok tt
 unfolding required
-required_is b rule line case e = ap (λ x. required x rule line case) e
+required_is b rule spot case e = ap (λ x. required x rule spot case) e
 
-pub within_ok : (place : Body) (m found k : Bounds) (line : ℕ) → within place m found line ≡ Ok k → AtMost found m
-within_ok place m found k line e =
-    let a = go_ok (required (nat_le found.words m.words) TooManyWords line _) _ k e in
-    let b = go_ok (required (nat_le found.cycles m.cycles) TooManyCycles line _) _ k a.2 in
-    let c = go_ok (required (nat_le found.steps m.steps) TooManySteps line _) _ k b.2 in
+pub within_ok : (place : Body) (m found k : Bounds) (spot : Spot) → within place m found spot ≡ Ok k → AtMost found m
+within_ok place m found k spot e =
+    let a = go_ok (required (nat_le found.words m.words) TooManyWords spot _) _ k e in
+    let b = go_ok (required (nat_le found.cycles m.cycles) TooManyCycles spot _) _ k a.2 in
+    let c = go_ok (required (nat_le found.steps m.steps) TooManySteps spot _) _ k b.2 in
     record {
-      cycles = leb-true found.cycles m.cycles (required_ok (nat_le found.cycles m.cycles) TooManyCycles line _ b.0 b.1);
-      words = leb-true found.words m.words (required_ok (nat_le found.words m.words) TooManyWords line _ a.0 a.1);
-      steps = leb-true found.steps m.steps (required_ok (nat_le found.steps m.steps) TooManySteps line _ c.0 c.1);
+      cycles = leb-true found.cycles m.cycles (required_ok (nat_le found.cycles m.cycles) TooManyCycles spot _ b.0 b.1);
+      words = leb-true found.words m.words (required_ok (nat_le found.words m.words) TooManyWords spot _ a.0 a.1);
+      steps = leb-true found.steps m.steps (required_ok (nat_le found.steps m.steps) TooManySteps spot _ c.0 c.1);
     }
 
-pub within_is : (place : Body) (m found : Bounds) (line : ℕ) → AtMost found m → within place m found line ≡ Ok found
-within_is place m found line h =
-    go_is (required (nat_le found.words m.words) TooManyWords line _) tt _ (required_is (nat_le found.words m.words) TooManyWords line _ (le-leb found.words m.words h.words))
-    ∙ go_is (required (nat_le found.cycles m.cycles) TooManyCycles line _) tt _ (required_is (nat_le found.cycles m.cycles) TooManyCycles line _ (le-leb found.cycles m.cycles h.cycles))
-    ∙ go_is (required (nat_le found.steps m.steps) TooManySteps line _) tt _ (required_is (nat_le found.steps m.steps) TooManySteps line _ (le-leb found.steps m.steps h.steps))
+pub within_is : (place : Body) (m found : Bounds) (spot : Spot) → AtMost found m → within place m found spot ≡ Ok found
+within_is place m found spot h =
+    go_is (required (nat_le found.words m.words) TooManyWords spot _) tt _ (required_is (nat_le found.words m.words) TooManyWords spot _ (le-leb found.words m.words h.words))
+    ∙ go_is (required (nat_le found.cycles m.cycles) TooManyCycles spot _) tt _ (required_is (nat_le found.cycles m.cycles) TooManyCycles spot _ (le-leb found.cycles m.cycles h.cycles))
+    ∙ go_is (required (nat_le found.steps m.steps) TooManySteps spot _) tt _ (required_is (nat_le found.steps m.steps) TooManySteps spot _ (le-leb found.steps m.steps h.steps))
 
-pub event_is : (place : Body) (plan : Layout) (words line : ℕ) → words ≤ greatest → words ≤ plan.buffer → event_fits place plan words line ≡ Ok tt
-event_is place plan words line number fits =
-    ap (λ b. if b then if nat_le words plan.buffer then Ok tt else Err (Link EventAboveBuffer line (Words words plan.buffer)) else Err (Check TooManyWords line (budget place words greatest))) (le-leb words greatest number)
-    ∙ ap (λ b. if b then Ok tt else Err (Link EventAboveBuffer line (Words words plan.buffer))) (le-leb words plan.buffer fits)
+pub event_is : (place : Body) (plan : Layout) (words : ℕ) (spot : Spot) → words ≤ greatest → words ≤ plan.buffer → event_fits place plan words spot ≡ Ok tt
+event_is place plan words spot number fits =
+    ap (λ b. if b then if nat_le words plan.buffer then Ok tt else Err (Link EventAboveBuffer spot (Words words plan.buffer)) else Err (Check TooManyWords spot (budget place words greatest))) (le-leb words greatest number)
+    ∙ ap (λ b. if b then Ok tt else Err (Link EventAboveBuffer spot (Words words plan.buffer))) (le-leb words plan.buffer fits)
 
 -- what is accepted is accepted at lower costs
 pub lower_ok : (q r : Result Verdict Fault) → CostsAtMost q r → (v : Verdict) → r ≡ Ok v → (w : Verdict) × (q ≡ Ok w) × AtMost w.costs v.costs

@@ -34,6 +34,7 @@ use Rattle.camac_check_costs.specs.Bodies.{rows_if, body_costs, costs_over, sect
 use Rattle.camac_laws.specs.Times.{NoMore, InSteps, TimesInSteps}
 use Rattle.camac_laws.proofs.Turned.{begun, no_turn}
 use Rattle.camac_laws.proofs.Shares.{in_code, go_ok, ok_same}
+use Rattle.camac_lang.specs.declared.spot.Spot.{Spot}
 
 pub no_more_up : (m n : ℕ) (rs : List Row) → m ≤ n → NoMore m rs → NoMore n rs
 no_more_up m n [] le h = tt
@@ -67,33 +68,33 @@ mutual
   unfolding if_reached
 
   statement_never : (r : Context) (around : Around) (s : Statement) → NoMore 0 (statement_rows (in_code r) around s None)
-  statement_never r around (assign line x e) = (omega arith, tt)
-  statement_never r around (set_register line p e1 e2 e3) = (omega arith, tt)
-  statement_never r around (single line size f p move) = (omega arith, tt)
-  statement_never r around (address_scan line f r1 r2 max x) = (omega arith, tt)
-  statement_never r around (q_stop line f p t max x) = (omega arith, tt)
-  statement_never r around (q_repeat line f p t max limit x) = (omega arith, tt)
-  statement_never r around (put line e) = (omega arith, tt)
-  statement_never r around (crate_call line which e) = (omega arith, tt)
-  statement_never r around (lam_call line which l) = (omega arith, tt)
-  statement_never r around (call line p es) = (omega arith, tt)
-  statement_never r around (choose line test a) = (omega arith, none_inside once (block_rows (in_code r) around a None) (block_never r around a))
-  statement_never r around (choose_else line test a b) = (
+  statement_never r around (assign spot x e) = (omega arith, tt)
+  statement_never r around (set_register spot p e1 e2 e3) = (omega arith, tt)
+  statement_never r around (single spot size f p move) = (omega arith, tt)
+  statement_never r around (address_scan spot f r1 r2 max x) = (omega arith, tt)
+  statement_never r around (q_stop spot f p t max x) = (omega arith, tt)
+  statement_never r around (q_repeat spot f p t max limit x) = (omega arith, tt)
+  statement_never r around (put spot e) = (omega arith, tt)
+  statement_never r around (crate_call spot which e) = (omega arith, tt)
+  statement_never r around (lam_call spot which l) = (omega arith, tt)
+  statement_never r around (call spot p es) = (omega arith, tt)
+  statement_never r around (choose spot test a) = (omega arith, none_inside once (block_rows (in_code r) around a None) (block_never r around a))
+  statement_never r around (choose_else spot test a b) = (
     omega arith,
     no_more_both 0 (inside (in_code r) (first_arm no_costs no_costs) (block_rows (in_code r) around a None)) _
         (none_inside (first_arm no_costs no_costs) (block_rows (in_code r) around a None) (block_never r around a))
         (omega arith, none_inside (second_arm no_costs no_costs) (block_rows (in_code r) around b None) (block_never r around b)),
   )
-  statement_never r around (for_ line x e1 e2 keeps body) = (omega arith, none_inside (turning 0) (block_rows (in_code r) (with_fixed x around) body None) (block_never r (with_fixed x around) body))
-  statement_never r around (for_each line x v last body) =
+  statement_never r around (for_ spot x e1 e2 keeps body) = (omega arith, none_inside (turning 0) (block_rows (in_code r) (with_fixed x around) body None) (block_never r (with_fixed x around) body))
+  statement_never r around (for_each spot x v last body) =
       let judge = block_verdict (in_code r) (with_fixed x around) body in
       let rows = block_rows (in_code r) (with_fixed x around) body in (
         omega arith,
         none_inside once (each_turned capped x v last judge rows None).rows
             (subst (λ (t : Turned). NoMore 0 t.rows) (sym (no_turn (last + 1 - v) x v judge rows (turned 0 (rows None)))) (block_never r (with_fixed x around) body)),
       )
-  statement_never r around (while_ line test most m keeps body) = (omega arith, none_inside (turning 0) (block_rows (in_code r) around body None) (block_never r around body))
-  statement_never r around (locked line e body) = (omega arith, none_inside once (block_rows (in_code r) around body None) (block_never r around body))
+  statement_never r around (while_ spot test most m keeps body) = (omega arith, none_inside (turning 0) (block_rows (in_code r) around body None) (block_never r around body))
+  statement_never r around (locked spot e body) = (omega arith, none_inside once (block_rows (in_code r) around body None) (block_never r around body))
 
   pub block_never : (r : Context) (around : Around) (b : Block) → NoMore 0 (block_rows (in_code r) around b None)
   block_never r around done = tt
@@ -110,38 +111,38 @@ unfolding go_on
 step_after (Ok x) f h = h x
 step_after (Err g) f h = tt
 
-single_step : (r : Context) (around : Around) (line : ℕ) (size : WordSize) (f p : ℕ) (move : Move) (k : Facts) → HasStep (accept_statement (in_code r) around (single line size f p move) k)
-single_step r around line size f p no_data k = step_after _ _ (λ g. step_after _ _ (λ w. step_after _ _ (λ u. omega arith)))
-single_step r around line size f p (into x) k = step_after _ _ (λ u. step_after _ _ (λ g. step_after _ _ (λ w. step_after _ _ (λ u2. omega arith))))
-single_step r around line size f p (from e) k = step_after _ _ (λ v. step_after _ _ (λ g. step_after _ _ (λ w. step_after _ _ (λ u. step_after _ _ (λ u2. omega arith)))))
+single_step : (r : Context) (around : Around) (spot : Spot) (size : WordSize) (f p : ℕ) (move : Move) (k : Facts) → HasStep (accept_statement (in_code r) around (single spot size f p move) k)
+single_step r around spot size f p no_data k = step_after _ _ (λ g. step_after _ _ (λ w. step_after _ _ (λ u. omega arith)))
+single_step r around spot size f p (into x) k = step_after _ _ (λ u. step_after _ _ (λ g. step_after _ _ (λ w. step_after _ _ (λ u2. omega arith))))
+single_step r around spot size f p (from e) k = step_after _ _ (λ v. step_after _ _ (λ g. step_after _ _ (λ w. step_after _ _ (λ u. step_after _ _ (λ u2. omega arith)))))
 
-scan_step : (r : Context) (around : Around) (line f r1 r2 : ℕ) (e : Expression) (x : ℕ) (k : Facts) → HasStep (accept_statement (in_code r) around (address_scan line f r1 r2 e x) k)
-scan_step r around line f r1 r2 e x k =
+scan_step : (r : Context) (around : Around) (spot : Spot) (f r1 r2 : ℕ) (e : Expression) (x : ℕ) (k : Facts) → HasStep (accept_statement (in_code r) around (address_scan spot f r1 r2 e x) k)
+scan_step r around spot f r1 r2 e x k =
     step_after _ _ (λ m. step_after _ _ (λ u. step_after _ _ (λ g. step_after _ _ (λ h. step_after _ _ (λ u2. step_after _ _ (λ u3. step_after _ _ (λ u4. step_after _ _ (λ u5. omega arith))))))))
 
-assign_step : (r : Context) (around : Around) (line x : ℕ) (e : Expression) (k : Facts) → HasStep (accept_statement (in_code r) around (assign line x e) k)
-assign_step r around line x e k = step_after _ _ (λ x1. step_after _ _ (λ x2. omega arith))
+assign_step : (r : Context) (around : Around) (spot : Spot) (x : ℕ) (e : Expression) (k : Facts) → HasStep (accept_statement (in_code r) around (assign spot x e) k)
+assign_step r around spot x e k = step_after _ _ (λ x1. step_after _ _ (λ x2. omega arith))
 
-register_step : (r : Context) (around : Around) (line p : ℕ) (e1 e2 e3 : Expression) (k : Facts) → HasStep (accept_statement (in_code r) around (set_register line p e1 e2 e3) k)
-register_step r around line p e1 e2 e3 k = step_after _ _ (λ x1. step_after _ _ (λ x2. step_after _ _ (λ x3. omega arith)))
+register_step : (r : Context) (around : Around) (spot : Spot) (p : ℕ) (e1 e2 e3 : Expression) (k : Facts) → HasStep (accept_statement (in_code r) around (set_register spot p e1 e2 e3) k)
+register_step r around spot p e1 e2 e3 k = step_after _ _ (λ x1. step_after _ _ (λ x2. step_after _ _ (λ x3. omega arith)))
 
-q_stop_step : (r : Context) (around : Around) (line f p : ℕ) (t : Option ℕ) (e : Expression) (x : ℕ) (k : Facts) → HasStep (accept_statement (in_code r) around (q_stop line f p t e x) k)
-q_stop_step r around line f p t e x k = step_after _ _ (λ x1. step_after _ _ (λ x2. omega arith))
+q_stop_step : (r : Context) (around : Around) (spot : Spot) (f p : ℕ) (t : Option ℕ) (e : Expression) (x : ℕ) (k : Facts) → HasStep (accept_statement (in_code r) around (q_stop spot f p t e x) k)
+q_stop_step r around spot f p t e x k = step_after _ _ (λ x1. step_after _ _ (λ x2. omega arith))
 
-q_repeat_step : (r : Context) (around : Around) (line f p : ℕ) (t : Option ℕ) (e1 e2 : Expression) (x : ℕ) (k : Facts) → HasStep (accept_statement (in_code r) around (q_repeat line f p t e1 e2 x) k)
-q_repeat_step r around line f p t e1 e2 x k = step_after _ _ (λ x1. step_after _ _ (λ x2. step_after _ _ (λ x3. omega arith)))
+q_repeat_step : (r : Context) (around : Around) (spot : Spot) (f p : ℕ) (t : Option ℕ) (e1 e2 : Expression) (x : ℕ) (k : Facts) → HasStep (accept_statement (in_code r) around (q_repeat spot f p t e1 e2 x) k)
+q_repeat_step r around spot f p t e1 e2 x k = step_after _ _ (λ x1. step_after _ _ (λ x2. step_after _ _ (λ x3. omega arith)))
 
-put_step : (r : Context) (around : Around) (line : ℕ) (e : Expression) (k : Facts) → HasStep (accept_statement (in_code r) around (put line e) k)
-put_step r around line e k = step_after _ _ (λ x1. step_after _ _ (λ x2. omega arith))
+put_step : (r : Context) (around : Around) (spot : Spot) (e : Expression) (k : Facts) → HasStep (accept_statement (in_code r) around (put spot e) k)
+put_step r around spot e k = step_after _ _ (λ x1. step_after _ _ (λ x2. omega arith))
 
-crate_step : (r : Context) (around : Around) (line : ℕ) (which : CrateCall) (e : Expression) (k : Facts) → HasStep (accept_statement (in_code r) around (crate_call line which e) k)
-crate_step r around line which e k = step_after _ _ (λ x1. step_after _ _ (λ x2. omega arith))
+crate_step : (r : Context) (around : Around) (spot : Spot) (which : CrateCall) (e : Expression) (k : Facts) → HasStep (accept_statement (in_code r) around (crate_call spot which e) k)
+crate_step r around spot which e k = step_after _ _ (λ x1. step_after _ _ (λ x2. omega arith))
 
-lam_step : (r : Context) (around : Around) (line : ℕ) (which : LamCall) (l : ℕ) (k : Facts) → HasStep (accept_statement (in_code r) around (lam_call line which l) k)
-lam_step r around line which l k = step_after _ _ (λ x1. step_after _ _ (λ x2. omega arith))
+lam_step : (r : Context) (around : Around) (spot : Spot) (which : LamCall) (l : ℕ) (k : Facts) → HasStep (accept_statement (in_code r) around (lam_call spot which l) k)
+lam_step r around spot which l k = step_after _ _ (λ x1. step_after _ _ (λ x2. omega arith))
 
-call_step : (r : Context) (around : Around) (line p : ℕ) (es : List Expression) (k : Facts) → HasStep (accept_statement (in_code r) around (call line p es) k)
-call_step r around line p es k = step_after _ _ (λ x1. step_after _ _ (λ x2. step_after _ _ (λ x3. omega arith)))
+call_step : (r : Context) (around : Around) (spot : Spot) (p : ℕ) (es : List Expression) (k : Facts) → HasStep (accept_statement (in_code r) around (call spot p es) k)
+call_step r around spot p es k = step_after _ _ (λ x1. step_after _ _ (λ x2. step_after _ _ (λ x3. omega arith)))
 
 -- such a statement, with its costs
 simple_in_steps : (c : Context) (around : Around) (s : Statement) (k : Facts) (v : Verdict) → HasStep (accept_statement c around s k) → accept_statement c around s k ≡ Ok v → NoMore (in_64_bits v.costs.steps) (simple_row c around s (Some k) ∷ [])
@@ -152,18 +153,18 @@ simple_in_steps c around s k v h e = let one : 1 ≤ v.costs.steps = subst HasSt
 abbrev BlockInSteps : Context → Around → Block → Type 0
 BlockInSteps r around b = (k : Known) (v : Verdict) → if_reached unreached k (accept_block (in_code r) around b) ≡ Ok v → NoMore (in_64_bits v.costs.steps) (block_rows (in_code r) around b k)
 
-if_in_steps : (r : Context) (around : Around) (line : ℕ) (test : Condition) (a : Block) (k : Facts) (v : Verdict)
-    → BlockInSteps r around a → accept_statement (in_code r) around (choose line test a) k ≡ Ok v
-    → NoMore (in_64_bits v.costs.steps) (statement_rows (in_code r) around (choose line test a) (Some k))
+if_in_steps : (r : Context) (around : Around) (spot : Spot) (test : Condition) (a : Block) (k : Facts) (v : Verdict)
+    → BlockInSteps r around a → accept_statement (in_code r) around (choose spot test a) k ≡ Ok v
+    → NoMore (in_64_bits v.costs.steps) (statement_rows (in_code r) around (choose spot test a) (Some k))
 unfolding go_on if_reached
-if_in_steps r around line test a k v fits e =
+if_in_steps r around spot test a k v fits e =
     let c = in_code r in
-    let split' = go_ok (split line test k) _ v e in
+    let split' = go_ok (split spot test k) _ v e in
     let arms = split'.0 in
     let first' = go_ok (if_reached unreached arms.holds (accept_block c around a)) _ v split'.2 in
     let first = first'.0 in
     let same : capped (choice_costs first.costs no_costs) ≡ v.costs = ap (λ w. w.costs) (ok_same _ _ first'.2) in
-    subst (λ (b : Bounds). NoMore (in_64_bits b.steps) (statement_rows c around (choose line test a) (Some k))) same (
+    subst (λ (b : Bounds). NoMore (in_64_bits b.steps) (statement_rows c around (choose spot test a) (Some k))) same (
       omega arith,
       subst (λ (w : Branches). NoMore (in_64_bits (capped (choice_costs first.costs no_costs)).steps) (inside c once (block_rows c around a w.holds)))
           (sym (ap (λ q. found (branches None None) q) split'.1))
@@ -175,13 +176,13 @@ at_most_once : (k : Known) (n : ℕ) → 1 ≤ n → times_at k ≤ n
 at_most_once None n le = omega arith
 at_most_once (Some k) n le = le
 
-choice_in_steps : (r : Context) (around : Around) (line : ℕ) (test : Condition) (a b : Block) (k : Facts) (v : Verdict)
-    → BlockInSteps r around a → BlockInSteps r around b → accept_statement (in_code r) around (choose_else line test a b) k ≡ Ok v
-    → NoMore (in_64_bits v.costs.steps) (statement_rows (in_code r) around (choose_else line test a b) (Some k))
+choice_in_steps : (r : Context) (around : Around) (spot : Spot) (test : Condition) (a b : Block) (k : Facts) (v : Verdict)
+    → BlockInSteps r around a → BlockInSteps r around b → accept_statement (in_code r) around (choose_else spot test a b) k ≡ Ok v
+    → NoMore (in_64_bits v.costs.steps) (statement_rows (in_code r) around (choose_else spot test a b) (Some k))
 unfolding go_on if_reached
-choice_in_steps r around line test a b k v fits others e =
+choice_in_steps r around spot test a b k v fits others e =
     let c = in_code r in
-    let split' = go_ok (split line test k) _ v e in
+    let split' = go_ok (split spot test k) _ v e in
     let arms = split'.0 in
     let first' = go_ok (if_reached unreached arms.holds (accept_block c around a)) _ v split'.2 in
     let first = first'.0 in
@@ -191,33 +192,33 @@ choice_in_steps r around line test a b k v fits others e =
     let most = in_64_bits (capped (choice_costs first.costs second.costs)).steps in
     let Fits : Branches → Bounds → Bounds → Type 0 = λ w x y.
     NoMore most (inside c (first_arm x y) (block_rows c around a w.holds)
-    ++ else_row c around line b w.fails ∷ inside c (second_arm x y) (block_rows c around b w.fails)) in
+    ++ else_row c around spot b w.fails ∷ inside c (second_arm x y) (block_rows c around b w.fails)) in
     let main : (x y : Bounds) → Fits arms x y = λ x y.
     no_more_both most (inside c (first_arm x y) (block_rows c around a arms.holds)) _
     (no_more_inside (first_arm x y) (in_64_bits first.costs.steps) _ (block_rows c around a arms.holds) (omega arith) (fits arms.holds first first'.1)) (
       at_most_once arms.fails most (omega arith),
       no_more_inside (second_arm x y) (in_64_bits second.costs.steps) _ (block_rows c around b arms.fails) (omega arith) (others arms.fails second second'.1),
     ) in
-    subst (λ (q : Bounds). NoMore (in_64_bits q.steps) (statement_rows c around (choose_else line test a b) (Some k))) same (
+    subst (λ (q : Bounds). NoMore (in_64_bits q.steps) (statement_rows c around (choose_else spot test a b) (Some k))) same (
       omega arith,
       subst (λ w. Fits w (block_verdict c around a w.holds).costs (block_verdict c around b w.fails).costs)
           (sym (ap (λ q. found (branches None None) q) split'.1))
           (main (block_verdict c around a arms.holds).costs (block_verdict c around b arms.fails).costs),
     )
 
-lock_in_steps : (r : Context) (around : Around) (line : ℕ) (e1 : Expression) (body : Block) (k : Facts) (v : Verdict)
-    → ((around' : Around) → BlockInSteps r around' body) → accept_statement (in_code r) around (locked line e1 body) k ≡ Ok v
-    → NoMore (in_64_bits v.costs.steps) (statement_rows (in_code r) around (locked line e1 body) (Some k))
+lock_in_steps : (r : Context) (around : Around) (spot : Spot) (e1 : Expression) (body : Block) (k : Facts) (v : Verdict)
+    → ((around' : Around) → BlockInSteps r around' body) → accept_statement (in_code r) around (locked spot e1 body) k ≡ Ok v
+    → NoMore (in_64_bits v.costs.steps) (statement_rows (in_code r) around (locked spot e1 body) (Some k))
 unfolding go_on if_reached
-lock_in_steps r around line e1 body k v fits e =
+lock_in_steps r around spot e1 body k v fits e =
     let c = in_code r in
-    let crate' = go_ok (lock_rule c around line e1 k) _ v e in
+    let crate' = go_ok (lock_rule c around spot e1 k) _ v e in
     let n = crate'.0 in
     let inner' = go_ok (accept_block c (with_locked n around) body k) _ v crate'.2 in
     let inner = inner'.0 in
     let waits = unwrap_or (crate_waits r.plan n) 0 in
     let same : capped (lock_costs waits inner.costs) ≡ v.costs = ap (λ w. w.costs) (ok_same _ _ inner'.2) in
-    subst (λ (b : Bounds). NoMore (in_64_bits b.steps) (statement_rows c around (locked line e1 body) (Some k))) same (
+    subst (λ (b : Bounds). NoMore (in_64_bits b.steps) (statement_rows c around (locked spot e1 body) (Some k))) same (
       omega arith,
       subst (λ (o : Option ℕ). NoMore (in_64_bits (capped (lock_costs waits inner.costs)).steps) (inside c once (block_rows c (lock_inside o around) body (lock_head o (Some k)))))
           (sym (ap (λ q. found None (go_on q (λ m. Ok (Some m)))) crate'.1))
@@ -230,19 +231,19 @@ turns_in_steps turns s =
     let more : turns * in_64_bits s ≤ turns * (1 + s) = mul-le-mul_left turns (omega arith) in
     omega (arith, more)
 
-for_in_steps : (r : Context) (around : Around) (line x : ℕ) (e1 e2 : Expression) (keeps : List Keep) (body : Block) (k : Facts) (v : Verdict)
-    → BlockInSteps r (with_fixed x around) body → accept_statement (in_code r) around (for_ line x e1 e2 keeps body) k ≡ Ok v
-    → NoMore (in_64_bits v.costs.steps) (statement_rows (in_code r) around (for_ line x e1 e2 keeps body) (Some k))
+for_in_steps : (r : Context) (around : Around) (spot : Spot) (x : ℕ) (e1 e2 : Expression) (keeps : List Keep) (body : Block) (k : Facts) (v : Verdict)
+    → BlockInSteps r (with_fixed x around) body → accept_statement (in_code r) around (for_ spot x e1 e2 keeps body) k ≡ Ok v
+    → NoMore (in_64_bits v.costs.steps) (statement_rows (in_code r) around (for_ spot x e1 e2 keeps body) (Some k))
 unfolding go_on if_reached
-for_in_steps r around line x e1 e2 keeps body k v fits e =
+for_in_steps r around spot x e1 e2 keeps body k v fits e =
     let c = in_code r in
-    let limits' = go_ok (for_limits around line x e1 e2 keeps k) _ v e in
+    let limits' = go_ok (for_limits around spot x e1 e2 keeps k) _ v e in
     let l = limits'.0 in
     let turn' = go_ok (if_reached unreached (for_head x l keeps body k) (accept_block c (with_fixed x around) body)) _ v limits'.2 in
     let turn = turn'.0 in
-    let keeps' = go_ok (required (keeps_hold_after keeps turn.after) _ line _) _ v turn'.2 in
+    let keeps' = go_ok (required (keeps_hold_after keeps turn.after) _ spot _) _ v turn'.2 in
     let same : capped (loop_costs (turns_between l) turn.costs) ≡ v.costs = ap (λ w. w.costs) (ok_same _ _ keeps'.2) in
-    subst (λ (b : Bounds). NoMore (in_64_bits b.steps) (statement_rows c around (for_ line x e1 e2 keeps body) (Some k))) same (
+    subst (λ (b : Bounds). NoMore (in_64_bits b.steps) (statement_rows c around (for_ spot x e1 e2 keeps body) (Some k))) same (
       omega arith,
       subst (λ (t : Turning). NoMore (in_64_bits (capped (loop_costs (turns_between l) turn.costs)).steps) (inside c (turning t.turns) (block_rows c (with_fixed x around) body t.head)))
           (sym (ap (λ q. found (turning_from 0 None) (go_on q (λ m. Ok (turning_from (turns_between m) (for_head x m keeps body k))))) limits'.1))
@@ -286,43 +287,43 @@ turns_from_in_steps r around body fits (suc n) x v last k w e =
     (turns_over_in_steps r around body fits (suc n) x v last (Some k) (turned 0 (block_rows (in_code r) around body None)) 0 w e
     (no_more_up 0 (in_64_bits 0) (block_rows (in_code r) around body None) (omega arith) (block_never r around body)))
 
-each_in_steps : (r : Context) (around : Around) (line x v last : ℕ) (body : Block) (k : Facts) (w : Verdict)
-    → BlockInSteps r (with_fixed x around) body → accept_statement (in_code r) around (for_each line x v last body) k ≡ Ok w
-    → NoMore (in_64_bits w.costs.steps) (statement_rows (in_code r) around (for_each line x v last body) (Some k))
+each_in_steps : (r : Context) (around : Around) (spot : Spot) (x v last : ℕ) (body : Block) (k : Facts) (w : Verdict)
+    → BlockInSteps r (with_fixed x around) body → accept_statement (in_code r) around (for_each spot x v last body) k ≡ Ok w
+    → NoMore (in_64_bits w.costs.steps) (statement_rows (in_code r) around (for_each spot x v last body) (Some k))
 unfolding go_on if_reached
-each_in_steps r around line x v last body k w fits e =
+each_in_steps r around spot x v last body k w fits e =
     let c = in_code r in
-    let count' = go_ok (each_begins around line x v last) _ w e in
+    let count' = go_ok (each_begins around spot x v last) _ w e in
     let turns' = go_ok (each_from capped count'.0 x v last (accept_block c (with_fixed x around) body) k) _ w count'.2 in
     let turns = turns'.0 in
     let same : capped (plus (costs 0 0 1) turns.costs) ≡ w.costs = ap (λ u. u.costs) (ok_same _ _ turns'.2) in
     let t : ℕ → Turned = λ n. turns_over capped n x v (block_verdict c (with_fixed x around) body) (block_rows c (with_fixed x around) body) (Some k) (turned 0 (block_rows c (with_fixed x around) body None)) in
-    subst (λ (b : Bounds). NoMore (in_64_bits b.steps) (statement_rows c around (for_each line x v last body) (Some k))) same (
+    subst (λ (b : Bounds). NoMore (in_64_bits b.steps) (statement_rows c around (for_each spot x v last body) (Some k))) same (
       omega arith,
       no_more_inside once (in_64_bits turns.costs.steps) _ (t (last + 1 - v)).rows (omega arith)
-          (subst (λ n. NoMore (in_64_bits turns.costs.steps) (t n).rows) (begun around line x v last count'.0 count'.1).is
+          (subst (λ n. NoMore (in_64_bits turns.costs.steps) (t n).rows) (begun around spot x v last count'.0 count'.1).is
           (turns_from_in_steps r (with_fixed x around) body fits count'.0 x v last k turns turns'.1)),
     )
 
-while_in_steps : (r : Context) (around : Around) (line : ℕ) (test : Condition) (most m : ℕ) (keeps : List Keep) (body : Block) (k : Facts) (v : Verdict)
-    → BlockInSteps r around body → accept_statement (in_code r) around (while_ line test most m keeps body) k ≡ Ok v
-    → NoMore (in_64_bits v.costs.steps) (statement_rows (in_code r) around (while_ line test most m keeps body) (Some k))
+while_in_steps : (r : Context) (around : Around) (spot : Spot) (test : Condition) (most m : ℕ) (keeps : List Keep) (body : Block) (k : Facts) (v : Verdict)
+    → BlockInSteps r around body → accept_statement (in_code r) around (while_ spot test most m keeps body) k ≡ Ok v
+    → NoMore (in_64_bits v.costs.steps) (statement_rows (in_code r) around (while_ spot test most m keeps body) (Some k))
 unfolding go_on if_reached
-while_in_steps r around line test most m keeps body k v fits e =
+while_in_steps r around spot test most m keeps body k v fits e =
     let c = in_code r in
-    let top' = go_ok (while_head around.body line most m keeps body k) _ v e in
+    let top' = go_ok (while_head around.body spot most m keeps body k) _ v e in
     let top = top'.0 in
-    let split' = go_ok (split line test top) _ v top'.2 in
+    let split' = go_ok (split spot test top) _ v top'.2 in
     let arms = split'.0 in
     let turn' = go_ok (if_reached unreached arms.holds (accept_block c around body)) _ v split'.2 in
     let turn = turn'.0 in
-    let keeps' = go_ok (required (keeps_hold_after keeps turn.after) _ line _) _ v turn'.2 in
+    let keeps' = go_ok (required (keeps_hold_after keeps turn.after) _ spot _) _ v turn'.2 in
     let same : capped (loop_costs (turn_bound arms.holds most) turn.costs) ≡ v.costs = ap (λ w. w.costs) (ok_same _ _ keeps'.2) in
-    subst (λ (b : Bounds). NoMore (in_64_bits b.steps) (statement_rows c around (while_ line test most m keeps body) (Some k))) same (
+    subst (λ (b : Bounds). NoMore (in_64_bits b.steps) (statement_rows c around (while_ spot test most m keeps body) (Some k))) same (
       omega arith,
       subst (λ (t : Turning). NoMore (in_64_bits (capped (loop_costs (turn_bound arms.holds most) turn.costs)).steps) (inside c (turning t.turns) (block_rows c around body t.head)))
           (sym (
-          ap (λ q. found (turning_from 0 None) (go_on q (λ h. go_on (split line test h) (λ w. Ok (turning_from (turn_bound w.holds most) w.holds))))) top'.1
+          ap (λ q. found (turning_from 0 None) (go_on q (λ h. go_on (split spot test h) (λ w. Ok (turning_from (turn_bound w.holds most) w.holds))))) top'.1
           ∙ ap (λ q. found (turning_from 0 None) (go_on q (λ w. Ok (turning_from (turn_bound w.holds most) w.holds)))) split'.1
           ))
           (no_more_inside (turning (turn_bound arms.holds most)) (in_64_bits turn.costs.steps) _ (block_rows c around body arms.holds) (turns_in_steps (turn_bound arms.holds most) turn.costs.steps)
@@ -334,22 +335,22 @@ mutual
 
   statement_in_steps : (r : Context) (around : Around) (s : Statement) (k : Facts) (v : Verdict) → accept_statement (in_code r) around s k ≡ Ok v
       → NoMore (in_64_bits v.costs.steps) (statement_rows (in_code r) around s (Some k))
-  statement_in_steps r around (assign line x e1) k v e = simple_in_steps (in_code r) around (assign line x e1) k v (assign_step r around line x e1 k) e
-  statement_in_steps r around (set_register line p e1 e2 e3) k v e = simple_in_steps (in_code r) around (set_register line p e1 e2 e3) k v (register_step r around line p e1 e2 e3 k) e
-  statement_in_steps r around (single line size f p move) k v e = simple_in_steps (in_code r) around (single line size f p move) k v (single_step r around line size f p move k) e
-  statement_in_steps r around (address_scan line f r1 r2 max x) k v e = simple_in_steps (in_code r) around (address_scan line f r1 r2 max x) k v (scan_step r around line f r1 r2 max x k) e
-  statement_in_steps r around (q_stop line f p t max x) k v e = simple_in_steps (in_code r) around (q_stop line f p t max x) k v (q_stop_step r around line f p t max x k) e
-  statement_in_steps r around (q_repeat line f p t max limit x) k v e = simple_in_steps (in_code r) around (q_repeat line f p t max limit x) k v (q_repeat_step r around line f p t max limit x k) e
-  statement_in_steps r around (put line e1) k v e = simple_in_steps (in_code r) around (put line e1) k v (put_step r around line e1 k) e
-  statement_in_steps r around (crate_call line which e1) k v e = simple_in_steps (in_code r) around (crate_call line which e1) k v (crate_step r around line which e1 k) e
-  statement_in_steps r around (lam_call line which l) k v e = simple_in_steps (in_code r) around (lam_call line which l) k v (lam_step r around line which l k) e
-  statement_in_steps r around (call line p es) k v e = simple_in_steps (in_code r) around (call line p es) k v (call_step r around line p es k) e
-  statement_in_steps r around (choose line test a) k v e = if_in_steps r around line test a k v (block_in_steps r around a) e
-  statement_in_steps r around (choose_else line test a b) k v e = choice_in_steps r around line test a b k v (block_in_steps r around a) (block_in_steps r around b) e
-  statement_in_steps r around (for_ line x e1 e2 keeps body) k v e = for_in_steps r around line x e1 e2 keeps body k v (block_in_steps r (with_fixed x around) body) e
-  statement_in_steps r around (for_each line x first last body) k v e = each_in_steps r around line x first last body k v (block_in_steps r (with_fixed x around) body) e
-  statement_in_steps r around (while_ line test most m keeps body) k v e = while_in_steps r around line test most m keeps body k v (block_in_steps r around body) e
-  statement_in_steps r around (locked line e1 body) k v e = lock_in_steps r around line e1 body k v (λ around'. block_in_steps r around' body) e
+  statement_in_steps r around (assign spot x e1) k v e = simple_in_steps (in_code r) around (assign spot x e1) k v (assign_step r around spot x e1 k) e
+  statement_in_steps r around (set_register spot p e1 e2 e3) k v e = simple_in_steps (in_code r) around (set_register spot p e1 e2 e3) k v (register_step r around spot p e1 e2 e3 k) e
+  statement_in_steps r around (single spot size f p move) k v e = simple_in_steps (in_code r) around (single spot size f p move) k v (single_step r around spot size f p move k) e
+  statement_in_steps r around (address_scan spot f r1 r2 max x) k v e = simple_in_steps (in_code r) around (address_scan spot f r1 r2 max x) k v (scan_step r around spot f r1 r2 max x k) e
+  statement_in_steps r around (q_stop spot f p t max x) k v e = simple_in_steps (in_code r) around (q_stop spot f p t max x) k v (q_stop_step r around spot f p t max x k) e
+  statement_in_steps r around (q_repeat spot f p t max limit x) k v e = simple_in_steps (in_code r) around (q_repeat spot f p t max limit x) k v (q_repeat_step r around spot f p t max limit x k) e
+  statement_in_steps r around (put spot e1) k v e = simple_in_steps (in_code r) around (put spot e1) k v (put_step r around spot e1 k) e
+  statement_in_steps r around (crate_call spot which e1) k v e = simple_in_steps (in_code r) around (crate_call spot which e1) k v (crate_step r around spot which e1 k) e
+  statement_in_steps r around (lam_call spot which l) k v e = simple_in_steps (in_code r) around (lam_call spot which l) k v (lam_step r around spot which l k) e
+  statement_in_steps r around (call spot p es) k v e = simple_in_steps (in_code r) around (call spot p es) k v (call_step r around spot p es k) e
+  statement_in_steps r around (choose spot test a) k v e = if_in_steps r around spot test a k v (block_in_steps r around a) e
+  statement_in_steps r around (choose_else spot test a b) k v e = choice_in_steps r around spot test a b k v (block_in_steps r around a) (block_in_steps r around b) e
+  statement_in_steps r around (for_ spot x e1 e2 keeps body) k v e = for_in_steps r around spot x e1 e2 keeps body k v (block_in_steps r (with_fixed x around) body) e
+  statement_in_steps r around (for_each spot x first last body) k v e = each_in_steps r around spot x first last body k v (block_in_steps r (with_fixed x around) body) e
+  statement_in_steps r around (while_ spot test most m keeps body) k v e = while_in_steps r around spot test most m keeps body k v (block_in_steps r around body) e
+  statement_in_steps r around (locked spot e1 body) k v e = lock_in_steps r around spot e1 body k v (λ around'. block_in_steps r around' body) e
 
   pub block_in_steps : (r : Context) (around : Around) (b : Block) (k : Known) (v : Verdict) → if_reached unreached k (accept_block (in_code r) around b) ≡ Ok v
       → NoMore (in_64_bits v.costs.steps) (block_rows (in_code r) around b k)

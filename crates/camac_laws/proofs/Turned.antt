@@ -15,6 +15,7 @@ use Rattle.camac_rules.specs.Each.{each_begins}
 use Rattle.camac_check_rows.specs.declared.row.Row.{Row}
 use Rattle.camac_check_rows.specs.Turns.{Turned, turns_over}
 use Rattle.camac_laws.proofs.Steps.{go_ok, required_ok}
+use Rattle.camac_lang.specs.declared.spot.Spot.{Spot}
 
 -- an `each` that may begin, with so many turns
 pub record Begun (around : Around) (x v last n : ℕ) : Type 0 where
@@ -22,15 +23,15 @@ pub record Begun (around : Around) (x v last n : ℕ) : Type 0 where
   pub small : last ≤ greatest
   pub is : n ≡ last + 1 - v
 
-pub begun : (around : Around) (line x v last n : ℕ) → each_begins around line x v last ≡ Ok n → Begun around x v last n
-begun around line x v last n e =
-    let a = go_ok (required (nat_le v greatest && nat_le last greatest) ValueOutOfRange line _) _ n e in
-    let b = go_ok (required (may_write around x) LoopVariableAssigned line _) _ n a.2 in
-    let c = go_ok (required (nat_le (last + 1 - v) turn_limit) TooManyTurns line _) _ n b.2 in
-    let small = and_parts (nat_le v greatest) (nat_le last greatest) (required_ok (nat_le v greatest && nat_le last greatest) ValueOutOfRange line _ a.0 a.1) in
+pub begun : (around : Around) (spot : Spot) (x v last n : ℕ) → each_begins around spot x v last ≡ Ok n → Begun around x v last n
+begun around spot x v last n e =
+    let a = go_ok (required (nat_le v greatest && nat_le last greatest) ValueOutOfRange spot _) _ n e in
+    let b = go_ok (required (may_write around x) LoopVariableAssigned spot _) _ n a.2 in
+    let c = go_ok (required (nat_le (last + 1 - v) turn_limit) TooManyTurns spot _) _ n b.2 in
+    let small = and_parts (nat_le v greatest) (nat_le last greatest) (required_ok (nat_le v greatest && nat_le last greatest) ValueOutOfRange spot _ a.0 a.1) in
     let same : ◌≡◌ {A = Result ℕ Fault} (Ok (last + 1 - v)) (Ok n) = c.2 in
     record {
-      may = required_ok (may_write around x) LoopVariableAssigned line _ b.0 b.1;
+      may = required_ok (may_write around x) LoopVariableAssigned spot _ b.0 b.1;
       small = leb-true last greatest small.1;
       is = cc;
     }

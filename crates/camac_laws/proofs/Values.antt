@@ -38,6 +38,7 @@ use Rattle.camac_laws.proofs.Steps.{go_ok, go_is}
 use Rattle.camac_laws.proofs.ShownWindows.{after_test, after_given}
 use Rattle.camac_laws.proofs.Regions.{same_width}
 use Rattle.camac_laws.proofs.Judged.{commands_are_judged}
+use Rattle.camac_lang.specs.declared.spot.Spot.{Spot}
 
 -- ---- a value at each address
 
@@ -132,86 +133,86 @@ greatest_fails n (y ∷ ys) e = (
 -- ---- the lines of the rules
 
 -- an address is not refused by E5
-not_wide : (c : Context) (line f : ℕ) (g : Region) (at : ℕ) (case : Case) → command_widths c.plan line f g ≡ Err (broken ValueTooWide at case) → ⊥
-not_wide c line f g at case e =
+not_wide : (c : Context) (spot : Spot) (f : ℕ) (g : Region) (at : Spot) (case : Case) → command_widths c.plan spot f g ≡ Err (broken ValueTooWide at case) → ⊥
+not_wide c spot f g at case e =
     ⊎_elim
-    (λ h. let r = required_err (are_stations c.plan g) StationNotInstalled line (missing c.plan g) (broken ValueTooWide at case) h in let bad = r.1 in absurd (cc))
-    (λ w. let r = given_err (region_widths c.plan f g) CommandNotDeclared line (undeclared c.plan f g) (broken ValueTooWide at case) w.2 in let bad = r.1 in absurd (cc))
-    (go_err (required (are_stations c.plan g) StationNotInstalled line (missing c.plan g)) _ (broken ValueTooWide at case) e)
+    (λ h. let r = required_err (are_stations c.plan g) StationNotInstalled spot (missing c.plan g) (broken ValueTooWide at case) h in let bad = r.1 in absurd (cc))
+    (λ w. let r = given_err (region_widths c.plan f g) CommandNotDeclared spot (undeclared c.plan f g) (broken ValueTooWide at case) w.2 in let bad = r.1 in absurd (cc))
+    (go_err (required (are_stations c.plan g) StationNotInstalled spot (missing c.plan g)) _ (broken ValueTooWide at case) e)
 
-module _ (c : Context) (is : IsPlan c.plan) (around : Around) (line : ℕ) (size : WordSize) (f r : ℕ) (e : Expression) (k : Facts) (g : Region) (v : Interval)
-    (range : range_of line e k.ranges ≡ Ok v) (set : region_at k.registers r ≡ Some g) (has : HasAddresses g) where
+module _ (c : Context) (is : IsPlan c.plan) (around : Around) (spot : Spot) (size : WordSize) (f r : ℕ) (e : Expression) (k : Facts) (g : Region) (v : Interval)
+    (range : range_of spot e k.ranges ≡ Ok v) (set : region_at k.registers r ≡ Some g) (has : HasAddresses g) where
   abbrev Fit : Interval → Bool
   Fit w = nat_lt v.hi (2 ^ w.lo) && fits_size size v.hi
 
   abbrev fourth : Interval → Result Verdict Fault
-  fourth w = go_on (required (Fit w) ValueTooWide line (Width v.hi (sized size w.lo))) (λ _. Ok (verdict (Some k) (one_cycle c around g.crates)))
+  fourth w = go_on (required (Fit w) ValueTooWide spot (Width v.hi (sized size w.lo))) (λ _. Ok (verdict (Some k) (one_cycle c around g.crates)))
 
   abbrev third : Interval → Result Verdict Fault
-  third w = go_on (required (same_class Write (class_of f)) WrongDirection line (direction f Write)) (λ _. fourth w)
+  third w = go_on (required (same_class Write (class_of f)) WrongDirection spot (direction f Write)) (λ _. fourth w)
 
-  write_is : write_rule c around line size f r e k ≡ go_on (command_widths c.plan line f g) third
+  write_is : write_rule c around spot size f r e k ≡ go_on (command_widths c.plan spot f g) third
   write_is =
-      go_is (range_of line e k.ranges) v _ range
-      ∙ after_given (region_at k.registers r) g RegisterUnset line (Unset around.body r) (λ q. go_on (command_widths c.plan line f q) (λ w. go_on (required (same_class Write (class_of f)) WrongDirection line (direction f Write))
-      (λ _. go_on (required (Fit w) ValueTooWide line (Width v.hi (sized size w.lo))) (λ _. Ok (verdict (Some k) (one_cycle c around q.crates)))))) set
+      go_is (range_of spot e k.ranges) v _ range
+      ∙ after_given (region_at k.registers r) g RegisterUnset spot (Unset around.body r) (λ q. go_on (command_widths c.plan spot f q) (λ w. go_on (required (same_class Write (class_of f)) WrongDirection spot (direction f Write))
+      (λ _. go_on (required (Fit w) ValueTooWide spot (Width v.hi (sized size w.lo))) (λ _. Ok (verdict (Some k) (one_cycle c around q.crates)))))) set
 
-  widths_of : (w : Interval) → command_widths c.plan line f g ≡ Ok w → HasWidths c.plan f g w
-  widths_of w h = (((commands_are_judged c.plan is line f g has).accepted w).0 h).1
+  widths_of : (w : Interval) → command_widths c.plan spot f g ≡ Ok w → HasWidths c.plan f g w
+  widths_of w h = (((commands_are_judged c.plan is spot f g has).accepted w).0 h).1
 
-  is_write_fit : IsWriteFit c.plan f g size v.hi (write_rule c around line size f r e k)
+  is_write_fit : IsWriteFit c.plan f g size v.hi (write_rule c around spot size f r e k)
   is_write_fit = record {
     accepted = λ o h.
-        let one = go_ok (command_widths c.plan line f g) third o (sym write_is ∙ h) in
-        let two = go_ok (required (same_class Write (class_of f)) WrongDirection line (direction f Write)) (λ _. fourth one.0) o one.2 in
-        let three = go_ok (required (Fit one.0) ValueTooWide line (Width v.hi (sized size one.0.lo))) _ o two.2 in
-        let p = and_parts (nat_lt v.hi (2 ^ one.0.lo)) (fits_size size v.hi) (required_true (Fit one.0) ValueTooWide line (Width v.hi (sized size one.0.lo)) three.0 three.1) in
+        let one = go_ok (command_widths c.plan spot f g) third o (sym write_is ∙ h) in
+        let two = go_ok (required (same_class Write (class_of f)) WrongDirection spot (direction f Write)) (λ _. fourth one.0) o one.2 in
+        let three = go_ok (required (Fit one.0) ValueTooWide spot (Width v.hi (sized size one.0.lo))) _ o two.2 in
+        let p = and_parts (nat_lt v.hi (2 ^ one.0.lo)) (fits_size size v.hi) (required_true (Fit one.0) ValueTooWide spot (Width v.hi (sized size one.0.lo)) three.0 three.1) in
         fits_all c.plan f g one.0 (widths_of one.0 one.1) size v.hi (ltb-true v.hi (2 ^ one.0.lo) p.0) p.1;
     refused = λ at case h.
         ⊎_elim
-        (λ t. absurd (not_wide c line f g at case t))
+        (λ t. absurd (not_wide c spot f g at case t))
         (λ one. ⊎_elim
         (λ t. let bad = t.1 in absurd (cc))
         (λ two. ⊎_elim
         (λ t. let bad = t.1 in let shown : Width v.hi (sized size one.0.lo) ≡ case = cc in
         too_wide c.plan f g one.0 (widths_of one.0 one.1) size v.hi case (over c.plan f g one.0 (widths_of one.0 one.1) size v.hi t.0) shown)
         (λ t. let bad = t.1 in absurd (cc))
-        (after_test (Fit one.0) ValueTooWide line (Width v.hi (sized size one.0.lo)) (Ok (verdict (Some k) (one_cycle c around g.crates))) (broken ValueTooWide at case) two.1))
-        (after_test (same_class Write (class_of f)) WrongDirection line (direction f Write) (fourth one.0) (broken ValueTooWide at case) one.2))
-        (go_err (command_widths c.plan line f g) third (broken ValueTooWide at case) (sym write_is ∙ h));
+        (after_test (Fit one.0) ValueTooWide spot (Width v.hi (sized size one.0.lo)) (Ok (verdict (Some k) (one_cycle c around g.crates))) (broken ValueTooWide at case) two.1))
+        (after_test (same_class Write (class_of f)) WrongDirection spot (direction f Write) (fourth one.0) (broken ValueTooWide at case) one.2))
+        (go_err (command_widths c.plan spot f g) third (broken ValueTooWide at case) (sym write_is ∙ h));
   }
 
 pub writes_are_fit : WritesAreFit
-writes_are_fit c is around line size f r e k g v range set has = is_write_fit c is around line size f r e k g v range set has
+writes_are_fit c is around spot size f r e k g v range set has = is_write_fit c is around spot size f r e k g v range set has
 
-module _ (c : Context) (is : IsPlan c.plan) (around : Around) (line f r : ℕ) (t : Option ℕ) (most x : ℕ) (k : Facts) (g : Region)
+module _ (c : Context) (is : IsPlan c.plan) (around : Around) (spot : Spot) (f r : ℕ) (t : Option ℕ) (most x : ℕ) (k : Facts) (g : Region)
     (set : region_at k.registers r ≡ Some g) (has : HasAddresses g) where
   abbrev words : List ℕ
   words = words_sent c.tables t
 
   abbrev last : Interval → Result Region Fault
-  last w = go_on (required (words_fit c.tables t w.lo) ValueTooWide line (Width (greatest_of words) w.lo)) (λ _. Ok g)
+  last w = go_on (required (words_fit c.tables t w.lo) ValueTooWide spot (Width (greatest_of words) w.lo)) (λ _. Ok g)
 
   abbrev counted : Interval → Result Region Fault
-  counted w = go_on (required (has_words c.tables t most) CountAboveTable line (Count most (length words))) (λ _. last w)
+  counted w = go_on (required (has_words c.tables t most) CountAboveTable spot (Count most (length words))) (λ _. last w)
 
   abbrev directed : Interval → Result Region Fault
-  directed w = go_on (required (same_class (block_class t) (class_of f)) WrongDirection line (direction f (block_class t))) (λ _. counted w)
+  directed w = go_on (required (same_class (block_class t) (class_of f)) WrongDirection spot (direction f (block_class t))) (λ _. counted w)
 
   abbrev placed : Result Region Fault
-  placed = go_on (command_widths c.plan line f g) directed
+  placed = go_on (command_widths c.plan spot f g) directed
 
   abbrev free : Result Region Fault
-  free = go_on (given (region_at k.registers r) RegisterUnset line (Unset around.body r)) (λ q. go_on (command_widths c.plan line f q) (λ w.
-      go_on (required (same_class (block_class t) (class_of f)) WrongDirection line (direction f (block_class t))) (λ _.
-      go_on (required (has_words c.tables t most) CountAboveTable line (Count most (length words))) (λ _.
-      go_on (required (words_fit c.tables t w.lo) ValueTooWide line (Width (greatest_of words) w.lo)) (λ _. Ok q)))))
+  free = go_on (given (region_at k.registers r) RegisterUnset spot (Unset around.body r)) (λ q. go_on (command_widths c.plan spot f q) (λ w.
+      go_on (required (same_class (block_class t) (class_of f)) WrongDirection spot (direction f (block_class t))) (λ _.
+      go_on (required (has_words c.tables t most) CountAboveTable spot (Count most (length words))) (λ _.
+      go_on (required (words_fit c.tables t w.lo) ValueTooWide spot (Width (greatest_of words) w.lo)) (λ _. Ok q)))))
 
   free_is : free ≡ placed
-  free_is = after_given (region_at k.registers r) g RegisterUnset line (Unset around.body r) _ set
+  free_is = after_given (region_at k.registers r) g RegisterUnset spot (Unset around.body r) _ set
 
-  places : (w : Interval) → command_widths c.plan line f g ≡ Ok w → HasWidths c.plan f g w
-  places w h = (((commands_are_judged c.plan is line f g has).accepted w).0 h).1
+  places : (w : Interval) → command_widths c.plan spot f g ≡ Ok w → HasWidths c.plan f g w
+  places w h = (((commands_are_judged c.plan is spot f g has).accepted w).0 h).1
 
   each_fits : (o : Option ℕ) (w : Interval) → HasWidths c.plan f g w → words_fit c.tables o w.lo ≡ true → (word : ℕ) → Contains (words_sent c.tables o) word → FitsAll c.plan f g Full word
   each_fits None w h e word (n, below, at) = absurd (omega arith)
@@ -222,20 +223,20 @@ module _ (c : Context) (is : IsPlan c.plan) (around : Around) (line f r : ℕ) (
   one_fails None w e = absurd (cc)
   one_fails (Some table) w e = greatest_fails (2 ^ w.lo) (unwrap_or (slice_get c.tables table) []) e
 
-  are_words_fit : AreWordsFit c.plan f g words (block_region c around line f r t most x k)
+  are_words_fit : AreWordsFit c.plan f g words (block_region c around spot f r t most x k)
   are_words_fit = record {
     accepted = λ q h word i.
-        let zero_ = go_ok (required (may_write around x) LoopVariableAssigned line (Counted around.body x)) _ q h in
-        let one = go_ok (command_widths c.plan line f g) directed q (sym free_is ∙ zero_.2) in
-        let two = go_ok (required (same_class (block_class t) (class_of f)) WrongDirection line (direction f (block_class t))) (λ _. counted one.0) q one.2 in
-        let three = go_ok (required (has_words c.tables t most) CountAboveTable line (Count most (length words))) (λ _. last one.0) q two.2 in
-        let four = go_ok (required (words_fit c.tables t one.0.lo) ValueTooWide line (Width (greatest_of words) one.0.lo)) _ q three.2 in
-        each_fits t one.0 (places one.0 one.1) (required_true (words_fit c.tables t one.0.lo) ValueTooWide line (Width (greatest_of words) one.0.lo) four.0 four.1) word i;
+        let zero_ = go_ok (required (may_write around x) LoopVariableAssigned spot (Counted around.body x)) _ q h in
+        let one = go_ok (command_widths c.plan spot f g) directed q (sym free_is ∙ zero_.2) in
+        let two = go_ok (required (same_class (block_class t) (class_of f)) WrongDirection spot (direction f (block_class t))) (λ _. counted one.0) q one.2 in
+        let three = go_ok (required (has_words c.tables t most) CountAboveTable spot (Count most (length words))) (λ _. last one.0) q two.2 in
+        let four = go_ok (required (words_fit c.tables t one.0.lo) ValueTooWide spot (Width (greatest_of words) one.0.lo)) _ q three.2 in
+        each_fits t one.0 (places one.0 one.1) (required_true (words_fit c.tables t one.0.lo) ValueTooWide spot (Width (greatest_of words) one.0.lo) four.0 four.1) word i;
     refused = λ at case h.
         ⊎_elim
         (λ s. let bad = s.1 in absurd (cc))
         (λ zero_. ⊎_elim
-        (λ s. absurd (not_wide c line f g at case s))
+        (λ s. absurd (not_wide c spot f g at case s))
         (λ one. ⊎_elim
         (λ s. let bad = s.1 in absurd (cc))
         (λ two. ⊎_elim
@@ -245,15 +246,15 @@ module _ (c : Context) (is : IsPlan c.plan) (around : Around) (line f r : ℕ) (
         let found = one_fails t one.0 s.0 in
         (greatest_of words, found.0, too_wide c.plan f g one.0 (places one.0 one.1) Full (greatest_of words) case found.1 shown))
         (λ s. let bad = s.1 in absurd (cc))
-        (after_test (words_fit c.tables t one.0.lo) ValueTooWide line (Width (greatest_of words) one.0.lo) (Ok g) (broken ValueTooWide at case) three.1))
-        (after_test (has_words c.tables t most) CountAboveTable line (Count most (length words)) (last one.0) (broken ValueTooWide at case) two.1))
-        (after_test (same_class (block_class t) (class_of f)) WrongDirection line (direction f (block_class t)) (counted one.0) (broken ValueTooWide at case) one.2))
-        (go_err (command_widths c.plan line f g) directed (broken ValueTooWide at case) (sym free_is ∙ zero_.1)))
-        (after_test (may_write around x) LoopVariableAssigned line (Counted around.body x) free (broken ValueTooWide at case) h);
+        (after_test (words_fit c.tables t one.0.lo) ValueTooWide spot (Width (greatest_of words) one.0.lo) (Ok g) (broken ValueTooWide at case) three.1))
+        (after_test (has_words c.tables t most) CountAboveTable spot (Count most (length words)) (last one.0) (broken ValueTooWide at case) two.1))
+        (after_test (same_class (block_class t) (class_of f)) WrongDirection spot (direction f (block_class t)) (counted one.0) (broken ValueTooWide at case) one.2))
+        (go_err (command_widths c.plan spot f g) directed (broken ValueTooWide at case) (sym free_is ∙ zero_.1)))
+        (after_test (may_write around x) LoopVariableAssigned spot (Counted around.body x) free (broken ValueTooWide at case) h);
   }
 
 pub blocks_are_fit : BlocksAreFit
-blocks_are_fit c is around line f r t most x k g set has = are_words_fit c is around line f r t most x k g set has
+blocks_are_fit c is around spot f r t most x k g set has = are_words_fit c is around spot f r t most x k g set has
 
 -- ---- the words that are read
 
@@ -278,24 +279,24 @@ module _ (plan : Layout) (f : ℕ) (g : Region) (w : Interval) (size : WordSize)
       let more : 2 ^ sized size k ≤ 2 ^ sized size w.hi = pow-le-pow_right pos (more_bits size k w.hi (omega arith)) in
       record { low = omega arith; high = omega arith }
 
-module _ (c : Context) (is : IsPlan c.plan) (around : Around) (line : ℕ) (size : WordSize) (f r x : ℕ) (k : Facts) (g : Region) (v : Verdict)
-    (set : region_at k.registers r ≡ Some g) (has : HasAddresses g) (e : read_rule c around line size f r x k ≡ Ok v) where
+module _ (c : Context) (is : IsPlan c.plan) (around : Around) (spot : Spot) (size : WordSize) (f r x : ℕ) (k : Facts) (g : Region) (v : Verdict)
+    (set : region_at k.registers r ≡ Some g) (has : HasAddresses g) (e : read_rule c around spot size f r x k ≡ Ok v) where
   abbrev left : Interval → Facts
   left w = with_range x (interval 0 (2 ^ sized size w.hi - 1)) k
 
   abbrev rest : Region → Result Verdict Fault
-  rest q = go_on (command_widths c.plan line f q) (λ w. go_on (required (same_class Read (class_of f)) WrongDirection line (direction f Read)) (λ _.
+  rest q = go_on (command_widths c.plan spot f q) (λ w. go_on (required (same_class Read (class_of f)) WrongDirection spot (direction f Read)) (λ _.
       Ok (verdict (Some (left w)) (one_cycle c around q.crates))))
 
   is_read : (after : Facts) × (v.after ≡ Some after) × IsReadInto c.plan f g size x k after
   is_read =
-      let one = go_ok (required (may_write around x) LoopVariableAssigned line (Counted around.body x)) (λ _. go_on (given (region_at k.registers r) RegisterUnset line (Unset around.body r)) rest) v e in
-      let two = go_ok (command_widths c.plan line f g) (λ w. go_on (required (same_class Read (class_of f)) WrongDirection line (direction f Read)) (λ _.
-      Ok (verdict (Some (left w)) (one_cycle c around g.crates)))) v (sym (after_given (region_at k.registers r) g RegisterUnset line (Unset around.body r) rest set) ∙ one.2) in
-      let three = go_ok (required (same_class Read (class_of f)) WrongDirection line (direction f Read)) _ v two.2 in
+      let one = go_ok (required (may_write around x) LoopVariableAssigned spot (Counted around.body x)) (λ _. go_on (given (region_at k.registers r) RegisterUnset spot (Unset around.body r)) rest) v e in
+      let two = go_ok (command_widths c.plan spot f g) (λ w. go_on (required (same_class Read (class_of f)) WrongDirection spot (direction f Read)) (λ _.
+      Ok (verdict (Some (left w)) (one_cycle c around g.crates)))) v (sym (after_given (region_at k.registers r) g RegisterUnset spot (Unset around.body r) rest set) ∙ one.2) in
+      let three = go_ok (required (same_class Read (class_of f)) WrongDirection spot (direction f Read)) _ v two.2 in
       let w : Interval = two.0 in
       let found : verdict (Some (left w)) (one_cycle c around g.crates) ≡ v = let same = three.2 in cc in
-      let widths : HasWidths c.plan f g w = (((commands_are_judged c.plan is line f g has).accepted w).0 two.1).1 in
+      let widths : HasWidths c.plan f g w = (((commands_are_judged c.plan is spot f g has).accepted w).0 two.1).1 in
       let own : range_at (left w).ranges x ≡ interval 0 (2 ^ sized size w.hi - 1) =
       write_at (only 0) k.ranges x x (interval 0 (2 ^ sized size w.hi - 1)) ∙ ap (λ b. if b then interval 0 (2 ^ sized size w.hi - 1) else range_at k.ranges x) (eq-eqb x x refl) in (
         left w,
@@ -312,4 +313,4 @@ module _ (c : Context) (is : IsPlan c.plan) (around : Around) (line : ℕ) (size
       )
 
 pub reads_are_all : ReadsAreAll
-reads_are_all c is around line size f r x k g v set has e = is_read c is around line size f r x k g v set has e
+reads_are_all c is around spot size f r x k g v set has e = is_read c is around spot size f r x k g v set has e

@@ -14,6 +14,7 @@ use Rattle.camac_model.specs.Fine.{Bounds, most_turns, AreInRanges}
 use Rattle.camac_model.specs.Moments.{Holds}
 use Rattle.camac_model.specs.Headline.{nothing, right_watch}
 use Rattle.camac_rules.specs.Accept.{accept}
+use Rattle.camac_lang.specs.declared.spot.Spot.{Spot}
 
 -- whether the first variables, which a body has its arguments in, are in the ranges of these parameters
 abbrev pub begins_in_ranges : List Parameter → Variables → Bool
@@ -51,9 +52,9 @@ guarded_run n plan script answers =
 abbrev pub GuardsStop : Type 0
 GuardsStop =
     (plan : Layout) (script : Script) (ps : List Procedure) (j : ℕ) (p : Procedure) → slice_get ps j ≡ Some p
-    → (n line : ℕ) (es : List Expression) (s : State) (vs : List ℕ) → values es s.variables ≡ Some vs
+    → (n : ℕ) (spot : Spot) (es : List Expression) (s : State) (vs : List ℕ) → values es s.variables ≡ Some vs
     → length vs ≡ length p.parameters → (AreInRanges vs p.parameters → ⊥)
-    → effect (guarded_after plan script ps) n (call line j es) s ≡ stops wrong (entered vs s)
+    → effect (guarded_after plan script ps) n (call spot j es) s ≡ stops wrong (entered vs s)
 
 -- Guards do nothing else, whatever the script.
 abbrev pub GuardsOnlyStop : Type 0

@@ -33,8 +33,8 @@ RefusedHaveNone =
 abbrev pub AnswersAtMost : Script → Result CheckedScript LeastFault → Type 0
 AnswersAtMost s (Ok c) = HasAtMost c.script s
 AnswersAtMost s (Err OutOfMemory) = Unit {0}
-AnswersAtMost s (Err (Link rule line case)) = ⊥
-AnswersAtMost s (Err (Check rule line case)) = ⊥
+AnswersAtMost s (Err (Link rule spot case)) = ⊥
+AnswersAtMost s (Err (Check rule spot case)) = ⊥
 
 -- Of a linked script that `check` accepts, the call `least` answers headings that are at most its own, unless memory ran out.
 abbrev pub CheckedHaveLeast : Type 0

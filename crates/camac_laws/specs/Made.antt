@@ -68,12 +68,12 @@ lock_made c (answered a rest) made none s = made (after_lock c a.wait rest s)
 -- none of these is made
 abbrev mutual
   pub unmade_in : Statement → Made
-  unmade_in (choose line test a) = unmade a
-  unmade_in (choose_else line test a b) = unmade a ++ [] ∷ unmade b
-  unmade_in (for_ line x e1 e2 keeps body) = unmade body
-  unmade_in (for_each line x v last body) = unmade body
-  unmade_in (while_ line test m k keeps body) = unmade body
-  unmade_in (locked line e body) = unmade body
+  unmade_in (choose spot test a) = unmade a
+  unmade_in (choose_else spot test a b) = unmade a ++ [] ∷ unmade b
+  unmade_in (for_ spot x e1 e2 keeps body) = unmade body
+  unmade_in (for_each spot x v last body) = unmade body
+  unmade_in (while_ spot test m k keeps body) = unmade body
+  unmade_in (locked spot e body) = unmade body
   unmade_in s = []
 
   pub unmade : Block → Made
@@ -83,18 +83,18 @@ abbrev mutual
 -- in the blocks of a statement that is begun, and in a block
 abbrev mutual
   pub made_in : Context → ℕ → Statement → State → Made
-  made_in c n (choose line test a) s = by_test (truth test s.variables s.q s.x) (made c n a s) (unmade a) (unmade a)
-  made_in c n (choose_else line test a b) s =
+  made_in c n (choose spot test a) s = by_test (truth test s.variables s.q s.x) (made c n a s) (unmade a) (unmade a)
+  made_in c n (choose_else spot test a b) s =
       by_test (truth test s.variables s.q s.x)
       (made c n a s ++ [] ∷ unmade b)
       (unmade a ++ (spent s (reached (block_meaning c n b s)) ∷ []) ∷ made c n b s)
       (unmade a ++ [] ∷ unmade b)
-  made_in c n (for_ line x e1 e2 keeps body) s =
+  made_in c n (for_ spot x e1 e2 keeps body) s =
       where_some (value e1 s.variables) (λ v. where_some (value e2 s.variables)
       (λ w. for_made (w + 1 - v) n x v (block_meaning c n body) (made c n body) (unmade body) s) (unmade body)) (unmade body)
-  made_in c n (for_each line x v last body) s = for_made (last + 1 - v) n x v (block_meaning c n body) (made c n body) (unmade body) s
-  made_in c n (while_ line test m k keeps body) s = while_made n test (block_meaning c n body) (made c n body) (unmade body) s
-  made_in c n (locked line e body) s =
+  made_in c n (for_each spot x v last body) s = for_made (last + 1 - v) n x v (block_meaning c n body) (made c n body) (unmade body) s
+  made_in c n (while_ spot test m k keeps body) s = while_made n test (block_meaning c n body) (made c n body) (unmade body) s
+  made_in c n (locked spot e body) s =
       where_some (value e s.variables)
       (λ k. if (s.branch k).locked then unmade body
       else lock_made k (outcome (crate_waits c.plan k) false s.answers) (made c n body) (unmade body) s) (unmade body)

@@ -1,7 +1,7 @@
 -- Where a script is refused: at a statement of the body of a procedure or service, by the limit of its `each` loops, or by the numbers of its heading.
 use Rattle.std.specs.Prelude.{◌≡◌, ◌⊎◌, ℕ, ◌+◌, ◌-◌, ◌<◌, ◌≤◌, List, [], ◌∷◌, ◌++◌, Option, Some, None, Result, Ok, Err}
 use Rattle.camac_range.specs.Number.{greatest}
-use Rattle.camac_lang.specs.Tree.{Statement, choose, choose_else, for_, for_each, while_, locked, Block, done, next, Script, line_of}
+use Rattle.camac_lang.specs.Tree.{Statement, choose, choose_else, for_, for_each, while_, locked, Block, done, next, Script, spot_of}
 use Rattle.camac_branch.specs.Plan.{Layout}
 use Rattle.camac_model.specs.Fine.{Bounds, annotated}
 use Rattle.camac_rules.specs.declared.case.Body.{Body}
@@ -21,10 +21,11 @@ use Rattle.camac_rules.specs.Refusal.{◌>>=◌, if_reached}
 use Rattle.camac_rules.specs.Statements.{accept_statement, accept_block}
 use Rattle.camac_check_costs.specs.Bodies.{sections_of}
 use Rattle.camac_laws.specs.Places.{Place, HasPlace, BlockHasPlace}
+use Rattle.camac_lang.specs.declared.spot.Spot.{Spot}
 
 -- ---- a procedure or service
 
--- its name in a case, its body, what is known where that begins, and the line and the numbers of its heading
+-- its name in a case, its body, what is known where that begins, and where its heading stands, with its numbers
 abbrev pub named : Context → Section → Body
 named c (of_procedure p) = own_body c
 named c (of_service v) = body.Service v.lam
@@ -37,9 +38,9 @@ abbrev pub start_of : Section → Known
 start_of (of_procedure p) = at_entry p.parameters
 start_of (of_service v) = Some at_start
 
-abbrev pub heading_line : Section → ℕ
-heading_line (of_procedure p) = p.line
-heading_line (of_service v) = v.line
+abbrev pub heading_spot : Section → Spot
+heading_spot (of_procedure p) = p.spot
+heading_spot (of_service v) = v.spot
 
 abbrev pub heading_of : Section → Bounds
 heading_of (of_procedure p) = annotated p
@@ -65,35 +66,35 @@ number_of TooManySteps b = Some b.steps
 number_of rule b = None
 
 -- The rule is about one number, of which the body costs more than its heading has. The case shows both.
-pub record IsAboveHeading (c : Context) (s : Section) (found : Verdict) (rule : CheckRule) (line : ℕ) (case : Case) : Type 0 where
+pub record IsAboveHeading (c : Context) (s : Section) (found : Verdict) (rule : CheckRule) (spot : Spot) (case : Case) : Type 0 where
   pub needed : ℕ
   pub allowed : ℕ
   pub is_needed : number_of rule found.costs ≡ Some needed
   pub is_allowed : number_of rule (heading_of s) ≡ Some allowed
   pub above : allowed < needed
   pub shown : case ≡ budget (named c s) needed allowed
-  pub line_is : line ≡ heading_line s
+  pub spot_is : spot ≡ heading_spot s
   -- of a body that costs the same, a heading with any number that is at least the cost is not refused by this rule
   pub fixed : (other : Section) (n : ℕ) → found_in c other ≡ Ok found → number_of rule (heading_of other) ≡ Some n → needed ≤ n
-      → (at : ℕ) (shown : Case) → accept_section c other ≡ Err (broken rule at shown) → ⊥
+      → (at : Spot) (shown : Case) → accept_section c other ≡ Err (broken rule at shown) → ⊥
 
 -- Where the body of a procedure or service is accepted and the whole is not, its heading has too low a number.
 abbrev pub HeadingsAreShown : Type 0
 HeadingsAreShown =
-    (c : Context) (s : Section) (found : Verdict) (rule : CheckRule) (line : ℕ) (case : Case) → found_in c s ≡ Ok found
-    → accept_section c s ≡ Err (broken rule line case) → IsAboveHeading c s found rule line case
+    (c : Context) (s : Section) (found : Verdict) (rule : CheckRule) (spot : Spot) (case : Case) → found_in c s ≡ Ok found
+    → accept_section c s ≡ Err (broken rule spot case) → IsAboveHeading c s found rule spot case
 
 -- ---- the limit of `each` loops
 
 -- those of a block in the order of the text, without those in them
 abbrev mutual
   pub loops_in : Statement → List Statement
-  loops_in (choose line test a) = block_loops a
-  loops_in (choose_else line test a b) = block_loops a ++ block_loops b
-  loops_in (for_ line x e1 e2 keeps body) = block_loops body
-  loops_in (for_each line x v last body) = for_each line x v last body ∷ []
-  loops_in (while_ line test most m keeps body) = block_loops body
-  loops_in (locked line e body) = block_loops body
+  loops_in (choose spot test a) = block_loops a
+  loops_in (choose_else spot test a b) = block_loops a ++ block_loops b
+  loops_in (for_ spot x e1 e2 keeps body) = block_loops body
+  loops_in (for_each spot x v last body) = for_each spot x v last body ∷ []
+  loops_in (while_ spot test most m keeps body) = block_loops body
+  loops_in (locked spot e body) = block_loops body
   loops_in s = []
 
   pub block_loops : Block → List Statement
@@ -106,7 +107,7 @@ judged_in [] = 0
 judged_in (s ∷ rest) = judged s - 1 + judged_in rest
 
 -- With this loop more is judged than the body may, and less without it. Nothing of the body is judged then.
-pub record IsOverLimit (c : Context) (s : Section) (rule : CheckRule) (line : ℕ) (case : Case) : Type 0 where
+pub record IsOverLimit (c : Context) (s : Section) (rule : CheckRule) (spot : Spot) (case : Case) : Type 0 where
   pub before : List Statement
   pub loop : Statement
   pub behind : List Statement
@@ -115,30 +116,30 @@ pub record IsOverLimit (c : Context) (s : Section) (rule : CheckRule) (line : �
   pub above : judged_limit < judged_in (before ++ loop ∷ [])
   pub rule_is : rule ≡ TooManyTurns
   pub shown : case ≡ judged_case (named c s) (judged_in (before ++ loop ∷ [])) judged_limit
-  pub line_is : line ≡ line_of loop
+  pub spot_is : spot ≡ spot_of loop
 
 -- ---- places
 
 abbrev pub IsAccepted : Context → Place → Type 0
 IsAccepted c p = (v : Verdict) × (accept_statement c p.around p.statement p.known ≡ Ok v)
 
--- The statement at a place is refused so, on its line, and none of those in its blocks is refused: the fault is its own.
-pub record IsRefusedAt (c : Context) (p : Place) (rule : CheckRule) (line : ℕ) (case : Case) : Type 0 where
-  pub refused : accept_statement c p.around p.statement p.known ≡ Err (broken rule line case)
-  pub line_is : line ≡ line_of p.statement
+-- The statement at a place is refused so, at its spot, and none of those in its blocks is refused: the fault is its own.
+pub record IsRefusedAt (c : Context) (p : Place) (rule : CheckRule) (spot : Spot) (case : Case) : Type 0 where
+  pub refused : accept_statement c p.around p.statement p.known ≡ Err (broken rule spot case)
+  pub spot_is : spot ≡ spot_of p.statement
   pub own : (q : Place) → HasPlace c q p.around p.statement p.known → IsAccepted c q
 
 -- A statement of the body is refused so: it stands at a place to which the checker comes, as all before it are accepted.
-pub record IsRefusedInside (c : Context) (s : Section) (rule : CheckRule) (line : ℕ) (case : Case) : Type 0 where
+pub record IsRefusedInside (c : Context) (s : Section) (rule : CheckRule) (spot : Spot) (case : Case) : Type 0 where
   pub start : Facts
   pub is_start : start_of s ≡ Some start
   pub place : Place
   pub inside : BlockHasPlace c place (alone_in (named c s)) (body_of s) start
-  pub refused : IsRefusedAt c place rule line case
+  pub refused : IsRefusedAt c place rule spot case
 
 -- The body is accepted, and its heading has too low a number.
-abbrev pub IsRefusedByHeading : Context → Section → CheckRule → ℕ → Case → Type 0
-IsRefusedByHeading c s rule line case = (found : Verdict) × (found_in c s ≡ Ok found) × IsAboveHeading c s found rule line case
+abbrev pub IsRefusedByHeading : Context → Section → CheckRule → Spot → Case → Type 0
+IsRefusedByHeading c s rule spot case = (found : Verdict) × (found_in c s ≡ Ok found) × IsAboveHeading c s found rule spot case
 
 -- The checker comes to this procedure or service, with c as what it may refer to: all before it are accepted.
 abbrev pub ComesTo : (c : Context) → Section → (from : Context) → List Section → Type 0
@@ -151,6 +152,6 @@ ComesTo c s from (of_service v ∷ rest) =
 -- Where a script is refused, a statement of the first procedure or service that is refused has this fault, the loop that passes its limit, or the heading.
 abbrev pub RefusedAtPlaces : Type 0
 RefusedAtPlaces =
-    (plan : Layout) (script : Script) (rule : CheckRule) (line : ℕ) (case : Case) → accept plan script ≡ Err (broken rule line case)
+    (plan : Layout) (script : Script) (rule : CheckRule) (spot : Spot) (case : Case) → accept plan script ≡ Err (broken rule spot case)
     → (c : Context) × (s : Section) × ComesTo c s (bare (λ k. k) plan script) (sections_of script)
-    × (IsOverLimit c s rule line case ⊎ (IsRefusedInside c s rule line case ⊎ IsRefusedByHeading c s rule line case))
+    × (IsOverLimit c s rule spot case ⊎ (IsRefusedInside c s rule spot case ⊎ IsRefusedByHeading c s rule spot case))

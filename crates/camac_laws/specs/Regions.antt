@@ -11,6 +11,7 @@ use Rattle.camac_rules.specs.Addresses.{in_plan, is_station, are_stations, regio
 use Rattle.camac_rules.specs.Fault.{broken}
 use Rattle.camac_rules.specs.Known.{Region}
 use Rattle.camac_laws.specs.ShownAddresses.{HasAddresses}
+use Rattle.camac_lang.specs.declared.spot.Spot.{Spot}
 
 -- an installed station: its crate is in the plan, and it has a module or is one of those that the controller answers for
 pub record IsInstalled (plan : Layout) (c n : ℕ) : Type 0 where
@@ -56,16 +57,16 @@ WidthsAreAll =
 
 -- A command is refused by E1 exactly where some station is not installed. It is refused by E2 exactly where all are, and some address does
 -- not allow it. Else it may go, with these widths.
-pub record IsJudged (plan : Layout) (line f : ℕ) (g : Region) : Type 0 where
+pub record IsJudged (plan : Layout) (spot : Spot) (f : ℕ) (g : Region) : Type 0 where
   pub not_installed :
-      ((case : Case) × (command_widths plan line f g ≡ Err (broken StationNotInstalled line case))) ↔ HasMissing plan g
+      ((case : Case) × (command_widths plan spot f g ≡ Err (broken StationNotInstalled spot case))) ↔ HasMissing plan g
   pub not_declared :
-      ((case : Case) × (command_widths plan line f g ≡ Err (broken CommandNotDeclared line case)))
+      ((case : Case) × (command_widths plan spot f g ≡ Err (broken CommandNotDeclared spot case)))
       ↔ (AreInstalled plan g × HasUndeclared plan f g)
-  pub accepted : (w : Interval) → (command_widths plan line f g ≡ Ok w) ↔ (AreInstalled plan g × HasWidths plan f g w)
+  pub accepted : (w : Interval) → (command_widths plan spot f g ≡ Ok w) ↔ (AreInstalled plan g × HasWidths plan f g w)
 
 abbrev pub CommandsAreJudged : Type 0
-CommandsAreJudged = (plan : Layout) → IsPlan plan → (line f : ℕ) (g : Region) → HasAddresses g → IsJudged plan line f g
+CommandsAreJudged = (plan : Layout) → IsPlan plan → (spot : Spot) (f : ℕ) (g : Region) → HasAddresses g → IsJudged plan spot f g
 
 -- Before a cycle in a crate of the plan so many auxiliary cycles may come exactly where they are at most the crate's waits, and none in a
 -- locked crate.

@@ -16,6 +16,7 @@ use Rattle.camac_rules.specs.Known.{Facts, range_at}
 use Rattle.camac_rules.specs.Loops.{turn_limit, kept_range, keeps_hold, unkept, limits, turns_between, for_limits, while_head}
 use Rattle.camac_rules.specs.Procedures.{parameter_range, arguments_fit, unfit}
 use Rattle.camac_rules.specs.Writes.{fall_of}
+use Rattle.camac_lang.specs.declared.spot.Spot.{Spot}
 
 -- ---- arguments
 
@@ -69,41 +70,41 @@ UnkeptHaveOne =
 -- ---- turns
 
 -- The greatest value of the measure, divided by its step, is above the number after `turns`.
-pub record NeedsMore (place : Body) (line most m : ℕ) (keeps : List Keep) (body : Block) (k : Facts) (needed : ℕ) : Type 0 where
+pub record NeedsMore (place : Body) (spot : Spot) (most m : ℕ) (keeps : List Keep) (body : Block) (k : Facts) (needed : ℕ) : Type 0 where
   pub step : ℕ
   pub is_step : fall_of m body ≡ Some step
   pub is_needed : needed ≡ (range_at k.ranges m).hi / step
   pub above : most < needed
   -- with any number from there on that a loop may have, it is not refused by this rule
   pub fixed : (n : ℕ) → needed ≤ n → n ≤ turn_limit
-      → (at : ℕ) (c : Case) → while_head place line n m keeps body k ≡ Err (broken TooManyTurns at c) → ⊥
+      → (at : Spot) (c : Case) → while_head place spot n m keeps body k ≡ Err (broken TooManyTurns at c) → ⊥
 
-abbrev pub WhileShown : Body → (line most measure : ℕ) → List Keep → Block → Facts → Case → Type 0
-WhileShown place line most m keeps body k (Turns needed allowed) = (allowed ≡ most) × NeedsMore place line most m keeps body k needed
-WhileShown place line most m keeps body k (Annotation turns allowed) = (turns ≡ most) × ((allowed ≡ turn_limit) × (allowed < turns))
-WhileShown place line most m keeps body k case = ⊥
+abbrev pub WhileShown : Body → (spot : Spot) (most measure : ℕ) → List Keep → Block → Facts → Case → Type 0
+WhileShown place spot most m keeps body k (Turns needed allowed) = (allowed ≡ most) × NeedsMore place spot most m keeps body k needed
+WhileShown place spot most m keeps body k (Annotation turns allowed) = (turns ≡ most) × ((allowed ≡ turn_limit) × (allowed < turns))
+WhileShown place spot most m keeps body k case = ⊥
 
 abbrev pub WhileTurnsAreShown : Type 0
 WhileTurnsAreShown =
-    (place : Body) (line most m : ℕ) (keeps : List Keep) (body : Block) (k : Facts) (at : ℕ) (case : Case)
-    → while_head place line most m keeps body k ≡ Err (broken TooManyTurns at case) → WhileShown place line most m keeps body k case
+    (place : Body) (spot : Spot) (most m : ℕ) (keeps : List Keep) (body : Block) (k : Facts) (at : Spot) (case : Case)
+    → while_head place spot most m keeps body k ≡ Err (broken TooManyTurns at case) → WhileShown place spot most m keeps body k case
 
 -- the turns from the least first value to the greatest last one, of which there are more than a loop may have
-pub record IsLongFor (line : ℕ) (e1 e2 : Expression) (k : Facts) (case : Case) : Type 0 where
+pub record IsLongFor (spot : Spot) (e1 e2 : Expression) (k : Facts) (case : Case) : Type 0 where
   pub first : Interval
   pub last : Interval
-  pub is_first : range_of line e1 k.ranges ≡ Ok first
-  pub is_last : range_of line e2 k.ranges ≡ Ok last
+  pub is_first : range_of spot e1 k.ranges ≡ Ok first
+  pub is_last : range_of spot e2 k.ranges ≡ Ok last
   pub above : turn_limit < turns_between (limits first last)
   pub shown : case ≡ Turns (turns_between (limits first last)) turn_limit
 
 abbrev pub ForTurnsAreShown : Type 0
 ForTurnsAreShown =
-    (around : Around) (line x : ℕ) (e1 e2 : Expression) (keeps : List Keep) (k : Facts) (at : ℕ) (case : Case)
-    → for_limits around line x e1 e2 keeps k ≡ Err (broken TooManyTurns at case) → IsLongFor line e1 e2 k case
+    (around : Around) (spot : Spot) (x : ℕ) (e1 e2 : Expression) (keeps : List Keep) (k : Facts) (at : Spot) (case : Case)
+    → for_limits around spot x e1 e2 keeps k ≡ Err (broken TooManyTurns at case) → IsLongFor spot e1 e2 k case
 
 -- The turns of an `each` are those from its first number to its last one.
 abbrev pub EachTurnsAreShown : Type 0
 EachTurnsAreShown =
-    (around : Around) (line x v last at : ℕ) (case : Case) → each_begins around line x v last ≡ Err (broken TooManyTurns at case)
+    (around : Around) (spot : Spot) (x v last : ℕ) (at : Spot) (case : Case) → each_begins around spot x v last ≡ Err (broken TooManyTurns at case)
     → (turn_limit < last + 1 - v) × (case ≡ Turns (last + 1 - v) turn_limit)

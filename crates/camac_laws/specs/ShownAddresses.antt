@@ -8,6 +8,7 @@ use Rattle.camac_rules.specs.declared.rule.CheckRule.TheVariants.{StationNotInst
 use Rattle.camac_rules.specs.Addresses.{crate_end, station_end, sub_address_end, in_plan, is_station, all_in, are_stations_in, has_command, command_widths}
 use Rattle.camac_rules.specs.Fault.{broken}
 use Rattle.camac_rules.specs.Known.{Region}
+use Rattle.camac_lang.specs.declared.spot.Spot.{Spot}
 
 -- k is the first number of a range that is not below the end, or of which the test does not hold
 pub record IsFirst (end : ℕ) (r : Interval) (test : ℕ → Bool) (k : ℕ) : Type 0 where
@@ -31,8 +32,8 @@ MissingShown plan g case = ⊥
 
 abbrev pub MissingAreShown : Type 0
 MissingAreShown =
-    (plan : Layout) (line f : ℕ) (g : Region) → HasAddresses g
-    → (at : ℕ) (case : Case) → command_widths plan line f g ≡ Err (broken StationNotInstalled at case) → MissingShown plan g case
+    (plan : Layout) (spot : Spot) (f : ℕ) (g : Region) → HasAddresses g
+    → (at : Spot) (case : Case) → command_widths plan spot f g ≡ Err (broken StationNotInstalled at case) → MissingShown plan g case
 
 -- the command is there at all the sub-addresses of a station, and at all the stations of a crate
 abbrev pub has_command_at : Layout → ℕ → Region → ℕ → ℕ → Bool
@@ -52,5 +53,5 @@ UndeclaredShown plan f g case = ⊥
 
 abbrev pub UndeclaredAreShown : Type 0
 UndeclaredAreShown =
-    (plan : Layout) (line f : ℕ) (g : Region) → HasAddresses g
-    → (at : ℕ) (case : Case) → command_widths plan line f g ≡ Err (broken CommandNotDeclared at case) → UndeclaredShown plan f g case
+    (plan : Layout) (spot : Spot) (f : ℕ) (g : Region) → HasAddresses g
+    → (at : Spot) (case : Case) → command_widths plan spot f g ≡ Err (broken CommandNotDeclared at case) → UndeclaredShown plan f g case

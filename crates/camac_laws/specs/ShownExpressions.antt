@@ -16,6 +16,7 @@ use Rattle.camac_rules.specs.Conditions.{Branches, split, split_part}
 use Rattle.camac_rules.specs.Expressions.{range_of}
 use Rattle.camac_rules.specs.Fault.{Fault, broken}
 use Rattle.camac_rules.specs.Known.{Facts}
+use Rattle.camac_lang.specs.declared.spot.Spot.{Spot}
 
 -- the first is a part of the second, or the whole of it
 abbrev pub HasPart : Expression → Expression → Type 0
@@ -39,14 +40,14 @@ result_of Sub r s = range.sub r s
 result_of Mul r s = range.mul r s
 
 -- An operator in the expression stands between two parts with these numbers, and has no result on them.
-pub record IsWithoutResult (line : ℕ) (e : Expression) (rs : List Interval) (operator : Operator) (l h : Numbers) : Type 0 where
+pub record IsWithoutResult (spot : Spot) (e : Expression) (rs : List Interval) (operator : Operator) (l h : Numbers) : Type 0 where
   pub left : Expression
   pub right : Expression
   pub part : HasPart (applied operator left right) e
   pub r : Interval
   pub s : Interval
-  pub of_left : range_of line left rs ≡ Ok r
-  pub of_right : range_of line right rs ≡ Ok s
+  pub of_left : range_of spot left rs ≡ Ok r
+  pub of_right : range_of spot right rs ≡ Ok s
   pub is_left : l ≡ numbers_of r
   pub is_right : h ≡ numbers_of s
   pub none : result_of operator r s ≡ None
@@ -57,31 +58,31 @@ IsOfNoText e =
     ((n : ℕ) × (HasPart (number n) e) × (greatest < n))
     ⊎ (((a : Expression) × HasPart (divide a 0) e) ⊎ ((a : Expression) × HasPart (remainder a 0) e))
 
-abbrev pub ExpressionShown : ℕ → Expression → List Interval → Case → Type 0
-ExpressionShown line e rs (Operation operator l h) = IsWithoutResult line e rs operator l h
-ExpressionShown line e rs Malformed = IsOfNoText e
-ExpressionShown line e rs case = ⊥
+abbrev pub ExpressionShown : Spot → Expression → List Interval → Case → Type 0
+ExpressionShown spot e rs (Operation operator l h) = IsWithoutResult spot e rs operator l h
+ExpressionShown spot e rs Malformed = IsOfNoText e
+ExpressionShown spot e rs case = ⊥
 
 abbrev pub ExpressionsAreShown : Type 0
 ExpressionsAreShown =
-    (line : ℕ) (e : Expression) (rs : List Interval) (rule : CheckRule) (at : ℕ) (case : Case)
-    → range_of line e rs ≡ Err (broken rule at case) → (rule ≡ ValueOutOfRange) × ((at ≡ line) × ExpressionShown line e rs case)
+    (spot : Spot) (e : Expression) (rs : List Interval) (rule : CheckRule) (at : Spot) (case : Case)
+    → range_of spot e rs ≡ Err (broken rule at case) → (rule ≡ ValueOutOfRange) × ((at ≡ spot) × ExpressionShown spot e rs case)
 
 -- One part of the condition is refused, in the state in which all parts before it hold.
-pub record IsRefusedThere (line : ℕ) (ps : Condition) (k : Facts) (fault : Fault) : Type 0 where
+pub record IsRefusedThere (spot : Spot) (ps : Condition) (k : Facts) (fault : Fault) : Type 0 where
   pub earlier : Condition
   pub part : Part
   pub later : Condition
   pub is : ps ≡ earlier ++ (part ∷ later)
   pub ways : Branches
   pub there : Facts
-  pub judged : split line earlier k ≡ Ok ways
+  pub judged : split spot earlier k ≡ Ok ways
   pub hold : ways.holds ≡ Some there
-  pub refused : split_part line part there ≡ Err fault
+  pub refused : split_part spot part there ≡ Err fault
 
 abbrev pub ConditionsAreShown : Type 0
 ConditionsAreShown =
-    (line : ℕ) (ps : Condition) (k : Facts) (fault : Fault) → split line ps k ≡ Err fault → IsRefusedThere line ps k fault
+    (spot : Spot) (ps : Condition) (k : Facts) (fault : Fault) → split spot ps k ≡ Err fault → IsRefusedThere spot ps k fault
 
 -- an expression on one side of the comparison in a part
 abbrev pub IsSide : Expression → Test → Type 0
@@ -95,5 +96,5 @@ HasSide e (negated t) = IsSide e t
 -- The fault of a part is that of one of the two expressions in it.
 abbrev pub PartsAreShown : Type 0
 PartsAreShown =
-    (line : ℕ) (p : Part) (k : Facts) (fault : Fault) → split_part line p k ≡ Err fault
-    → (e : Expression) × HasSide e p × (range_of line e k.ranges ≡ Err fault)
+    (spot : Spot) (p : Part) (k : Facts) (fault : Fault) → split_part spot p k ≡ Err fault
+    → (e : Expression) × HasSide e p × (range_of spot e k.ranges ≡ Err fault)

@@ -13,6 +13,7 @@ use Rattle.camac_rules.specs.Known.{Region, Facts, region_at}
 use Rattle.camac_rules.specs.Transfers.{scan_rule}
 use Rattle.camac_rules.specs.Windows.{Window, window_of, stations_of}
 use Rattle.camac_laws.specs.ShownAddresses.{IsFirst, HasAddresses}
+use Rattle.camac_lang.specs.declared.spot.Spot.{Spot}
 
 -- station m with sub-address b comes before station n with sub-address a; or is it
 abbrev pub IsBefore : (m b n a : ℕ) → Type 0
@@ -43,9 +44,9 @@ MissingOverShown plan w case = ⊥
 
 abbrev pub MissingOverAreShown : Type 0
 MissingOverAreShown =
-    (c : Context) (around : Around) (line f r1 r2 : ℕ) (max : Expression) (x : ℕ) (k : Facts) (g h : Region)
+    (c : Context) (around : Around) (spot : Spot) (f r1 r2 : ℕ) (max : Expression) (x : ℕ) (k : Facts) (g h : Region)
     → region_at k.registers r1 ≡ Some g → region_at k.registers r2 ≡ Some h
-    → (at : ℕ) (case : Case) → scan_rule c around line f r1 r2 max x k ≡ Err (broken StationNotInstalled at case)
+    → (at : Spot) (case : Case) → scan_rule c around spot f r1 r2 max x k ≡ Err (broken StationNotInstalled at case)
     → MissingOverShown c.plan (window_of g h) case
 
 -- the first address of the window at which the command is not declared
@@ -69,7 +70,7 @@ UndeclaredOverShown plan f g h case = ⊥
 
 abbrev pub UndeclaredOverAreShown : Type 0
 UndeclaredOverAreShown =
-    (c : Context) (around : Around) (line f r1 r2 : ℕ) (max : Expression) (x : ℕ) (k : Facts) (g h : Region)
+    (c : Context) (around : Around) (spot : Spot) (f r1 r2 : ℕ) (max : Expression) (x : ℕ) (k : Facts) (g h : Region)
     → region_at k.registers r1 ≡ Some g → region_at k.registers r2 ≡ Some h → HasAddresses g → HasAddresses h
-    → (at : ℕ) (case : Case) → scan_rule c around line f r1 r2 max x k ≡ Err (broken CommandNotDeclared at case)
+    → (at : Spot) (case : Case) → scan_rule c around spot f r1 r2 max x k ≡ Err (broken CommandNotDeclared at case)
     → UndeclaredOverShown c.plan f g h case

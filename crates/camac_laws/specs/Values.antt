@@ -19,6 +19,7 @@ use Rattle.camac_rules.specs.Known.{Region, Facts, range_at, region_at}
 use Rattle.camac_rules.specs.Transfers.{words_sent, block_region}
 use Rattle.camac_laws.specs.ShownAddresses.{HasAddresses}
 use Rattle.camac_laws.specs.Regions.{IsIn}
+use Rattle.camac_lang.specs.declared.spot.Spot.{Spot}
 
 -- a value fits at each address: it has no more bits than are sent there, in 16 bits no more than 16
 abbrev pub FitsAll : Layout → ℕ → Region → WordSize → ℕ → Type 0
@@ -38,13 +39,13 @@ pub record IsTooWide (plan : Layout) (f : ℕ) (g : Region) (size : WordSize) (v
 -- A single write is accepted only where the greatest value of its expression fits at each address. E5 refuses it only where at some it does not.
 pub record IsWriteFit (plan : Layout) (f : ℕ) (g : Region) (size : WordSize) (greatest : ℕ) (answer : Result Verdict Fault) : Type 0 where
   pub accepted : (v : Verdict) → answer ≡ Ok v → FitsAll plan f g size greatest
-  pub refused : (at : ℕ) (case : Case) → answer ≡ Err (broken ValueTooWide at case) → IsTooWide plan f g size greatest case
+  pub refused : (at : Spot) (case : Case) → answer ≡ Err (broken ValueTooWide at case) → IsTooWide plan f g size greatest case
 
 abbrev pub WritesAreFit : Type 0
 WritesAreFit =
-    (c : Context) → IsPlan c.plan → (around : Around) (line : ℕ) (size : WordSize) (f r : ℕ) (e : Expression) (k : Facts) (g : Region) (v : Interval)
-    → range_of line e k.ranges ≡ Ok v → region_at k.registers r ≡ Some g → HasAddresses g
-    → IsWriteFit c.plan f g size v.hi (write_rule c around line size f r e k)
+    (c : Context) → IsPlan c.plan → (around : Around) (spot : Spot) (size : WordSize) (f r : ℕ) (e : Expression) (k : Facts) (g : Region) (v : Interval)
+    → range_of spot e k.ranges ≡ Ok v → region_at k.registers r ≡ Some g → HasAddresses g
+    → IsWriteFit c.plan f g size v.hi (write_rule c around spot size f r e k)
 
 -- the greatest of some words
 pub record IsGreatestWord (words : List ℕ) (word : ℕ) : Type 0 where
@@ -54,14 +55,14 @@ pub record IsGreatestWord (words : List ℕ) (word : ℕ) : Type 0 where
 -- A block transfer is accepted only where each word that it sends fits at each address. E5 refuses it only where the greatest does not at some.
 pub record AreWordsFit (plan : Layout) (f : ℕ) (g : Region) (words : List ℕ) (answer : Result Region Fault) : Type 0 where
   pub accepted : (h : Region) → answer ≡ Ok h → (word : ℕ) → Contains words word → FitsAll plan f g Full word
-  pub refused : (at : ℕ) (case : Case) → answer ≡ Err (broken ValueTooWide at case)
+  pub refused : (at : Spot) (case : Case) → answer ≡ Err (broken ValueTooWide at case)
       → (word : ℕ) × IsGreatestWord words word × IsTooWide plan f g Full word case
 
 abbrev pub BlocksAreFit : Type 0
 BlocksAreFit =
-    (c : Context) → IsPlan c.plan → (around : Around) (line f r : ℕ) (t : Option ℕ) (most x : ℕ) (k : Facts) (g : Region)
+    (c : Context) → IsPlan c.plan → (around : Around) (spot : Spot) (f r : ℕ) (t : Option ℕ) (most x : ℕ) (k : Facts) (g : Region)
     → region_at k.registers r ≡ Some g → HasAddresses g
-    → AreWordsFit c.plan f g (words_sent c.tables t) (block_region c around line f r t most x k)
+    → AreWordsFit c.plan f g (words_sent c.tables t) (block_region c around spot f r t most x k)
 
 -- After a read its variable may be each word that has no more bits than come from some address, and no other. All else is known as before.
 pub record IsReadInto (plan : Layout) (f : ℕ) (g : Region) (size : WordSize) (x : ℕ) (before after : Facts) : Type 0 where
@@ -72,6 +73,6 @@ pub record IsReadInto (plan : Layout) (f : ℕ) (g : Region) (size : WordSize) (
 
 abbrev pub ReadsAreAll : Type 0
 ReadsAreAll =
-    (c : Context) → IsPlan c.plan → (around : Around) (line : ℕ) (size : WordSize) (f r x : ℕ) (k : Facts) (g : Region) (v : Verdict)
-    → region_at k.registers r ≡ Some g → HasAddresses g → read_rule c around line size f r x k ≡ Ok v
+    (c : Context) → IsPlan c.plan → (around : Around) (spot : Spot) (size : WordSize) (f r x : ℕ) (k : Facts) (g : Region) (v : Verdict)
+    → region_at k.registers r ≡ Some g → HasAddresses g → read_rule c around spot size f r x k ≡ Ok v
     → (after : Facts) × (v.after ≡ Some after) × IsReadInto c.plan f g size x k after

@@ -9,6 +9,7 @@ use Rattle.camac_lang.specs.declared.script.Item as rust_item
 use Rattle.camac_lang.specs.declared.script.Parameter as rust_parameter
 use Rattle.camac_lang.specs.declared.script.Procedure as rust_procedure
 use Rattle.camac_lang.specs.declared.script.Service as rust_service
+use Rattle.camac_lang.specs.declared.spot.Spot.{Spot}
 use Rattle.camac_lines.specs.Headings.{headings_of, parameter_text, parameters_after, procedure_heading, service_heading}
 use Rattle.camac_lines.specs.Verdict.{lam_name}
 
@@ -86,8 +87,8 @@ table_has_none lams items i ps vs lt is = next_item lams items i rust_item.TheVa
 pub lam_has_none : NoHeading rust_item.TheVariants.Lam
 lam_has_none lams items i ps vs lt is = next_item lams items i rust_item.TheVariants.Lam ps vs lt is
 
-pub variables_have_none : (line n : ℕ) → NoHeading (rust_item.TheVariants.Variables line n)
-variables_have_none line n lams items i ps vs lt is = next_item lams items i (rust_item.TheVariants.Variables line n) ps vs lt is
+pub variables_have_none : (spot : Spot) (n : ℕ) → NoHeading (rust_item.TheVariants.Variables spot n)
+variables_have_none spot n lams items i ps vs lt is = next_item lams items i (rust_item.TheVariants.Variables spot n) ps vs lt is
 
 pub next_is_procedure : (lams : List Lam) (items : List rust_item.Item) (i : ℕ) (ps : List rust_procedure.Procedure) (d p : rust_procedure.Procedure) (vs : List rust_service.Service)
     → i < length items → get_or items i rust_item.TheVariants.Table ≡ rust_item.TheVariants.Procedure → 0 < length ps → get_or ps 0 d ≡ p

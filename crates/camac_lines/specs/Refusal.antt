@@ -25,3 +25,8 @@ place_of (Event flaw) = codes " byte " ++ decimal flaw.offset
 -- `refused CODE PLACE: MEANING`
 abbrev pub refusal_text : Refusal → List ℕ
 refusal_text r = codes "refused " ++ (code_of r).0 ++ place_of r ++ codes ": " ++ (code_of r).1 ++ codes "\n"
+
+-- the same with a column: `refused CODE PLACE column COLUMN: MEANING`
+abbrev pub refusal_text_at : Refusal → (column : ℕ) → List ℕ
+refusal_text_at r column =
+    codes "refused " ++ (code_of r).0 ++ place_of r ++ codes " column " ++ decimal column ++ codes ": " ++ (code_of r).1 ++ codes "\n"

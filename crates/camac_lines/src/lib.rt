@@ -23,6 +23,6 @@ pub use events::write_event_file;
 pub use headings::write_headings;
 pub use line::{LONGEST_LINE, Line};
 pub use plan::{write_plan, write_plan_with_commands};
-pub use refusal::{Refusal, refusal_line, write_refusal};
+pub use refusal::{Refusal, refusal_line, refusal_line_at, write_refusal};
 pub use verdict::{lam_name, write_verdict};
 pub use word::{Quote, before_item, is_near};

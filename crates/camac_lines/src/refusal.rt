@@ -1,7 +1,7 @@
 // The line of a refusal.
 
 ghost use Rattle.std.specs.Prelude.{◌≡◌, ◌≤◌, ◌+◌, ◌||◌, ◌++◌, length, is_err, decimal};
-ghost use Rattle.camac_lines.specs.Refusal.{code_of, place_of, refusal_text};
+ghost use Rattle.camac_lines.specs.Refusal.{code_of, place_of, refusal_text, refusal_text_at};
 ghost use Rattle.camac_word.specs.Watched.{inner_of, has_failed};
 ghost use Rattle.camac_word.specs.Writing.{Writes};
 
@@ -76,6 +76,22 @@ pub fn refusal_line(refusal: Refusal) -> Line
     line
 }
 
+/// The same with a column behind the line.
+pub fn refusal_line_at(refusal: Refusal, column: usize) -> Line
+    ensures { result ≡ refusal_text_at refusal column }
+{
+    let code = refusal.code();
+    let mut line = Line::new();
+    line.push_str("refused ");
+    line.push_str(code.name);
+    push_place(&mut line, refusal);
+    push_number(&mut line, " column ", column);
+    line.push_str(": ");
+    line.push_str(code.meaning);
+    line.push_str("\n");
+    line
+}
+
 // Puts the line or the byte of a refusal at the end.
 fn push_place(text: &mut Line, refusal: Refusal)
     requires { length text.old ≤ 40 }
@@ -94,8 +110,8 @@ fn push_place(text: &mut Line, refusal: Refusal)
 
 // Puts a word and a number at the end.
 fn push_number(text: &mut Line, word: &str, number: usize)
-    requires word { length word.now ≤ 6 }
-    requires room { length text.old ≤ 40 }
+    requires word { length word.now ≤ 8 }
+    requires room { length text.old ≤ 80 }
     ensures text { text.new ≡ text.old ++ word.now ++ decimal number }
     ensures short { length text.new ≤ length text.old + 40 }
 {

@@ -11,7 +11,7 @@ use Rattle.camac_lang.specs.declared.word.WordSize.{WordSize}
 use Rattle.camac_lang.specs.declared.word.WordSize.TheVariants.{Full}
 use Rattle.camac_lang.specs.declared.tree.Stmt.{Stmt}
 use Rattle.camac_lang.specs.View.{statements_of}
-use Rattle.camac_lang.specs.Tree.{Expression, Condition, Block, done, Move, no_data, into, from, Statement, assign, set_register, single, address_scan, q_stop, q_repeat, put, crate_call, lam_call, choose, choose_else, for_, for_each, while_, locked, call}
+use Rattle.camac_lang.specs.Tree.{Expression, Condition, Block, done, Move, no_data, into, from, Statement, assign, set_register, single, address_scan, q_stop, q_repeat, put, crate_call, lam_call, choose, choose_else, for_, for_each, while_, locked, call, on_line}
 use Rattle.camac_branch.specs.Address.{Address, address}
 use Rattle.camac_branch.specs.Allowed.{width}
 use Rattle.camac_branch.specs.Branch.{Answer, Reply}
@@ -84,27 +84,27 @@ module _ {V D C : ℕ} (h : Machine V D C) where
   known o v go answers e fine =
       subst (λ p. IsFineHere h (then_do (given p go (state_of h answers)) (left_in h))) e fine
 
-  pub put_fits : (e : Expression) (v : ℕ) → value e (variables_here h) ≡ Some v → Does (put 0 e) → (length h.words < (bounds_of h).words) × (v < 2 ^ 24)
+  pub put_fits : (e : Expression) (v : ℕ) → value e (variables_here h) ≡ Some v → Does (put (on_line 0) e) → (length h.words < (bounds_of h).words) × (v < 2 ^ 24)
   put_fits e v is fine =
       fine_word h.checked.now.plan (bounds_of h) h.checked.now.script _ v (state_of h [])
       (known (value e (variables_here h)) v (λ w t. ends (with_word w t)) [] is (fine []))
 
   -- the register of a single action is set
-  pub address_set : (size : WordSize) (f r : ℕ) (m : Move) → Does (single 0 size f r m) → IsSome (registers_here h r)
+  pub address_set : (size : WordSize) (f r : ℕ) (m : Move) → Does (single (on_line 0) size f r m) → IsSome (registers_here h r)
   address_set size f r m fine =
       let g = fine_given h.checked.now.plan (bounds_of h) (registers_here h r) (λ at. act h.checked.now.plan at f size m) (state_of h []) (left_in h) (fine []) in
       some_is (registers_here h r) g.0 g.1
 
-  acts : (size : WordSize) (f r : ℕ) (m : Move) (at : Address) (answers : List Answer) → registers_here h r ≡ Some at → Does (single 0 size f r m) → IsFineHere h (then_do (act h.checked.now.plan at f size m (state_of h answers)) (left_in h))
+  acts : (size : WordSize) (f r : ℕ) (m : Move) (at : Address) (answers : List Answer) → registers_here h r ≡ Some at → Does (single (on_line 0) size f r m) → IsFineHere h (then_do (act h.checked.now.plan at f size m (state_of h answers)) (left_in h))
   acts size f r m at answers is fine =
       known (registers_here h r) at (λ at. act h.checked.now.plan at f size m) answers is (fine answers)
 
-  pub control_can : (size : WordSize) (f r : ℕ) (at : Address) → registers_here h r ≡ Some at → Does (single 0 size f r no_data) → CanCycle at f moved.None
+  pub control_can : (size : WordSize) (f r : ℕ) (at : Address) → registers_here h r ≡ Some at → Does (single (on_line 0) size f r no_data) → CanCycle at f moved.None
   control_can size f r at is fine =
       fine_cycle h.checked.now.plan (bounds_of h) at f moved.None (λ r. ends) (state_of h (blank ∷ [])) (left_in h)
       (acts size f r no_data at (blank ∷ []) is fine)
 
-  pub read_can : (size : WordSize) (f r x : ℕ) (at : Address) → registers_here h r ≡ Some at → Does (single 0 size f r (into x)) → CanCycle at f moved.In
+  pub read_can : (size : WordSize) (f r x : ℕ) (at : Address) → registers_here h r ≡ Some at → Does (single (on_line 0) size f r (into x)) → CanCycle at f moved.In
   read_can size f r x at is fine =
       fine_cycle h.checked.now.plan (bounds_of h) at f moved.In (λ r t. ends (with_variable x (kept (sized size (width h.checked.now.plan at f)) r) t)) (state_of h (blank ∷ [])) (left_in h)
       (acts size f r (into x) at (blank ∷ []) is fine)
@@ -112,48 +112,48 @@ module _ {V D C : ℕ} (h : Machine V D C) where
   abbrev send : WordSize → ℕ → Address → ℕ → Action
   send size f at v t = cycle h.checked.now.plan at f (moved.Out v) t.answers (λ r. ends) t
 
-  pub write_has : (size : WordSize) (f r : ℕ) (e : Expression) (at : Address) → registers_here h r ≡ Some at → Does (single 0 size f r (from e)) → IsSome (value e (variables_here h))
+  pub write_has : (size : WordSize) (f r : ℕ) (e : Expression) (at : Address) → registers_here h r ≡ Some at → Does (single (on_line 0) size f r (from e)) → IsSome (value e (variables_here h))
   write_has size f r e at is fine = has_value e _ (acts size f r (from e) at [] is fine)
 
-  pub write_can : (size : WordSize) (f r : ℕ) (e : Expression) (at : Address) (v : ℕ) → registers_here h r ≡ Some at → value e (variables_here h) ≡ Some v → Does (single 0 size f r (from e)) → (fits_size size v ≡ true) × CanCycle at f (moved.Out v)
+  pub write_can : (size : WordSize) (f r : ℕ) (e : Expression) (at : Address) (v : ℕ) → registers_here h r ≡ Some at → value e (variables_here h) ≡ Some v → Does (single (on_line 0) size f r (from e)) → (fits_size size v ≡ true) × CanCycle at f (moved.Out v)
   write_can size f r e at v is val fine =
       let u = fine_unless h.checked.now.plan (bounds_of h) (fits_size size v) (send size f at v) (state_of h (blank ∷ [])) (left_in h)
       (known (value e (variables_here h)) v _ (blank ∷ []) val (acts size f r (from e) at (blank ∷ []) is fine)) in
       (u.0, fine_cycle h.checked.now.plan (bounds_of h) at f (moved.Out v) (λ r. ends) (state_of h (blank ∷ [])) (left_in h) u.1)
 
-  pub control_wants : (size : WordSize) (f r : ℕ) (at : Address) (k : Command) → registers_here h r ≡ Some at → k ≡ command_at at f moved.None → CanCycle at f moved.None → Awaits h (λ c. effect c most_turns (single 0 size f r no_data)) (Cycle k)
+  pub control_wants : (size : WordSize) (f r : ℕ) (at : Address) (k : Command) → registers_here h r ≡ Some at → k ≡ command_at at f moved.None → CanCycle at f moved.None → Awaits h (λ c. effect c most_turns (single (on_line 0) size f r no_data)) (Cycle k)
   unfolding awaited
   control_wants size f r at k is e can = rw e (record { awaits = (can.0, tt); goes = λ answers. rw is refl })
 
-  pub read_wants : (size : WordSize) (f r x : ℕ) (at : Address) (k : Command) (bits : ℕ) → registers_here h r ≡ Some at → k ≡ command_at at f moved.In → bits ≡ sized size (width h.checked.now.plan (address_of k) k.f) → x < (reach h).variables → bits ≤ 24 → CanCycle at f moved.In → Awaits h (λ c. effect c most_turns (single 0 size f r (into x))) (Read k x bits)
+  pub read_wants : (size : WordSize) (f r x : ℕ) (at : Address) (k : Command) (bits : ℕ) → registers_here h r ≡ Some at → k ≡ command_at at f moved.In → bits ≡ sized size (width h.checked.now.plan (address_of k) k.f) → x < (reach h).variables → bits ≤ 24 → CanCycle at f moved.In → Awaits h (λ c. effect c most_turns (single (on_line 0) size f r (into x))) (Read k x bits)
   unfolding awaited
   read_wants size f r x at k bits is e b below few can =
       record { awaits = (rw e can.0, (below, few)); goes = λ answers. rw (b, e, is) refl }
 
-  pub write_wants : (size : WordSize) (f r : ℕ) (e : Expression) (at : Address) (v : ℕ) (k : Command) → registers_here h r ≡ Some at → value e (variables_here h) ≡ Some v → k ≡ command_at at f (moved.Out v) → (fits_size size v ≡ true) × CanCycle at f (moved.Out v) → Awaits h (λ c. effect c most_turns (single 0 size f r (from e))) (Cycle k)
+  pub write_wants : (size : WordSize) (f r : ℕ) (e : Expression) (at : Address) (v : ℕ) (k : Command) → registers_here h r ≡ Some at → value e (variables_here h) ≡ Some v → k ≡ command_at at f (moved.Out v) → (fits_size size v ≡ true) × CanCycle at f (moved.Out v) → Awaits h (λ c. effect c most_turns (single (on_line 0) size f r (from e))) (Cycle k)
   unfolding awaited
   write_wants size f r e at v k is val q can = rw q (record { awaits = (can.1.0, tt); goes = λ answers. rw (is, val, can.0) refl })
 
   -- a crate call
-  pub crate_has : (which : CrateCall) (e : Expression) → Does (crate_call 0 which e) → IsSome (value e (variables_here h))
+  pub crate_has : (which : CrateCall) (e : Expression) → Does (crate_call (on_line 0) which e) → IsSome (value e (variables_here h))
   crate_has which e fine = has_value e _ (fine [])
 
-  pub crate_can : (which : CrateCall) (e : Expression) (v : ℕ) → value e (variables_here h) ≡ Some v → Does (crate_call 0 which e) → CanCycle (crate_address which v) (crate_function which) moved.None
+  pub crate_can : (which : CrateCall) (e : Expression) (v : ℕ) → value e (variables_here h) ≡ Some v → Does (crate_call (on_line 0) which e) → CanCycle (crate_address which v) (crate_function which) moved.None
   crate_can which e v val fine =
       fine_cycle h.checked.now.plan (bounds_of h) (crate_address which v) (crate_function which) moved.None (λ r. ends) (state_of h (blank ∷ [])) (left_in h)
       (known (value e (variables_here h)) v (λ v. act h.checked.now.plan (crate_address which v) (crate_function which) Full no_data) (blank ∷ []) val (fine (blank ∷ [])))
 
-  pub crate_wants : (which : CrateCall) (e : Expression) (v : ℕ) (k : Command) → value e (variables_here h) ≡ Some v → k ≡ command_at (crate_address which v) (crate_function which) moved.None → CanCycle (crate_address which v) (crate_function which) moved.None → Awaits h (λ c. effect c most_turns (crate_call 0 which e)) (Cycle k)
+  pub crate_wants : (which : CrateCall) (e : Expression) (v : ℕ) (k : Command) → value e (variables_here h) ≡ Some v → k ≡ command_at (crate_address which v) (crate_function which) moved.None → CanCycle (crate_address which v) (crate_function which) moved.None → Awaits h (λ c. effect c most_turns (crate_call (on_line 0) which e)) (Cycle k)
   unfolding awaited
   crate_wants which e v k val q can = rw q (record { awaits = (can.0, tt); goes = λ answers. rw val refl })
 
   -- a LAM call
-  pub lam_can : (which : LamCall) (l : ℕ) (at : Address) → slice_get (context_in h.checked.now).lams l ≡ Some at → Does (lam_call 0 which l) → CanCycle at (lam_function which) moved.None
+  pub lam_can : (which : LamCall) (l : ℕ) (at : Address) → slice_get (context_in h.checked.now).lams l ≡ Some at → Does (lam_call (on_line 0) which l) → CanCycle at (lam_function which) moved.None
   lam_can which l at is fine =
       fine_cycle h.checked.now.plan (bounds_of h) at (lam_function which) moved.None (λ r. ends) (state_of h (blank ∷ [])) (left_in h)
       (known (slice_get (context_in h.checked.now).lams l) at (λ at. act h.checked.now.plan at (lam_function which) Full no_data) (blank ∷ []) is (fine (blank ∷ [])))
 
-  pub lam_wants : (which : LamCall) (l : ℕ) (at : Address) (k : Command) → slice_get (context_in h.checked.now).lams l ≡ Some at → k ≡ command_at at (lam_function which) moved.None → CanCycle at (lam_function which) moved.None → Awaits h (λ c. effect c most_turns (lam_call 0 which l)) (Cycle k)
+  pub lam_wants : (which : LamCall) (l : ℕ) (at : Address) (k : Command) → slice_get (context_in h.checked.now).lams l ≡ Some at → k ≡ command_at at (lam_function which) moved.None → CanCycle at (lam_function which) moved.None → Awaits h (λ c. effect c most_turns (lam_call (on_line 0) which l)) (Cycle k)
   unfolding awaited
   lam_wants which l at k is q can = rw q (record { awaits = (can.0, tt); goes = λ answers. rw is refl })
 
@@ -170,19 +170,19 @@ module _ {V D C : ℕ} (h : Machine V D C) where
   crate_of calls.TestDemand v = refl
 
   -- a variable, a register and a word in the store, and what is left
-  pub assign_goes : (x : ℕ) (e : Expression) (v : ℕ) → value e (variables_here h) ≡ Some v → (vs : Variables) → vs ≡ set_at x v (variables_here h) → (answers : List Answer) → left_in h (record (state_of h answers) { variables = vs }) ≡ then_do (effect (context_in h.checked.now) most_turns (assign 0 x e) (state_of h answers)) (left_in h)
+  pub assign_goes : (x : ℕ) (e : Expression) (v : ℕ) → value e (variables_here h) ≡ Some v → (vs : Variables) → vs ≡ set_at x v (variables_here h) → (answers : List Answer) → left_in h (record (state_of h answers) { variables = vs }) ≡ then_do (effect (context_in h.checked.now) most_turns (assign (on_line 0) x e) (state_of h answers)) (left_in h)
   assign_goes x e v is vs set answers =
       let go : ℕ → Action = λ w t. ends (with_variable x w t) in
       ap (λ g. left_in h (record (state_of h answers) { variables = g })) set
       ∙ ap (λ o. then_do (given o go (state_of h answers)) (left_in h)) (sym is)
 
-  pub put_goes : (e : Expression) (v : ℕ) → value e (variables_here h) ≡ Some v → (ws : List ℕ) → ws ≡ h.words ++ v ∷ [] → (answers : List Answer) → left_in h (record (state_of h answers) { words = ws }) ≡ then_do (effect (context_in h.checked.now) most_turns (put 0 e) (state_of h answers)) (left_in h)
+  pub put_goes : (e : Expression) (v : ℕ) → value e (variables_here h) ≡ Some v → (ws : List ℕ) → ws ≡ h.words ++ v ∷ [] → (answers : List Answer) → left_in h (record (state_of h answers) { words = ws }) ≡ then_do (effect (context_in h.checked.now) most_turns (put (on_line 0) e) (state_of h answers)) (left_in h)
   put_goes e v is ws added answers =
       let go : ℕ → Action = λ w t. ends (with_word w t) in
       ap (λ l. left_in h (record (state_of h answers) { words = l })) added
       ∙ ap (λ o. then_do (given o go (state_of h answers)) (left_in h)) (sym is)
 
-  pub register_goes : (r : ℕ) (e1 e2 e3 : Expression) (x y z : ℕ) → value e1 (variables_here h) ≡ Some x → value e2 (variables_here h) ≡ Some y → value e3 (variables_here h) ≡ Some z → (rs : Registers) → rs ≡ set_at r (Some (address x y z)) (registers_here h) → (answers : List Answer) → left_in h (record (state_of h answers) { registers = rs }) ≡ then_do (effect (context_in h.checked.now) most_turns (set_register 0 r e1 e2 e3) (state_of h answers)) (left_in h)
+  pub register_goes : (r : ℕ) (e1 e2 e3 : Expression) (x y z : ℕ) → value e1 (variables_here h) ≡ Some x → value e2 (variables_here h) ≡ Some y → value e3 (variables_here h) ≡ Some z → (rs : Registers) → rs ≡ set_at r (Some (address x y z)) (registers_here h) → (answers : List Answer) → left_in h (record (state_of h answers) { registers = rs }) ≡ then_do (effect (context_in h.checked.now) most_turns (set_register (on_line 0) r e1 e2 e3) (state_of h answers)) (left_in h)
   register_goes r e1 e2 e3 x y z i1 i2 i3 rs set answers =
       let s : State = state_of h answers in
       let third : ℕ → ℕ → ℕ → Action = λ k' m' a' t. ends (with_register r (address k' m' a') t) in
@@ -207,15 +207,15 @@ module _ {V D C : ℕ} (h : Machine V D C) where
       go (Some false) f = (keeps_block_then b s f).steps
 
   -- a condition has a value
-  pub test_has : (test : Condition) (a b : Block) → Does (choose_else 0 test a b) → IsSome (truth test (variables_here h) h.q h.x)
+  pub test_has : (test : Condition) (a b : Block) → Does (choose_else (on_line 0) test a b) → IsSome (truth test (variables_here h) h.q h.x)
   test_has test a b fine =
       fine_decide plan (bounds_of h) (truth test (variables_here h) h.q h.x) (block_meaning (context_in h.checked.now) most_turns a) (block_meaning (context_in h.checked.now) most_turns b) (state_of h []) (left_in h) (fine [])
 
-  pub choose_goes : (test : Condition) (a b : Block) (answers : List Answer) → truth test (variables_here h) h.q h.x ≡ Some true → block_meaning (context_in h.checked.now) most_turns a (state_of h answers) ≡ effect (context_in h.checked.now) most_turns (choose_else 0 test a b) (state_of h answers)
+  pub choose_goes : (test : Condition) (a b : Block) (answers : List Answer) → truth test (variables_here h) h.q h.x ≡ Some true → block_meaning (context_in h.checked.now) most_turns a (state_of h answers) ≡ effect (context_in h.checked.now) most_turns (choose_else (on_line 0) test a b) (state_of h answers)
   choose_goes test a b answers e =
       ap (λ o. decide o (block_meaning (context_in h.checked.now) most_turns a) (block_meaning (context_in h.checked.now) most_turns b) (state_of h answers)) (sym e)
 
-  pub choose_other : (test : Condition) (a b : Block) (answers : List Answer) → truth test (variables_here h) h.q h.x ≡ Some false → block_meaning (context_in h.checked.now) most_turns b (state_of h answers) ≡ effect (context_in h.checked.now) most_turns (choose_else 0 test a b) (state_of h answers)
+  pub choose_other : (test : Condition) (a b : Block) (answers : List Answer) → truth test (variables_here h) h.q h.x ≡ Some false → block_meaning (context_in h.checked.now) most_turns b (state_of h answers) ≡ effect (context_in h.checked.now) most_turns (choose_else (on_line 0) test a b) (state_of h answers)
   choose_other test a b answers e =
       ap (λ o. decide o (block_meaning (context_in h.checked.now) most_turns a) (block_meaning (context_in h.checked.now) most_turns b) (state_of h answers)) (sym e)
 
@@ -226,15 +226,15 @@ module _ {V D C : ℕ} (h : Machine V D C) where
   abbrev lock_of : ℕ → Block → Action
   lock_of k body = given (crate_waits plan k) (λ waits t. take_lock k waits (t.branch k).locked (inside k body) t)
 
-  pub lock_has : (e : Expression) (body : Block) → Does (locked 0 e body) → IsSome (value e (variables_here h))
+  pub lock_has : (e : Expression) (body : Block) → Does (locked (on_line 0) e body) → IsSome (value e (variables_here h))
   lock_has e body fine = has_value e _ (fine [])
 
-  pub lock_can : (e : Expression) (body : Block) (k : ℕ) → value e (variables_here h) ≡ Some k → Does (locked 0 e body) → IsSome (crate_waits plan k) × ((branch_of h.branch k).locked ≡ false)
+  pub lock_can : (e : Expression) (body : Block) (k : ℕ) → value e (variables_here h) ≡ Some k → Does (locked (on_line 0) e body) → IsSome (crate_waits plan k) × ((branch_of h.branch k).locked ≡ false)
   lock_can e body k is fine =
       fine_lock plan (bounds_of h) k (inside k body) (state_of h []) (left_in h)
       (known (value e (variables_here h)) k (λ n. lock_of n body) [] is (fine []))
 
-  pub lock_wants : (e : Expression) (body : Bor (List Stmt)) (k : ℕ) → value e (variables_here h) ≡ Some k → (1 ≤ k) × (k ≤ 7) → Opens (reach h) (free h) (statements_of body.now) → IsSome (crate_waits plan k) × ((branch_of h.branch k).locked ≡ false) → Awaits h (λ c. effect c most_turns (locked 0 e (statements_of body.now))) (Lock k body)
+  pub lock_wants : (e : Expression) (body : Bor (List Stmt)) (k : ℕ) → value e (variables_here h) ≡ Some k → (1 ≤ k) × (k ≤ 7) → Opens (reach h) (free h) (statements_of body.now) → IsSome (crate_waits plan k) × ((branch_of h.branch k).locked ≡ false) → Awaits h (λ c. effect c most_turns (locked (on_line 0) e (statements_of body.now))) (Lock k body)
   unfolding awaited
   lock_wants e body k is range opens can =
       record { awaits = (can.0, (can.1, range.0, range.1, opens)); goes = λ answers. rw is refl }
@@ -246,7 +246,7 @@ module _ {V D C : ℕ} (h : Machine V D C) where
       (fine_first plan (bounds_of h) (for_turns (suc j) most_turns x v w (block_meaning (context_in h.checked.now) most_turns b) s) (left_in h) (λ t f. keeps t f) fine)
 
   -- a call of a procedure
-  pub call_has : (p : ℕ) (es : List Expression) → Does (call 0 p es) → IsSome (values es (variables_here h))
+  pub call_has : (p : ℕ) (es : List Expression) → Does (call (on_line 0) p es) → IsSome (values es (variables_here h))
   call_has p es fine =
       let go : (ℕ → Action) → List ℕ → Action = λ routine. enter (routine most_turns) in
       let g1 = fine_given plan (bounds_of h) (slice_get (context_in h.checked.now).routines p) (λ routine. given (values es (variables_here h)) (go routine)) (state_of h []) (left_in h) (fine []) in
@@ -258,7 +258,7 @@ module _ {V D C : ℕ} (h : Machine V D C) where
       let q = procedure_of_routine plan h.checked.now.script p run e in
       keeps_block plan (bounds_of h) (before h.checked.now.script p) most_turns q.0.body s (subst (λ r. IsFineHere h (r most_turns s)) q.1 fine)
 
-  call_steps : (p : ℕ) (es : List Expression) → ((answers : List Answer) → IsFineHere h (then_do (effect (context_in h.checked.now) most_turns (call 0 p es) (stepped (state_of h answers))) (left_in h))) → h.steps + 1 ≤ (bounds_of h).steps
+  call_steps : (p : ℕ) (es : List Expression) → ((answers : List Answer) → IsFineHere h (then_do (effect (context_in h.checked.now) most_turns (call (on_line 0) p es) (stepped (state_of h answers))) (left_in h))) → h.steps + 1 ≤ (bounds_of h).steps
   call_steps p es fine =
       let s : State = stepped (state_of h []) in
       let go : (ℕ → Action) → List ℕ → Action = λ routine. enter (routine most_turns) in
@@ -270,10 +270,10 @@ module _ {V D C : ℕ} (h : Machine V D C) where
 
   -- a step has room
   pub begun : (st : Statement) (to : Reach) (d : ℕ) → StatementFits to d st → ((answers : List Answer) → IsFineHere h (then_do (effect (context_in h.checked.now) most_turns st (stepped (state_of h answers))) (left_in h))) → h.steps + 1 ≤ (bounds_of h).steps
-  begun (assign line x e) to d fits fine =
+  begun (assign spot x e) to d fits fine =
       let g = fine_given plan (bounds_of h) (value e (variables_here h)) (λ w t. ends (with_variable x w t)) (stepped (state_of h [])) (left_in h) (fine []) in
       (keeps (with_variable x g.0 (stepped (state_of h []))) g.2).steps
-  begun (set_register line r e1 e2 e3) to d fits fine =
+  begun (set_register spot r e1 e2 e3) to d fits fine =
       let s : State = stepped (state_of h []) in
       let third : ℕ → ℕ → ℕ → Action = λ k' m' a' t. ends (with_register r (address k' m' a') t) in
       let second : ℕ → ℕ → Action = λ k' m'. given (value e3 (variables_here h)) (third k' m') in
@@ -282,22 +282,22 @@ module _ {V D C : ℕ} (h : Machine V D C) where
       let g2 = fine_given plan (bounds_of h) (value e2 (variables_here h)) (second g1.0) s (left_in h) g1.2 in
       let g3 = fine_given plan (bounds_of h) (value e3 (variables_here h)) (third g1.0 g2.0) s (left_in h) g2.2 in
       (keeps (with_register r (address g1.0 g2.0 g3.0) s) g3.2).steps
-  begun (single line size f r m) to d fits fine =
+  begun (single spot size f r m) to d fits fine =
       let s : State = stepped (state_of h (blank ∷ [])) in
       let g = fine_given plan (bounds_of h) (registers_here h r) (λ at. act plan at f size m) s (left_in h) (fine (blank ∷ [])) in
       act_steps g.0 f size m s refl g.2
-  begun (put line e) to d fits fine =
+  begun (put spot e) to d fits fine =
       let g = fine_given plan (bounds_of h) (value e (variables_here h)) (λ w t. ends (with_word w t)) (stepped (state_of h [])) (left_in h) (fine []) in
       (keeps (with_word g.0 (stepped (state_of h []))) g.2).steps
-  begun (crate_call line which e) to d fits fine =
+  begun (crate_call spot which e) to d fits fine =
       let s : State = stepped (state_of h (blank ∷ [])) in
       let g = fine_given plan (bounds_of h) (value e (variables_here h)) (λ d. act plan (crate_address which d) (crate_function which) Full no_data) s (left_in h) (fine (blank ∷ [])) in
       act_steps (crate_address which g.0) (crate_function which) Full no_data s refl g.2
-  begun (lam_call line which i) to d fits fine =
+  begun (lam_call spot which i) to d fits fine =
       let s : State = stepped (state_of h (blank ∷ [])) in
       let g = fine_given plan (bounds_of h) (slice_get (context_in h.checked.now).lams i) (λ at. act plan at (lam_function which) Full no_data) s (left_in h) (fine (blank ∷ [])) in
       act_steps g.0 (lam_function which) Full no_data s refl g.2
-  begun (address_scan line f r1 r2 max x) to d fits fine =
+  begun (address_scan spot f r1 r2 max x) to d fits fine =
       let s : State = stepped (state_of h []) in
       let go : Address → Address → ℕ → Action = λ first last m. transfer_to plan f None (scan_next first last m) x in
       let third : Address → Address → ℕ → Action = λ first last m. unless_wrong (nat_eq first.crate_no last.crate_no) (go first last m) in
@@ -307,7 +307,7 @@ module _ {V D C : ℕ} (h : Machine V D C) where
       let g3 = fine_given plan (bounds_of h) (value max (variables_here h)) (third g1.0 g2.0) s (left_in h) g2.2 in
       let g4 = fine_unless plan (bounds_of h) (nat_eq g1.0.crate_no g2.0.crate_no) (go g1.0 g2.0 g3.0) s (left_in h) g3.2 in
       transfer_steps f None (scan_next g1.0 g2.0 g3.0) x s refl g4.1
-  begun (q_stop line f r t max x) to d fits fine =
+  begun (q_stop spot f r t max x) to d fits fine =
       let s : State = stepped (state_of h []) in
       let third : Option (List ℕ) → Address → ℕ → Action = λ table at m. transfer_to plan f table (q_stop_next at m) x in
       let second : Option (List ℕ) → Address → Action = λ table at. given (value max (variables_here h)) (third table at) in
@@ -315,7 +315,7 @@ module _ {V D C : ℕ} (h : Machine V D C) where
       let g2 = fine_given plan (bounds_of h) (registers_here h r) (second g1.0) s (left_in h) g1.2 in
       let g3 = fine_given plan (bounds_of h) (value max (variables_here h)) (third g1.0 g2.0) s (left_in h) g2.2 in
       transfer_steps f g1.0 (q_stop_next g2.0 g3.0) x s refl g3.2
-  begun (q_repeat line f r t max limit x) to d fits fine =
+  begun (q_repeat spot f r t max limit x) to d fits fine =
       let s : State = stepped (state_of h []) in
       let fourth : Option (List ℕ) → Address → ℕ → ℕ → Action = λ table at m n. transfer_to plan f table (q_repeat_next at m n) x in
       let third : Option (List ℕ) → Address → ℕ → Action = λ table at m. given (value limit (variables_here h)) (fourth table at m) in
@@ -325,23 +325,23 @@ module _ {V D C : ℕ} (h : Machine V D C) where
       let g3 = fine_given plan (bounds_of h) (value max (variables_here h)) (third g1.0 g2.0) s (left_in h) g2.2 in
       let g4 = fine_given plan (bounds_of h) (value limit (variables_here h)) (fourth g1.0 g2.0 g3.0) s (left_in h) g3.2 in
       transfer_steps f g1.0 (q_repeat_next g2.0 g3.0 g4.0) x s refl g4.2
-  begun (choose line test a) to d fits fine = choose_steps test a done (stepped (state_of h [])) (fine [])
-  begun (choose_else line test a b) to d fits fine = choose_steps test a b (stepped (state_of h [])) (fine [])
-  begun (for_ line x e1 e2 ks body) to d fits fine =
+  begun (choose spot test a) to d fits fine = choose_steps test a done (stepped (state_of h [])) (fine [])
+  begun (choose_else spot test a b) to d fits fine = choose_steps test a b (stepped (state_of h [])) (fine [])
+  begun (for_ spot x e1 e2 ks body) to d fits fine =
       let s : State = stepped (state_of h []) in
       let b : Action = block_meaning (context_in h.checked.now) most_turns body in
       let to : ℕ → Action = λ w. given (value e2 (variables_here h)) (λ u. for_from (u + 1 - w) most_turns x w u b) in
       let g1 = fine_given plan (bounds_of h) (value e1 (variables_here h)) to s (left_in h) (fine []) in
       let g2 = fine_given plan (bounds_of h) (value e2 (variables_here h)) (λ u. for_from (u + 1 - g1.0) most_turns x g1.0 u b) s (left_in h) g1.2 in
       (count_steps (g2.0 + 1 - g1.0) x g1.0 g2.0 body s g2.2).steps
-  begun (for_each line x v last body) to d fits fine = (count_steps (last + 1 - v) x v last body (stepped (state_of h [])) (fine [])).steps
-  begun (while_ line test m k ks body) to d fits fine =
+  begun (for_each spot x v last body) to d fits fine = (count_steps (last + 1 - v) x v last body (stepped (state_of h [])) (fine [])).steps
+  begun (while_ spot test m k ks body) to d fits fine =
       let s : State = stepped (state_of h []) in
       let b : Action = block_meaning (context_in h.checked.now) most_turns body in
       (keeps_turns plan (bounds_of h) h.checked.now.script body test most_turns s
       (fine_first plan (bounds_of h) (turns most_turns test b s) (left_in h) (λ t f. keeps t f) (fine []))).steps
-  begun (locked line e body) to d fits fine =
+  begun (locked spot e body) to d fits fine =
       let s : State = stepped (state_of h []) in
       let g = fine_given plan (bounds_of h) (value e (variables_here h)) (λ k. lock_of k body) s (left_in h) (fine []) in
       (lock_within plan (bounds_of h) g.0 (inside g.0 body) s (left_in h) refl g.2).steps
-  begun (call line p es) to d fits fine = call_steps p es fine
+  begun (call spot p es) to d fits fine = call_steps p es fine

@@ -14,7 +14,7 @@ use Rattle.camac_lang.specs.Depth.{inner_depth, callables_after}
 use Rattle.camac_lang.specs.Expressions.{Callable}
 use Rattle.camac_lang.specs.Laws.{inside, ProcedureStands}
 use Rattle.camac_lang.specs.Scope.{is_well_formed}
-use Rattle.camac_lang.specs.Tree.{Expression, call, Procedure, Script}
+use Rattle.camac_lang.specs.Tree.{Expression, call, Procedure, Script, on_line}
 use Rattle.camac_lang.specs.View.{statements_of}
 use Rattle.camac_lang.proofs.Standing.{procedures_stand}
 use Rattle.camac_model.specs.State.{State, Variables, Registers}
@@ -152,7 +152,7 @@ module _ {V D C : ℕ} (h : Machine V D C) (i : ℕ) (es : List Expression) (roo
       abbrev inner : Action
       inner = block_meaning (context h.checked.now.plan (before script i)) most_turns p.body
 
-      call_is : (answers : List Answer) → effect ctx most_turns (call 0 i es) (state_of h answers) ≡ enter inner vs (state_of h answers)
+      call_is : (answers : List Answer) → effect ctx most_turns (call (on_line 0) i es) (state_of h answers) ≡ enter inner vs (state_of h answers)
       call_is answers =
           let s : State = state_of h answers in
           ap (λ r. given r (λ routine. given (values es s.variables) (λ us. enter (routine most_turns) us)) s) (routine_of h.checked.now.plan script i p there)
@@ -170,7 +170,7 @@ module _ {V D C : ℕ} (h : Machine V D C) (i : ℕ) (es : List Expression) (roo
           ∙ ap (λ m. then_do (go (entered vs s)) (back (held_at h.scope.variables h.variables) m)) caller_registers
           ∙ ap (λ (run : Action). then_do (run (entered vs s)) (λ t. ends (returned s t))) (sym (body_same h.checked.now.plan script i most_turns (reach_of script seen) (free h - 1) p.body refl (opens_body formed).1))
 
-      pub enters : Enters h (λ c. effect c most_turns (call 0 i es)) new
+      pub enters : Enters h (λ c. effect c most_turns (call (on_line 0) i es)) new
       enters = record {
         room = room_entered;
         checked = refl;
@@ -218,10 +218,10 @@ module _ {V D C : ℕ} (h : Machine V D C) (i : ℕ) (es : List Expression) (roo
   pub callee_free : IsTrue (is_well_formed h.checked.now.script) → length h.frames.items < D
   callee_free formed = let some = (opens_body h i es room may p own formed).0 in omega (arith, some)
 
-  pub enters_filled : IsTrue (is_well_formed h.checked.now.script) → (body : Bor (List Stmt)) → statements_of body.now ≡ p.body → (ws : List ℕ) (qs : List (Option Address)) (fs : ArrayVec Frame) → Filled h es sc ws qs → fs.items ≡ h.frames.items ++ record { rest = body; owner = Return h.scope } ∷ [] → Enters h (λ c. effect c most_turns (call 0 i es)) (record h { variables = ws; registers = qs; scope = sc; frames = fs })
+  pub enters_filled : IsTrue (is_well_formed h.checked.now.script) → (body : Bor (List Stmt)) → statements_of body.now ≡ p.body → (ws : List ℕ) (qs : List (Option Address)) (fs : ArrayVec Frame) → Filled h es sc ws qs → fs.items ≡ h.frames.items ++ record { rest = body; owner = Return h.scope } ∷ [] → Enters h (λ c. effect c most_turns (call (on_line 0) i es)) (record h { variables = ws; registers = qs; scope = sc; frames = fs })
   enters_filled formed body is_body ws qs fs filled pushed =
       let own' : Scope = seen_by_procedure h.scope i p in
-      let go : Filled h es own' ws qs → Enters h (λ c. effect c most_turns (call 0 i es)) (record h { variables = ws; registers = qs; scope = own'; frames = fs }) =
+      let go : Filled h es own' ws qs → Enters h (λ c. effect c most_turns (call (on_line 0) i es)) (record h { variables = ws; registers = qs; scope = own'; frames = fs }) =
       λ f. enters h i es room may p own formed body is_body ws qs fs (held_at own'.variables ws)
       (f.values ∙ ap (λ n. Some (slice_range ws h.scope.variables.end (h.scope.variables.end + n))) as_many) refl f.variables_before f.variables f.unset f.registers_before f.registers pushed in
-      subst (λ (u : Scope). Filled h es u ws qs → Enters h (λ c. effect c most_turns (call 0 i es)) (record h { variables = ws; registers = qs; scope = u; frames = fs })) (sym is) go filled
+      subst (λ (u : Scope). Filled h es u ws qs → Enters h (λ c. effect c most_turns (call (on_line 0) i es)) (record h { variables = ws; registers = qs; scope = u; frames = fs })) (sym is) go filled

@@ -6,7 +6,7 @@ use Rattle.std.specs.Borrow.{Bor}
 use Rattle.std.specs.Prelude.{IsSome, IfSome, nat_eq, option_map}
 use Rattle.camac_func.specs.declared.data.DataMove.{DataMove}
 use Rattle.camac_lang.specs.declared.tree.Stmt.{Stmt}
-use Rattle.camac_lang.specs.Tree.{Expression, Statement, address_scan, q_stop, q_repeat}
+use Rattle.camac_lang.specs.Tree.{Expression, Statement, address_scan, q_stop, q_repeat, on_line}
 use Rattle.camac_branch.specs.Address.{Address}
 use Rattle.camac_branch.specs.Allowed.{AllowsCommands, width}
 use Rattle.camac_branch.specs.Branch.{Answer, Reply}
@@ -157,7 +157,7 @@ module _ {V D C : ℕ} (h : Machine V D C) where
   has_some o go fine = let g = fine_given plan (bounds_of h) o go (state_of h []) (left_in h) fine in some_is o g.0 g.1
 
   -- the address scan
-  module _ (f r1 r2 : ℕ) (max : Expression) (x : ℕ) (fine : FineThen h (λ c. effect c most_turns (address_scan 0 f r1 r2 max x))) where
+  module _ (f r1 r2 : ℕ) (max : Expression) (x : ℕ) (fine : FineThen h (λ c. effect c most_turns (address_scan (on_line 0) f r1 r2 max x))) where
     abbrev scans : Address → Address → ℕ → Action
     scans first last m = unless_wrong (nat_eq first.crate_no last.crate_no) (transfer_to plan f None (scan_next first last m) x)
 
@@ -193,7 +193,7 @@ module _ {V D C : ℕ} (h : Machine V D C) where
           pub one_crate : first.crate_no ≡ last.crate_no
           one_crate = eqb-true first.crate_no last.crate_no same_crate
 
-          pub scan_goes : (answers : List Answer) → effect (context_in h.checked.now) most_turns (address_scan 0 f r1 r2 max x) (state_of h answers) ≡ transfer_to plan f None (scan_next first last m) x (state_of h answers)
+          pub scan_goes : (answers : List Answer) → effect (context_in h.checked.now) most_turns (address_scan (on_line 0) f r1 r2 max x) (state_of h answers) ≡ transfer_to plan f None (scan_next first last m) x (state_of h answers)
           scan_goes answers =
               ap (λ o. given o scans_from (state_of h answers)) is1
               ∙ ap (λ o. given o (scans_up first) (state_of h answers)) is2
@@ -201,7 +201,7 @@ module _ {V D C : ℕ} (h : Machine V D C) where
               ∙ ap (λ b. unless_wrong b (transfer_to plan f None (scan_next first last m) x) (state_of h answers)) same_crate
 
   -- Q-stop
-  module _ (f r : ℕ) (g : Option ℕ) (max : Expression) (x : ℕ) (fine : FineThen h (λ c. effect c most_turns (q_stop 0 f r g max x))) where
+  module _ (f r : ℕ) (g : Option ℕ) (max : Expression) (x : ℕ) (fine : FineThen h (λ c. effect c most_turns (q_stop (on_line 0) f r g max x))) where
     abbrev stops_after : Option (List ℕ) → Address → ℕ → Action
     stops_after table at m = transfer_to plan f table (q_stop_next at m) x
 
@@ -227,14 +227,14 @@ module _ {V D C : ℕ} (h : Machine V D C) where
             has_some (value max (variables_here h)) (stops_after table at)
             (known h (registers_here h r) at (stops_at table) [] is2 with_table)
 
-        pub stop_goes : (m : ℕ) → value max (variables_here h) ≡ Some m → (answers : List Answer) → effect (context_in h.checked.now) most_turns (q_stop 0 f r g max x) (state_of h answers) ≡ transfer_to plan f table (q_stop_next at m) x (state_of h answers)
+        pub stop_goes : (m : ℕ) → value max (variables_here h) ≡ Some m → (answers : List Answer) → effect (context_in h.checked.now) most_turns (q_stop (on_line 0) f r g max x) (state_of h answers) ≡ transfer_to plan f table (q_stop_next at m) x (state_of h answers)
         stop_goes m is3 answers =
             ap (λ o. given o stops_with (state_of h answers)) is1
             ∙ ap (λ o. given o (stops_at table) (state_of h answers)) is2
             ∙ ap (λ o. given o (stops_after table at) (state_of h answers)) is3
 
   -- Q-repeat
-  module _ (f r : ℕ) (g : Option ℕ) (max limit : Expression) (x : ℕ) (fine : FineThen h (λ c. effect c most_turns (q_repeat 0 f r g max limit x))) where
+  module _ (f r : ℕ) (g : Option ℕ) (max limit : Expression) (x : ℕ) (fine : FineThen h (λ c. effect c most_turns (q_repeat (on_line 0) f r g max limit x))) where
     abbrev q_repeats_up : Option (List ℕ) → Address → ℕ → ℕ → Action
     q_repeats_up table at m n = transfer_to plan f table (q_repeat_next at m n) x
 
@@ -270,7 +270,7 @@ module _ {V D C : ℕ} (h : Machine V D C) where
               has_some (value limit (variables_here h)) (q_repeats_up table at m)
               (known h (value max (variables_here h)) m (q_repeats_for table at) [] is3 at_address)
 
-          pub repeat_goes : (n : ℕ) → value limit (variables_here h) ≡ Some n → (answers : List Answer) → effect (context_in h.checked.now) most_turns (q_repeat 0 f r g max limit x) (state_of h answers) ≡ transfer_to plan f table (q_repeat_next at m n) x (state_of h answers)
+          pub repeat_goes : (n : ℕ) → value limit (variables_here h) ≡ Some n → (answers : List Answer) → effect (context_in h.checked.now) most_turns (q_repeat (on_line 0) f r g max limit x) (state_of h answers) ≡ transfer_to plan f table (q_repeat_next at m n) x (state_of h answers)
           repeat_goes n is4 answers =
               ap (λ o. given o q_repeats_with (state_of h answers)) is1
               ∙ ap (λ o. given o (q_repeats_at table) (state_of h answers)) is2

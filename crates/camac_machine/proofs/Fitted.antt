@@ -59,33 +59,33 @@ module _ (s : Scope) (to : Reach) (all : Reaches s to) where
 
   mutual
     statement_fits : (t : Statement) (seen m d : ℕ) → after s seen t ≡ Some m → m ≤ to.registers → statement_depth s.callables t ≤ d → StatementFits to d t
-    statement_fits (assign line x e) seen m d b le deep =
+    statement_fits (assign spot x e) seen m d b le deep =
         let h = (unless_parts _ seen m b).0 in
         let p = and_parts (nat_lt x s.variables) (expression_fits s e) h in
         let lt : x < s.variables = ltb-true x s.variables p.0 in
         let few = all.variables in (omega (arith, lt, few), refers_in e p.1)
-    statement_fits (set_register line r e1 e2 e3) seen m d b le deep =
+    statement_fits (set_register spot r e1 e2 e3) seen m d b le deep =
         let h = unless_parts _ (max seen (suc r)) m b in
         let p = and_parts _ (expression_fits s e1 && (expression_fits s e2 && expression_fits s e3)) h.0 in
         let q = and_parts (expression_fits s e1) (expression_fits s e2 && expression_fits s e3) p.1 in
         let t = and_parts (expression_fits s e2) (expression_fits s e3) q.1 in
         let top = h.1 in (omega (arith, top), refers_in e1 q.0, refers_in e2 t.0, refers_in e3 t.1)
-    statement_fits (single line size f r w) seen m d b le deep =
+    statement_fits (single spot size f r w) seen m d b le deep =
         let h = unless_parts _ seen m b in
         let p = and_parts (is_function f) (nat_lt r seen && move_fits s w) h.0 in
         let q = and_parts (nat_lt r seen) (move_fits s w) p.1 in
         let lt : r < seen = ltb-true r seen q.0 in
         let same = h.1 in (omega (arith, same), move_in w q.1)
-    statement_fits (put line e) seen m d b le deep = refers_in e (unless_parts _ seen m b).0
-    statement_fits (crate_call line which e) seen m d b le deep = refers_in e (unless_parts _ seen m b).0
-    statement_fits (lam_call line which i) seen m d b le deep =
+    statement_fits (put spot e) seen m d b le deep = refers_in e (unless_parts _ seen m b).0
+    statement_fits (crate_call spot which e) seen m d b le deep = refers_in e (unless_parts _ seen m b).0
+    statement_fits (lam_call spot which i) seen m d b le deep =
         let lt : i < s.lams = ltb-true i s.lams (unless_parts _ seen m b).0 in
         let few = all.lams in omega (arith, lt, few)
-    statement_fits (choose line test first) seen m d b le deep =
+    statement_fits (choose spot test first) seen m d b le deep =
         let p = then_parts (λ k. after_block s k first) _ m b in
         let h = unless_parts (condition_fits s test) seen p.0 p.1 in
         (condition_in test h.0, omega (arith, deep), block_fits first p.0 m (d - 1) p.2 le (omega (arith, deep)))
-    statement_fits (choose_else line test first second) seen m d b le deep =
+    statement_fits (choose_else spot test first second) seen m d b le deep =
         let p = then_parts (λ k. after_block s k second) _ m b in
         let q = then_parts (λ k. after_block s k first) _ p.0 p.1 in
         let h = unless_parts (condition_fits s test) seen q.0 q.1 in
@@ -95,14 +95,14 @@ module _ (s : Scope) (to : Reach) (all : Reaches s to) where
           block_fits first q.0 p.0 (d - 1) q.2 (omega (arith, grows, le)) (omega (arith, deep)),
           block_fits second p.0 m (d - 1) p.2 le (omega (arith, deep)),
         )
-    statement_fits (locked line e body) seen m d b le deep =
+    statement_fits (locked spot e body) seen m d b le deep =
         let p = then_parts (λ k. after_block s k body) _ m b in
         let h = unless_parts (not s.is_procedure && expression_fits s e) seen p.0 p.1 in (
           refers_in e (and_parts (not s.is_procedure) (expression_fits s e) h.0).1,
           omega (arith, deep),
           block_fits body p.0 m (d - 1) p.2 le (omega (arith, deep)),
         )
-    statement_fits (address_scan line f r1 r2 e x) seen m d b le deep =
+    statement_fits (address_scan spot f r1 r2 e x) seen m d b le deep =
         let h = unless_parts _ seen m b in
         let p = and_parts (is_function f) (nat_lt r1 seen && (nat_lt r2 seen && (expression_fits s e && nat_lt x s.variables))) h.0 in
         let q = and_parts (nat_lt r1 seen) (nat_lt r2 seen && (expression_fits s e && nat_lt x s.variables)) p.1 in
@@ -113,7 +113,7 @@ module _ (s : Scope) (to : Reach) (all : Reaches s to) where
         let lt : x < s.variables = ltb-true x s.variables u.1 in
         let few = all.variables in
         let same = h.1 in (omega (arith, first, same, le), omega (arith, last, same, le), refers_in e u.0, omega (arith, lt, few))
-    statement_fits (q_stop line f r g e x) seen m d b le deep =
+    statement_fits (q_stop spot f r g e x) seen m d b le deep =
         let h = unless_parts _ seen m b in
         let p = and_parts (is_function f) (nat_lt r seen && (table_fits s g && (expression_fits s e && nat_lt x s.variables))) h.0 in
         let q = and_parts (nat_lt r seen) (table_fits s g && (expression_fits s e && nat_lt x s.variables)) p.1 in
@@ -123,7 +123,7 @@ module _ (s : Scope) (to : Reach) (all : Reaches s to) where
         let lt : x < s.variables = ltb-true x s.variables u.1 in
         let few = all.variables in
         let same = h.1 in (omega (arith, first, same, le), refers_in e u.0, omega (arith, lt, few))
-    statement_fits (q_repeat line f r g e l x) seen m d b le deep =
+    statement_fits (q_repeat spot f r g e l x) seen m d b le deep =
         let h = unless_parts _ seen m b in
         let p = and_parts (is_function f) (nat_lt r seen && (table_fits s g && (expression_fits s e && (expression_fits s l && nat_lt x s.variables)))) h.0 in
         let q = and_parts (nat_lt r seen) (table_fits s g && (expression_fits s e && (expression_fits s l && nat_lt x s.variables))) p.1 in
@@ -134,7 +134,7 @@ module _ (s : Scope) (to : Reach) (all : Reaches s to) where
         let lt : x < s.variables = ltb-true x s.variables w.1 in
         let few = all.variables in
         let same = h.1 in (omega (arith, first, same, le), refers_in e u.0, refers_in l w.0, omega (arith, lt, few))
-    statement_fits (for_ line x e1 e2 keeps body) seen m d b le deep =
+    statement_fits (for_ spot x e1 e2 keeps body) seen m d b le deep =
         let p = then_parts (λ k. after_block s k body) _ m b in
         let h = unless_parts _ seen p.0 p.1 in
         let q = and_parts (nat_lt x s.variables) (expression_fits s e1 && (expression_fits s e2 && keeps_fit s x keeps)) h.0 in
@@ -147,18 +147,18 @@ module _ (s : Scope) (to : Reach) (all : Reaches s to) where
           omega (arith, deep),
           block_fits body p.0 m (d - 1) p.2 le (omega (arith, deep)),
         )
-    statement_fits (for_each line x first last body) seen m d b le deep =
+    statement_fits (for_each spot x first last body) seen m d b le deep =
         let p = then_parts (λ k. after_block s k body) _ m b in
         let h = unless_parts _ seen p.0 p.1 in
         let lt : x < s.variables = ltb-true x s.variables (and_parts (nat_lt x s.variables) (is_number first && is_number last) h.0).0 in
         let few = all.variables in
         (omega (arith, lt, few), omega (arith, deep), block_fits body p.0 m (d - 1) p.2 le (omega (arith, deep)))
-    statement_fits (while_ line test most' i keeps body) seen m d b le deep =
+    statement_fits (while_ spot test most' i keeps body) seen m d b le deep =
         let p = then_parts (λ k. after_block s k body) _ m b in
         let h = unless_parts _ seen p.0 p.1 in
         let q = and_parts (condition_fits s test) (is_number most' && (nat_lt i s.variables && keeps_fit s i keeps)) h.0 in
         (condition_in test q.0, omega (arith, deep), block_fits body p.0 m (d - 1) p.2 le (omega (arith, deep)))
-    statement_fits (call line p es) seen m d b le deep =
+    statement_fits (call spot p es) seen m d b le deep =
         let h = (unless_parts _ seen m b).0 in
         let k = and_parts (has (slice_get s.callables p) (λ q. nat_eq q.parameters (length es))) (each (expression_fits s) es) h in
         let q = has_parts (slice_get s.callables p) (λ q. nat_eq q.parameters (length es)) k.0 in

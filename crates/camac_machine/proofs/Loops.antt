@@ -4,7 +4,7 @@ use Rattle.std.specs.Borrow.{Bor}
 use Rattle.std.specs.Prelude.{IsSome}
 use Rattle.camac_lang.specs.declared.tree.Part as rust_part
 use Rattle.camac_lang.specs.declared.tree.Stmt.{Stmt}
-use Rattle.camac_lang.specs.Tree.{Expression, Condition, Block, for_}
+use Rattle.camac_lang.specs.Tree.{Expression, Condition, Block, for_, on_line}
 use Rattle.camac_lang.specs.View.{part_of, statements_of}
 use Rattle.camac_branch.specs.Branch.{Answer}
 use Rattle.camac_model.specs.State.{State, Variables, stepped}
@@ -95,7 +95,7 @@ module _ {V D C : ℕ} (h : Machine V D C) where
       (turned x value last (n - 1) body new lt r same pushed room)
 
   -- what a `for` comes to, by its first and last value
-  pub from_to : (x : ℕ) (e1 e2 : Expression) (b : Block) (v w : ℕ) → value e1 (variables_here h) ≡ Some v → value e2 (variables_here h) ≡ Some w → (answers : List Answer) → effect ctx most_turns (for_ 0 x e1 e2 [] b) (state_of h answers) ≡ for_from (w + 1 - v) most_turns x v w (does_all b) (state_of h answers)
+  pub from_to : (x : ℕ) (e1 e2 : Expression) (b : Block) (v w : ℕ) → value e1 (variables_here h) ≡ Some v → value e2 (variables_here h) ≡ Some w → (answers : List Answer) → effect ctx most_turns (for_ (on_line 0) x e1 e2 [] b) (state_of h answers) ≡ for_from (w + 1 - v) most_turns x v w (does_all b) (state_of h answers)
   from_to x e1 e2 b v w is1 is2 answers =
       let s : State = state_of h answers in
       let to : ℕ → Action = λ k. given (value e2 (variables_here h)) (λ u. for_from (u + 1 - k) most_turns x k u (does_all b)) in

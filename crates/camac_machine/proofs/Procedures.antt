@@ -138,26 +138,26 @@ module _ (c : Context) (rs : List (ℕ → Action)) (n : ℕ) (to : Reach) (same
 
   mutual
     effect_same : (st : Statement) (d : ℕ) → StatementFits to d st → (s : State) → effect c n st s ≡ effect wider n st s
-    effect_same (assign line x e) d fits s = refl
-    effect_same (set_register line r k m a) d fits s = refl
-    effect_same (single line size f r data') d fits s = refl
-    effect_same (address_scan line f r1 r2 max x) d fits s = refl
-    effect_same (q_stop line f r g max x) d fits s = refl
-    effect_same (q_repeat line f r g max limit x) d fits s = refl
-    effect_same (put line e) d fits s = refl
-    effect_same (crate_call line k e) d fits s = refl
-    effect_same (lam_call line k l) d fits s = refl
-    effect_same (choose line test a) d fits s = ap (λ (go : Action). decide (truth test s.variables s.q s.x) go ends s) (block_same a (d - 1) fits.2)
-    effect_same (choose_else line test a b) d fits s =
+    effect_same (assign spot x e) d fits s = refl
+    effect_same (set_register spot r k m a) d fits s = refl
+    effect_same (single spot size f r data') d fits s = refl
+    effect_same (address_scan spot f r1 r2 max x) d fits s = refl
+    effect_same (q_stop spot f r g max x) d fits s = refl
+    effect_same (q_repeat spot f r g max limit x) d fits s = refl
+    effect_same (put spot e) d fits s = refl
+    effect_same (crate_call spot k e) d fits s = refl
+    effect_same (lam_call spot k l) d fits s = refl
+    effect_same (choose spot test a) d fits s = ap (λ (go : Action). decide (truth test s.variables s.q s.x) go ends s) (block_same a (d - 1) fits.2)
+    effect_same (choose_else spot test a b) d fits s =
         ap (λ (go : Action). decide (truth test s.variables s.q s.x) go (block_meaning c n b) s) (block_same a (d - 1) fits.2)
         ∙ ap (λ (go : Action). decide (truth test s.variables s.q s.x) (block_meaning wider n a) go s) (block_same b (d - 1) fits.3)
-    effect_same (for_ line x e1 e2 keeps body) d fits s =
+    effect_same (for_ spot x e1 e2 keeps body) d fits s =
         ap (λ (go : Action). given (value e1 s.variables) (λ v. given (value e2 s.variables) (λ w. for_from (w + 1 - v) n x v w go)) s) (block_same body (d - 1) fits.4)
-    effect_same (for_each line x v last body) d fits s = ap (λ (go : Action). for_from (last + 1 - v) n x v last go s) (block_same body (d - 1) fits.2)
-    effect_same (while_ line test m k keeps body) d fits s = ap (λ (go : Action). turns n test go s) (block_same body (d - 1) fits.2)
-    effect_same (locked line e body) d fits s =
+    effect_same (for_each spot x v last body) d fits s = ap (λ (go : Action). for_from (last + 1 - v) n x v last go s) (block_same body (d - 1) fits.2)
+    effect_same (while_ spot test m k keeps body) d fits s = ap (λ (go : Action). turns n test go s) (block_same body (d - 1) fits.2)
+    effect_same (locked spot e body) d fits s =
         ap (λ (go : Action). given (value e s.variables) (λ k. given (crate_waits c.plan k) (λ waits t. take_lock k waits (t.branch k).locked (λ u. then_do (go u) (release k)) t)) s) (block_same body (d - 1) fits.2)
-    effect_same (call line p es) d fits s =
+    effect_same (call spot p es) d fits s =
         ap (λ o. given o (λ routine. given (values es s.variables) (λ vs. enter (routine n) vs)) s) (same p fits.callee fits.there)
 
     pub block_same : (b : Block) (d : ℕ) → BlockFits to d b → ◌≡◌ {A = Action} (block_meaning c n b) (block_meaning wider n b)

@@ -21,6 +21,7 @@ use Rattle.camac_lang.specs.declared.tree.Stmt.TheOpen.{Stmt-F}
 use Rattle.camac_lang.specs.declared.tree.WhileHead.{WhileHead}
 use Rattle.camac_lang.specs.Tree.{Statement, choose, choose_else, for_each, locked}
 use Rattle.camac_lang.specs.View.{assignment_of, call_of, condition_of, crate_action_of, expression_of, for_of, lam_action_of, put_of, q_repeat_of, q_stop_of, scan_of, setting_of, single_of, statement_of, statements_of, statement_step, while_of}
+use Rattle.camac_lang.specs.declared.spot.Spot.{Spot}
 
 pub assign_is : (s : Assignment) → statement_of (rust.Assign s) ≡ assignment_of s
 assign_is s = ap statement_of (sym (rust.rolls-Assign s)) ∙ fold-roll-Stmt Statement statement_step (Stmt-F.Assign s)
@@ -49,20 +50,20 @@ crate_is s = ap statement_of (sym (rust.rolls-CrateCall s)) ∙ fold-roll-Stmt S
 pub lam_is : (s : LamAction) → statement_of (rust.LamCall s) ≡ lam_action_of s
 lam_is s = ap statement_of (sym (rust.rolls-LamCall s)) ∙ fold-roll-Stmt Statement statement_step (Stmt-F.LamCall s)
 
-pub choose_is : (line : ℕ) (c : Cond) (a : Vec Stmt Global) → statement_of (rust.If line c a) ≡ choose line (condition_of c) (statements_of a.items)
-choose_is line c a = ap statement_of (sym (rust.rolls-If line c a)) ∙ fold-roll-Stmt Statement statement_step (layer.If line c a)
+pub choose_is : (spot : Spot) (c : Cond) (a : Vec Stmt Global) → statement_of (rust.If spot c a) ≡ choose spot (condition_of c) (statements_of a.items)
+choose_is spot c a = ap statement_of (sym (rust.rolls-If spot c a)) ∙ fold-roll-Stmt Statement statement_step (layer.If spot c a)
 
-pub choose_else_is : (line : ℕ) (c : Cond) (a b : Vec Stmt Global) → statement_of (rust.IfElse line c a b) ≡ choose_else line (condition_of c) (statements_of a.items) (statements_of b.items)
-choose_else_is line c a b = ap statement_of (sym (rust.rolls-IfElse line c a b)) ∙ fold-roll-Stmt Statement statement_step (layer.IfElse line c a b)
+pub choose_else_is : (spot : Spot) (c : Cond) (a b : Vec Stmt Global) → statement_of (rust.IfElse spot c a b) ≡ choose_else spot (condition_of c) (statements_of a.items) (statements_of b.items)
+choose_else_is spot c a b = ap statement_of (sym (rust.rolls-IfElse spot c a b)) ∙ fold-roll-Stmt Statement statement_step (layer.IfElse spot c a b)
 
-pub lock_is : (line : ℕ) (e : Expr) (a : Vec Stmt Global) → statement_of (rust.Lock line e a) ≡ locked line (expression_of e) (statements_of a.items)
-lock_is line e a = ap statement_of (sym (rust.rolls-Lock line e a)) ∙ fold-roll-Stmt Statement statement_step (layer.Lock line e a)
+pub lock_is : (spot : Spot) (e : Expr) (a : Vec Stmt Global) → statement_of (rust.Lock spot e a) ≡ locked spot (expression_of e) (statements_of a.items)
+lock_is spot e a = ap statement_of (sym (rust.rolls-Lock spot e a)) ∙ fold-roll-Stmt Statement statement_step (layer.Lock spot e a)
 
 pub for_is : (s : ForHead) (a : Vec Stmt Global) → statement_of (rust.For s a) ≡ for_of s (statements_of a.items)
 for_is s a = ap statement_of (sym (rust.rolls-For s a)) ∙ fold-roll-Stmt Statement statement_step (layer.For s a)
 
-pub each_is : (line x v last : ℕ) (a : Vec Stmt Global) → statement_of (rust.ForEach line x v last a) ≡ for_each line x v last (statements_of a.items)
-each_is line x v last a = ap statement_of (sym (rust.rolls-ForEach line x v last a)) ∙ fold-roll-Stmt Statement statement_step (layer.ForEach line x v last a)
+pub each_is : (spot : Spot) (x v last : ℕ) (a : Vec Stmt Global) → statement_of (rust.ForEach spot x v last a) ≡ for_each spot x v last (statements_of a.items)
+each_is spot x v last a = ap statement_of (sym (rust.rolls-ForEach spot x v last a)) ∙ fold-roll-Stmt Statement statement_step (layer.ForEach spot x v last a)
 
 pub while_is : (s : WhileHead) (a : Vec Stmt Global) → statement_of (rust.While s a) ≡ while_of s (statements_of a.items)
 while_is s a = ap statement_of (sym (rust.rolls-While s a)) ∙ fold-roll-Stmt Statement statement_step (layer.While s a)

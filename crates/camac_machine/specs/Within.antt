@@ -70,22 +70,22 @@ pub record CallFits (r : Reach) (d p : ℕ) (es : List Expression) : Type 0 wher
 abbrev mutual
   -- it refers to what it may, and inside it at most d blocks are open
   pub StatementFits : Reach → ℕ → Statement → Type 0
-  StatementFits r d (assign line x e) = (x < r.variables) × Refers r.variables e
-  StatementFits r d (set_register line i k m a) = (i < r.registers) × Refers r.variables k × Refers r.variables m × Refers r.variables a
-  StatementFits r d (single line size f i data') = (i < r.registers) × MoveFits r.variables data'
-  StatementFits r d (put line e) = Refers r.variables e
-  StatementFits r d (crate_call line k e) = Refers r.variables e
-  StatementFits r d (lam_call line k i) = i < r.lams
-  StatementFits r d (address_scan line f i1 i2 max x) = (i1 < r.registers) × (i2 < r.registers) × Refers r.variables max × (x < r.variables)
-  StatementFits r d (q_stop line f i g max x) = (i < r.registers) × Refers r.variables max × (x < r.variables)
-  StatementFits r d (q_repeat line f i g max limit x) = (i < r.registers) × Refers r.variables max × Refers r.variables limit × (x < r.variables)
-  StatementFits r d (choose line test a) = PartsRefer r.variables test × (0 < d) × BlockFits r (d - 1) a
-  StatementFits r d (choose_else line test a b) = PartsRefer r.variables test × (0 < d) × BlockFits r (d - 1) a × BlockFits r (d - 1) b
-  StatementFits r d (for_ line x e1 e2 keeps body) = (x < r.variables) × Refers r.variables e1 × Refers r.variables e2 × (0 < d) × BlockFits r (d - 1) body
-  StatementFits r d (for_each line x v last body) = (x < r.variables) × (0 < d) × BlockFits r (d - 1) body
-  StatementFits r d (while_ line test m k keeps body) = PartsRefer r.variables test × (0 < d) × BlockFits r (d - 1) body
-  StatementFits r d (locked line e body) = Refers r.variables e × (0 < d) × BlockFits r (d - 1) body
-  StatementFits r d (call line p es) = CallFits r d p es
+  StatementFits r d (assign spot x e) = (x < r.variables) × Refers r.variables e
+  StatementFits r d (set_register spot i k m a) = (i < r.registers) × Refers r.variables k × Refers r.variables m × Refers r.variables a
+  StatementFits r d (single spot size f i data') = (i < r.registers) × MoveFits r.variables data'
+  StatementFits r d (put spot e) = Refers r.variables e
+  StatementFits r d (crate_call spot k e) = Refers r.variables e
+  StatementFits r d (lam_call spot k i) = i < r.lams
+  StatementFits r d (address_scan spot f i1 i2 max x) = (i1 < r.registers) × (i2 < r.registers) × Refers r.variables max × (x < r.variables)
+  StatementFits r d (q_stop spot f i g max x) = (i < r.registers) × Refers r.variables max × (x < r.variables)
+  StatementFits r d (q_repeat spot f i g max limit x) = (i < r.registers) × Refers r.variables max × Refers r.variables limit × (x < r.variables)
+  StatementFits r d (choose spot test a) = PartsRefer r.variables test × (0 < d) × BlockFits r (d - 1) a
+  StatementFits r d (choose_else spot test a b) = PartsRefer r.variables test × (0 < d) × BlockFits r (d - 1) a × BlockFits r (d - 1) b
+  StatementFits r d (for_ spot x e1 e2 keeps body) = (x < r.variables) × Refers r.variables e1 × Refers r.variables e2 × (0 < d) × BlockFits r (d - 1) body
+  StatementFits r d (for_each spot x v last body) = (x < r.variables) × (0 < d) × BlockFits r (d - 1) body
+  StatementFits r d (while_ spot test m k keeps body) = PartsRefer r.variables test × (0 < d) × BlockFits r (d - 1) body
+  StatementFits r d (locked spot e body) = Refers r.variables e × (0 < d) × BlockFits r (d - 1) body
+  StatementFits r d (call spot p es) = CallFits r d p es
 
   -- the same of each statement of a block that is open
   pub BlockFits : Reach → ℕ → Block → Type 0

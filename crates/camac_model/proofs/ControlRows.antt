@@ -5,7 +5,7 @@ use Rattle.camac_func.specs.declared.data.DataMove.TheVariants as moved
 use Rattle.camac_range.specs.declared.comparison.Cmp.TheVariants.{More, Less, Same}
 use Rattle.camac_lang.specs.declared.word.WordSize.TheVariants.{Full}
 use Rattle.camac_lang.specs.declared.word.LamCall.TheVariants as lam_word
-use Rattle.camac_lang.specs.Tree.{Expression, plain, negated, compare, flag_q, flag_x, add, subtract, divide, remainder, number, variable, group, no_data, into, assign, set_register, single, put, lam_call, choose, for_, while_, Script}
+use Rattle.camac_lang.specs.Tree.{Expression, plain, negated, compare, flag_q, flag_x, add, subtract, divide, remainder, number, variable, group, no_data, into, assign, set_register, single, put, lam_call, choose, for_, while_, Script, on_line}
 use Rattle.camac_lang.specs.View.{block_of}
 use Rattle.camac_lang.specs.Scope.{is_well_formed}
 use Rattle.camac_branch.specs.Branch.{Answer}
@@ -17,9 +17,9 @@ use Rattle.camac_model.proofs.SampleScripts.{v, k, i, with_r, r, register, scrip
 -- poll-loop: Q always 0, and 1 at once
 abbrev poll : Script
 poll =
-    script 30 0 with_r (register r 6 0 ∷ assign 5 k (number 10) ∷
-    while_ 6 (plain (compare (variable k) More (number 0)) ∷ negated flag_q ∷ []) 10 k []
-    (block_of (single 6 Full 27 r no_data ∷ assign 6 k (subtract (variable k) (number 1)) ∷ [])) ∷ [])
+    script 30 0 with_r (register r 6 0 ∷ assign (on_line 5) k (number 10) ∷
+    while_ (on_line 6) (plain (compare (variable k) More (number 0)) ∷ negated flag_q ∷ []) 10 k []
+    (block_of (single (on_line 6) Full 27 r no_data ∷ assign (on_line 6) k (subtract (variable k) (number 1)) ∷ [])) ∷ [])
 
 poll_stands : is_well_formed poll ≡ true
 unfolding is_well_formed
@@ -39,7 +39,7 @@ poll_at_once = refl
 
 -- loop-over-stations: addresses that are computed; afterwards the variable is the last value
 abbrev sweep : Script
-sweep = script 6 1 with_r (for_ 4 i (number 5) (number 6) [] (block_of (set_register 4 r (number 1) (variable i) (number 0) ∷ single 4 Full 0 r (into v) ∷ [])) ∷ put 5 (variable i) ∷ [])
+sweep = script 6 1 with_r (for_ (on_line 4) i (number 5) (number 6) [] (block_of (set_register (on_line 4) r (number 1) (variable i) (number 0) ∷ single (on_line 4) Full 0 r (into v) ∷ [])) ∷ put (on_line 5) (variable i) ∷ [])
 
 sweep_stands : is_well_formed sweep ≡ true
 unfolding is_well_formed
@@ -52,7 +52,7 @@ sweep_run = refl
 
 -- empty-for: no turn, and the variable stays
 abbrev empty_for : Script
-empty_for = script 100 100 [] (for_ 4 i (number 5) (number 4) [] (block_of []) ∷ put 5 (variable i) ∷ [])
+empty_for = script 100 100 [] (for_ (on_line 4) i (number 5) (number 4) [] (block_of []) ∷ put (on_line 5) (variable i) ∷ [])
 
 empty_for_stands : is_well_formed empty_for ≡ true
 unfolding is_well_formed
@@ -61,31 +61,31 @@ empty_for_stands = refl
 empty_for_run : served empty_for [] ≡ doing (called ∷ event_left (event 3 0 0 (0 ∷ [])) ∷ [])
 empty_for_run = refl
 
-empty_for_steps : option_map (λ u. u.steps) (left_by (script 100 100 [] (for_ 4 i (number 5) (number 4) [] (block_of (assign 4 i (number 3) ∷ [])) ∷ [])) []) ≡ Some 1
+empty_for_steps : option_map (λ u. u.steps) (left_by (script 100 100 [] (for_ (on_line 4) i (number 5) (number 4) [] (block_of (assign (on_line 4) i (number 3) ∷ [])) ∷ [])) []) ≡ Some 1
 empty_for_steps = refl
 
 -- from above by more than 1; the ends are evaluated once; what a turn sets is not kept
-for_down : events (served (script 100 100 [] (assign 4 i (number 9) ∷ for_ 4 i (number 5) (number 1) [] (block_of (put 4 (number 1) ∷ [])) ∷ put 5 (variable i) ∷ [])) []) ≡ event 3 0 0 (9 ∷ []) ∷ []
+for_down : events (served (script 100 100 [] (assign (on_line 4) i (number 9) ∷ for_ (on_line 4) i (number 5) (number 1) [] (block_of (put (on_line 4) (number 1) ∷ [])) ∷ put (on_line 5) (variable i) ∷ [])) []) ≡ event 3 0 0 (9 ∷ []) ∷ []
 for_down = refl
 
-for_once : events (served (script 100 100 [] (assign 4 k (number 3) ∷ for_ 4 i (number 1) (variable k) [] (block_of (assign 4 k (number 1) ∷ put 4 (variable i) ∷ assign 4 i (number 50) ∷ [])) ∷ put 5 (variable i) ∷ [])) []) ≡ event 3 0 0 (1 ∷ 2 ∷ 3 ∷ 3 ∷ []) ∷ []
+for_once : events (served (script 100 100 [] (assign (on_line 4) k (number 3) ∷ for_ (on_line 4) i (number 1) (variable k) [] (block_of (assign (on_line 4) k (number 1) ∷ put (on_line 4) (variable i) ∷ assign (on_line 4) i (number 50) ∷ [])) ∷ put (on_line 5) (variable i) ∷ [])) []) ≡ event 3 0 0 (1 ∷ 2 ∷ 3 ∷ 3 ∷ []) ∷ []
 for_once = refl
 
-for_self : events (served (script 100 100 [] (assign 4 i (number 2) ∷ for_ 4 i (variable i) (add (variable i) (number 1)) [] (block_of (put 4 (variable i) ∷ [])) ∷ put 5 (variable i) ∷ [])) []) ≡ event 3 0 0 (2 ∷ 3 ∷ 3 ∷ []) ∷ []
+for_self : events (served (script 100 100 [] (assign (on_line 4) i (number 2) ∷ for_ (on_line 4) i (variable i) (add (variable i) (number 1)) [] (block_of (put (on_line 4) (variable i) ∷ [])) ∷ put (on_line 5) (variable i) ∷ [])) []) ≡ event 3 0 0 (2 ∷ 3 ∷ 3 ∷ []) ∷ []
 for_self = refl
 
-for_top : events (served (script 100 100 [] (for_ 4 i (number 4294967294) (number 4294967295) [] (block_of []) ∷ put 5 (variable i) ∷ [])) []) ≡ event 3 0 0 (4294967295 ∷ []) ∷ []
+for_top : events (served (script 100 100 [] (for_ (on_line 4) i (number 4294967294) (number 4294967295) [] (block_of []) ∷ put (on_line 5) (variable i) ∷ [])) []) ≡ event 3 0 0 (4294967295 ∷ []) ∷ []
 for_top = refl
 
 -- exactly n turns
-for_four : stop_of (run 3 sample_plan (script 100 100 [] (for_ 4 i (number 1) (number 4) [] (block_of []) ∷ [])) (demand 4 ∷ [])) ≡ Some more
+for_four : stop_of (run 3 sample_plan (script 100 100 [] (for_ (on_line 4) i (number 1) (number 4) [] (block_of []) ∷ [])) (demand 4 ∷ [])) ≡ Some more
 for_four = refl
 
-for_three : stop_of (run 3 sample_plan (script 100 100 [] (for_ 4 i (number 1) (number 3) [] (block_of []) ∷ [])) (demand 4 ∷ [])) ≡ None
+for_three : stop_of (run 3 sample_plan (script 100 100 [] (for_ (on_line 4) i (number 1) (number 3) [] (block_of []) ∷ [])) (demand 4 ∷ [])) ≡ None
 for_three = refl
 
 abbrev down : ℕ → Script
-down n = script 100 100 [] (assign 4 k (number n) ∷ while_ 4 (plain (compare (variable k) More (number 0)) ∷ []) 9 k [] (block_of (assign 4 k (subtract (variable k) (number 1)) ∷ [])) ∷ [])
+down n = script 100 100 [] (assign (on_line 4) k (number n) ∷ while_ (on_line 4) (plain (compare (variable k) More (number 0)) ∷ []) 9 k [] (block_of (assign (on_line 4) k (subtract (variable k) (number 1)) ∷ [])) ∷ [])
 
 while_three : stop_of (run 3 sample_plan (down 3) (demand 4 ∷ [])) ≡ None
 while_three = refl
@@ -94,10 +94,10 @@ while_four : stop_of (run 3 sample_plan (down 4) (demand 4 ∷ [])) ≡ Some mor
 while_four = refl
 
 -- longest-for, and a turn too many
-longest_for : option_map (λ u. u.steps) (left_by (script 100 100 [] (for_ 4 i (number 0) (number 65534) [] (block_of []) ∷ [])) []) ≡ Some 65536
+longest_for : option_map (λ u. u.steps) (left_by (script 100 100 [] (for_ (on_line 4) i (number 0) (number 65534) [] (block_of []) ∷ [])) []) ≡ Some 65536
 longest_for = refl
 
-one_more : stop_of (served (script 100 100 [] (for_ 4 i (number 0) (number 65535) [] (block_of []) ∷ [])) []) ≡ Some more
+one_more : stop_of (served (script 100 100 [] (for_ (on_line 4) i (number 0) (number 65535) [] (block_of []) ∷ [])) []) ≡ Some more
 one_more = refl
 
 -- missed-stays
@@ -106,7 +106,7 @@ silent zero = []
 silent (suc n) = answer false false 0 0 0 ∷ silent n
 
 abbrev missing : Script
-missing = script 196608 0 [] (for_ 4 i (number 1) (number 65535) [] (block_of (lam_call 4 lam_word.Clear 0 ∷ [])) ∷ lam_call 4 lam_word.Clear 0 ∷ [])
+missing = script 196608 0 [] (for_ (on_line 4) i (number 1) (number 65535) [] (block_of (lam_call (on_line 4) lam_word.Clear 0 ∷ [])) ∷ lam_call (on_line 4) lam_word.Clear 0 ∷ [])
 
 missing_stands : is_well_formed missing ≡ true
 unfolding is_well_formed
@@ -119,11 +119,11 @@ missed_stays = refl
 abbrev below : Expression
 below = subtract (number 0) (number 1)
 
-first_false : stop_of (served (script 100 100 [] (choose 4 (plain (compare (number 1) More (number 2)) ∷ plain (compare below Less (number 5)) ∷ []) (block_of []) ∷ [])) []) ≡ None
+first_false : stop_of (served (script 100 100 [] (choose (on_line 4) (plain (compare (number 1) More (number 2)) ∷ plain (compare below Less (number 5)) ∷ []) (block_of []) ∷ [])) []) ≡ None
 first_false = refl
 
-first_true : stop_of (served (script 100 100 [] (choose 4 (plain (compare (number 3) More (number 2)) ∷ plain (compare below Less (number 5)) ∷ []) (block_of []) ∷ [])) []) ≡ Some wrong
+first_true : stop_of (served (script 100 100 [] (choose (on_line 4) (plain (compare (number 3) More (number 2)) ∷ plain (compare below Less (number 5)) ∷ []) (block_of []) ∷ [])) []) ≡ Some wrong
 first_true = refl
 
-all_true : events (served (script 100 100 [] (choose 4 (negated flag_q ∷ negated flag_x ∷ plain (compare (group (divide (number 7) 2)) Same (number 3)) ∷ plain (compare (remainder (number 7) 4) Same (number 3)) ∷ []) (block_of (put 5 (number 8) ∷ [])) ∷ [])) []) ≡ event 3 0 0 (8 ∷ []) ∷ []
+all_true : events (served (script 100 100 [] (choose (on_line 4) (negated flag_q ∷ negated flag_x ∷ plain (compare (group (divide (number 7) 2)) Same (number 3)) ∷ plain (compare (remainder (number 7) 4) Same (number 3)) ∷ []) (block_of (put (on_line 5) (number 8) ∷ [])) ∷ [])) []) ≡ event 3 0 0 (8 ∷ []) ∷ []
 all_true = refl

@@ -3,7 +3,7 @@ use Rattle.std.proofs.Common.{◌≡◌, ℕ, List, [], ◌∷◌, Some, None, t
 use Rattle.std.specs.Prelude.{codes}
 use Rattle.camac_func.specs.declared.data.DataMove.TheVariants as moved
 use Rattle.camac_lang.specs.declared.word.CrateCall.TheVariants as crate_word
-use Rattle.camac_lang.specs.Tree.{Text, number, variable, Statement, assign, set_register, put, crate_call, Script, Lam, Service, next_lam, next_variables, next_service}
+use Rattle.camac_lang.specs.Tree.{Text, number, variable, Statement, assign, set_register, put, crate_call, Script, Lam, Service, next_lam, next_variables, next_service, on_line}
 use Rattle.camac_lang.specs.View.{block_of}
 use Rattle.camac_lang.specs.Scope.{is_well_formed}
 use Rattle.camac_branch.specs.Address.{address}
@@ -16,7 +16,7 @@ use Rattle.camac_model.proofs.SampleScripts.{v, with_r, r, script, answer, deman
 
 -- demand-disabled: a crate with a disabled demand output adds no bits
 abbrev demand_disabled : Script
-demand_disabled = script 3 0 [] (crate_call 4 crate_word.DemandOff (number 1) ∷ [])
+demand_disabled = script 3 0 [] (crate_call (on_line 4) crate_word.DemandOff (number 1) ∷ [])
 
 demand_disabled_stands : is_well_formed demand_disabled ≡ true
 unfolding is_well_formed
@@ -39,23 +39,23 @@ two_plan = record {
 }
 
 abbrev lam_at : List ℕ → ℕ → ℕ → ℕ → Lam
-lam_at name c n a = record { line = 1; name = name; crate_no = c; station = n; sub_address = a }
+lam_at name c n a = record { spot = on_line 1; name = name; crate_no = c; station = n; sub_address = a }
 
 abbrev served_by : ℕ → List Text → List Statement → Service
-served_by l registers ss = record { line = 3; lam = l; cycles = 100; words = 100; registers = registers; body = block_of ss }
+served_by l registers ss = record { spot = on_line 3; lam = l; cycles = 100; words = 100; registers = registers; body = block_of ss }
 
 -- the services of bits 24, 3 and 2; bit 1 has none
 abbrev three : Script
 three = record {
-  order = next_lam ∷ next_lam ∷ next_lam ∷ next_variables 2 1 ∷ next_service ∷ next_service ∷ next_service ∷ [];
+  order = next_lam ∷ next_lam ∷ next_lam ∷ next_variables (on_line 2) 1 ∷ next_service ∷ next_service ∷ next_service ∷ [];
   tables = [];
   lams = lam_at (codes "a") 1 5 12 ∷ lam_at (codes "b") 1 6 0 ∷ lam_at (codes "c") 2 5 12 ∷ [];
   variables = codes "v" ∷ [];
   procedures = [];
   services =
-      served_by 1 with_r (put 4 (variable v) ∷ assign 4 v (number 24) ∷ set_register 4 r (number 1) (number 6) (number 0) ∷ []) ∷
-      served_by 0 [] (put 4 (variable v) ∷ assign 4 v (number 3) ∷ crate_call 4 crate_word.DemandOff (number 2) ∷ crate_call 4 crate_word.InhibitOn (number 1) ∷ []) ∷
-      served_by 2 [] (put 4 (variable v) ∷ assign 4 v (number 2) ∷ crate_call 4 crate_word.TestDemand (number 2) ∷ crate_call 4 crate_word.TestInhibit (number 1) ∷ []) ∷
+      served_by 1 with_r (put (on_line 4) (variable v) ∷ assign (on_line 4) v (number 24) ∷ set_register (on_line 4) r (number 1) (number 6) (number 0) ∷ []) ∷
+      served_by 0 [] (put (on_line 4) (variable v) ∷ assign (on_line 4) v (number 3) ∷ crate_call (on_line 4) crate_word.DemandOff (number 2) ∷ crate_call (on_line 4) crate_word.InhibitOn (number 1) ∷ []) ∷
+      served_by 2 [] (put (on_line 4) (variable v) ∷ assign (on_line 4) v (number 2) ∷ crate_call (on_line 4) crate_word.TestDemand (number 2) ∷ crate_call (on_line 4) crate_word.TestInhibit (number 1) ∷ []) ∷
       [];
 }
 

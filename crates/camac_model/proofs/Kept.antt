@@ -116,18 +116,18 @@ module _ {X : Type 0} (step : X → Piece → X) (S : X → Piece → Type 0) (I
     module _ (c : Context) (routines : AllRoutines KeepsWithin c) (n : ℕ) where
       mutual
         statement_keeps : (st : Statement) → Keeps (effect c n st)
-        statement_keeps (assign line v e) x s i =
+        statement_keeps (assign spot v e) x s i =
             given_keeps (value e s.variables) (λ w t. ends (with_variable v w t)) x s i (λ w _. k.on_store x _ _ s i)
-        statement_keeps (set_register line r e1 e2 e3) x s i =
+        statement_keeps (set_register spot r e1 e2 e3) x s i =
             let third : ℕ → ℕ → ℕ → Action = λ k' m' a' t. ends (with_register r (address k' m' a') t) in
             let second : ℕ → ℕ → Action = λ k' m'. given (value e3 s.variables) (third k' m') in
             let first : ℕ → Action = λ k'. given (value e2 s.variables) (second k') in
             given_keeps (value e1 s.variables) first x s i (λ k' _.
             given_keeps (value e2 s.variables) (second k') x s i (λ m' _.
             given_keeps (value e3 s.variables) (third k' m') x s i (λ a' _. k.on_store x _ _ s i)))
-        statement_keeps (single line size f r d) x s i =
+        statement_keeps (single spot size f r d) x s i =
             given_keeps (s.registers r) (λ at. act c.plan at f size d) x s i (λ at _. act_keeps c.plan at f size d x s i)
-        statement_keeps (address_scan line f r1 r2 max v) x s i =
+        statement_keeps (address_scan spot f r1 r2 max v) x s i =
             let go : Address → Address → ℕ → Action = λ a b l. transfer_to c.plan f None (scan_next a b l) v in
             let third : Address → Address → ℕ → Action = λ a b l. unless_wrong (nat_eq a.crate_no b.crate_no) (go a b l) in
             let second : Address → Address → Action = λ a b. given (value max s.variables) (third a b) in
@@ -135,13 +135,13 @@ module _ {X : Type 0} (step : X → Piece → X) (S : X → Piece → Type 0) (I
             given_keeps (s.registers r2) (second a) x s i (λ b _.
             given_keeps (value max s.variables) (third a b) x s i (λ l _.
             unless_meets step S Still I x (nat_eq a.crate_no b.crate_no) (go a b l) s (λ _. i) (λ _. transfer_keeps c.plan f None (scan_next a b l) v x s i))))
-        statement_keeps (q_stop line f r g max v) x s i =
+        statement_keeps (q_stop spot f r g max v) x s i =
             let second : Option (List ℕ) → Address → ℕ → Action = λ table at l. transfer_to c.plan f table (q_stop_next at l) v in
             let first : Option (List ℕ) → Address → Action = λ table at. given (value max s.variables) (second table at) in
             given_keeps (sent c g) (λ table. given (s.registers r) (first table)) x s i (λ table _.
             given_keeps (s.registers r) (first table) x s i (λ at _.
             given_keeps (value max s.variables) (second table at) x s i (λ l _. transfer_keeps c.plan f table (q_stop_next at l) v x s i)))
-        statement_keeps (q_repeat line f r g max limit v) x s i =
+        statement_keeps (q_repeat spot f r g max limit v) x s i =
             let third : Option (List ℕ) → Address → ℕ → ℕ → Action = λ table at l l'. transfer_to c.plan f table (q_repeat_next at l l') v in
             let second : Option (List ℕ) → Address → ℕ → Action = λ table at l. given (value limit s.variables) (third table at l) in
             let first : Option (List ℕ) → Address → Action = λ table at. given (value max s.variables) (second table at) in
@@ -149,31 +149,31 @@ module _ {X : Type 0} (step : X → Piece → X) (S : X → Piece → Type 0) (I
             given_keeps (s.registers r) (first table) x s i (λ at _.
             given_keeps (value max s.variables) (second table at) x s i (λ l _.
             given_keeps (value limit s.variables) (third table at l) x s i (λ l' _. transfer_keeps c.plan f table (q_repeat_next at l l') v x s i))))
-        statement_keeps (put line e) x s i =
+        statement_keeps (put spot e) x s i =
             given_keeps (value e s.variables) (λ w t. ends (with_word w t)) x s i (λ w _. k.on_word x w s i)
-        statement_keeps (crate_call line op e) x s i =
+        statement_keeps (crate_call spot op e) x s i =
             given_keeps (value e s.variables) (λ d. act c.plan (crate_address op d) (crate_function op) Full no_data) x s i (λ d _. act_keeps c.plan (crate_address op d) (crate_function op) Full no_data x s i)
-        statement_keeps (lam_call line op l) x s i =
+        statement_keeps (lam_call spot op l) x s i =
             given_keeps (slice_get c.lams l) (λ at. act c.plan at (lam_function op) Full no_data) x s i (λ at _. act_keeps c.plan at (lam_function op) Full no_data x s i)
-        statement_keeps (choose line test a) x s i =
+        statement_keeps (choose spot test a) x s i =
             decide_meets step S Still I x (truth test s.variables s.q s.x) (block_meaning c n a) ends s (λ _. i) (λ _. block_keeps a x s i) (λ _. i)
-        statement_keeps (choose_else line test a b) x s i =
+        statement_keeps (choose_else spot test a b) x s i =
             decide_meets step S Still I x (truth test s.variables s.q s.x) (block_meaning c n a) (block_meaning c n b) s (λ _. i) (λ _. block_keeps a x s i) (λ _. block_keeps b x s i)
-        statement_keeps (for_ line v e1 e2 keeps body) x s i =
+        statement_keeps (for_ spot v e1 e2 keeps body) x s i =
             let second : ℕ → ℕ → Action = λ first last. for_from (last + 1 - first) n v first last (block_meaning c n body) in
             given_keeps (value e1 s.variables) (λ first. given (value e2 s.variables) (second first)) x s i (λ first _.
             given_keeps (value e2 s.variables) (second first) x s i (λ last _.
             count_keeps (last + 1 - first) n v first last (block_meaning c n body) (λ y t j. block_keeps body y t j) x s i))
-        statement_keeps (for_each line v first last body) x s i = count_keeps (last + 1 - first) n v first last (block_meaning c n body) (λ y t j. block_keeps body y t j) x s i
-        statement_keeps (while_ line test turns' measure keeps body) x s i =
+        statement_keeps (for_each spot v first last body) x s i = count_keeps (last + 1 - first) n v first last (block_meaning c n body) (λ y t j. block_keeps body y t j) x s i
+        statement_keeps (while_ spot test turns' measure keeps body) x s i =
             turns_keep n test (block_meaning c n body) (λ y t j. block_keeps body y t j) x s i
-        statement_keeps (locked line e body) x s i =
+        statement_keeps (locked spot e body) x s i =
             let held : ℕ → Action = λ d u. then_do (block_meaning c n body u) (release d) in
             let go : ℕ → ℕ → Action = λ d waits t. take_lock d waits (t.branch d).locked (held d) t in
             given_keeps (value e s.variables) (λ d. given (crate_waits c.plan d) (go d)) x s i (λ d _.
             given_keeps (crate_waits c.plan d) (go d) x s i (λ waits _.
             lock_keeps d waits (held d) (λ y t j. then_keeps (block_meaning c n body) (release d) (λ y t j. block_keeps body y t j) (release_keeps d) y t j) x s i))
-        statement_keeps (call line p es) x s i =
+        statement_keeps (call spot p es) x s i =
             given_keeps (slice_get c.routines p) (λ r. given (values es s.variables) (λ vs. enter (r n) vs)) x s i (λ r e.
             given_keeps (values es s.variables) (λ vs. enter (r n) vs) x s i (λ vs _. enter_keeps (r n) (routines.each p r e n) vs x s i))
 

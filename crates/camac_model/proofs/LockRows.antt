@@ -3,7 +3,7 @@ use Rattle.std.proofs.Common.{◌≡◌, ℕ, List, [], ◌∷◌, Some, None, t
 use Rattle.std.specs.Prelude.{option_map}
 use Rattle.camac_func.specs.declared.data.DataMove.TheVariants as moved
 use Rattle.camac_lang.specs.declared.word.WordSize.TheVariants.{Full}
-use Rattle.camac_lang.specs.Tree.{negated, flag_q, flag_x, number, no_data, into, Statement, set_register, single, put, choose, locked, Script}
+use Rattle.camac_lang.specs.Tree.{negated, flag_q, flag_x, number, no_data, into, Statement, set_register, single, put, choose, locked, Script, on_line}
 use Rattle.camac_lang.specs.View.{block_of}
 use Rattle.camac_lang.specs.Scope.{is_well_formed}
 use Rattle.camac_branch.specs.Branch.{Answer}
@@ -15,10 +15,10 @@ use Rattle.camac_model.proofs.SampleScripts.{v, with_r, with_r_s, r, s, register
 
 -- lockout: a locked crate permits no wait
 abbrev read_v : Statement
-read_v = single 6 Full 0 r (into v)
+read_v = single (on_line 6) Full 0 r (into v)
 
 abbrev lock_four : Script
-lock_four = script 6 100 with_r (register r 5 0 ∷ locked 5 (number 1) (block_of (read_v ∷ read_v ∷ read_v ∷ read_v ∷ [])) ∷ [])
+lock_four = script 6 100 with_r (register r 5 0 ∷ locked (on_line 5) (number 1) (block_of (read_v ∷ read_v ∷ read_v ∷ read_v ∷ [])) ∷ [])
 
 lock_four_stands : is_well_formed lock_four ≡ true
 unfolding is_well_formed
@@ -47,7 +47,7 @@ lock_steps = refl
 
 -- lock-empty
 abbrev lock_empty : Script
-lock_empty = script 2 100 [] (locked 4 (number 1) (block_of []) ∷ [])
+lock_empty = script 2 100 [] (locked (on_line 4) (number 1) (block_of []) ∷ [])
 
 lock_empty_stands : is_well_formed lock_empty ≡ true
 unfolding is_well_formed
@@ -66,14 +66,14 @@ lock_over : stop_of (served lock_empty (answer true true 0 3 0 ∷ [])) ≡ Some
 lock_over = refl
 
 -- a crate that is not in the plan, and a crate that is locked
-lock_no_crate : stop_of (served (script 100 100 [] (locked 4 (number 2) (block_of []) ∷ [])) []) ≡ Some wrong
+lock_no_crate : stop_of (served (script 100 100 [] (locked (on_line 4) (number 2) (block_of []) ∷ [])) []) ≡ Some wrong
 lock_no_crate = refl
 
-lock_twice : stop_of (served (script 100 100 [] (locked 4 (number 1) (block_of (locked 4 (number 1) (block_of []) ∷ [])) ∷ [])) (demand 0 ∷ [])) ≡ Some wrong
+lock_twice : stop_of (served (script 100 100 [] (locked (on_line 4) (number 1) (block_of (locked (on_line 4) (number 1) (block_of []) ∷ [])) ∷ [])) (demand 0 ∷ [])) ≡ Some wrong
 lock_twice = refl
 
 -- a lock sets neither q nor x
-lock_flags : events (served (script 100 100 [] (locked 4 (number 1) (block_of (choose 4 (negated flag_q ∷ negated flag_x ∷ []) (block_of (put 4 (number 2) ∷ [])) ∷ [])) ∷ [])) (answer true true 0 0 0 ∷ [])) ≡ event 3 0 0 (2 ∷ []) ∷ []
+lock_flags : events (served (script 100 100 [] (locked (on_line 4) (number 1) (block_of (choose (on_line 4) (negated flag_q ∷ negated flag_x ∷ []) (block_of (put (on_line 4) (number 2) ∷ [])) ∷ [])) ∷ [])) (answer true true 0 0 0 ∷ [])) ≡ event 3 0 0 (2 ∷ []) ∷ []
 lock_flags = refl
 
 -- one of two crates is locked: waits in the other are permitted
@@ -87,7 +87,7 @@ two_plan = record sample_plan {
 
 abbrev lock_two : List Answer → Behaviour (Unit {0})
 lock_two answers =
-    the_run two_plan (script 100 100 with_r_s (register r 5 0 ∷ locked 4 (number 2) (block_of (single 5 Full 0 r no_data ∷ set_register 4 s (number 2) (number 5) (number 0) ∷ single 5 Full 0 s no_data ∷ [])) ∷ single 6 Full 0 r no_data ∷ []))
+    the_run two_plan (script 100 100 with_r_s (register r 5 0 ∷ locked (on_line 4) (number 2) (block_of (single (on_line 5) Full 0 r no_data ∷ set_register (on_line 4) s (number 2) (number 5) (number 0) ∷ single (on_line 5) Full 0 s no_data ∷ [])) ∷ single (on_line 6) Full 0 r no_data ∷ []))
     (demand 4 ∷ answers)
 
 two_complete : events (lock_two (answer true true 0 1 0 ∷ answer true true 0 2 0 ∷ answer true true 0 0 0 ∷ answer false true 0 1 0 ∷ [])) ≡ event 3 7 1 [] ∷ []

@@ -133,15 +133,15 @@ module _ (c : Context) (routines : AllRoutines LeavesWithin c) (n : ℕ) where
 
   mutual
     statement_leaves : (st : Statement) (s : State) → Leaves s (effect c n st s)
-    statement_leaves (assign line x e) s = given_leaves s (value e s.variables) (λ v t. ends (with_variable x v t)) (λ v _. same s.branch)
-    statement_leaves (set_register line r e1 e2 e3) s =
+    statement_leaves (assign spot x e) s = given_leaves s (value e s.variables) (λ v t. ends (with_variable x v t)) (λ v _. same s.branch)
+    statement_leaves (set_register spot r e1 e2 e3) s =
         let third : ℕ → ℕ → ℕ → Action = λ k' m' a' t. ends (with_register r (address k' m' a') t) in
         let second : ℕ → ℕ → Action = λ k' m'. given (value e3 s.variables) (third k' m') in
         given_leaves s (value e1 s.variables) (λ k'. given (value e2 s.variables) (second k')) (λ k' _.
         given_leaves s (value e2 s.variables) (second k') (λ m' _.
         given_leaves s (value e3 s.variables) (third k' m') (λ a' _. same s.branch)))
-    statement_leaves (single line size f r d) s = given_leaves s (s.registers r) (λ at. act c.plan at f size d) (λ at _. act_leaves c.plan at f size d s)
-    statement_leaves (address_scan line f r1 r2 max x) s =
+    statement_leaves (single spot size f r d) s = given_leaves s (s.registers r) (λ at. act c.plan at f size d) (λ at _. act_leaves c.plan at f size d s)
+    statement_leaves (address_scan spot f r1 r2 max x) s =
         let go : Address → Address → ℕ → Action = λ a b l. transfer_to c.plan f None (scan_next a b l) x in
         let third : Address → Address → ℕ → Action = λ a b l. unless_wrong (nat_eq a.crate_no b.crate_no) (go a b l) in
         let second : Address → Address → Action = λ a b. given (value max s.variables) (third a b) in
@@ -149,13 +149,13 @@ module _ (c : Context) (routines : AllRoutines LeavesWithin c) (n : ℕ) where
         given_leaves s (s.registers r2) (second a) (λ b _.
         given_leaves s (value max s.variables) (third a b) (λ l _.
         unless_meets step AnyPiece AnyStop (Keeps s) tt (nat_eq a.crate_no b.crate_no) (go a b l) s (λ _. tt) (λ _. transfer_leaves c.plan f None (scan_next a b l) x s))))
-    statement_leaves (q_stop line f r g max x) s =
+    statement_leaves (q_stop spot f r g max x) s =
         let second : Option (List ℕ) → Address → ℕ → Action = λ table at l. transfer_to c.plan f table (q_stop_next at l) x in
         let first : Option (List ℕ) → Address → Action = λ table at. given (value max s.variables) (second table at) in
         given_leaves s (sent c g) (λ table. given (s.registers r) (first table)) (λ table _.
         given_leaves s (s.registers r) (first table) (λ at _.
         given_leaves s (value max s.variables) (second table at) (λ l _. transfer_leaves c.plan f table (q_stop_next at l) x s)))
-    statement_leaves (q_repeat line f r g max limit x) s =
+    statement_leaves (q_repeat spot f r g max limit x) s =
         let third : Option (List ℕ) → Address → ℕ → ℕ → Action = λ table at l l'. transfer_to c.plan f table (q_repeat_next at l l') x in
         let second : Option (List ℕ) → Address → ℕ → Action = λ table at l. given (value limit s.variables) (third table at l) in
         let first : Option (List ℕ) → Address → Action = λ table at. given (value max s.variables) (second table at) in
@@ -163,22 +163,22 @@ module _ (c : Context) (routines : AllRoutines LeavesWithin c) (n : ℕ) where
         given_leaves s (s.registers r) (first table) (λ at _.
         given_leaves s (value max s.variables) (second table at) (λ l _.
         given_leaves s (value limit s.variables) (third table at l) (λ l' _. transfer_leaves c.plan f table (q_repeat_next at l l') x s))))
-    statement_leaves (put line e) s = given_leaves s (value e s.variables) (λ v t. ends (with_word v t)) (λ v _. same s.branch)
-    statement_leaves (crate_call line op e) s =
+    statement_leaves (put spot e) s = given_leaves s (value e s.variables) (λ v t. ends (with_word v t)) (λ v _. same s.branch)
+    statement_leaves (crate_call spot op e) s =
         given_leaves s (value e s.variables) (λ d. act c.plan (crate_address op d) (crate_function op) Full no_data) (λ d _. act_leaves c.plan (crate_address op d) (crate_function op) Full no_data s)
-    statement_leaves (lam_call line op l) s =
+    statement_leaves (lam_call spot op l) s =
         given_leaves s (slice_get c.lams l) (λ at. act c.plan at (lam_function op) Full no_data) (λ at _. act_leaves c.plan at (lam_function op) Full no_data s)
-    statement_leaves (choose line test a) s =
+    statement_leaves (choose spot test a) s =
         decide_meets step AnyPiece AnyStop (Keeps s) tt (truth test s.variables s.q s.x) (block_meaning c n a) ends s (λ _. tt) (λ _. block_leaves a s) (λ _. same s.branch)
-    statement_leaves (choose_else line test a b) s =
+    statement_leaves (choose_else spot test a b) s =
         decide_meets step AnyPiece AnyStop (Keeps s) tt (truth test s.variables s.q s.x) (block_meaning c n a) (block_meaning c n b) s (λ _. tt) (λ _. block_leaves a s) (λ _. block_leaves b s)
-    statement_leaves (for_ line x e1 e2 keeps body) s =
+    statement_leaves (for_ spot x e1 e2 keeps body) s =
         let second : ℕ → ℕ → Action = λ v w. for_from (w + 1 - v) n x v w (block_meaning c n body) in
         given_leaves s (value e1 s.variables) (λ v. given (value e2 s.variables) (second v)) (λ v _.
         given_leaves s (value e2 s.variables) (second v) (λ w _. counts_leave (w + 1 - v) n x v w (block_meaning c n body) (λ t. block_leaves body t) s))
-    statement_leaves (for_each line x v last body) s = counts_leave (last + 1 - v) n x v last (block_meaning c n body) (λ t. block_leaves body t) s
-    statement_leaves (while_ line test m k keeps body) s = turns_leave n test (block_meaning c n body) (λ t. block_leaves body t) s
-    statement_leaves (locked line e body) s =
+    statement_leaves (for_each spot x v last body) s = counts_leave (last + 1 - v) n x v last (block_meaning c n body) (λ t. block_leaves body t) s
+    statement_leaves (while_ spot test m k keeps body) s = turns_leave n test (block_meaning c n body) (λ t. block_leaves body t) s
+    statement_leaves (locked spot e body) s =
         let held : ℕ → Action = λ d u. then_do (block_meaning c n body u) (release d) in
         let go : ℕ → ℕ → Action = λ d waits t. take_lock d waits (t.branch d).locked (held d) t in
         given_leaves s (value e s.variables) (λ d. given (crate_waits c.plan d) (go d)) (λ d _.
@@ -186,7 +186,7 @@ module _ (c : Context) (routines : AllRoutines LeavesWithin c) (n : ℕ) where
         lock_meets step AnyPiece AnyStop (Keeps s) tt d waits (s.branch d).locked (held d) s (λ _. tt) (λ _. tt) (λ a rest _ _. tt) (λ a rest free _ _.
         let t : State = after_lock d a.wait rest s in
         (tt, then_meets step AnyPiece AnyStop (Keeps t) (Keeps s) tt (block_meaning c n body t) (release d) (block_leaves body t) (λ _ u g. (tt, held_locks s.branch u.branch d free g))))))
-    statement_leaves (call line p es) s =
+    statement_leaves (call spot p es) s =
         given_leaves s (slice_get c.routines p) (λ r. given (values es s.variables) (λ vs. enter (r n) vs)) (λ r e.
         given_leaves s (values es s.variables) (λ vs. enter (r n) vs) (λ vs _.
         enter_meets step AnyPiece AnyStop (Keeps s) tt (r n) vs s (routines.each p r e n (entered vs s))))

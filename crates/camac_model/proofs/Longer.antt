@@ -27,18 +27,18 @@ module _ (open' : Stop → Bool) (n m : ℕ) (bs : List Answer) (k : Further ope
 
     mutual
       pub statement_extends : (st : Statement) (s : State) → Goes open' bs (effect c n st s) (effect c m st (longer bs s))
-      statement_extends (assign line x e) s =
+      statement_extends (assign spot x e) s =
           given_extends open' bs (value e s.variables) (λ v t. ends (with_variable x v t)) (λ v t. ends (with_variable x v t)) s (λ v _. refl)
-      statement_extends (set_register line r e1 e2 e3) s =
+      statement_extends (set_register spot r e1 e2 e3) s =
           let third : ℕ → ℕ → ℕ → Action = λ k' m' a' t. ends (with_register r (address k' m' a') t) in
           let second : ℕ → ℕ → Action = λ k' m'. given (value e3 s.variables) (third k' m') in
           let first : ℕ → Action = λ k'. given (value e2 s.variables) (second k') in
           given_extends open' bs (value e1 s.variables) first first s (λ k' _.
           given_extends open' bs (value e2 s.variables) (second k') (second k') s (λ m' _.
           given_extends open' bs (value e3 s.variables) (third k' m') (third k' m') s (λ a' _. refl)))
-      statement_extends (single line size f r d) s =
+      statement_extends (single spot size f r d) s =
           given_extends open' bs (s.registers r) (λ at. act c.plan at f size d) (λ at. act c.plan at f size d) s (λ at _. act_extends open' bs closed c.plan at f size d s)
-      statement_extends (address_scan line f r1 r2 max x) s =
+      statement_extends (address_scan spot f r1 r2 max x) s =
           let go : Address → Address → ℕ → Action = λ a b l. transfer_to c.plan f None (scan_next a b l) x in
           let third : Address → Address → ℕ → Action = λ a b l. unless_wrong (nat_eq a.crate_no b.crate_no) (go a b l) in
           let second : Address → Address → Action = λ a b. given (value max s.variables) (third a b) in
@@ -47,13 +47,13 @@ module _ (open' : Stop → Bool) (n m : ℕ) (bs : List Answer) (k : Further ope
           given_extends open' bs (s.registers r2) (second a) (second a) s (λ b _.
           given_extends open' bs (value max s.variables) (third a b) (third a b) s (λ l _.
           unless_extends open' bs (nat_eq a.crate_no b.crate_no) (go a b l) (go a b l) s (transfer_to_extends open' bs closed c.plan f None (scan_next a b l) x s))))
-      statement_extends (q_stop line f r g max x) s =
+      statement_extends (q_stop spot f r g max x) s =
           let second : Option (List ℕ) → Address → ℕ → Action = λ table at l. transfer_to c.plan f table (q_stop_next at l) x in
           let first : Option (List ℕ) → Address → Action = λ table at. given (value max s.variables) (second table at) in
           given_extends open' bs (sent c g) (λ table. given (s.registers r) (first table)) (λ table. given (s.registers r) (first table)) s (λ table _.
           given_extends open' bs (s.registers r) (first table) (first table) s (λ at _.
           given_extends open' bs (value max s.variables) (second table at) (second table at) s (λ l _. transfer_to_extends open' bs closed c.plan f table (q_stop_next at l) x s)))
-      statement_extends (q_repeat line f r g max limit x) s =
+      statement_extends (q_repeat spot f r g max limit x) s =
           let third : Option (List ℕ) → Address → ℕ → ℕ → Action = λ table at l l'. transfer_to c.plan f table (q_repeat_next at l l') x in
           let second : Option (List ℕ) → Address → ℕ → Action = λ table at l. given (value limit s.variables) (third table at l) in
           let first : Option (List ℕ) → Address → Action = λ table at. given (value max s.variables) (second table at) in
@@ -61,28 +61,28 @@ module _ (open' : Stop → Bool) (n m : ℕ) (bs : List Answer) (k : Further ope
           given_extends open' bs (s.registers r) (first table) (first table) s (λ at _.
           given_extends open' bs (value max s.variables) (second table at) (second table at) s (λ l _.
           given_extends open' bs (value limit s.variables) (third table at l) (third table at l) s (λ l' _. transfer_to_extends open' bs closed c.plan f table (q_repeat_next at l l') x s))))
-      statement_extends (put line e) s =
+      statement_extends (put spot e) s =
           given_extends open' bs (value e s.variables) (λ v t. ends (with_word v t)) (λ v t. ends (with_word v t)) s (λ v _. refl)
-      statement_extends (crate_call line op e) s =
+      statement_extends (crate_call spot op e) s =
           let go : ℕ → Action = λ v. act c.plan (crate_address op v) (crate_function op) Full no_data in
           given_extends open' bs (value e s.variables) go go s (λ v _. act_extends open' bs closed c.plan (crate_address op v) (crate_function op) Full no_data s)
-      statement_extends (lam_call line op l) s =
+      statement_extends (lam_call spot op l) s =
           let go : Address → Action = λ at. act c.plan at (lam_function op) Full no_data in
           given_extends open' bs (slice_get c.lams l) go go s (λ at _. act_extends open' bs closed c.plan at (lam_function op) Full no_data s)
-      statement_extends (choose line test a) s =
+      statement_extends (choose spot test a) s =
           decide_extends open' bs (truth test s.variables s.q s.x) (block_meaning c n a) (block_meaning c m a) ends ends s (block_extends a s) refl
-      statement_extends (choose_else line test a b) s =
+      statement_extends (choose_else spot test a b) s =
           decide_extends open' bs (truth test s.variables s.q s.x) (block_meaning c n a) (block_meaning c m a) (block_meaning c n b) (block_meaning c m b) s (block_extends a s) (block_extends b s)
-      statement_extends (for_ line x e1 e2 keeps body) s =
+      statement_extends (for_ spot x e1 e2 keeps body) s =
           let second : ℕ → ℕ → ℕ → Action = λ n' v w. for_from (w + 1 - v) n' x v w (block_meaning c n' body) in
           let first : ℕ → ℕ → Action = λ n' v. given (value e2 s.variables) (second n' v) in
           given_extends open' bs (value e1 s.variables) (first n) (first m) s (λ v _.
           given_extends open' bs (value e2 s.variables) (second n v) (second m v) s (λ w _.
           count_extends open' bs (w + 1 - v) n m k x v w (block_meaning c n body) (block_meaning c m body) (λ t. block_extends body t) s))
-      statement_extends (for_each line x v last body) s = count_extends open' bs (last + 1 - v) n m k x v last (block_meaning c n body) (block_meaning c m body) (λ t. block_extends body t) s
-      statement_extends (while_ line test turns' measure keeps body) s =
+      statement_extends (for_each spot x v last body) s = count_extends open' bs (last + 1 - v) n m k x v last (block_meaning c n body) (block_meaning c m body) (λ t. block_extends body t) s
+      statement_extends (while_ spot test turns' measure keeps body) s =
           turns_extend open' bs n m k test (block_meaning c n body) (block_meaning c m body) (λ t. block_extends body t) s
-      statement_extends (locked line e body) s =
+      statement_extends (locked spot e body) s =
           let held : ℕ → ℕ → Action = λ n' d u. then_do (block_meaning c n' body u) (release d) in
           let go : ℕ → ℕ → ℕ → Action = λ n' d waits t. take_lock d waits (t.branch d).locked (held n' d) t in
           let first : ℕ → ℕ → Action = λ n' d. given (crate_waits c.plan d) (go n' d) in
@@ -90,7 +90,7 @@ module _ (open' : Stop → Bool) (n m : ℕ) (bs : List Answer) (k : Further ope
           given_extends open' bs (crate_waits c.plan d) (go n d) (go m d) s (λ waits _.
           lock_extends open' bs closed d waits (s.branch d).locked (held n d) (held m d) (λ t.
           then_extends open' bs (SameEnd bs) (block_meaning c n body t) (block_meaning c m body (longer bs t)) (release d) (release d) (block_extends body t) (λ u. (ends (after_release d (longer bs u)), refl, refl))) s))
-      statement_extends (call line p es) s =
+      statement_extends (call spot p es) s =
           let second : ℕ → (ℕ → Action) → List ℕ → Action = λ n' r vs. enter (r n') vs in
           let first : ℕ → (ℕ → Action) → Action = λ n' r. given (values es s.variables) (second n' r) in
           given_extends open' bs (slice_get c.routines p) (first n) (first m) s (λ r e.

@@ -3,7 +3,7 @@ use Rattle.std.proofs.Common.{◌≡◌, [], ◌∷◌, Some, true, false, refl}
 use Rattle.std.specs.Prelude.{codes, option_map}
 use Rattle.camac_func.specs.declared.data.DataMove.TheVariants as moved
 use Rattle.camac_lang.specs.declared.word.WordSize.TheVariants.{Full}
-use Rattle.camac_lang.specs.Tree.{plain, flag_q, add, number, variable, no_data, into, assign, set_register, single, put, choose, locked, call, Procedure, Script}
+use Rattle.camac_lang.specs.Tree.{plain, flag_q, add, number, variable, no_data, into, assign, set_register, single, put, choose, locked, call, Procedure, Script, on_line}
 use Rattle.camac_lang.specs.View.{block_of}
 use Rattle.camac_lang.specs.Scope.{is_well_formed}
 use Rattle.camac_model.specs.Behaviour.{stop_of, items, lock_taken, lock_released, event_left, wrong}
@@ -11,7 +11,7 @@ use Rattle.camac_model.proofs.SampleScripts.{script_of, opening, get, v, k, with
 
 -- procedure-calls: the callee's variables and registers are its own
 abbrev calls : Script
-calls = script_of opening [] (get ∷ []) 6 2 [] (call 9 0 (number 0 ∷ []) ∷ call 10 0 (number 11 ∷ []) ∷ [])
+calls = script_of opening [] (get ∷ []) 6 2 [] (call (on_line 9) 0 (number 0 ∷ []) ∷ call (on_line 10) 0 (number 11 ∷ []) ∷ [])
 
 calls_stand : is_well_formed calls ≡ true
 unfolding is_well_formed
@@ -26,7 +26,7 @@ calls_steps : option_map (λ u. u.steps) (left_by calls (good 2)) ≡ Some 8
 calls_steps = refl
 
 -- procedure-in-lock
-in_lock : items (served (script_of opening [] (get ∷ []) 5 1 [] (locked 9 (number 1) (block_of (call 9 0 (number 0 ∷ []) ∷ [])) ∷ [])) (answer false false 0 2 0 ∷ good 1))
+in_lock : items (served (script_of opening [] (get ∷ []) 5 1 [] (locked (on_line 9) (number 1) (block_of (call (on_line 9) 0 (number 0 ∷ []) ∷ [])) ∷ [])) (answer false false 0 2 0 ∷ good 1))
     ≡ called ∷ lock_taken 1 2 ∷ cycle_at 5 0 0 moved.In (reply true true 1) 0 ∷ lock_released 1 ∷ []
 in_lock = refl
 
@@ -34,21 +34,21 @@ in_lock = refl
 -- caller's, flags are as the body left them
 abbrev two_parameters : Procedure
 two_parameters = record {
-  line = 3;
+  spot = on_line 3;
   name = codes "p";
   parameters = record { name = codes "a"; low = 0; high = 11 } ∷ record { name = codes "b"; low = 0; high = 11 } ∷ [];
   cycles = 3;
   words = 2;
   steps = 6;
   registers = with_r;
-  body = block_of (set_register 4 0 (number 1) (number 6) (number 0) ∷ single 5 Full 27 0 no_data ∷ put 6 (variable 0) ∷ put 6 (variable 1) ∷ assign 6 0 (number 1000) ∷ assign 6 1 (number 1000) ∷ []);
+  body = block_of (set_register (on_line 4) 0 (number 1) (number 6) (number 0) ∷ single (on_line 5) Full 27 0 no_data ∷ put (on_line 6) (variable 0) ∷ put (on_line 6) (variable 1) ∷ assign (on_line 6) 0 (number 1000) ∷ assign (on_line 6) 1 (number 1000) ∷ []);
 }
 
 abbrev apart : Script
 apart =
     script_of opening [] (two_parameters ∷ []) 100 100 with_r
-    (assign 4 v (number 5) ∷ assign 4 k (number 6) ∷ register r 5 3 ∷ call 4 0 (variable k ∷ variable v ∷ []) ∷ put 4 (variable v) ∷ put 4 (variable k) ∷
-    choose 4 (plain flag_q ∷ []) (block_of (put 4 (number 99) ∷ [])) ∷ single 4 Full 0 r (into v) ∷ [])
+    (assign (on_line 4) v (number 5) ∷ assign (on_line 4) k (number 6) ∷ register r 5 3 ∷ call (on_line 4) 0 (variable k ∷ variable v ∷ []) ∷ put (on_line 4) (variable v) ∷ put (on_line 4) (variable k) ∷
+    choose (on_line 4) (plain flag_q ∷ []) (block_of (put (on_line 4) (number 99) ∷ [])) ∷ single (on_line 4) Full 0 r (into v) ∷ [])
 
 apart_stands : is_well_formed apart ≡ true
 unfolding is_well_formed
@@ -61,26 +61,26 @@ apart_run = refl
 
 -- a callee that sets no register has none
 abbrev no_register : Procedure
-no_register = record two_parameters { parameters = []; body = block_of (single 5 Full 27 0 no_data ∷ []) }
+no_register = record two_parameters { parameters = []; body = block_of (single (on_line 5) Full 27 0 no_data ∷ []) }
 
-no_register_seen : stop_of (served (script_of opening [] (no_register ∷ []) 100 100 with_r (register r 5 3 ∷ call 5 0 [] ∷ [])) (good 1)) ≡ Some wrong
+no_register_seen : stop_of (served (script_of opening [] (no_register ∷ []) 100 100 with_r (register r 5 3 ∷ call (on_line 5) 0 [] ∷ [])) (good 1)) ≡ Some wrong
 no_register_seen = refl
 
 -- a procedure calls one before it
 abbrev outer : Procedure
 outer = record {
-  line = 4;
+  spot = on_line 4;
   name = codes "o";
   parameters = record { name = codes "a"; low = 0; high = 10 } ∷ [];
   cycles = 6;
   words = 3;
   steps = 10;
   registers = with_r;
-  body = block_of (set_register 4 0 (number 1) (number 5) (variable 0) ∷ call 5 0 (add (variable 0) (number 1) ∷ number 7 ∷ []) ∷ single 5 Full 0 0 (into 0) ∷ put 6 (variable 0) ∷ []);
+  body = block_of (set_register (on_line 4) 0 (number 1) (number 5) (variable 0) ∷ call (on_line 5) 0 (add (variable 0) (number 1) ∷ number 7 ∷ []) ∷ single (on_line 5) Full 0 0 (into 0) ∷ put (on_line 6) (variable 0) ∷ []);
 }
 
 abbrev nested : Script
-nested = script_of opening [] (two_parameters ∷ outer ∷ []) 100 100 [] (call 4 1 (number 3 ∷ []) ∷ [])
+nested = script_of opening [] (two_parameters ∷ outer ∷ []) 100 100 [] (call (on_line 4) 1 (number 3 ∷ []) ∷ [])
 
 nested_stands : is_well_formed nested ≡ true
 unfolding is_well_formed
@@ -92,8 +92,8 @@ nested_run :
 nested_run = refl
 
 -- it sees none after it, nor itself
-later : stop_of (served (script_of opening [] (record outer { body = block_of (call 4 1 [] ∷ []) } ∷ two_parameters ∷ []) 100 100 [] (call 4 0 (number 3 ∷ []) ∷ [])) []) ≡ Some wrong
+later : stop_of (served (script_of opening [] (record outer { body = block_of (call (on_line 4) 1 [] ∷ []) } ∷ two_parameters ∷ []) 100 100 [] (call (on_line 4) 0 (number 3 ∷ []) ∷ [])) []) ≡ Some wrong
 later = refl
 
-itself : stop_of (served (script_of opening [] (record outer { body = block_of (call 4 0 [] ∷ []) } ∷ []) 100 100 [] (call 4 0 (number 3 ∷ []) ∷ [])) []) ≡ Some wrong
+itself : stop_of (served (script_of opening [] (record outer { body = block_of (call (on_line 4) 0 [] ∷ []) } ∷ []) 100 100 [] (call (on_line 4) 0 (number 3 ∷ []) ∷ [])) []) ≡ Some wrong
 itself = refl

@@ -2,7 +2,7 @@
 use Rattle.std.specs.Prelude.{ℕ, zero, suc, List, [], ◌∷◌, Option, Some, codes, Bool, true, false, length, option_map, slice_get}
 use Rattle.camac_lang.specs.View.{block_of}
 use Rattle.camac_lang.specs.declared.word.WordSize.TheVariants.{Full}
-use Rattle.camac_lang.specs.Tree.{Text, number, variable, into, Statement, set_register, single, put, Table, Lam, next_table, next_lam, next_variables, next_procedure, next_service, Procedure, Script}
+use Rattle.camac_lang.specs.Tree.{Text, number, variable, into, Statement, set_register, single, put, Table, Lam, next_table, next_lam, next_variables, next_procedure, next_service, Procedure, Script, on_line}
 use Rattle.camac_func.specs.declared.data.DataMove.{DataMove}
 use Rattle.camac_branch.specs.Address.{address}
 use Rattle.camac_branch.specs.Branch.{Answer, Reply, start}
@@ -14,17 +14,17 @@ use Rattle.camac_model.specs.Sample.{times, sample_plan}
 
 -- `cdlam adc 1 1 5 12`
 abbrev pub adc_lam : Lam
-adc_lam = record { line = 1; name = codes "adc"; crate_no = 1; station = 5; sub_address = 12 }
+adc_lam = record { spot = on_line 1; name = codes "adc"; crate_no = 1; station = 5; sub_address = 12 }
 
 -- a script of one service for that LAM: these variables on line 2, tables and procedures, the service's heading and registers
 abbrev pub script_of : List Text → List Table → List Procedure → ℕ → ℕ → List Text → List Statement → Script
 script_of variables tables procedures cycles words registers ss = record {
-  order = next_lam ∷ next_variables 2 (length variables) ∷ times (length tables) next_table (times (length procedures) next_procedure (next_service ∷ []));
+  order = next_lam ∷ next_variables (on_line 2) (length variables) ∷ times (length tables) next_table (times (length procedures) next_procedure (next_service ∷ []));
   tables = tables;
   lams = adc_lam ∷ [];
   variables = variables;
   procedures = procedures;
-  services = record { line = 3; lam = 0; cycles = cycles; words = words; registers = registers; body = block_of ss } ∷ [];
+  services = record { spot = on_line 3; lam = 0; cycles = cycles; words = words; registers = registers; body = block_of ss } ∷ [];
 }
 
 -- the variables of the standard opening, and their numbers
@@ -58,19 +58,19 @@ s = 1
 
 -- `cdreg` of a register, on line 4, in crate 1
 abbrev pub register : (register station sub_address : ℕ) → Statement
-register g n a = set_register 4 g (number 1) (number n) (number a)
+register g n a = set_register (on_line 4) g (number 1) (number n) (number a)
 
 -- a procedure that reads the converter at a sub-address from 0 to 11
 abbrev pub get : Procedure
 get = record {
-  line = 3;
+  spot = on_line 3;
   name = codes "get";
   parameters = record { name = codes "s"; low = 0; high = 11 } ∷ [];
   cycles = 3;
   words = 1;
   steps = 3;
   registers = with_r;
-  body = block_of (set_register 4 r (number 1) (number 5) (variable 0) ∷ single 5 Full 0 r (into 0) ∷ put 6 (variable 0) ∷ []);
+  body = block_of (set_register (on_line 4) r (number 1) (number 5) (variable 0) ∷ single (on_line 5) Full 0 r (into 0) ∷ put (on_line 6) (variable 0) ∷ []);
 }
 
 -- the standard opening with this heading and these registers

@@ -121,15 +121,15 @@ module _ (total : ℕ) where
 
     mutual
       statement_spends : (st : Statement) (s : State) → Ready s → Spends (effect c n st s)
-      statement_spends (assign line x e) s i = given_spends s (value e s.variables) (λ v t. ends (with_variable x v t)) (λ v _. ready_spent s i)
-      statement_spends (set_register line r e1 e2 e3) s i =
+      statement_spends (assign spot x e) s i = given_spends s (value e s.variables) (λ v t. ends (with_variable x v t)) (λ v _. ready_spent s i)
+      statement_spends (set_register spot r e1 e2 e3) s i =
           let third : ℕ → ℕ → ℕ → Action = λ k' m' a' t. ends (with_register r (address k' m' a') t) in
           let second : ℕ → ℕ → Action = λ k' m'. given (value e3 s.variables) (third k' m') in
           given_spends s (value e1 s.variables) (λ k'. given (value e2 s.variables) (second k')) (λ k' _.
           given_spends s (value e2 s.variables) (second k') (λ m' _.
           given_spends s (value e3 s.variables) (third k' m') (λ a' _. ready_spent s i)))
-      statement_spends (single line size f r d) s i = given_spends s (s.registers r) (λ at. act c.plan at f size d) (λ at _. act_spends c.plan at f size d s i)
-      statement_spends (address_scan line f r1 r2 max x) s i =
+      statement_spends (single spot size f r d) s i = given_spends s (s.registers r) (λ at. act c.plan at f size d) (λ at _. act_spends c.plan at f size d s i)
+      statement_spends (address_scan spot f r1 r2 max x) s i =
           let go : Address → Address → ℕ → Action = λ a b l. transfer_to c.plan f None (scan_next a b l) x in
           let third : Address → Address → ℕ → Action = λ a b l. unless_wrong (nat_eq a.crate_no b.crate_no) (go a b l) in
           let second : Address → Address → Action = λ a b. given (value max s.variables) (third a b) in
@@ -137,13 +137,13 @@ module _ (total : ℕ) where
           given_spends s (s.registers r2) (second a) (λ b _.
           given_spends s (value max s.variables) (third a b) (λ l _.
           unless_meets step AnyPiece AtStop AtEnd tt (nat_eq a.crate_no b.crate_no) (go a b l) s (λ _. tt) (λ _. transfer_spends c.plan f None (scan_next a b l) x s i))))
-      statement_spends (q_stop line f r g max x) s i =
+      statement_spends (q_stop spot f r g max x) s i =
           let second : Option (List ℕ) → Address → ℕ → Action = λ table at l. transfer_to c.plan f table (q_stop_next at l) x in
           let first : Option (List ℕ) → Address → Action = λ table at. given (value max s.variables) (second table at) in
           given_spends s (sent c g) (λ table. given (s.registers r) (first table)) (λ table _.
           given_spends s (s.registers r) (first table) (λ at _.
           given_spends s (value max s.variables) (second table at) (λ l _. transfer_spends c.plan f table (q_stop_next at l) x s i)))
-      statement_spends (q_repeat line f r g max limit x) s i =
+      statement_spends (q_repeat spot f r g max limit x) s i =
           let third : Option (List ℕ) → Address → ℕ → ℕ → Action = λ table at l l'. transfer_to c.plan f table (q_repeat_next at l l') x in
           let second : Option (List ℕ) → Address → ℕ → Action = λ table at l. given (value limit s.variables) (third table at l) in
           let first : Option (List ℕ) → Address → Action = λ table at. given (value max s.variables) (second table at) in
@@ -151,22 +151,22 @@ module _ (total : ℕ) where
           given_spends s (s.registers r) (first table) (λ at _.
           given_spends s (value max s.variables) (second table at) (λ l _.
           given_spends s (value limit s.variables) (third table at l) (λ l' _. transfer_spends c.plan f table (q_repeat_next at l l') x s i))))
-      statement_spends (put line e) s i = given_spends s (value e s.variables) (λ v t. ends (with_word v t)) (λ v _. ready_spent s i)
-      statement_spends (crate_call line op e) s i =
+      statement_spends (put spot e) s i = given_spends s (value e s.variables) (λ v t. ends (with_word v t)) (λ v _. ready_spent s i)
+      statement_spends (crate_call spot op e) s i =
           given_spends s (value e s.variables) (λ d. act c.plan (crate_address op d) (crate_function op) Full no_data) (λ d _. act_spends c.plan (crate_address op d) (crate_function op) Full no_data s i)
-      statement_spends (lam_call line op l) s i =
+      statement_spends (lam_call spot op l) s i =
           given_spends s (slice_get c.lams l) (λ at. act c.plan at (lam_function op) Full no_data) (λ at _. act_spends c.plan at (lam_function op) Full no_data s i)
-      statement_spends (choose line test a) s i =
+      statement_spends (choose spot test a) s i =
           decide_meets step AnyPiece AtStop AtEnd tt (truth test s.variables s.q s.x) (block_meaning c n a) ends s (λ _. tt) (λ _. block_spends a s (ready_spent s i)) (λ _. ready_spent s i)
-      statement_spends (choose_else line test a b) s i =
+      statement_spends (choose_else spot test a b) s i =
           decide_meets step AnyPiece AtStop AtEnd tt (truth test s.variables s.q s.x) (block_meaning c n a) (block_meaning c n b) s (λ _. tt) (λ _. block_spends a s (ready_spent s i)) (λ _. block_spends b s (ready_spent s i))
-      statement_spends (for_ line x e1 e2 keeps body) s i =
+      statement_spends (for_ spot x e1 e2 keeps body) s i =
           let second : ℕ → ℕ → Action = λ v w. for_from (w + 1 - v) n x v w (block_meaning c n body) in
           given_spends s (value e1 s.variables) (λ v. given (value e2 s.variables) (second v)) (λ v _.
           given_spends s (value e2 s.variables) (second v) (λ w _. counts_spend (w + 1 - v) n x v w (block_meaning c n body) (λ t j. block_spends body t j) s (ready_spent s i)))
-      statement_spends (for_each line x v last body) s i = counts_spend (last + 1 - v) n x v last (block_meaning c n body) (λ t j. block_spends body t j) s (ready_spent s i)
-      statement_spends (while_ line test m k keeps body) s i = turns_spend n test (block_meaning c n body) (λ t j. block_spends body t j) s (ready_spent s i)
-      statement_spends (locked line e body) s i =
+      statement_spends (for_each spot x v last body) s i = counts_spend (last + 1 - v) n x v last (block_meaning c n body) (λ t j. block_spends body t j) s (ready_spent s i)
+      statement_spends (while_ spot test m k keeps body) s i = turns_spend n test (block_meaning c n body) (λ t j. block_spends body t j) s (ready_spent s i)
+      statement_spends (locked spot e body) s i =
           let held : ℕ → Action = λ d u. then_do (block_meaning c n body u) (release d) in
           let go : ℕ → ℕ → Action = λ d waits t. take_lock d waits (t.branch d).locked (held d) t in
           given_spends s (value e s.variables) (λ d. given (crate_waits c.plan d) (go d)) (λ d _.
@@ -174,7 +174,7 @@ module _ (total : ℕ) where
           lock_meets step AnyPiece AtStop AtEnd tt d waits (s.branch d).locked (held d) s (λ _. tt) (λ e'. at_short s i e') (λ a rest _ _. tt) (λ a rest free e' _.
           let t : State = after_lock d a.wait rest s in
           (tt, then_meets step AnyPiece AtStop AtEnd AtEnd tt (block_meaning c n body t) (release d) (block_spends body t (spend_one s t a i e' refl)) (λ _ u g. (tt, ready_spent (stepped u) (spent_step u g)))))))
-      statement_spends (call line p es) s i =
+      statement_spends (call spot p es) s i =
           given_spends s (slice_get c.routines p) (λ r. given (values es s.variables) (λ vs. enter (r n) vs)) (λ r e.
           given_spends s (values es s.variables) (λ vs. enter (r n) vs) (λ vs _.
           enter_meets step AnyPiece AtStop AtEnd tt (r n) vs s (routines.each p r e n (entered vs s) (ready_spent s i))))

@@ -3,7 +3,7 @@ use Rattle.std.proofs.Common.{◌≡◌, ℕ, List, [], ◌∷◌, Option, Some,
 use Rattle.std.specs.Prelude.{codes, option_map}
 use Rattle.camac_func.specs.declared.data.DataMove.TheVariants as moved
 use Rattle.camac_lang.specs.declared.word.WordSize.TheVariants.{Full}
-use Rattle.camac_lang.specs.Tree.{plain, negated, flag_q, flag_x, number, no_data, assign, set_register, single, address_scan, q_stop, q_repeat, put, choose_else, locked, Table, Script}
+use Rattle.camac_lang.specs.Tree.{plain, negated, flag_q, flag_x, number, no_data, assign, set_register, single, address_scan, q_stop, q_repeat, put, choose_else, locked, Table, Script, on_line}
 use Rattle.camac_lang.specs.View.{block_of}
 use Rattle.camac_lang.specs.Scope.{is_well_formed}
 use Rattle.camac_branch.specs.Branch.{Answer}
@@ -13,7 +13,7 @@ use Rattle.camac_model.proofs.SampleScripts.{script_of, opening, t, with_r, with
 
 -- scan-through-probes: Q always 1, and the first Q=0
 abbrev scan : Script
-scan = script 48 16 with_r_s (register r 5 0 ∷ register s 5 15 ∷ address_scan 6 0 r s (number 16) t ∷ [])
+scan = script 48 16 with_r_s (register r 5 0 ∷ register s 5 15 ∷ address_scan (on_line 6) 0 r s (number 16) t ∷ [])
 
 scan_stands : is_well_formed scan ≡ true
 unfolding is_well_formed
@@ -33,7 +33,7 @@ scan_stopped = refl
 
 -- scan-by-count: 12 words, and the count ends it
 abbrev scan_count : Script
-scan_count = script 39 12 with_r_s (register r 5 0 ∷ register s 5 15 ∷ address_scan 6 0 r s (number 12) t ∷ [])
+scan_count = script 39 12 with_r_s (register r 5 0 ∷ register s 5 15 ∷ address_scan (on_line 6) 0 r s (number 12) t ∷ [])
 
 scan_count_stands : is_well_formed scan_count ≡ true
 unfolding is_well_formed
@@ -44,7 +44,7 @@ scan_count_cycles = refl
 
 -- scan-two-stations with max 1: Q 0 then 1
 abbrev scan_two : Script
-scan_two = script 51 17 with_r_s (register r 5 0 ∷ register s 6 0 ∷ address_scan 4 0 r s (number 1) t ∷ [])
+scan_two = script 51 17 with_r_s (register r 5 0 ∷ register s 6 0 ∷ address_scan (on_line 4) 0 r s (number 1) t ∷ [])
 
 scan_two_stands : is_well_formed scan_two ≡ true
 unfolding is_well_formed
@@ -56,17 +56,17 @@ scan_two_run :
 scan_two_run = refl
 
 -- from A15 with Q=1 it goes on to A0 of the next station
-scan_over : items (served (script 100 100 with_r_s (register r 5 15 ∷ register s 6 0 ∷ address_scan 4 0 r s (number 9) t ∷ [])) (answer true true 1 0 0 ∷ answer true false 2 0 0 ∷ answer true true 0 0 0 ∷ []))
+scan_over : items (served (script 100 100 with_r_s (register r 5 15 ∷ register s 6 0 ∷ address_scan (on_line 4) 0 r s (number 9) t ∷ [])) (answer true true 1 0 0 ∷ answer true false 2 0 0 ∷ answer true true 0 0 0 ∷ []))
     ≡ called ∷ cycle_at 5 15 0 moved.In (reply true true 1) 0 ∷ cycle_at 6 0 0 moved.In (reply true false 2) 0 ∷ demanded 0 None ∷ []
 scan_over = refl
 
 -- registers in two crates, even with max 0
-scan_crates : stop_of (served (script 100 100 with_r_s (register r 5 0 ∷ set_register 4 s (number 2) (number 5) (number 0) ∷ address_scan 4 0 r s (number 0) t ∷ [])) []) ≡ Some wrong
+scan_crates : stop_of (served (script 100 100 with_r_s (register r 5 0 ∷ set_register (on_line 4) s (number 2) (number 5) (number 0) ∷ address_scan (on_line 4) 0 r s (number 0) t ∷ [])) []) ≡ Some wrong
 scan_crates = refl
 
 -- scan-backwards: a first address past the final one gives no cycle
 abbrev scan_backwards : Script
-scan_backwards = script 100 100 with_r_s (register r 5 3 ∷ register s 5 1 ∷ address_scan 6 0 r s (number 4) t ∷ [])
+scan_backwards = script 100 100 with_r_s (register r 5 3 ∷ register s 5 1 ∷ address_scan (on_line 6) 0 r s (number 4) t ∷ [])
 
 scan_backwards_stands : is_well_formed scan_backwards ≡ true
 unfolding is_well_formed
@@ -77,7 +77,7 @@ scan_backwards_run = refl
 
 -- repeat-until-q: three cycles and one word; with max 0 none, and the flags stay
 abbrev resent : ℕ → Script
-resent max = script 9 2 with_r (register r 5 0 ∷ q_repeat 5 0 r None (number max) (number 3) t ∷ [])
+resent max = script 9 2 with_r (register r 5 0 ∷ q_repeat (on_line 5) 0 r None (number max) (number 3) t ∷ [])
 
 resent_stands : is_well_formed (resent 2) ≡ true
 unfolding is_well_formed
@@ -97,10 +97,10 @@ resent_none = refl
 
 -- table-write: the words 1 and 2 are sent
 abbrev numbers : List ℕ → List Table
-numbers words = record { line = 2; name = codes "g"; words = words } ∷ []
+numbers words = record { spot = on_line 2; name = codes "g"; words = words } ∷ []
 
 abbrev send : Script
-send = script_of opening (numbers (1 ∷ 2 ∷ 3 ∷ [])) [] 100 100 with_r (register r 6 0 ∷ q_stop 5 16 r (Some 0) (number 3) t ∷ [])
+send = script_of opening (numbers (1 ∷ 2 ∷ 3 ∷ [])) [] 100 100 with_r (register r 6 0 ∷ q_stop (on_line 5) 16 r (Some 0) (number 3) t ∷ [])
 
 send_stands : is_well_formed send ≡ true
 unfolding is_well_formed
@@ -116,7 +116,7 @@ send_tally = refl
 
 -- Q-repeat sends the same word again after Q=0; a word that is not there is wrong
 abbrev resend : ℕ → Script
-resend limit = script_of opening (numbers (7 ∷ 8 ∷ [])) [] 100 100 with_r (register r 6 0 ∷ q_repeat 4 16 r (Some 0) (number 3) (number limit) t ∷ [])
+resend limit = script_of opening (numbers (7 ∷ 8 ∷ [])) [] 100 100 with_r (register r 6 0 ∷ q_repeat (on_line 4) 16 r (Some 0) (number 3) (number limit) t ∷ [])
 
 abbrev no_yes_yes : List Answer
 no_yes_yes = answer true false 0 0 0 ∷ answer true true 0 0 0 ∷ answer true true 0 0 0 ∷ []
@@ -131,12 +131,12 @@ resend_limit : events (served (resend 3) no_yes_yes) ≡ event 3 3 0 [] ∷ []
 resend_limit = refl
 
 -- a table that is not there is wrong, as a LAM is
-unknown_table : stop_of (served (script 100 100 with_r (register r 6 0 ∷ q_stop 4 16 r (Some 9) (number 0) t ∷ [])) []) ≡ Some wrong
+unknown_table : stop_of (served (script 100 100 with_r (register r 6 0 ∷ q_stop (on_line 4) 16 r (Some 9) (number 0) t ∷ [])) []) ≡ Some wrong
 unknown_table = refl
 
 -- an overrun in a transfer: what the cycles before it did stays, and the tally is not set
 abbrev cut : Script
-cut = script 100 100 with_r (register r 5 0 ∷ assign 4 t (number 77) ∷ q_stop 4 0 r None (number 5) t ∷ [])
+cut = script 100 100 with_r (register r 5 0 ∷ assign (on_line 4) t (number 77) ∷ q_stop (on_line 4) 0 r None (number 5) t ∷ [])
 
 abbrev at_cut : {A : Type 0} → (State → A) → Option A
 at_cut f = option_map f (left_by cut (answer false true 0x5abc 1 0 ∷ answer true true 2 2 0 ∷ answer true true 2 3 0 ∷ answer true true 9 0 0 ∷ []))
@@ -160,8 +160,8 @@ cut_answers : at_cut (λ u. u.answers) ≡ Some (answer true true 2 3 0 ∷ answ
 cut_answers = refl
 
 -- a transfer without a cycle asks for no crate, and leaves q and x as they were
-no_cycle : items (served (script 100 100 with_r (set_register 4 r (number 2) (number 5) (number 0) ∷ q_stop 4 0 r None (number 0) t ∷ [])) []) ≡ called ∷ []
+no_cycle : items (served (script 100 100 with_r (set_register (on_line 4) r (number 2) (number 5) (number 0) ∷ q_stop (on_line 4) 0 r None (number 0) t ∷ [])) []) ≡ called ∷ []
 no_cycle = refl
 
-flags_kept : events (served (script 100 100 with_r (register r 6 0 ∷ single 4 Full 27 r no_data ∷ locked 4 (number 1) (block_of (put 4 (number 1) ∷ [])) ∷ q_repeat 4 0 r None (number 0) (number 5) t ∷ choose_else 4 (plain flag_q ∷ negated flag_x ∷ []) (block_of (put 4 (number 2) ∷ [])) (block_of (put 4 (number 3) ∷ [])) ∷ [])) (answer false true 0 0 0 ∷ answer true false 0 0 0 ∷ [])) ≡ event 3 1 1 (1 ∷ 2 ∷ []) ∷ []
+flags_kept : events (served (script 100 100 with_r (register r 6 0 ∷ single (on_line 4) Full 27 r no_data ∷ locked (on_line 4) (number 1) (block_of (put (on_line 4) (number 1) ∷ [])) ∷ q_repeat (on_line 4) 0 r None (number 0) (number 5) t ∷ choose_else (on_line 4) (plain flag_q ∷ negated flag_x ∷ []) (block_of (put (on_line 4) (number 2) ∷ [])) (block_of (put (on_line 4) (number 3) ∷ [])) ∷ [])) (answer false true 0 0 0 ∷ answer true false 0 0 0 ∷ [])) ≡ event 3 1 1 (1 ∷ 2 ∷ []) ∷ []
 flags_kept = refl

@@ -87,55 +87,55 @@ enter body vs s = then_do (body (entered vs s)) (λ t. ends (returned s t))
 -- what a statement does once it is begun, and what a block does
 abbrev mutual
   pub effect : Context → ℕ → Statement → Action
-  effect c n (assign line x e) s = (do
+  effect c n (assign spot x e) s = (do
     v ← value e s.variables
     λ t. ends (with_variable x v t)) s
-  effect c n (set_register line r e1 e2 e3) s = (do
+  effect c n (set_register spot r e1 e2 e3) s = (do
     crate_no ← value e1 s.variables
     station ← value e2 s.variables
     sub_address ← value e3 s.variables
     λ t. ends (with_register r (address crate_no station sub_address) t)) s
-  effect c n (single line size f r data') s = (do
+  effect c n (single spot size f r data') s = (do
     at ← s.registers r
     act c.plan at f size data') s
-  effect c n (address_scan line f r1 r2 max x) s = (do
+  effect c n (address_scan spot f r1 r2 max x) s = (do
     first ← s.registers r1
     last ← s.registers r2
     m ← value max s.variables
     unless_wrong (nat_eq first.crate_no last.crate_no) (transfer_to c.plan f None (scan_next first last m) x)) s
-  effect c n (q_stop line f r g max x) s = (do
+  effect c n (q_stop spot f r g max x) s = (do
     table ← sent c g
     at ← s.registers r
     m ← value max s.variables
     transfer_to c.plan f table (q_stop_next at m) x) s
-  effect c n (q_repeat line f r g max limit x) s = (do
+  effect c n (q_repeat spot f r g max limit x) s = (do
     table ← sent c g
     at ← s.registers r
     m ← value max s.variables
     l ← value limit s.variables
     transfer_to c.plan f table (q_repeat_next at m l) x) s
-  effect c n (put line e) s = (do
+  effect c n (put spot e) s = (do
     v ← value e s.variables
     λ t. ends (with_word v t)) s
-  effect c n (crate_call line k e) s = (do
+  effect c n (crate_call spot k e) s = (do
     crate_no ← value e s.variables
     act c.plan (crate_address k crate_no) (crate_function k) Full no_data) s
-  effect c n (lam_call line k l) s = (do
+  effect c n (lam_call spot k l) s = (do
     at ← slice_get c.lams l
     act c.plan at (lam_function k) Full no_data) s
-  effect c n (choose line test a) s = decide (truth test s.variables s.q s.x) (block_meaning c n a) ends s
-  effect c n (choose_else line test a b) s = decide (truth test s.variables s.q s.x) (block_meaning c n a) (block_meaning c n b) s
-  effect c n (for_ line x e1 e2 keeps body) s = (do
+  effect c n (choose spot test a) s = decide (truth test s.variables s.q s.x) (block_meaning c n a) ends s
+  effect c n (choose_else spot test a b) s = decide (truth test s.variables s.q s.x) (block_meaning c n a) (block_meaning c n b) s
+  effect c n (for_ spot x e1 e2 keeps body) s = (do
     first ← value e1 s.variables
     last ← value e2 s.variables
     for_from (last + 1 - first) n x first last (block_meaning c n body)) s
-  effect c n (for_each line x v last body) s = for_from (last + 1 - v) n x v last (block_meaning c n body) s
-  effect c n (while_ line test m k keeps body) s = turns n test (block_meaning c n body) s
-  effect c n (locked line e body) s = (do
+  effect c n (for_each spot x v last body) s = for_from (last + 1 - v) n x v last (block_meaning c n body) s
+  effect c n (while_ spot test m k keeps body) s = turns n test (block_meaning c n body) s
+  effect c n (locked spot e body) s = (do
     crate_no ← value e s.variables
     waits ← crate_waits c.plan crate_no
     λ t. take_lock crate_no waits (t.branch crate_no).locked (λ u. then_do (block_meaning c n body u) (release crate_no)) t) s
-  effect c n (call line p es) s = (do
+  effect c n (call spot p es) s = (do
     routine ← slice_get c.routines p
     vs ← values es s.variables
     enter (routine n) vs) s

@@ -7,6 +7,7 @@ use Rattle.camac_names.specs.declared.fault.LinkFault.{LinkFault}
 use Rattle.camac_names.specs.declared.fault.LinkRule.{LinkRule}
 use Rattle.camac_names.specs.declared.fault.LinkRule.TheVariants.{LamNotInstalled}
 use Rattle.camac_names.specs.Link.{unless, place_of, fault_first, lam_fault, lams_fault, lams_faults, or_else, service_fault, services_fault, services_faults, FirstIsLinkFault}
+use Rattle.camac_lang.specs.declared.spot.Spot.{Spot}
 
 -- of a fault, if there is one, and others
 first_or : (o : Option LinkFault) (fs : List LinkFault) → slice_get (fault_first o fs) 0 ≡ or_else o (slice_get fs 0)
@@ -23,15 +24,15 @@ services_first plan lams earlier (v ∷ vs) =
     first_or (service_fault plan lams earlier v) (services_faults plan lams (earlier ++ v ∷ []) vs)
     ∙ ap (or_else (service_fault plan lams earlier v)) (services_first plan lams (earlier ++ v ∷ []) vs)
 
-unless_else : (test : Bool) (rule : LinkRule) (line : ℕ) (case : LinkCase) (next : Option LinkFault) → or_else (unless test rule line case None) next ≡ unless test rule line case next
-unless_else true rule line case next = refl
-unless_else false rule line case next = refl
+unless_else : (test : Bool) (rule : LinkRule) (spot : Spot) (case : LinkCase) (next : Option LinkFault) → or_else (unless test rule spot case None) next ≡ unless test rule spot case next
+unless_else true rule spot case next = refl
+unless_else false rule spot case next = refl
 
 lams_first : (plan : Layout) (ls : List Lam) → slice_get (lams_faults plan ls) 0 ≡ lams_fault plan ls
 lams_first plan [] = refl
 lams_first plan (l ∷ ls) =
     first_or (lam_fault plan l) (lams_faults plan ls) ∙ ap (or_else (lam_fault plan l)) (lams_first plan ls)
-    ∙ unless_else (is_some (installed plan l.crate_no l.station)) LamNotInstalled l.line (place_of l) (lams_fault plan ls)
+    ∙ unless_else (is_some (installed plan l.crate_no l.station)) LamNotInstalled l.spot (place_of l) (lams_fault plan ls)
 
 pub first_is_link_fault : FirstIsLinkFault
 first_is_link_fault plan script =

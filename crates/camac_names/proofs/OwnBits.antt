@@ -11,6 +11,7 @@ use Rattle.camac_names.specs.declared.fault.LinkRule.{LinkRule}
 use Rattle.camac_names.specs.Link.{unless, lams_fault, lam_bit, service_bit, same_station, is_on, is_served, served_fault, service_fault, or_else, services_fault}
 use Rattle.camac_names.specs.Linked.{LinkedScript, IsLinked, bit_of_service}
 use Rattle.camac_names.specs.OwnBits.{HasOwnBits, LinkedHaveOwnBits}
+use Rattle.camac_lang.specs.declared.spot.Spot.{Spot}
 
 some_none : {A : Type 0} (x : A) → Some x ≡ None → ⊥
 some_none x e = none_is_some x (sym e)
@@ -19,9 +20,9 @@ both_none : (o next : Option LinkFault) → or_else o next ≡ None → (o ≡ N
 both_none None next e = (refl, e)
 both_none (Some f) next e = absurd (some_none f e)
 
-passed : (test : Bool) (rule : LinkRule) (line : ℕ) (case : LinkCase) (next : Option LinkFault) → unless test rule line case next ≡ None → (test ≡ true) × (next ≡ None)
-passed true rule line case next e = (refl, e)
-passed false rule line case next e = absurd (some_none _ e)
+passed : (test : Bool) (rule : LinkRule) (spot : Spot) (case : LinkCase) (next : Option LinkFault) → unless test rule spot case next ≡ None → (test ≡ true) × (next ≡ None)
+passed true rule spot case next e = (refl, e)
+passed false rule spot case next e = absurd (some_none _ e)
 
 -- the LAM of a service that no rule refuses after these services
 record IsFree (plan : Layout) (lams : List Lam) (earlier : List Service) (v : Service) : Type 0 where
@@ -37,8 +38,8 @@ not_true false e = refl
 free_of : (plan : Layout) (lams : List Lam) (earlier : List Service) (v : Service) (o : Option Lam) → slice_get lams v.lam ≡ o → served_fault plan lams earlier v o ≡ None → IsFree plan lams earlier v
 free_of plan lams earlier v None at e = absurd (some_none _ e)
 free_of plan lams earlier v (Some l) at e =
-    let first = passed (is_some (lam_bit plan l)) _ v.line _ _ e in
-    let second = passed (not (is_served lams l earlier)) _ v.line _ _ first.1 in
+    let first = passed (is_some (lam_bit plan l)) _ v.spot _ _ e in
+    let second = passed (not (is_served lams l earlier)) _ v.spot _ _ first.1 in
     record { lam = l; is_its = at; has_bit = first.0; free = not_true (is_served lams l earlier) second.0 }
 
 -- none of the services that a LAM is free of is on it

@@ -9,10 +9,11 @@ use Rattle.camac_names.specs.declared.fault.LinkFault.{LinkFault}
 use Rattle.camac_names.specs.declared.fault.LinkFault.TheVariants.{Broken}
 use Rattle.camac_names.specs.declared.fault.LinkRule.{LinkRule}
 use Rattle.camac_names.specs.declared.fault.LinkRule.TheVariants.{LamNotInstalled, StationWithoutBit, StationServedTwice, EventAboveBuffer}
+use Rattle.camac_lang.specs.declared.spot.Spot.{Spot}
 
--- a fault on this line, unless the test holds; and else the next
-abbrev pub unless : Bool → LinkRule → ℕ → LinkCase → Option LinkFault → Option LinkFault
-unless test rule line case next = if test then next else Some (Broken rule line case)
+-- a fault at this spot, unless the test holds; and else the next
+abbrev pub unless : Bool → LinkRule → Spot → LinkCase → Option LinkFault → Option LinkFault
+unless test rule spot case next = if test then next else Some (Broken rule spot case)
 
 -- where a LAM stands
 abbrev pub place_of : Lam → LinkCase
@@ -20,12 +21,12 @@ place_of l = Place l.crate_no l.station
 
 -- L1 of a LAM
 abbrev pub lam_fault : Layout → Lam → Option LinkFault
-lam_fault plan l = unless (is_some (installed plan l.crate_no l.station)) LamNotInstalled l.line (place_of l) None
+lam_fault plan l = unless (is_some (installed plan l.crate_no l.station)) LamNotInstalled l.spot (place_of l) None
 
 -- L1 of each LAM in text order
 abbrev pub lams_fault : Layout → List Lam → Option LinkFault
 lams_fault plan [] = None
-lams_fault plan (l ∷ ls) = unless (is_some (installed plan l.crate_no l.station)) LamNotInstalled l.line (place_of l) (lams_fault plan ls)
+lams_fault plan (l ∷ ls) = unless (is_some (installed plan l.crate_no l.station)) LamNotInstalled l.spot (place_of l) (lams_fault plan ls)
 
 -- the graded-L bit of a service: that of its LAM's station
 abbrev pub lam_bit : Layout → Lam → Option ℕ
@@ -45,24 +46,24 @@ is_on l (Some m) = same_station l m
 abbrev pub is_there : List Lam → Lam → Service → Bool
 is_there lams l v = is_on l (slice_get lams v.lam)
 
--- whether one of these services is, and the line of the first that is
+-- whether one of these services is, and where the first that is stands
 abbrev pub is_served : List Lam → Lam → List Service → Bool
 is_served lams l vs = list_any (is_there lams l) vs
 
-abbrev pub first_line : List Lam → Lam → List Service → Option ℕ
-first_line lams l vs = option_map (λ v. v.line) (find (is_there lams l) vs)
+abbrev pub first_spot : List Lam → Lam → List Service → Option Spot
+first_spot lams l vs = option_map (λ v. v.spot) (find (is_there lams l) vs)
 
 -- the station of the LAM, which the first of these services has
 abbrev pub served_by : List Lam → Lam → List Service → LinkCase
-served_by lams l earlier = Served l.crate_no l.station (unwrap_or (first_line lams l earlier) 0)
+served_by lams l earlier = Served l.crate_no l.station (unwrap_or (first_spot lams l earlier) l.spot)
 
 -- L2, L3 and L4 of a service on this LAM, after these services
 abbrev pub served_fault : Layout → List Lam → List Service → Service → Option Lam → Option LinkFault
-served_fault plan lams earlier v None = Some (Broken LamNotInstalled v.line Malformed)
+served_fault plan lams earlier v None = Some (Broken LamNotInstalled v.spot Malformed)
 served_fault plan lams earlier v (Some l) =
-    unless (is_some (lam_bit plan l)) StationWithoutBit v.line (place_of l)
-    (unless (not (is_served lams l earlier)) StationServedTwice v.line (served_by lams l earlier)
-    (unless (nat_le v.words plan.buffer) EventAboveBuffer v.line (Words v.words plan.buffer) None))
+    unless (is_some (lam_bit plan l)) StationWithoutBit v.spot (place_of l)
+    (unless (not (is_served lams l earlier)) StationServedTwice v.spot (served_by lams l earlier)
+    (unless (nat_le v.words plan.buffer) EventAboveBuffer v.spot (Words v.words plan.buffer) None))
 
 abbrev pub service_fault : Layout → List Lam → List Service → Service → Option LinkFault
 service_fault plan lams earlier v = served_fault plan lams earlier v (slice_get lams v.lam)
@@ -77,7 +78,7 @@ services_fault plan lams earlier [] = None
 services_fault plan lams earlier (v ∷ vs) =
     or_else (service_fault plan lams earlier v) (services_fault plan lams (earlier ++ v ∷ []) vs)
 
--- the first rule that is broken, its line and its case
+-- the first rule that is broken, its spot and its case
 abbrev pub link_fault : Layout → Script → Option LinkFault
 link_fault plan script = or_else (lams_fault plan script.lams) (services_fault plan script.lams [] script.services)
 

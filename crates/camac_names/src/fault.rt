@@ -1,5 +1,6 @@
 // Why a script can't be linked to a plan.
 
+use camac_lang::Spot;
 use thiserror::Error;
 
 /// A rule of linking (own).
@@ -23,11 +24,11 @@ pub enum LinkCase {
         crate_no: u32,
         station: u32,
     },
-    /// L3: the crate and the station, and the line of the first service there.
+    /// L3: the crate and the station, and where the first service there stands.
     Served {
         crate_no: u32,
         station: u32,
-        line: u32,
+        spot: Spot,
     },
     /// L4: the event words that the heading allows, and those that the plan's buffer holds.
     Words {
@@ -38,15 +39,15 @@ pub enum LinkCase {
     Malformed,
 }
 
-/// The first rule that is broken, at the line of the declaration's first token, with its case; or L5, out of memory.
+/// The first rule that is broken, where the declaration begins, with its case; or L5, out of memory.
 #[derive(Clone, Copy, Debug, PartialEq, Eq, Error)]
 pub enum LinkFault {
     #[error("memory")]
     OutOfMemory,
-    #[error("line {line}: {rule:?}")]
+    #[error("line {}: {rule:?}", spot.line)]
     Broken {
         rule: LinkRule,
-        line: u32,
+        spot: Spot,
         case: LinkCase,
     },
 }

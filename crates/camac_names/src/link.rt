@@ -4,16 +4,16 @@ ghost use Rattle.std.specs.Prelude.{◌≡◌, ◌≢◌, ◌<◌, ◌≤◌, le
 ghost use Rattle.std.specs.Result.{result_err};
 ghost use Rattle.camac_lang.specs.View.{lam_of, service_of};
 ghost use Rattle.camac_branch.specs.Plan.{IsPlan, installed, gl};
-ghost use Rattle.camac_names.specs.Link.{lam_fault, lams_fault, lams_faults, services_faults, link_faults, service_bit, same_station, is_there, is_served, first_line, place_of, service_fault, services_fault, link_fault};
+ghost use Rattle.camac_names.specs.Link.{lam_fault, lams_fault, lams_faults, services_faults, link_faults, service_bit, same_station, is_there, is_served, first_spot, place_of, service_fault, services_fault, link_fault};
 
 use crate::fault::{LinkCase, LinkFault, LinkRule};
 use crate::linked::Linked;
 use camac_branch::Plan;
-use camac_lang::{Lam, Script, Service};
+use camac_lang::{Lam, Script, Service, Spot};
 use camac_word::{CrateNo, GlBit, Station};
 use std::alloc::{AllocError, Global};
 
-/// Links a script to a plan, of which it keeps a copy. The error is the first rule that is broken, with the line of the declaration's first
+/// Links a script to a plan, of which it keeps a copy. The error is the first rule that is broken, with the spot of the declaration's first
 /// token and the rule's case: L1 of each LAM in text order, then L2, L3 and L4 of each service in text order. It is L5 where memory ran out.
 pub fn resolve(alloc: Global, script: Script, plan: &Plan) -> Result<Linked, LinkFault>
     ensures ok { IfOk result (λ l. (link_fault plan.now script ≡ None) × (l ≡ record { plan = plan.now; script = script })) }
@@ -92,7 +92,7 @@ fn lam_fault(lam: &Lam, plan: &Plan) -> Option<LinkFault>
     if is_installed(plan, lam.crate_no, lam.station) {
         return None;
     }
-    Some(broken(LinkRule::LamNotInstalled, lam.line, place_of(lam)))
+    Some(broken(LinkRule::LamNotInstalled, lam.spot, place_of(lam)))
 }
 
 // The bit of each service, unless a rule is broken.
@@ -126,35 +126,35 @@ fn link_service(
     ensures ok { IfOk result (λ bit. (service_fault plan.now (map lam_of lams.now) (map service_of earlier.now) (service_of service.now) ≡ None) × (service_bit plan.now (map lam_of lams.now) (service_of service.now) ≡ Some bit)) }
     ensures refused { IfErr result (λ e. service_fault plan.now (map lam_of lams.now) (map service_of earlier.now) (service_of service.now) ≡ Some e) }
 {
-    let line = service.line;
+    let spot = service.spot;
     let Some(lam) = lams.get(service.lam) else {
-        return Err(broken(LinkRule::LamNotInstalled, line, LinkCase::Malformed));
+        return Err(broken(LinkRule::LamNotInstalled, spot, LinkCase::Malformed));
     };
     let Some(bit) = bit_at(plan, lam.crate_no, lam.station) else {
-        return Err(broken(LinkRule::StationWithoutBit, line, place_of(lam)));
+        return Err(broken(LinkRule::StationWithoutBit, spot, place_of(lam)));
     };
-    if let Some(first) = first_line(lams, lam, earlier) {
+    if let Some(first) = first_spot(lams, lam, earlier) {
         let case = LinkCase::Served {
             crate_no: lam.crate_no,
             station: lam.station,
-            line: first,
+            spot: first,
         };
-        return Err(broken(LinkRule::StationServedTwice, line, case));
+        return Err(broken(LinkRule::StationServedTwice, spot, case));
     }
     if service.words > plan.buffer() as u32 {
         let case = LinkCase::Words {
             allowed: service.words,
             buffer: plan.buffer(),
         };
-        return Err(broken(LinkRule::EventAboveBuffer, line, case));
+        return Err(broken(LinkRule::EventAboveBuffer, spot, case));
     }
     Ok(bit)
 }
 
-fn broken(rule: LinkRule, line: u32, case: LinkCase) -> LinkFault
-    ensures { result ≡ LinkFault.Broken rule line case }
+fn broken(rule: LinkRule, spot: Spot, case: LinkCase) -> LinkFault
+    ensures { result ≡ LinkFault.Broken rule spot case }
 {
-    LinkFault::Broken { rule, line, case }
+    LinkFault::Broken { rule, spot, case }
 }
 
 fn place_of(lam: &Lam) -> LinkCase
@@ -166,14 +166,14 @@ fn place_of(lam: &Lam) -> LinkCase
     }
 }
 
-// The line of the first of these services that is on the LAM's station.
-fn first_line(lams: &[Lam], lam: &Lam, services: &[Service]) -> Option<u32>
-    ensures line { result ≡ first_line (map lam_of lams.now) (lam_of lam.now) (map service_of services.now) }
+// Where the first of these services that is on the LAM's station stands.
+fn first_spot(lams: &[Lam], lam: &Lam, services: &[Service]) -> Option<Spot>
+    ensures spot { result ≡ first_spot (map lam_of lams.now) (lam_of lam.now) (map service_of services.now) }
     ensures served { is_some result ≡ is_served (map lam_of lams.now) (lam_of lam.now) (map service_of services.now) }
 {
     'services: for service in services {
         if is_there(lams, lam, service) {
-            return Some(service.line);
+            return Some(service.spot);
         }
     }
     None

@@ -116,7 +116,7 @@ module _ (g : ℕ) where
           λ low lam' v' at its.
               subst (λ l. IsKept j l v') (same_Some lam lam' at)
               (subst (λ x. IsKept j lam x) (same_Some v v' its)
-              (record { clears = its_heading (clears_lam plan script bodies lam j) v.line (own.0 low); others = λ k o at_k. let number : 0 + k ≡ k = omega arith in subst (λ n. of_other j n o ≡ None) number (cleared.0 low k o at_k); shown = hidden.0 low })),
+              (record { clears = its_heading (clears_lam plan script bodies lam j) v.spot.line (own.0 low); others = λ k o at_k. let number : 0 + k ≡ k = omega arith in subst (λ n. of_other j n o ≡ None) number (cleared.0 low k o at_k); shown = hidden.0 low })),
           own.1,
         )
 

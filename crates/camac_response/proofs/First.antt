@@ -22,7 +22,7 @@ module _ (test : Command → Bool) where
   some_line n [] e = absurd (cc)
   some_line n (c ∷ cs) e = go (test c) e (λ m. some_line m cs)
     where
-      go : (b : Bool) → least_line test (with_line b c.line (Some n)) cs ≡ None → ((m : ℕ) → least_line test (Some m) cs ≡ None → ⊥) → ⊥
+      go : (b : Bool) → least_line test (with_line b c.spot.line (Some n)) cs ≡ None → ((m : ℕ) → least_line test (Some m) cs ≡ None → ⊥) → ⊥
       go true e ih = ih _ e
       go false e ih = ih n e
 
@@ -30,8 +30,8 @@ module _ (test : Command → Bool) where
   no_line [] e = refl
   no_line (c ∷ cs) e = go (test c) refl e (no_line cs)
     where
-      go : (b : Bool) → test c ≡ b → least_line test (with_line b c.line None) cs ≡ None → (least_line test None cs ≡ None → list_any test cs ≡ false) → (test c || list_any test cs) ≡ false
-      go true is e ih = absurd (some_line c.line cs e)
+      go : (b : Bool) → test c ≡ b → least_line test (with_line b c.spot.line None) cs ≡ None → (least_line test None cs ≡ None → list_any test cs ≡ false) → (test c || list_any test cs) ≡ false
+      go true is e ih = absurd (some_line c.spot.line cs e)
       go false is e ih = both_false (test c) (list_any test cs) is (ih e)
 
   -- of the lines so far and of these commands
@@ -72,25 +72,25 @@ module _ (test : Command → Bool) where
 
     mutual
       none_made : (so_far : Option ℕ) (s : Statement) (rows : List Row) → first_made test ps so_far s rows ≡ None → NoneOf so_far (made qs s rows)
-      none_made so_far (choose line t a) rows e = none_block so_far a (drop 1 rows) e
-      none_made so_far (choose_else line t a b) rows e =
+      none_made so_far (choose spot t a) rows e = none_block so_far a (drop 1 rows) e
+      none_made so_far (choose_else spot t a b) rows e =
           let others : List Row = drop 1 (behind_block a (drop 1 rows)) in
           let second = none_block (first_block test ps so_far a (drop 1 rows)) b others e in
           none_both so_far (made_block qs a (drop 1 rows)) (made_block qs b others) (none_block so_far a (drop 1 rows) second.0) second.1
-      none_made so_far (for_ line x e1 e2 keeps body) rows e = none_block so_far body (drop 1 rows) e
-      none_made so_far (for_each line x v last body) rows e = none_block so_far body (drop 1 rows) e
-      none_made so_far (while_ line t most m keeps body) rows e = none_block so_far body (drop 1 rows) e
-      none_made so_far (locked line c body) rows e = none_block so_far body (drop 1 rows) e
-      none_made so_far (call line p es) rows e = none_called so_far (unwrap_or (slice_get ps p) None) p refl e
-      none_made so_far (assign line x v) rows e = none_line so_far (made_alone (assign line x v) (detail_told rows)) e
-      none_made so_far (set_register line r e1 e2 e3) rows e = none_line so_far (made_alone (set_register line r e1 e2 e3) (detail_told rows)) e
-      none_made so_far (single line size f r move) rows e = none_line so_far (made_alone (single line size f r move) (detail_told rows)) e
-      none_made so_far (address_scan line f r1 r2 max x) rows e = none_line so_far (made_alone (address_scan line f r1 r2 max x) (detail_told rows)) e
-      none_made so_far (q_stop line f r t max x) rows e = none_line so_far (made_alone (q_stop line f r t max x) (detail_told rows)) e
-      none_made so_far (q_repeat line f r t max limit x) rows e = none_line so_far (made_alone (q_repeat line f r t max limit x) (detail_told rows)) e
-      none_made so_far (put line v) rows e = none_line so_far (made_alone (put line v) (detail_told rows)) e
-      none_made so_far (crate_call line which v) rows e = none_line so_far (made_alone (crate_call line which v) (detail_told rows)) e
-      none_made so_far (lam_call line which l) rows e = none_line so_far (made_alone (lam_call line which l) (detail_told rows)) e
+      none_made so_far (for_ spot x e1 e2 keeps body) rows e = none_block so_far body (drop 1 rows) e
+      none_made so_far (for_each spot x v last body) rows e = none_block so_far body (drop 1 rows) e
+      none_made so_far (while_ spot t most m keeps body) rows e = none_block so_far body (drop 1 rows) e
+      none_made so_far (locked spot c body) rows e = none_block so_far body (drop 1 rows) e
+      none_made so_far (call spot p es) rows e = none_called so_far (unwrap_or (slice_get ps p) None) p refl e
+      none_made so_far (assign spot x v) rows e = none_line so_far (made_alone (assign spot x v) (detail_told rows)) e
+      none_made so_far (set_register spot r e1 e2 e3) rows e = none_line so_far (made_alone (set_register spot r e1 e2 e3) (detail_told rows)) e
+      none_made so_far (single spot size f r move) rows e = none_line so_far (made_alone (single spot size f r move) (detail_told rows)) e
+      none_made so_far (address_scan spot f r1 r2 max x) rows e = none_line so_far (made_alone (address_scan spot f r1 r2 max x) (detail_told rows)) e
+      none_made so_far (q_stop spot f r t max x) rows e = none_line so_far (made_alone (q_stop spot f r t max x) (detail_told rows)) e
+      none_made so_far (q_repeat spot f r t max limit x) rows e = none_line so_far (made_alone (q_repeat spot f r t max limit x) (detail_told rows)) e
+      none_made so_far (put spot v) rows e = none_line so_far (made_alone (put spot v) (detail_told rows)) e
+      none_made so_far (crate_call spot which v) rows e = none_line so_far (made_alone (crate_call spot which v) (detail_told rows)) e
+      none_made so_far (lam_call spot which l) rows e = none_line so_far (made_alone (lam_call spot which l) (detail_told rows)) e
 
       none_block : (so_far : Option ℕ) (b : Block) (rows : List Row) → first_block test ps so_far b rows ≡ None → NoneOf so_far (made_block qs b rows)
       none_block so_far done rows e = (e, refl)

@@ -5,7 +5,7 @@ use Rattle.std.proofs.lemmas.Bool.{true≢false}
 use Rattle.std.proofs.lemmas.Option.{same_Some}
 use Rattle.camac_lang.specs.declared.word.CrateCall.TheVariants as crate_word
 use Rattle.camac_lang.specs.declared.word.LamCall.TheVariants as lam_word
-use Rattle.camac_lang.specs.Tree.{number, crate_call, lam_call, Script, next_lam, next_service}
+use Rattle.camac_lang.specs.Tree.{number, crate_call, lam_call, Script, next_lam, next_service, on_line}
 use Rattle.camac_branch.specs.Address.{Address, address}
 use Rattle.camac_branch.specs.Branch.{Answer, IsSet}
 use Rattle.camac_model.specs.Behaviour.{Piece, pieces}
@@ -28,8 +28,8 @@ each = record {
   variables = [];
   procedures = [];
   services =
-      served_by 0 (crate_call 4 crate_word.TestDemand (number 2) ∷ lam_call 4 lam_word.Clear 0 ∷ []) ∷
-      served_by 1 (lam_call 4 lam_word.Clear 1 ∷ []) ∷
+      served_by 0 (crate_call (on_line 4) crate_word.TestDemand (number 2) ∷ lam_call (on_line 4) lam_word.Clear 0 ∷ []) ∷
+      served_by 1 (lam_call (on_line 4) lam_word.Clear 1 ∷ []) ∷
       [];
 }
 
@@ -226,8 +226,8 @@ not_cleared h = true≢false (sym (h.1.1.1.1.0.cleared 0 (source 3 4 None) refl 
 abbrev with_z : Script
 with_z = record each {
   services =
-      served_by 0 (crate_call 4 crate_word.Initialise (number 2) ∷ lam_call 4 lam_word.Clear 0 ∷ []) ∷
-      served_by 1 (lam_call 4 lam_word.Clear 1 ∷ []) ∷
+      served_by 0 (crate_call (on_line 4) crate_word.Initialise (number 2) ∷ lam_call (on_line 4) lam_word.Clear 0 ∷ []) ∷
+      served_by 1 (lam_call (on_line 4) lam_word.Clear 1 ∷ []) ∷
       [];
 }
 

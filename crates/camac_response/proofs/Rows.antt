@@ -2,7 +2,7 @@
 use Rattle.std.proofs.Common.{◌≡◌, ℕ, List, [], ◌∷◌, Option, Some, None, true, false, refl, take}
 use Rattle.std.specs.Prelude.{Ok, codes}
 use Rattle.camac_lang.specs.declared.word.CrateCall.TheVariants as crate_word
-use Rattle.camac_lang.specs.Tree.{number, Statement, crate_call, Script, Lam, Service, next_lam, next_service}
+use Rattle.camac_lang.specs.Tree.{number, Statement, crate_call, Script, Lam, Service, next_lam, next_service, on_line}
 use Rattle.camac_lang.specs.View.{block_of}
 use Rattle.camac_branch.specs.Branch.{Answer}
 use Rattle.camac_branch.specs.Plan.{Layout}
@@ -59,10 +59,10 @@ plan = record {
 }
 
 abbrev pub lam_at : List ℕ → ℕ → Lam
-lam_at name c = record { line = 1; name = name; crate_no = c; station = 5; sub_address = 12 }
+lam_at name c = record { spot = on_line 1; name = name; crate_no = c; station = 5; sub_address = 12 }
 
 abbrev pub served_by : ℕ → List Statement → Service
-served_by l ss = record { line = 3; lam = l; cycles = 4; words = 0; registers = []; body = block_of ss }
+served_by l ss = record { spot = on_line 3; lam = l; cycles = 4; words = 0; registers = []; body = block_of ss }
 
 abbrev pub both : Script
 both = record {
@@ -72,8 +72,8 @@ both = record {
   variables = [];
   procedures = [];
   services =
-      served_by 0 (crate_call 4 crate_word.TestDemand (number 2) ∷ crate_call 4 crate_word.TestInhibit (number 1) ∷ []) ∷
-      served_by 1 (crate_call 4 crate_word.TestDemand (number 2) ∷ crate_call 4 crate_word.TestInhibit (number 1) ∷ []) ∷
+      served_by 0 (crate_call (on_line 4) crate_word.TestDemand (number 2) ∷ crate_call (on_line 4) crate_word.TestInhibit (number 1) ∷ []) ∷
+      served_by 1 (crate_call (on_line 4) crate_word.TestDemand (number 2) ∷ crate_call (on_line 4) crate_word.TestInhibit (number 1) ∷ []) ∷
       [];
 }
 

@@ -27,18 +27,18 @@ lesser so_far (Some line) = Some (or_before line so_far)
 -- of a list of commands
 abbrev pub least_line : (Command → Bool) → Option ℕ → List Command → Option ℕ
 least_line test so_far [] = so_far
-least_line test so_far (c ∷ cs) = least_line test (with_line (test c) c.line so_far) cs
+least_line test so_far (c ∷ cs) = least_line test (with_line (test c) c.spot.line so_far) cs
 
 -- of a statement or block and the lines so far, with that of each procedure before it, by its number
 abbrev mutual
   pub first_made : (Command → Bool) → List (Option ℕ) → Option ℕ → Statement → List Row → Option ℕ
-  first_made test ps so_far (choose line e a) rows = first_block test ps so_far a (drop 1 rows)
-  first_made test ps so_far (choose_else line e a b) rows = first_block test ps (first_block test ps so_far a (drop 1 rows)) b (drop 1 (behind_block a (drop 1 rows)))
-  first_made test ps so_far (for_ line x e1 e2 keeps body) rows = first_block test ps so_far body (drop 1 rows)
-  first_made test ps so_far (for_each line x v last body) rows = first_block test ps so_far body (drop 1 rows)
-  first_made test ps so_far (while_ line e most m keeps body) rows = first_block test ps so_far body (drop 1 rows)
-  first_made test ps so_far (locked line e body) rows = first_block test ps so_far body (drop 1 rows)
-  first_made test ps so_far (call line p es) rows = lesser so_far (unwrap_or (slice_get ps p) None)
+  first_made test ps so_far (choose spot e a) rows = first_block test ps so_far a (drop 1 rows)
+  first_made test ps so_far (choose_else spot e a b) rows = first_block test ps (first_block test ps so_far a (drop 1 rows)) b (drop 1 (behind_block a (drop 1 rows)))
+  first_made test ps so_far (for_ spot x e1 e2 keeps body) rows = first_block test ps so_far body (drop 1 rows)
+  first_made test ps so_far (for_each spot x v last body) rows = first_block test ps so_far body (drop 1 rows)
+  first_made test ps so_far (while_ spot e most m keeps body) rows = first_block test ps so_far body (drop 1 rows)
+  first_made test ps so_far (locked spot e body) rows = first_block test ps so_far body (drop 1 rows)
+  first_made test ps so_far (call spot p es) rows = lesser so_far (unwrap_or (slice_get ps p) None)
   first_made test ps so_far s rows = least_line test so_far (made_alone s (detail_told rows))
 
   pub first_block : (Command → Bool) → List (Option ℕ) → Option ℕ → Block → List Row → Option ℕ

@@ -30,9 +30,9 @@ in_turns turns n = if nat_eq turns 0 then 0 else (if nat_eq turns 1 then n else 
 
 -- the cycles of a statement that may clear: a transfer has a step of its own and one for each; a scan comes to no address twice
 abbrev pub cycles_of : Statement → (steps places : ℕ) → ℕ
-cycles_of (address_scan line f r1 r2 most x) steps places = min (min (steps - 1) 2) places
-cycles_of (q_stop line f r t most x) steps places = min (steps - 1) 2
-cycles_of (q_repeat line f r t most limit x) steps places = min (steps - 1) 2
+cycles_of (address_scan spot f r1 r2 most x) steps places = min (min (steps - 1) 2) places
+cycles_of (q_stop spot f r t most x) steps places = min (steps - 1) 2
+cycles_of (q_repeat spot f r t most limit x) steps places = min (steps - 1) 2
 cycles_of s steps places = 1
 
 -- of a statement that holds no others and calls no procedure, by its command, if it has one
@@ -52,14 +52,14 @@ turns_told told = 0
 -- of a statement, and of a block after those so far, with that of each procedure before it, by its number
 abbrev mutual
   pub clears_made : Layout → (lam : Address) → List ℕ → Statement → List Row → ℕ
-  clears_made plan lam ps (choose line t a) rows = clears_block plan lam ps 0 a (drop 1 rows)
-  clears_made plan lam ps (choose_else line t a b) rows =
+  clears_made plan lam ps (choose spot t a) rows = clears_block plan lam ps 0 a (drop 1 rows)
+  clears_made plan lam ps (choose_else spot t a b) rows =
       max (clears_block plan lam ps 0 a (drop 1 rows)) (clears_block plan lam ps 0 b (drop 1 (behind_block a (drop 1 rows))))
-  clears_made plan lam ps (for_ line x e1 e2 keeps body) rows = in_turns (turns_told (detail_told rows)) (clears_block plan lam ps 0 body (drop 1 rows))
-  clears_made plan lam ps (for_each line x v last body) rows = in_turns (turns_told (detail_told rows)) (clears_block plan lam ps 0 body (drop 1 rows))
-  clears_made plan lam ps (while_ line t most m keeps body) rows = in_turns (turns_told (detail_told rows)) (clears_block plan lam ps 0 body (drop 1 rows))
-  clears_made plan lam ps (locked line e body) rows = clears_block plan lam ps 0 body (drop 1 rows)
-  clears_made plan lam ps (call line p es) rows = unwrap_or (slice_get ps p) 0
+  clears_made plan lam ps (for_ spot x e1 e2 keeps body) rows = in_turns (turns_told (detail_told rows)) (clears_block plan lam ps 0 body (drop 1 rows))
+  clears_made plan lam ps (for_each spot x v last body) rows = in_turns (turns_told (detail_told rows)) (clears_block plan lam ps 0 body (drop 1 rows))
+  clears_made plan lam ps (while_ spot t most m keeps body) rows = in_turns (turns_told (detail_told rows)) (clears_block plan lam ps 0 body (drop 1 rows))
+  clears_made plan lam ps (locked spot e body) rows = clears_block plan lam ps 0 body (drop 1 rows)
+  clears_made plan lam ps (call spot p es) rows = unwrap_or (slice_get ps p) 0
   clears_made plan lam ps s rows = clears_alone plan lam s (steps_told rows) (made_alone s (detail_told rows))
 
   pub clears_block : Layout → (lam : Address) → List ℕ → ℕ → Block → List Row → ℕ

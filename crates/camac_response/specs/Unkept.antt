@@ -34,7 +34,7 @@ told bit j why (Some line) us = with_unkept (record { bit = bit; service = j; li
 
 -- The look-at-me of service number j, whose address and bit are these. Its service does not clear it on every way: the line of its heading
 abbrev pub not_cleared : Layout → Script → List BodyRows → Address → (j : ℕ) → Service → Option ℕ
-not_cleared plan script bodies lam j v = if clears_lam plan script bodies lam j then None else Some v.line
+not_cleared plan script bodies lam j v = if clears_lam plan script bodies lam j then None else Some v.spot.line
 
 -- other services may clear it, the services from number i on: of each the least line of a command that could
 abbrev pub of_other : (j i : ℕ) → Option ℕ → Option ℕ

@@ -16,7 +16,7 @@ use camac_check_rows::{Detail, Row};
 use camac_checked::Checked;
 use camac_commands::{Command, behind_first, detail_told, told_region};
 use camac_esone::{Address, lam_function};
-use camac_lang::{Form, Lam, Stmt, Term};
+use camac_lang::{Form, Lam, Spot, Stmt, Term};
 use camac_word::Function;
 use std::alloc::{AllocError, Global};
 
@@ -121,34 +121,34 @@ fn clears_alone(asked: &Clearing<'_>, statement: &Stmt, detail: Detail) -> bool
     ensures { result ≡ surely_alone (must_clear asked.now.plan.now asked.now.lam) (statement_of statement.now) detail }
 {
     match statement {
-        Stmt::Single(single) => command_clears(asked, single.line, single.function, detail),
+        Stmt::Single(single) => command_clears(asked, single.spot, single.function, detail),
         Stmt::QStop { transfer } => {
             is_some_number(transfer.max.term())
-                && command_clears(asked, transfer.line, transfer.function, detail)
+                && command_clears(asked, transfer.spot, transfer.function, detail)
         }
         Stmt::QRepeat { transfer, limit } => {
             is_some_number(transfer.max.term())
                 && is_some_number(limit.term())
-                && command_clears(asked, transfer.line, transfer.function, detail)
+                && command_clears(asked, transfer.spot, transfer.function, detail)
         }
         Stmt::LamCall(action) => {
             let function = lam_function(action.call);
-            command_clears(asked, action.line, function, detail)
+            command_clears(asked, action.spot, function, detail)
         }
         _ => false,
     }
 }
 
 // Whether a command does, at the addresses that its row tells.
-fn command_clears(asked: &Clearing<'_>, line: u32, function: Function, detail: Detail) -> bool
-    ensures { result ≡ list_any (must_clear asked.now.plan.now asked.now.lam) (made_at line function (told_region detail)) }
+fn command_clears(asked: &Clearing<'_>, spot: Spot, function: Function, detail: Detail) -> bool
+    ensures { result ≡ list_any (must_clear asked.now.plan.now asked.now.lam) (made_at spot function (told_region detail)) }
 {
     match told_region(detail) {
         Some(region) => must_clear(
             asked.plan,
             asked.lam,
             &Command {
-                line,
+                spot,
                 function,
                 region,
             },

@@ -127,7 +127,7 @@ fn alone_line(least: &Least<'_>, so_far: Option<u32>, statement: &Stmt, rows: &[
     ensures { result ≡ least_line (asks least.now.plan.now least.now.asked least.now.lam) so_far (made_alone (statement_of statement.now) (detail_told rows.now)) }
 {
     match made_alone(statement, detail_told(rows)) {
-        Some(command) => with_line(asks(least, &command), command.line, so_far),
+        Some(command) => with_line(asks(least, &command), command.spot.line, so_far),
         None => so_far,
     }
 }

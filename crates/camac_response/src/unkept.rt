@@ -106,7 +106,11 @@ fn not_cleared(
     ensures { IfOk result (λ line. line ≡ not_cleared checked.now.plan checked.now.script costs.now lam number (service_of service.now)) }
 {
     let clears = clears_lam(alloc, checked, costs, lam, number)?;
-    Ok(if clears { None } else { Some(service.line) })
+    Ok(if clears {
+        None
+    } else {
+        Some(service.spot.line)
+    })
 }
 
 // By the services from this number on, of which these are the lines.

@@ -37,6 +37,7 @@ use Rattle.camac_rules.proofs.Values.{Fits, Gives, range_each}
 use Rattle.camac_rules.proofs.Regions.{IsAllowed, command_allowed}
 use Rattle.camac_rules.proofs.Sound.{Paid, Sound, SoundFor}
 use Rattle.camac_rules.proofs.Cycles.{OneUsed, permitted_inside, cost_counted, paid_cycle, inside_cycle, cycle_sound}
+use Rattle.camac_lang.specs.declared.spot.Spot.{Spot}
 
 -- the widths of a plan are those of 24 lines at most
 abbrev pub HasWidths : Layout → Type 0
@@ -132,11 +133,11 @@ cycle_ends plan around k s at f u r wait rest i one le = record {
   untouched = λ y e. refl;
 }
 
-control_sound : (c : Setting) (around : Place) (line : ℕ) (size : WordSize) (f r : ℕ) (k : Facts) → Allows (control_rule (seen c) (around_of around) line f r k) (SoundFor c.plan around (Some k) (λ n s. effect (of c) n (single line size f r no_data) (stepped s)))
-control_sound c around line size f r k =
-    then_allowed (given_allowed (region_at k.registers r) _ line _) (λ g set.
-    then_allowed (command_allowed c.plan line f g) (λ w every.
-    required_allowed _ line _ (λ class. allows (record {
+control_sound : (c : Setting) (around : Place) (spot : Spot) (size : WordSize) (f r : ℕ) (k : Facts) → Allows (control_rule (seen c) (around_of around) spot f r k) (SoundFor c.plan around (Some k) (λ n s. effect (of c) n (single spot size f r no_data) (stepped s)))
+control_sound c around spot size f r k =
+    then_allowed (given_allowed (region_at k.registers r) _ spot _) (λ g set.
+    then_allowed (command_allowed c.plan spot f g) (λ w every.
+    required_allowed _ spot _ (λ class. allows (record {
       each = λ n le s i.
           let a = can_cycle c.plan around g w f r k s set every i in
           with_given c.plan around (Some k) (costs (cycle_cost c.plan around.locked g.crates) 0 1) s (stepped s) (s.registers r) (λ at. act c.plan at f size no_data) a.at a.is
@@ -185,12 +186,12 @@ inside_written around k x v r s i f = record {
 paid_written : (c : Bounds) (x v : ℕ) (s t : State) → Paid c s t → Paid c s (with_variable x v t)
 paid_written c x v s t p = record { cycles = p.cycles; words = p.words; steps = p.steps; are_words = p.are_words; answers = p.answers; easy = p.easy }
 
-read_sound : (c : Setting) → HasWidths c.plan → (around : Place) (line : ℕ) (size : WordSize) (f r x : ℕ) (k : Facts) → Allows (read_rule (seen c) (around_of around) line size f r x k) (SoundFor c.plan around (Some k) (λ n s. effect (of c) n (single line size f r (into x)) (stepped s)))
-read_sound c narrow around line size f r x k =
-    required_allowed _ line _ (λ may.
-    then_allowed (given_allowed (region_at k.registers r) _ line _) (λ g set.
-    then_allowed (command_allowed c.plan line f g) (λ w every.
-    required_allowed _ line _ (λ class. allows (record {
+read_sound : (c : Setting) → HasWidths c.plan → (around : Place) (spot : Spot) (size : WordSize) (f r x : ℕ) (k : Facts) → Allows (read_rule (seen c) (around_of around) spot size f r x k) (SoundFor c.plan around (Some k) (λ n s. effect (of c) n (single spot size f r (into x)) (stepped s)))
+read_sound c narrow around spot size f r x k =
+    required_allowed _ spot _ (λ may.
+    then_allowed (given_allowed (region_at k.registers r) _ spot _) (λ g set.
+    then_allowed (command_allowed c.plan spot f g) (λ w every.
+    required_allowed _ spot _ (λ class. allows (record {
       each = λ n le s i.
           let u : ℕ = cycle_cost c.plan around.locked g.crates in
           let range : Interval = interval 0 (2 ^ sized size w.hi - 1) in
@@ -218,13 +219,13 @@ size_fits : (size : WordSize) (v most : ℕ) → v ≤ most → fits_size size m
 size_fits Full v most h e = refl
 size_fits Short v most h e = le-leb v 65535 (le_trans h (leb-true most 65535 e))
 
-write_sound : (c : Setting) (around : Place) (line : ℕ) (size : WordSize) (f r : ℕ) (e : Expression) (k : Facts) → Allows (write_rule (seen c) (around_of around) line size f r e k) (SoundFor c.plan around (Some k) (λ n s. effect (of c) n (single line size f r (from e)) (stepped s)))
-write_sound c around line size f r e k =
-    then_allowed (range_each line e k.ranges) (λ v gives.
-    then_allowed (given_allowed (region_at k.registers r) _ line _) (λ g set.
-    then_allowed (command_allowed c.plan line f g) (λ w every.
-    required_allowed _ line _ (λ class.
-    required_allowed _ line _ (λ fitting. allows (record {
+write_sound : (c : Setting) (around : Place) (spot : Spot) (size : WordSize) (f r : ℕ) (e : Expression) (k : Facts) → Allows (write_rule (seen c) (around_of around) spot size f r e k) (SoundFor c.plan around (Some k) (λ n s. effect (of c) n (single spot size f r (from e)) (stepped s)))
+write_sound c around spot size f r e k =
+    then_allowed (range_each spot e k.ranges) (λ v gives.
+    then_allowed (given_allowed (region_at k.registers r) _ spot _) (λ g set.
+    then_allowed (command_allowed c.plan spot f g) (λ w every.
+    required_allowed _ spot _ (λ class.
+    required_allowed _ spot _ (λ fitting. allows (record {
       each = λ n le s i.
           let u : ℕ = cycle_cost c.plan around.locked g.crates in
           let a = can_cycle c.plan around g w f r k s set every i in
@@ -243,7 +244,7 @@ write_sound c around line size f r e k =
           (λ reply wait rest one lt. cycle_ends c.plan around k s a.at f u reply wait rest i one lt))));
     }))))))
 
-pub single_sound : (c : Setting) → HasWidths c.plan → (around : Place) (line : ℕ) (size : WordSize) (f r : ℕ) (m : Move) (k : Facts) → Allows (single_rule (seen c) (around_of around) line size f r m k) (SoundFor c.plan around (Some k) (λ n s. effect (of c) n (single line size f r m) (stepped s)))
-single_sound c narrow around line size f r no_data k = control_sound c around line size f r k
-single_sound c narrow around line size f r (into x) k = read_sound c narrow around line size f r x k
-single_sound c narrow around line size f r (from e) k = write_sound c around line size f r e k
+pub single_sound : (c : Setting) → HasWidths c.plan → (around : Place) (spot : Spot) (size : WordSize) (f r : ℕ) (m : Move) (k : Facts) → Allows (single_rule (seen c) (around_of around) spot size f r m k) (SoundFor c.plan around (Some k) (λ n s. effect (of c) n (single spot size f r m) (stepped s)))
+single_sound c narrow around spot size f r no_data k = control_sound c around spot size f r k
+single_sound c narrow around spot size f r (into x) k = read_sound c narrow around spot size f r x k
+single_sound c narrow around spot size f r (from e) k = write_sound c around spot size f r e k

@@ -5,6 +5,7 @@ use Rattle.camac_rules.specs.declared.rule.CheckRule.{CheckRule}
 use Rattle.camac_rules.specs.declared.case.Case.{Case}
 use Rattle.camac_rules.specs.Fault.{Fault}
 use Rattle.camac_rules.specs.Refusal.{go_on, ◌>>=◌, ◌>>◌, required, given, if_reached}
+use Rattle.camac_lang.specs.declared.spot.Spot.{Spot}
 
 -- P holds of the result, if there is one. A record, so that its arguments are found.
 pub record Allows {A : Type 0} (r : Result A Fault) (P : A → Type 0) : Type 0 where
@@ -21,15 +22,15 @@ unfolding go_on
 then_allowed {r = Ok x} h k = k x h.holds
 then_allowed {r = Err e} h k = record { holds = tt }
 
-pub required_allowed : {B : Type 0} {b : Bool} (rule : CheckRule) (line : ℕ) (case : Case) {r : Result B Fault} {Q : B → Type 0} → (b ≡ true → Allows r Q) → Allows (required b rule line case >> r) Q
+pub required_allowed : {B : Type 0} {b : Bool} (rule : CheckRule) (spot : Spot) (case : Case) {r : Result B Fault} {Q : B → Type 0} → (b ≡ true → Allows r Q) → Allows (required b rule spot case >> r) Q
 unfolding go_on required
-required_allowed {b = true} rule line case h = h refl
-required_allowed {b = false} rule line case h = record { holds = tt }
+required_allowed {b = true} rule spot case h = h refl
+required_allowed {b = false} rule spot case h = record { holds = tt }
 
-pub given_allowed : {A : Type 0} (o : Option A) (rule : CheckRule) (line : ℕ) (case : Case) → Allows (given o rule line case) (λ x. o ≡ Some x)
+pub given_allowed : {A : Type 0} (o : Option A) (rule : CheckRule) (spot : Spot) (case : Case) → Allows (given o rule spot case) (λ x. o ≡ Some x)
 unfolding given
-given_allowed None rule line case = record { holds = tt }
-given_allowed (Some x) rule line case = record { holds = refl }
+given_allowed None rule spot case = record { holds = tt }
+given_allowed (Some x) rule spot case = record { holds = refl }
 
 -- what holds for each value of S where H holds
 pub for_each : {A S : Type 0} (H : S → Type 0) {r : Result A Fault} (P : S → A → Type 0) → ((s : S) → H s → Allows r (P s)) → Allows r (λ x. (s : S) → H s → P s x)
@@ -54,7 +55,7 @@ if_reached_allowed nothing None check P n h = record { holds = n }
 if_reached_allowed nothing (Some s) check P n h = h s
 
 -- what follows from what is given
-pub given_then : {A : Type 0} {P : A → Type 0} (o : Option A) (rule : CheckRule) (line : ℕ) (case : Case) → ((x : A) → o ≡ Some x → P x) → Allows (given o rule line case) P
+pub given_then : {A : Type 0} {P : A → Type 0} (o : Option A) (rule : CheckRule) (spot : Spot) (case : Case) → ((x : A) → o ≡ Some x → P x) → Allows (given o rule spot case) P
 unfolding given
-given_then None rule line case h = record { holds = tt }
-given_then (Some x) rule line case h = record { holds = h x refl }
+given_then None rule spot case h = record { holds = tt }
+given_then (Some x) rule spot case h = record { holds = h x refl }

@@ -29,6 +29,7 @@ use Rattle.camac_rules.proofs.Regions.{IsAllowed, command_allowed}
 use Rattle.camac_rules.proofs.Sound.{SoundFor}
 use Rattle.camac_rules.proofs.Actions.{Setting, of, HasWidths, seen, with_given, value_of, address_of, reads, writes}
 use Rattle.camac_rules.proofs.Driven.{words_after, Moves, CanGoOn, IsBounded, transfer_sound}
+use Rattle.camac_lang.specs.declared.spot.Spot.{Spot}
 
 -- by what a block transfer may begin
 pub record MayTransfer (c : Setting) (around : Place) (f r : ℕ) (t : Option ℕ) (most x : ℕ) (k : Facts) (g : Region) : Type 0 where
@@ -40,14 +41,14 @@ pub record MayTransfer (c : Setting) (around : Place) (f r : ℕ) (t : Option �
   pub has : has_words c.tables t most ≡ true
   pub fit : words_fit c.tables t widths.lo ≡ true
 
-region_allowed : (c : Setting) (around : Place) (line f r : ℕ) (t : Option ℕ) (most x : ℕ) (k : Facts) → Allows (block_region (seen c) (around_of around) line f r t most x k) (MayTransfer c around f r t most x k)
-region_allowed c around line f r t most x k =
-    required_allowed _ line _ (λ may.
-    then_allowed (given_allowed (region_at k.registers r) _ line _) (λ g set.
-    then_allowed (command_allowed c.plan line f g) (λ w every.
-    required_allowed _ line _ (λ class.
-    required_allowed _ line _ (λ has.
-    required_allowed _ line _ (λ fit. allowed (record { may = may; set = set; widths = w; every = every; class = class; has = has; fit = fit })))))))
+region_allowed : (c : Setting) (around : Place) (spot : Spot) (f r : ℕ) (t : Option ℕ) (most x : ℕ) (k : Facts) → Allows (block_region (seen c) (around_of around) spot f r t most x k) (MayTransfer c around f r t most x k)
+region_allowed c around spot f r t most x k =
+    required_allowed _ spot _ (λ may.
+    then_allowed (given_allowed (region_at k.registers r) _ spot _) (λ g set.
+    then_allowed (command_allowed c.plan spot f g) (λ w every.
+    required_allowed _ spot _ (λ class.
+    required_allowed _ spot _ (λ has.
+    required_allowed _ spot _ (λ fit. allowed (record { may = may; set = set; widths = w; every = every; class = class; has = has; fit = fit })))))))
 
 each_at : (test : ℕ → Bool) (ws : List ℕ) (j : ℕ) → each test ws ≡ true → j < length ws → (v : ℕ) × (slice_get ws j ≡ Some v) × (test v ≡ true)
 each_at test [] j h lt = absurd (omega arith)
@@ -151,10 +152,10 @@ module _ (c : Setting) (narrow : HasWidths c.plan) (around : Place) (f r : ℕ) 
         record { most = omega arith; small = omega arith; words = data'.words qs (min most limit) (omega arith) };
   }
 
-pub q_stop_sound : (c : Setting) → HasWidths c.plan → (around : Place) (line f r : ℕ) (t : Option ℕ) (e : Expression) (x : ℕ) (k : Facts) → Allows (q_stop_rule (seen c) (around_of around) line f r t e x k) (SoundFor c.plan around (Some k) (λ n s. effect (of c) n (q_stop line f r t e x) (stepped s)))
-q_stop_sound c narrow around line f r t e x k =
-    then_allowed (range_each line e k.ranges) (λ most gives.
-    then_allowed (region_allowed c around line f r t most.hi x k) (λ g may. allowed (record {
+pub q_stop_sound : (c : Setting) → HasWidths c.plan → (around : Place) (spot : Spot) (f r : ℕ) (t : Option ℕ) (e : Expression) (x : ℕ) (k : Facts) → Allows (q_stop_rule (seen c) (around_of around) spot f r t e x k) (SoundFor c.plan around (Some k) (λ n s. effect (of c) n (q_stop spot f r t e x) (stepped s)))
+q_stop_sound c narrow around spot f r t e x k =
+    then_allowed (range_each spot e k.ranges) (λ most gives.
+    then_allowed (region_allowed c around spot f r t most.hi x k) (λ g may. allowed (record {
       each = λ n le s i.
           let v : Verdict = block_verdict (seen c) (around_of around) t most.hi most.hi x g k in
           let table = data' c narrow around f r t most.hi x k g may in
@@ -168,11 +169,11 @@ q_stop_sound c narrow around line f r t e x k =
           (q_stop_bounded c narrow around f r t most.hi x k g may a.at m.number a.inside m.fits.within.high m.fits.small) may.may s i)));
     })))
 
-pub q_repeat_sound : (c : Setting) → HasWidths c.plan → (around : Place) (line f r : ℕ) (t : Option ℕ) (e1 e2 : Expression) (x : ℕ) (k : Facts) → Allows (q_repeat_rule (seen c) (around_of around) line f r t e1 e2 x k) (SoundFor c.plan around (Some k) (λ n s. effect (of c) n (q_repeat line f r t e1 e2 x) (stepped s)))
-q_repeat_sound c narrow around line f r t e1 e2 x k =
-    then_allowed (range_each line e1 k.ranges) (λ most gives_m.
-    then_allowed (range_each line e2 k.ranges) (λ limit gives_l.
-    then_allowed (region_allowed c around line f r t most.hi x k) (λ g may. allowed (record {
+pub q_repeat_sound : (c : Setting) → HasWidths c.plan → (around : Place) (spot : Spot) (f r : ℕ) (t : Option ℕ) (e1 e2 : Expression) (x : ℕ) (k : Facts) → Allows (q_repeat_rule (seen c) (around_of around) spot f r t e1 e2 x k) (SoundFor c.plan around (Some k) (λ n s. effect (of c) n (q_repeat spot f r t e1 e2 x) (stepped s)))
+q_repeat_sound c narrow around spot f r t e1 e2 x k =
+    then_allowed (range_each spot e1 k.ranges) (λ most gives_m.
+    then_allowed (range_each spot e2 k.ranges) (λ limit gives_l.
+    then_allowed (region_allowed c around spot f r t most.hi x k) (λ g may. allowed (record {
       each = λ n le s i.
           let cycles : ℕ = q_repeat_cycles most.hi limit.hi in
           let kept : ℕ = min most.hi limit.hi in

@@ -29,6 +29,7 @@ use Rattle.camac_rules.proofs.Values.{range_each, only_within}
 use Rattle.camac_rules.proofs.Regions.{IsAllowed, some_of, command_allowed}
 use Rattle.camac_rules.proofs.Sound.{SoundFor}
 use Rattle.camac_rules.proofs.Actions.{Setting, of, seen, with_given, value_of, allowed_sound, cycle_ends}
+use Rattle.camac_lang.specs.declared.spot.Spot.{Spot}
 
 -- the command of a crate call goes to its crate, moves no data, and is the controller's
 goes_to : (which : CrateCall) (c : ℕ) → (crate_address which c).crate_no ≡ c
@@ -108,10 +109,10 @@ can_call plan which r c is =
       };
     }
 
-pub crate_sound : (c : Setting) (around : Place) (line : ℕ) (which : CrateCall) (e : Expression) (k : Facts) → Allows (crate_rule (seen c) (around_of around) line e k) (SoundFor c.plan around (Some k) (λ n s. effect (of c) n (crate_call line which e) (stepped s)))
-crate_sound c around line which e k =
-    then_allowed (range_each line e k.ranges) (λ r gives.
-    required_allowed _ line _ (λ unfit. allows (record {
+pub crate_sound : (c : Setting) (around : Place) (spot : Spot) (which : CrateCall) (e : Expression) (k : Facts) → Allows (crate_rule (seen c) (around_of around) spot e k) (SoundFor c.plan around (Some k) (λ n s. effect (of c) n (crate_call spot which e) (stepped s)))
+crate_sound c around spot which e k =
+    then_allowed (range_each spot e k.ranges) (λ r gives.
+    required_allowed _ spot _ (λ unfit. allows (record {
       each = λ n le s i.
           let u : ℕ = cycle_cost c.plan around.locked r in
           let v = value_of (value e s.variables) r (gives s.variables i.variables) in
@@ -144,10 +145,10 @@ lam_of (Some at) g e =
     let same : single_region at ≡ g = cc in
     record { at = at; is = refl; inside = subst (λ h. InRegion h at) same alone }
 
-pub lam_sound : (c : Setting) (around : Place) (line : ℕ) (which : lam_word.LamCall) (l : ℕ) (k : Facts) → Allows (lam_rule (seen c) (around_of around) line which l k) (SoundFor c.plan around (Some k) (λ n s. effect (of c) n (lam_call line which l) (stepped s)))
-lam_sound c around line which l k =
-    then_allowed (given_allowed (option_map single_region (slice_get c.lams l)) _ line _) (λ g there.
-    then_allowed (command_allowed c.plan line (lam_function which) g) (λ w every. allows (record {
+pub lam_sound : (c : Setting) (around : Place) (spot : Spot) (which : lam_word.LamCall) (l : ℕ) (k : Facts) → Allows (lam_rule (seen c) (around_of around) spot which l k) (SoundFor c.plan around (Some k) (λ n s. effect (of c) n (lam_call spot which l) (stepped s)))
+lam_sound c around spot which l k =
+    then_allowed (given_allowed (option_map single_region (slice_get c.lams l)) _ spot _) (λ g there.
+    then_allowed (command_allowed c.plan spot (lam_function which) g) (λ w every. allows (record {
       each = λ n le s i.
           let u : ℕ = cycle_cost c.plan around.locked g.crates in
           let f : ℕ = lam_function which in

@@ -18,6 +18,7 @@ use Rattle.camac_rules.proofs.Allows.{Allows, allowed, then_allowed, for_each, i
 use Rattle.camac_rules.proofs.Stores.{Place, variables_write, Inside, Reaches}
 use Rattle.camac_rules.proofs.Values.{Fits, Gives, range_holds}
 use Rattle.camac_rules.proofs.Joined.{join_left, join_right}
+use Rattle.camac_lang.specs.declared.spot.Spot.{Spot}
 
 set_to_itself : (env : Variables) (x y : ℕ) → set_at x (env x) env y ≡ env y
 set_to_itself env x y = cond_both (nat_eq y x) (env x) (env y) (λ n. n ≡ env y) (λ e. ap env (sym (eqb-true y x e))) (λ e. refl)
@@ -93,11 +94,11 @@ compare_decides around a b c r q k s (Some x) (Some y) i gx gy ra rb =
     (λ e. assume_keeps around a b c r q k s x y i gx gy ra rb e)
     (λ e. assume_keeps around a b (opposite c) r q k s x y i gx gy ra rb (opposite_is_not c x y ∙ ap not e))
 
-test_decides : (around : Place) (line : ℕ) (t : Test) (k : Facts) (s : State) → Inside around k s → Allows (split_test line t k) (λ arms. Decides around (test_value t s.variables s.q s.x) arms s)
-test_decides around line flag_q k s i = allowed (decides_from around s.q (branches (Some k) (Some k)) s (λ e. i) (λ e. i))
-test_decides around line flag_x k s i = allowed (decides_from around s.x (branches (Some k) (Some k)) s (λ e. i) (λ e. i))
-test_decides around line (compare a c b) k s i =
-    then_allowed (range_holds line a k.ranges s.variables i.variables) (λ r ga. then_allowed (range_holds line b k.ranges s.variables i.variables)
+test_decides : (around : Place) (spot : Spot) (t : Test) (k : Facts) (s : State) → Inside around k s → Allows (split_test spot t k) (λ arms. Decides around (test_value t s.variables s.q s.x) arms s)
+test_decides around spot flag_q k s i = allowed (decides_from around s.q (branches (Some k) (Some k)) s (λ e. i) (λ e. i))
+test_decides around spot flag_x k s i = allowed (decides_from around s.x (branches (Some k) (Some k)) s (λ e. i) (λ e. i))
+test_decides around spot (compare a c b) k s i =
+    then_allowed (range_holds spot a k.ranges s.variables i.variables) (λ r ga. then_allowed (range_holds spot b k.ranges s.variables i.variables)
     (λ q gb. allowed (compare_decides around a b c r q k s (value a s.variables) (value b s.variables) i ga gb (refine_keeps around a s) (refine_keeps around b s))))
 
 not_decides : (around : Place) (o : Option Bool) (arms : Branches) (s : State) → Decides around o arms s → Decides around (option_map not o) (branches arms.fails arms.holds) s
@@ -105,10 +106,10 @@ not_decides around None arms s h = h
 not_decides around (Some true) arms s h = h
 not_decides around (Some false) arms s h = h
 
-part_decides : (around : Place) (line : ℕ) (p : Part) (k : Facts) (s : State) → Inside around k s → Allows (split_part line p k) (λ arms. Decides around (part_value p s.variables s.q s.x) arms s)
-part_decides around line (plain t) k s i = test_decides around line t k s i
-part_decides around line (negated t) k s i =
-    then_allowed (test_decides around line t k s i) (λ arms d. allowed (not_decides around (test_value t s.variables s.q s.x) arms s d))
+part_decides : (around : Place) (spot : Spot) (p : Part) (k : Facts) (s : State) → Inside around k s → Allows (split_part spot p k) (λ arms. Decides around (part_value p s.variables s.q s.x) arms s)
+part_decides around spot (plain t) k s i = test_decides around spot t k s i
+part_decides around spot (negated t) k s i =
+    then_allowed (test_decides around spot t k s i) (λ arms d. allowed (not_decides around (test_value t s.variables s.q s.x) arms s d))
 
 and_decides : (around : Place) (o rest : Option Bool) (first others : Branches) (s : State) → Decides around o first s → (Reaches around first.holds s → Decides around rest others s) → Decides around (and_then o rest) (branches others.holds (join first.fails others.fails)) s
 and_decides around None rest first others s d k = d
@@ -117,17 +118,17 @@ and_decides around (Some true) None first others s d k = k d
 and_decides around (Some true) (Some true) first others s d k = k d
 and_decides around (Some true) (Some false) first others s d k = join_right around first.fails others.fails s (k d)
 
-split_decides : (around : Place) (line : ℕ) (test : Condition) (k : Facts) (s : State) → Inside around k s → Allows (split line test k) (λ arms. Decides around (truth test s.variables s.q s.x) arms s)
-split_decides around line [] k s i = allowed i
-split_decides around line (p ∷ ps) k s i =
-    then_allowed (part_decides around line p k s i) (λ first d.
+split_decides : (around : Place) (spot : Spot) (test : Condition) (k : Facts) (s : State) → Inside around k s → Allows (split spot test k) (λ arms. Decides around (truth test s.variables s.q s.x) arms s)
+split_decides around spot [] k s i = allowed i
+split_decides around spot (p ∷ ps) k s i =
+    then_allowed (part_decides around spot p k s i) (λ first d.
     then_allowed
-    (if_reached_allowed (branches None None) first.holds (split line ps) (λ known arms. (u : Unit {0}) → Reaches around known s → Decides around (truth ps s.variables s.q s.x) arms s)
+    (if_reached_allowed (branches None None) first.holds (split spot ps) (λ known arms. (u : Unit {0}) → Reaches around known s → Decides around (truth ps s.variables s.q s.x) arms s)
     (λ u j. absurd j)
-    (λ q. for_each (λ u. Inside around q s) (λ u arms. Decides around (truth ps s.variables s.q s.x) arms s) (λ (u : Unit {0}) j. split_decides around line ps q s j)))
+    (λ q. for_each (λ u. Inside around q s) (λ u arms. Decides around (truth ps s.variables s.q s.x) arms s) (λ (u : Unit {0}) j. split_decides around spot ps q s j)))
     (λ others h. allowed (and_decides around (part_value p s.variables s.q s.x) (truth ps s.variables s.q s.x) first others s d (h tt))))
 
 -- in every state inside what is known
-pub split_each : (around : Place) (line : ℕ) (test : Condition) (k : Facts) → Allows (split line test k) (λ arms. (s : State) → Inside around k s → Decides around (truth test s.variables s.q s.x) arms s)
-split_each around line test k =
-    for_each (Inside around k) (λ s arms. Decides around (truth test s.variables s.q s.x) arms s) (λ s i. split_decides around line test k s i)
+pub split_each : (around : Place) (spot : Spot) (test : Condition) (k : Facts) → Allows (split spot test k) (λ arms. (s : State) → Inside around k s → Decides around (truth test s.variables s.q s.x) arms s)
+split_each around spot test k =
+    for_each (Inside around k) (λ s arms. Decides around (truth test s.variables s.q s.x) arms s) (λ s i. split_decides around spot test k s i)

@@ -24,6 +24,7 @@ use Rattle.camac_rules.proofs.Values.{Fits, only_within}
 use Rattle.camac_rules.proofs.Sound.{Paid, Untouched, Ended, Stopped, StopsWell, EndsWell, Sound, SoundFor, meets_more, sound_then, sound_begun, paid_nothing}
 use Rattle.camac_rules.proofs.Actions.{Setting, of, seen, inside_written, written_other}
 use Rattle.camac_rules.proofs.Turns.{limit_is_most}
+use Rattle.camac_lang.specs.declared.spot.Spot.{Spot}
 
 -- outside the loop its variable is fixed no more
 outside : (around : Place) (x : ℕ) (k : Known) (s : State) → Reaches (fixing x around) k s → Reaches around k s
@@ -93,18 +94,18 @@ pub record MayTurn (around : Place) (x v last n : ℕ) : Type 0 where
   pub is : n ≡ last + 1 - v
   pub few : n ≤ turn_limit
 
-turns_allowed : (around : Place) (line x v last : ℕ) → Allows (each_begins (around_of around) line x v last) (MayTurn around x v last)
-turns_allowed around line x v last =
-    required_allowed _ line _ (λ small.
-    required_allowed _ line _ (λ may.
-    required_allowed _ line _ (λ few.
+turns_allowed : (around : Place) (spot : Spot) (x v last : ℕ) → Allows (each_begins (around_of around) spot x v last) (MayTurn around x v last)
+turns_allowed around spot x v last =
+    required_allowed _ spot _ (λ small.
+    required_allowed _ spot _ (λ may.
+    required_allowed _ spot _ (λ few.
     let p = and_parts (nat_le v greatest) (nat_le last greatest) small in
     allowed (record { may = may; first_small = leb-true v greatest p.0; last_small = leb-true last greatest p.1; is = refl; few = leb-true (last + 1 - v) turn_limit few }))))
 
 -- The rule is sound, where its body's is wherever a turn may begin.
-pub each_sound : (c : Setting) (around : Place) (line x v last : ℕ) (body : Block) (check : Facts → Result Verdict Fault) → ((q : Facts) → Allows (check q) (SoundFor c.plan (fixing x around) (Some q) (λ n. block_meaning (of c) n body))) → (k : Facts) → Allows (each_rule (seen c) (around_of around) line x v last check k) (SoundFor c.plan around (Some k) (λ n s. effect (of c) n (for_each line x v last body) (stepped s)))
-each_sound c around line x v last body check sound k =
-    then_allowed (turns_allowed around line x v last) (λ count m.
+pub each_sound : (c : Setting) (around : Place) (spot : Spot) (x v last : ℕ) (body : Block) (check : Facts → Result Verdict Fault) → ((q : Facts) → Allows (check q) (SoundFor c.plan (fixing x around) (Some q) (λ n. block_meaning (of c) n body))) → (k : Facts) → Allows (each_rule (seen c) (around_of around) spot x v last check k) (SoundFor c.plan around (Some k) (λ n s. effect (of c) n (for_each spot x v last body) (stepped s)))
+each_sound c around spot x v last body check sound k =
+    then_allowed (turns_allowed around spot x v last) (λ count m.
     then_allowed (from_sound c.plan around x last m.may m.last_small check (λ n. block_meaning (of c) n body) sound count v m.is k) (λ turns h. allowed (record {
       each = λ n le s i.
           let d : Bounds = plus (costs 0 0 1) turns.costs in

@@ -112,22 +112,22 @@ fall_split true false here after k h later earlier = earlier refl h
 fall_split false v here after k h later earlier = later refl h
 
 fall_in_positive : (m : ℕ) (st : Statement) (k : ℕ) → fall_in m st ≡ Some k → 0 < k
-fall_in_positive m (assign line x e) k h = fall_by_positive m e k (chosen (nat_eq x m) (fall_by m e) k h).1
-fall_in_positive m (set_register line r e1 e2 e3) k h = none_some h
-fall_in_positive m (single line size f r move) k h = none_some h
-fall_in_positive m (address_scan line f r1 r2 max x) k h = none_some h
-fall_in_positive m (q_stop line f r t max x) k h = none_some h
-fall_in_positive m (q_repeat line f r t max limit x) k h = none_some h
-fall_in_positive m (put line e) k h = none_some h
-fall_in_positive m (crate_call line which e) k h = none_some h
-fall_in_positive m (lam_call line which l) k h = none_some h
-fall_in_positive m (choose line test a) k h = none_some h
-fall_in_positive m (choose_else line test a b) k h = none_some h
-fall_in_positive m (for_ line x e1 e2 keeps body) k h = none_some h
-fall_in_positive m (for_each line x v last body) k h = none_some h
-fall_in_positive m (while_ line test most x keeps body) k h = none_some h
-fall_in_positive m (locked line e body) k h = none_some h
-fall_in_positive m (call line p es) k h = none_some h
+fall_in_positive m (assign spot x e) k h = fall_by_positive m e k (chosen (nat_eq x m) (fall_by m e) k h).1
+fall_in_positive m (set_register spot r e1 e2 e3) k h = none_some h
+fall_in_positive m (single spot size f r move) k h = none_some h
+fall_in_positive m (address_scan spot f r1 r2 max x) k h = none_some h
+fall_in_positive m (q_stop spot f r t max x) k h = none_some h
+fall_in_positive m (q_repeat spot f r t max limit x) k h = none_some h
+fall_in_positive m (put spot e) k h = none_some h
+fall_in_positive m (crate_call spot which e) k h = none_some h
+fall_in_positive m (lam_call spot which l) k h = none_some h
+fall_in_positive m (choose spot test a) k h = none_some h
+fall_in_positive m (choose_else spot test a b) k h = none_some h
+fall_in_positive m (for_ spot x e1 e2 keeps body) k h = none_some h
+fall_in_positive m (for_each spot x v last body) k h = none_some h
+fall_in_positive m (while_ spot test most x keeps body) k h = none_some h
+fall_in_positive m (locked spot e body) k h = none_some h
+fall_in_positive m (call spot p es) k h = none_some h
 
 pub fall_positive : (m : ℕ) (b : Block) (k : ℕ) → fall_of m b ≡ Some k → 0 < k
 fall_positive m done k h = none_some h
@@ -148,27 +148,27 @@ fell_kept m k w g s t (stops x u) e h l = tt
 
 module _ (c : Context) (n m k : ℕ) where
   statement_falls : (st : Statement) (s : State) → fall_in m st ≡ Some k → Falls m k s (effect c n st s)
-  statement_falls (assign line x e) s h =
+  statement_falls (assign spot x e) s h =
       let p = chosen (nat_eq x m) (fall_by m e) k h in
       given_meets step AnyPiece AnyStop (Fell m k s) tt (value e s.variables) (λ v t. ends (with_variable x v t)) s (λ none. tt) (λ v is.
       let falls : v + k ≡ s.variables m = fall_value m e k s.variables v p.1 is in
       let same : nat_eq m x ≡ true = subst (λ y. nat_eq m y ≡ true) (sym (eqb-true x m p.0)) (subst (λ y. nat_eq y m ≡ true) (eqb-true x m p.0) p.0) in
       ap (λ y. y + k) (cond-true (nat_eq m x) v (s.variables m) same) ∙ falls)
-  statement_falls (set_register line r e1 e2 e3) s h = none_some h
-  statement_falls (single line size f r move) s h = none_some h
-  statement_falls (address_scan line f r1 r2 max x) s h = none_some h
-  statement_falls (q_stop line f r t max x) s h = none_some h
-  statement_falls (q_repeat line f r t max limit x) s h = none_some h
-  statement_falls (put line e) s h = none_some h
-  statement_falls (crate_call line which e) s h = none_some h
-  statement_falls (lam_call line which l) s h = none_some h
-  statement_falls (choose line test a) s h = none_some h
-  statement_falls (choose_else line test a b) s h = none_some h
-  statement_falls (for_ line x e1 e2 keeps body) s h = none_some h
-  statement_falls (for_each line x v last body) s h = none_some h
-  statement_falls (while_ line test most x keeps body) s h = none_some h
-  statement_falls (locked line e body) s h = none_some h
-  statement_falls (call line p es) s h = none_some h
+  statement_falls (set_register spot r e1 e2 e3) s h = none_some h
+  statement_falls (single spot size f r move) s h = none_some h
+  statement_falls (address_scan spot f r1 r2 max x) s h = none_some h
+  statement_falls (q_stop spot f r t max x) s h = none_some h
+  statement_falls (q_repeat spot f r t max limit x) s h = none_some h
+  statement_falls (put spot e) s h = none_some h
+  statement_falls (crate_call spot which e) s h = none_some h
+  statement_falls (lam_call spot which l) s h = none_some h
+  statement_falls (choose spot test a) s h = none_some h
+  statement_falls (choose_else spot test a b) s h = none_some h
+  statement_falls (for_ spot x e1 e2 keeps body) s h = none_some h
+  statement_falls (for_each spot x v last body) s h = none_some h
+  statement_falls (while_ spot test most x keeps body) s h = none_some h
+  statement_falls (locked spot e body) s h = none_some h
+  statement_falls (call spot p es) s h = none_some h
 
   pub block_falls : (b : Block) (s : State) → fall_of m b ≡ Some k → Falls m k s (block_meaning c n b s)
   block_falls done s h = none_some h

@@ -29,6 +29,7 @@ use Rattle.camac_rules.proofs.Actions.{Setting, of, with_given, value_of, writte
 use Rattle.camac_rules.proofs.Frame.{block_sets, Same, same_written, Leaves, block_leaves}
 use Rattle.camac_rules.proofs.Heads.{in_keeps, in_keeps_after, reaches_small}
 use Rattle.camac_rules.proofs.Turns.{meets_both, Between, inside_head, inside_set, paid_begun, paid_turns, paid_turn, stopped_turn, limit_is_most}
+use Rattle.camac_lang.specs.declared.spot.Spot.{Spot}
 
 -- by what a `for` may begin
 pub record MayCount (around : Place) (x : ℕ) (e1 e2 : Expression) (qs : List Keep) (k : Facts) (l : Limits) : Type 0 where
@@ -38,13 +39,13 @@ pub record MayCount (around : Place) (x : ℕ) (e1 e2 : Expression) (qs : List K
   pub few : turns_between l ≤ turn_limit
   pub entry : keeps_hold qs k ≡ true
 
-pub limits_allowed : (around : Place) (line x : ℕ) (e1 e2 : Expression) (qs : List Keep) (k : Facts) → Allows (for_limits (around_of around) line x e1 e2 qs k) (MayCount around x e1 e2 qs k)
-limits_allowed around line x e1 e2 qs k =
-    then_allowed (range_each line e1 k.ranges) (λ r gives_r.
-    then_allowed (range_each line e2 k.ranges) (λ q gives_q.
-    required_allowed _ line _ (λ may.
-    required_allowed _ line _ (λ few.
-    required_allowed _ line _ (λ entry. allowed (record {
+pub limits_allowed : (around : Place) (spot : Spot) (x : ℕ) (e1 e2 : Expression) (qs : List Keep) (k : Facts) → Allows (for_limits (around_of around) spot x e1 e2 qs k) (MayCount around x e1 e2 qs k)
+limits_allowed around spot x e1 e2 qs k =
+    then_allowed (range_each spot e1 k.ranges) (λ r gives_r.
+    then_allowed (range_each spot e2 k.ranges) (λ q gives_q.
+    required_allowed _ spot _ (λ may.
+    required_allowed _ spot _ (λ few.
+    required_allowed _ spot _ (λ entry. allowed (record {
       first = λ s i. gives_r s.variables i.variables;
       last = λ s i. gives_q s.variables i.variables;
       may = may;
@@ -154,9 +155,9 @@ module _ (plan : Layout) (around : Place) (x : ℕ) (body : Block) (qs : List Ke
         (suc m) n le tt v (stepped s) (before_turns (suc m) is b)
 
 -- a `for`, with and without a turn that can be
-module _ (c : Setting) (around : Place) (line x : ℕ) (e1 e2 : Expression) (qs : List Keep) (body : Block) (k : Facts) (l : Limits) (turn : Verdict) (m : MayCount around x e1 e2 qs k l) (keep : keeps_hold_after qs turn.after ≡ true) where
+module _ (c : Setting) (around : Place) (spot : Spot) (x : ℕ) (e1 e2 : Expression) (qs : List Keep) (body : Block) (k : Facts) (l : Limits) (turn : Verdict) (m : MayCount around x e1 e2 qs k l) (keep : keeps_hold_after qs turn.after ≡ true) where
   abbrev Run : ℕ → Action
-  Run n s = effect (of c) n (for_ line x e1 e2 qs body) (stepped s)
+  Run n s = effect (of c) n (for_ spot x e1 e2 qs body) (stepped s)
 
   -- the values of the limits, and all turns by them
   valued : (n : ℕ) (after : Known) (s : State) → Inside around k s → ((v w : ℕ) → Fits l.first v → Fits l.last w → Sound c.plan around after (loop_costs (turns_between l) turn.costs) s (for_from (w + 1 - v) n x v w (block_meaning (of c) n body) (stepped s))) → Sound c.plan around after (loop_costs (turns_between l) turn.costs) s (Run n s)

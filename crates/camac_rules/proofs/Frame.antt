@@ -25,22 +25,22 @@ use Rattle.camac_rules.specs.Writes.{reads_into, writes, block_writes}
 -- whether register r is set
 abbrev mutual
   pub sets : Statement → ℕ → Bool
-  sets (assign line x e) r = false
-  sets (set_register line g e1 e2 e3) r = nat_eq r g
-  sets (single line size f g move) r = false
-  sets (address_scan line f r1 r2 max x) r = false
-  sets (q_stop line f g t max x) r = false
-  sets (q_repeat line f g t max limit x) r = false
-  sets (put line e) r = false
-  sets (crate_call line which e) r = false
-  sets (lam_call line which l) r = false
-  sets (choose line test a) r = block_sets a r
-  sets (choose_else line test a b) r = block_sets a r || block_sets b r
-  sets (for_ line x e1 e2 keeps body) r = block_sets body r
-  sets (for_each line x v last body) r = block_sets body r
-  sets (while_ line test most m keeps body) r = block_sets body r
-  sets (locked line e body) r = block_sets body r
-  sets (call line p es) r = false
+  sets (assign spot x e) r = false
+  sets (set_register spot g e1 e2 e3) r = nat_eq r g
+  sets (single spot size f g move) r = false
+  sets (address_scan spot f r1 r2 max x) r = false
+  sets (q_stop spot f g t max x) r = false
+  sets (q_repeat spot f g t max limit x) r = false
+  sets (put spot e) r = false
+  sets (crate_call spot which e) r = false
+  sets (lam_call spot which l) r = false
+  sets (choose spot test a) r = block_sets a r
+  sets (choose_else spot test a b) r = block_sets a r || block_sets b r
+  sets (for_ spot x e1 e2 keeps body) r = block_sets body r
+  sets (for_each spot x v last body) r = block_sets body r
+  sets (while_ spot test most m keeps body) r = block_sets body r
+  sets (locked spot e body) r = block_sets body r
+  sets (call spot p es) r = false
 
   pub block_sets : Block → ℕ → Bool
   block_sets done r = false
@@ -153,13 +153,13 @@ module _ (c : Context) (n : ℕ) where
 
   mutual
     pub statement_leaves : (st : Statement) (s : State) → Leaves (writes st) (sets st) s (effect c n st s)
-    statement_leaves (assign line x e) s =
-        let w : ℕ → Bool = writes (assign line x e) in
-        let g : ℕ → Bool = sets (assign line x e) in
+    statement_leaves (assign spot x e) s =
+        let w : ℕ → Bool = writes (assign spot x e) in
+        let g : ℕ → Bool = sets (assign spot x e) in
         given_leaves w g s (value e s.variables) (λ v t. ends (with_variable x v t)) (λ v. same_written w g x v s s (λ y e. e) (same_self w g s))
-    statement_leaves (set_register line r e1 e2 e3) s =
-        let w : ℕ → Bool = writes (set_register line r e1 e2 e3) in
-        let g : ℕ → Bool = sets (set_register line r e1 e2 e3) in
+    statement_leaves (set_register spot r e1 e2 e3) s =
+        let w : ℕ → Bool = writes (set_register spot r e1 e2 e3) in
+        let g : ℕ → Bool = sets (set_register spot r e1 e2 e3) in
         let third : ℕ → ℕ → ℕ → Action = λ k m a t. ends (with_register r (address k m a) t) in
         let second : ℕ → ℕ → Action = λ k m. given (value e3 s.variables) (third k m) in
         let first : ℕ → Action = λ k. given (value e2 s.variables) (second k) in
@@ -167,12 +167,12 @@ module _ (c : Context) (n : ℕ) where
         given_leaves w g s (value e2 s.variables) (second k) (λ m.
         given_leaves w g s (value e3 s.variables) (third k m) (λ a.
         record { variables = λ y e. refl; registers = λ q e. set_other r q (Some (address k m a)) s.registers e })))
-    statement_leaves (single line size f r move) s =
-        given_leaves (writes (single line size f r move)) (sets (single line size f r move)) s (s.registers r) (λ at. act c.plan at f size move) (λ at.
-        act_leaves (writes (single line size f r move)) (sets (single line size f r move)) s c.plan at f size move (λ y e. e))
-    statement_leaves (address_scan line f r1 r2 max x) s =
-        let w : ℕ → Bool = writes (address_scan line f r1 r2 max x) in
-        let g : ℕ → Bool = sets (address_scan line f r1 r2 max x) in
+    statement_leaves (single spot size f r move) s =
+        given_leaves (writes (single spot size f r move)) (sets (single spot size f r move)) s (s.registers r) (λ at. act c.plan at f size move) (λ at.
+        act_leaves (writes (single spot size f r move)) (sets (single spot size f r move)) s c.plan at f size move (λ y e. e))
+    statement_leaves (address_scan spot f r1 r2 max x) s =
+        let w : ℕ → Bool = writes (address_scan spot f r1 r2 max x) in
+        let g : ℕ → Bool = sets (address_scan spot f r1 r2 max x) in
         let go : Address → Address → ℕ → Action = λ a b l. transfer_to c.plan f None (scan_next a b l) x in
         let third : Address → Address → ℕ → Action = λ a b l. unless_wrong (nat_eq a.crate_no b.crate_no) (go a b l) in
         let second : Address → Address → Action = λ a b. given (value max s.variables) (third a b) in
@@ -180,17 +180,17 @@ module _ (c : Context) (n : ℕ) where
         given_leaves w g s (s.registers r2) (second a) (λ b.
         given_leaves w g s (value max s.variables) (third a b) (λ l.
         unless_leaves w g s (nat_eq a.crate_no b.crate_no) (go a b l) (transfer_leaves w g s c.plan f None (scan_next a b l) x (λ y e. e)))))
-    statement_leaves (q_stop line f r t max x) s =
-        let w : ℕ → Bool = writes (q_stop line f r t max x) in
-        let g : ℕ → Bool = sets (q_stop line f r t max x) in
+    statement_leaves (q_stop spot f r t max x) s =
+        let w : ℕ → Bool = writes (q_stop spot f r t max x) in
+        let g : ℕ → Bool = sets (q_stop spot f r t max x) in
         let second : Option (List ℕ) → Address → ℕ → Action = λ table at l. transfer_to c.plan f table (q_stop_next at l) x in
         let first : Option (List ℕ) → Address → Action = λ table at. given (value max s.variables) (second table at) in
         given_leaves w g s (sent c t) (λ table. given (s.registers r) (first table)) (λ table.
         given_leaves w g s (s.registers r) (first table) (λ at.
         given_leaves w g s (value max s.variables) (second table at) (λ l. transfer_leaves w g s c.plan f table (q_stop_next at l) x (λ y e. e))))
-    statement_leaves (q_repeat line f r t max limit x) s =
-        let w : ℕ → Bool = writes (q_repeat line f r t max limit x) in
-        let g : ℕ → Bool = sets (q_repeat line f r t max limit x) in
+    statement_leaves (q_repeat spot f r t max limit x) s =
+        let w : ℕ → Bool = writes (q_repeat spot f r t max limit x) in
+        let g : ℕ → Bool = sets (q_repeat spot f r t max limit x) in
         let third : Option (List ℕ) → Address → ℕ → ℕ → Action = λ table at l m. transfer_to c.plan f table (q_repeat_next at l m) x in
         let second : Option (List ℕ) → Address → ℕ → Action = λ table at l. given (value limit s.variables) (third table at l) in
         let first : Option (List ℕ) → Address → Action = λ table at. given (value max s.variables) (second table at) in
@@ -198,44 +198,44 @@ module _ (c : Context) (n : ℕ) where
         given_leaves w g s (s.registers r) (first table) (λ at.
         given_leaves w g s (value max s.variables) (second table at) (λ l.
         given_leaves w g s (value limit s.variables) (third table at l) (λ m. transfer_leaves w g s c.plan f table (q_repeat_next at l m) x (λ y e. e)))))
-    statement_leaves (put line e) s =
-        given_leaves (writes (put line e)) (sets (put line e)) s (value e s.variables) (λ v t. ends (with_word v t)) (λ v. record { variables = λ y e. refl; registers = λ r e. refl })
-    statement_leaves (crate_call line which e) s =
-        let w : ℕ → Bool = writes (crate_call line which e) in
-        let g : ℕ → Bool = sets (crate_call line which e) in
+    statement_leaves (put spot e) s =
+        given_leaves (writes (put spot e)) (sets (put spot e)) s (value e s.variables) (λ v t. ends (with_word v t)) (λ v. record { variables = λ y e. refl; registers = λ r e. refl })
+    statement_leaves (crate_call spot which e) s =
+        let w : ℕ → Bool = writes (crate_call spot which e) in
+        let g : ℕ → Bool = sets (crate_call spot which e) in
         given_leaves w g s (value e s.variables) (λ d. act c.plan (crate_address which d) (crate_function which) Full no_data) (λ d.
         act_leaves w g s c.plan (crate_address which d) (crate_function which) Full no_data (λ y e. refl))
-    statement_leaves (lam_call line which l) s =
-        let w : ℕ → Bool = writes (lam_call line which l) in
-        let g : ℕ → Bool = sets (lam_call line which l) in
+    statement_leaves (lam_call spot which l) s =
+        let w : ℕ → Bool = writes (lam_call spot which l) in
+        let g : ℕ → Bool = sets (lam_call spot which l) in
         given_leaves w g s (slice_get c.lams l) (λ at. act c.plan at (lam_function which) Full no_data) (λ at.
         act_leaves w g s c.plan at (lam_function which) Full no_data (λ y e. refl))
-    statement_leaves (choose line test a) s =
+    statement_leaves (choose spot test a) s =
         decide_meets step AnyPiece AnyStop (Left (block_writes a) (block_sets a) s) tt (truth test s.variables s.q s.x) (block_meaning c n a) ends s (λ e. tt)
         (λ e. block_leaves a s) (λ e. same_self (block_writes a) (block_sets a) s)
-    statement_leaves (choose_else line test a b) s =
-        let w : ℕ → Bool = writes (choose_else line test a b) in
-        let g : ℕ → Bool = sets (choose_else line test a b) in
+    statement_leaves (choose_else spot test a b) s =
+        let w : ℕ → Bool = writes (choose_else spot test a b) in
+        let g : ℕ → Bool = sets (choose_else spot test a b) in
         decide_meets step AnyPiece AnyStop (Left w g s) tt (truth test s.variables s.q s.x) (block_meaning c n a) (block_meaning c n b) s (λ e. tt)
         (λ e. leaves_from (block_writes a) (block_sets a) w g s s (block_meaning c n a s)
         (λ y f. (or_parts (block_writes a y) (block_writes b y) f).0) (λ r f. (or_parts (block_sets a r) (block_sets b r) f).0) (same_self w g s) (block_leaves a s))
         (λ e. leaves_from (block_writes b) (block_sets b) w g s s (block_meaning c n b s)
         (λ y f. (or_parts (block_writes a y) (block_writes b y) f).1) (λ r f. (or_parts (block_sets a r) (block_sets b r) f).1) (same_self w g s) (block_leaves b s))
-    statement_leaves (for_ line x e1 e2 keeps body) s =
-        let w : ℕ → Bool = writes (for_ line x e1 e2 keeps body) in
+    statement_leaves (for_ spot x e1 e2 keeps body) s =
+        let w : ℕ → Bool = writes (for_ spot x e1 e2 keeps body) in
         let g : ℕ → Bool = block_sets body in
         let second : ℕ → ℕ → Action = λ first last. for_from (last + 1 - first) n x first last (block_meaning c n body) in
         given_leaves w g s (value e1 s.variables) (λ first. given (value e2 s.variables) (second first)) (λ first.
         given_leaves w g s (value e2 s.variables) (second first) (λ last. all_turns x body s (λ t. block_leaves body t) (last + 1 - first) first last))
-    statement_leaves (for_each line x first last body) s = all_turns x body s (λ t. block_leaves body t) (last + 1 - first) first last
-    statement_leaves (while_ line test most m keeps body) s =
+    statement_leaves (for_each spot x first last body) s = all_turns x body s (λ t. block_leaves body t) (last + 1 - first) first last
+    statement_leaves (while_ spot test most m keeps body) s =
         let w : ℕ → Bool = block_writes body in
         let g : ℕ → Bool = block_sets body in
         turns_meet step AnyPiece AnyStop (Left w g s) test (block_meaning c n body) (λ u k t. Same w g s t) (λ u k t i e. tt) (λ u t i e. tt)
         (λ u k t i e. leaves_from w g w g s (stepped t) (block_meaning c n body (stepped t)) (λ y f. f) (λ r f. f)
         (record { variables = i.variables; registers = i.registers }) (block_leaves body (stepped t)))
         (λ u k t i e. i) n tt s (same_self w g s)
-    statement_leaves (locked line e body) s =
+    statement_leaves (locked spot e body) s =
         let w : ℕ → Bool = block_writes body in
         let g : ℕ → Bool = block_sets body in
         let held : ℕ → Action = λ d u. then_do (block_meaning c n body u) (release d) in
@@ -250,9 +250,9 @@ module _ (c : Context) (n : ℕ) where
               (record { variables = λ y f. refl; registers = λ r f. refl }) (block_leaves body (after_lock d a.wait rest s)))
               (λ u t h. (tt, record { variables = h.variables; registers = h.registers })),
         ))))
-    statement_leaves (call line p es) s =
-        let w : ℕ → Bool = writes (call line p es) in
-        let g : ℕ → Bool = sets (call line p es) in
+    statement_leaves (call spot p es) s =
+        let w : ℕ → Bool = writes (call spot p es) in
+        let g : ℕ → Bool = sets (call spot p es) in
         given_leaves w g s (slice_get c.routines p) (λ r. given (values es s.variables) (λ vs. enter (r n) vs)) (λ r.
         given_leaves w g s (values es s.variables) (λ vs. enter (r n) vs) (λ vs.
         enter_meets step AnyPiece AnyStop (Left w g s) tt (r n) vs s

@@ -44,28 +44,28 @@ forgotten_first false b x y u v h k = h ∙ k
 
 mutual
   pub forget_range : (st : Statement) (k : Facts) (y : ℕ) → range_at (forget st k).ranges y ≡ cond (writes st y) any_range (range_at k.ranges y)
-  forget_range (assign line x e) k y = write_at (only 0) k.ranges x y any_range
-  forget_range (set_register line r c n a) k y = refl
-  forget_range (single line size f r move) k y = moved_range move k y
-  forget_range (address_scan line f r1 r2 max x) k y = write_at (only 0) k.ranges x y any_range
-  forget_range (q_stop line f r t max x) k y = write_at (only 0) k.ranges x y any_range
-  forget_range (q_repeat line f r t max limit x) k y = write_at (only 0) k.ranges x y any_range
-  forget_range (put line e) k y = refl
-  forget_range (crate_call line which e) k y = refl
-  forget_range (lam_call line which l) k y = refl
-  forget_range (choose line test a) k y = forget_block_range a k y
-  forget_range (choose_else line test a b) k y =
+  forget_range (assign spot x e) k y = write_at (only 0) k.ranges x y any_range
+  forget_range (set_register spot r c n a) k y = refl
+  forget_range (single spot size f r move) k y = moved_range move k y
+  forget_range (address_scan spot f r1 r2 max x) k y = write_at (only 0) k.ranges x y any_range
+  forget_range (q_stop spot f r t max x) k y = write_at (only 0) k.ranges x y any_range
+  forget_range (q_repeat spot f r t max limit x) k y = write_at (only 0) k.ranges x y any_range
+  forget_range (put spot e) k y = refl
+  forget_range (crate_call spot which e) k y = refl
+  forget_range (lam_call spot which l) k y = refl
+  forget_range (choose spot test a) k y = forget_block_range a k y
+  forget_range (choose_else spot test a b) k y =
       forgotten_twice (block_writes a y) (block_writes b y) any_range (range_at k.ranges y) (range_at (forget_block b (forget_block a k)).ranges y)
       (range_at (forget_block a k).ranges y) (forget_block_range b (forget_block a k) y) (forget_block_range a k y)
-  forget_range (for_ line x e1 e2 keeps body) k y =
+  forget_range (for_ spot x e1 e2 keeps body) k y =
       forgotten_first (nat_eq y x) (block_writes body y) any_range (range_at k.ranges y) (range_at (forget_variable x (forget_block body k)).ranges y)
       (range_at (forget_block body k).ranges y) (write_at (only 0) (forget_block body k).ranges x y any_range) (forget_block_range body k y)
-  forget_range (for_each line x v last body) k y =
+  forget_range (for_each spot x v last body) k y =
       forgotten_first (nat_eq y x) (block_writes body y) any_range (range_at k.ranges y) (range_at (forget_variable x (forget_block body k)).ranges y)
       (range_at (forget_block body k).ranges y) (write_at (only 0) (forget_block body k).ranges x y any_range) (forget_block_range body k y)
-  forget_range (while_ line test most m keeps body) k y = forget_block_range body k y
-  forget_range (locked line e body) k y = forget_block_range body k y
-  forget_range (call line p es) k y = refl
+  forget_range (while_ spot test most m keeps body) k y = forget_block_range body k y
+  forget_range (locked spot e body) k y = forget_block_range body k y
+  forget_range (call spot p es) k y = refl
 
   pub forget_block_range : (b : Block) (k : Facts) (y : ℕ) → range_at (forget_block b k).ranges y ≡ cond (block_writes b y) any_range (range_at k.ranges y)
   forget_block_range done k y = refl
@@ -75,24 +75,24 @@ mutual
 
 mutual
   forget_register_at : (st : Statement) (k : Facts) (r : ℕ) → region_at (forget st k).registers r ≡ cond (sets st r) None (region_at k.registers r)
-  forget_register_at (assign line x e) k r = refl
-  forget_register_at (set_register line g c n a) k r = write_at None k.registers g r None
-  forget_register_at (single line size f g move) k r = moved_register move k r
-  forget_register_at (address_scan line f r1 r2 max x) k r = refl
-  forget_register_at (q_stop line f g t max x) k r = refl
-  forget_register_at (q_repeat line f g t max limit x) k r = refl
-  forget_register_at (put line e) k r = refl
-  forget_register_at (crate_call line which e) k r = refl
-  forget_register_at (lam_call line which l) k r = refl
-  forget_register_at (choose line test a) k r = forget_block_register a k r
-  forget_register_at (choose_else line test a b) k r =
+  forget_register_at (assign spot x e) k r = refl
+  forget_register_at (set_register spot g c n a) k r = write_at None k.registers g r None
+  forget_register_at (single spot size f g move) k r = moved_register move k r
+  forget_register_at (address_scan spot f r1 r2 max x) k r = refl
+  forget_register_at (q_stop spot f g t max x) k r = refl
+  forget_register_at (q_repeat spot f g t max limit x) k r = refl
+  forget_register_at (put spot e) k r = refl
+  forget_register_at (crate_call spot which e) k r = refl
+  forget_register_at (lam_call spot which l) k r = refl
+  forget_register_at (choose spot test a) k r = forget_block_register a k r
+  forget_register_at (choose_else spot test a b) k r =
       forgotten_twice (block_sets a r) (block_sets b r) None (region_at k.registers r) (region_at (forget_block b (forget_block a k)).registers r)
       (region_at (forget_block a k).registers r) (forget_block_register b (forget_block a k) r) (forget_block_register a k r)
-  forget_register_at (for_ line x e1 e2 keeps body) k r = forget_block_register body k r
-  forget_register_at (for_each line x v last body) k r = forget_block_register body k r
-  forget_register_at (while_ line test most m keeps body) k r = forget_block_register body k r
-  forget_register_at (locked line e body) k r = forget_block_register body k r
-  forget_register_at (call line p es) k r = refl
+  forget_register_at (for_ spot x e1 e2 keeps body) k r = forget_block_register body k r
+  forget_register_at (for_each spot x v last body) k r = forget_block_register body k r
+  forget_register_at (while_ spot test most m keeps body) k r = forget_block_register body k r
+  forget_register_at (locked spot e body) k r = forget_block_register body k r
+  forget_register_at (call spot p es) k r = refl
 
   forget_block_register : (b : Block) (k : Facts) (r : ℕ) → region_at (forget_block b k).registers r ≡ cond (block_sets b r) None (region_at k.registers r)
   forget_block_register done k r = refl

@@ -23,6 +23,7 @@ use Rattle.camac_rules.proofs.Sound.{Paid, step, SafePiece, StopsWell, EndsWell,
 use Rattle.camac_rules.proofs.Cycles.{permitted_wait, OneUsed, used, not_easy, none_left}
 use Rattle.camac_rules.proofs.Actions.{Setting, of, seen, with_given, value_of}
 use Rattle.camac_rules.proofs.Calls.{crate_is}
+use Rattle.camac_lang.specs.declared.spot.Spot.{Spot}
 
 -- what is known of the crate of a lock: whatever state comes in, the expression gives it
 pub record CanLock (plan : Layout) (around : Place) (e : Expression) (k : Facts) (c : ℕ) : Type 0 where
@@ -31,10 +32,10 @@ pub record CanLock (plan : Layout) (around : Place) (e : Expression) (k : Facts)
   pub free : is_among c around.locked ≡ false
   pub is : (s : State) → Inside around k s → value e s.variables ≡ Some c
 
-pub lock_allowed : (c : Setting) (around : Place) (line : ℕ) (e : Expression) (k : Facts) → Allows (lock_rule (seen c) (around_of around) line e k) (CanLock c.plan around e k)
-lock_allowed c around line e k =
-    then_allowed (range_each line e k.ranges) (λ r gives.
-    required_allowed _ line _ (λ fit.
+pub lock_allowed : (c : Setting) (around : Place) (spot : Spot) (e : Expression) (k : Facts) → Allows (lock_rule (seen c) (around_of around) spot e k) (CanLock c.plan around e k)
+lock_allowed c around spot e k =
+    then_allowed (range_each spot e k.ranges) (λ r gives.
+    required_allowed _ spot _ (λ fit.
     let p = and_parts (is_crate c.plan r) (not (is_among r.lo around.locked)) fit in
     let one : r.lo ≡ r.hi = eqb-true r.lo r.hi (and_parts (nat_eq r.lo r.hi) _ p.0).0 in
     let there = crate_is c.plan r r.lo p.0 (record { low = omega arith; high = omega arith }) in
@@ -101,12 +102,12 @@ held_sound plan around k c waits wait rest body inner s free le one i h =
     ended : (t : State) → Paid inner.costs (after_lock c wait rest (stepped s)) t → Paid (lock_costs waits inner.costs) s (after_release c t)
     ended t p = record { cycles = omega (arith, p.cycles); words = omega (arith, p.words); steps = omega (arith, p.steps); are_words = p.are_words; answers = omega (arith, one.count, p.answers); easy = λ z. p.easy (one.easy z) }
 
-pub lock_sound : (c : Setting) (around : Place) (line : ℕ) (e : Expression) (body : Block) (k : Facts) (crate_no : ℕ) (inner : Verdict) → NoneOutside around → CanLock c.plan around e k crate_no → SoundFor c.plan (holding crate_no around) (Some k) (λ n. block_meaning (of c) n body) inner → SoundFor c.plan around (Some k) (λ n s. effect (of c) n (locked line e body) (stepped s)) (verdict inner.after (lock_costs (unwrap_or (crate_waits c.plan crate_no) 0) inner.costs))
-lock_sound c around line e body k crate_no inner none can h =
+pub lock_sound : (c : Setting) (around : Place) (spot : Spot) (e : Expression) (body : Block) (k : Facts) (crate_no : ℕ) (inner : Verdict) → NoneOutside around → CanLock c.plan around e k crate_no → SoundFor c.plan (holding crate_no around) (Some k) (λ n. block_meaning (of c) n body) inner → SoundFor c.plan around (Some k) (λ n s. effect (of c) n (locked spot e body) (stepped s)) (verdict inner.after (lock_costs (unwrap_or (crate_waits c.plan crate_no) 0) inner.costs))
+lock_sound c around spot e body k crate_no inner none can h =
     let free = not_taken around crate_no none can.free in
     let waits : ℕ = can.waits in
     let same : waits ≡ unwrap_or (crate_waits c.plan crate_no) 0 = ap (λ o. unwrap_or o 0) (sym can.in_plan) in
-    subst (λ w. SoundFor c.plan around (Some k) (λ n s. effect (of c) n (locked line e body) (stepped s)) (verdict inner.after (lock_costs w inner.costs))) same
+    subst (λ w. SoundFor c.plan around (Some k) (λ n s. effect (of c) n (locked spot e body) (stepped s)) (verdict inner.after (lock_costs w inner.costs))) same
     (record {
       each = λ n le s i.
           let d : Bounds = lock_costs waits inner.costs in

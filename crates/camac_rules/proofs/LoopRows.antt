@@ -4,7 +4,7 @@ use Rattle.camac_lang.specs.declared.word.WordSize.TheVariants.{Full}
 use Rattle.camac_lang.specs.declared.word.CrateCall.TheVariants.{TestInhibit}
 use Rattle.std.specs.Prelude.{◌++◌}
 use Rattle.camac_range.specs.declared.comparison.Cmp.TheVariants.{Less, More, AtLeast}
-use Rattle.camac_lang.specs.Tree.{Expression, add, subtract, remainder, group, number, variable, plain, negated, flag_q, compare, Part, no_data, into, Statement, assign, set_register, single, put, crate_call, choose, for_, while_, Script}
+use Rattle.camac_lang.specs.Tree.{Expression, add, subtract, remainder, group, number, variable, plain, negated, flag_q, compare, Part, no_data, into, Statement, assign, set_register, single, put, crate_call, choose, for_, while_, Script, on_line}
 use Rattle.camac_lang.specs.View.{block_of}
 use Rattle.camac_model.specs.Sample.{sample_plan}
 use Rattle.camac_model.proofs.SampleScripts.{script, register, with_r, r, v, k, i}
@@ -26,10 +26,10 @@ body ss = script 100 100 with_r ss
 -- loop-over-stations
 abbrev stations_to : ℕ → Script
 stations_to n =
-    body (for_ 4 i (number 5) (number n) []
-    (block_of (set_register 4 r (number 1) (variable i) (number 0) ∷ single 4 Full 0 r (into v) ∷ [])) ∷ [])
+    body (for_ (on_line 4) i (number 5) (number n) []
+    (block_of (set_register (on_line 4) r (number 1) (variable i) (number 0) ∷ single (on_line 4) Full 0 r (into v) ∷ [])) ∷ [])
 
-station_seven : accept sample_plan (stations_to 7) ≡ Err (broken StationNotInstalled 4 (NoModule 1 7))
+station_seven : accept sample_plan (stations_to 7) ≡ Err (broken StationNotInstalled (on_line 4) (NoModule 1 7))
 unfolding go_on required given if_reached
 station_seven = refl
 
@@ -39,9 +39,9 @@ station_six = refl
 
 -- for-too-long, longest-for, empty-for, loop-variable-assigned
 abbrev from_to : ℕ → ℕ → List Statement → Script
-from_to m n ss = body (for_ 4 i (number m) (number n) [] (block_of ss) ∷ [])
+from_to m n ss = body (for_ (on_line 4) i (number m) (number n) [] (block_of ss) ∷ [])
 
-for_too_long : accept sample_plan (from_to 0 65535 []) ≡ Err (broken TooManyTurns 4 (Turns 65536 65535))
+for_too_long : accept sample_plan (from_to 0 65535 []) ≡ Err (broken TooManyTurns (on_line 4) (Turns 65536 65535))
 unfolding go_on required given if_reached
 for_too_long = refl
 
@@ -49,217 +49,217 @@ longest_for : accept sample_plan (from_to 0 65534 []) ≡ Ok (costs 0 0 65536 �
 unfolding go_on required given if_reached
 longest_for = refl
 
-empty_for : accept sample_plan (from_to 5 4 (assign 4 i (number 3) ∷ [])) ≡ Ok (costs 0 0 1 ∷ [])
+empty_for : accept sample_plan (from_to 5 4 (assign (on_line 4) i (number 3) ∷ [])) ≡ Ok (costs 0 0 1 ∷ [])
 unfolding go_on required given if_reached
 empty_for = refl
 
-loop_variable_written : accept sample_plan (from_to 1 2 (assign 4 i (number 3) ∷ [])) ≡ Err (broken LoopVariableAssigned 4 (Counted (Service 0) 2))
+loop_variable_written : accept sample_plan (from_to 1 2 (assign (on_line 4) i (number 3) ∷ [])) ≡ Err (broken LoopVariableAssigned (on_line 4) (Counted (Service 0) 2))
 unfolding go_on required given if_reached
 loop_variable_written = refl
 
-loop_variable_of_two : accept sample_plan (from_to 1 2 (for_ 5 i (number 1) (number 2) [] (block_of []) ∷ [])) ≡ Err (broken LoopVariableAssigned 5 (Counted (Service 0) 2))
+loop_variable_of_two : accept sample_plan (from_to 1 2 (for_ (on_line 5) i (number 1) (number 2) [] (block_of []) ∷ [])) ≡ Err (broken LoopVariableAssigned (on_line 5) (Counted (Service 0) 2))
 unfolding go_on required given if_reached
 loop_variable_of_two = refl
 
 -- after a loop its variable may be what it was, and is not fixed any more
 after_a_loop :
-    accept sample_plan (body (assign 4 i (number 9) ∷ for_ 5 i (number 1) (number 2) [] (block_of []) ∷ put 6 (add (variable i) (number 16777206)) ∷ []))
+    accept sample_plan (body (assign (on_line 4) i (number 9) ∷ for_ (on_line 5) i (number 1) (number 2) [] (block_of []) ∷ put (on_line 6) (add (variable i) (number 16777206)) ∷ []))
     ≡ Ok (costs 0 1 5 ∷ [])
 unfolding go_on required given if_reached
 after_a_loop = refl
 
 after_a_loop_too_wide :
-    accept sample_plan (body (assign 4 i (number 9) ∷ for_ 5 i (number 1) (number 2) [] (block_of []) ∷ put 6 (add (variable i) (number 16777207)) ∷ []))
-    ≡ Err (broken WordTooWide 6 (Word 16777216))
+    accept sample_plan (body (assign (on_line 4) i (number 9) ∷ for_ (on_line 5) i (number 1) (number 2) [] (block_of []) ∷ put (on_line 6) (add (variable i) (number 16777207)) ∷ []))
+    ≡ Err (broken WordTooWide (on_line 6) (Word 16777216))
 unfolding go_on required given if_reached
 after_a_loop_too_wide = refl
 
 -- what a turn writes is any number where the next begins, and after the loop
 written_in_a_turn :
-    accept sample_plan (from_to 1 2 (put 5 (variable v) ∷ assign 6 v (number 1) ∷ [])) ≡ Err (broken WordTooWide 5 (Word 4294967295))
+    accept sample_plan (from_to 1 2 (put (on_line 5) (variable v) ∷ assign (on_line 6) v (number 1) ∷ [])) ≡ Err (broken WordTooWide (on_line 5) (Word 4294967295))
 unfolding go_on required given if_reached
 written_in_a_turn = refl
 
 written_then_read :
-    accept sample_plan (from_to 1 2 (assign 5 v (number 1) ∷ put 6 (variable v) ∷ [])) ≡ Ok (costs 0 2 7 ∷ [])
+    accept sample_plan (from_to 1 2 (assign (on_line 5) v (number 1) ∷ put (on_line 6) (variable v) ∷ [])) ≡ Ok (costs 0 2 7 ∷ [])
 unfolding go_on required given if_reached
 written_then_read = refl
 
 -- a register that a turn sets is unset where the next begins, and after the loop
 set_in_a_turn :
-    accept sample_plan (body (register r 5 0 ∷ for_ 5 i (number 1) (number 2) [] (block_of (single 6 Full 0 r (into v) ∷ register r 5 0 ∷ [])) ∷ []))
-    ≡ Err (broken RegisterUnset 6 (Unset (Service 0) 0))
+    accept sample_plan (body (register r 5 0 ∷ for_ (on_line 5) i (number 1) (number 2) [] (block_of (single (on_line 6) Full 0 r (into v) ∷ register r 5 0 ∷ [])) ∷ []))
+    ≡ Err (broken RegisterUnset (on_line 6) (Unset (Service 0) 0))
 unfolding go_on required given if_reached
 set_in_a_turn = refl
 
 set_in_the_loop_alone :
-    accept sample_plan (body (for_ 4 i (number 1) (number 2) [] (block_of (register r 5 0 ∷ [])) ∷ single 5 Full 0 r (into v) ∷ []))
-    ≡ Err (broken RegisterUnset 5 (Unset (Service 0) 0))
+    accept sample_plan (body (for_ (on_line 4) i (number 1) (number 2) [] (block_of (register r 5 0 ∷ [])) ∷ single (on_line 5) Full 0 r (into v) ∷ []))
+    ≡ Err (broken RegisterUnset (on_line 5) (Unset (Service 0) 0))
 unfolding go_on required given if_reached
 set_in_the_loop_alone = refl
 
 -- a kept range
 abbrev keeping : ℕ → ℕ → Statement → Script
 keeping low high s =
-    body (assign 4 v (number 3) ∷ for_ 5 i (number 1) (number 4) (record { variable = v; low = low; high = high } ∷ []) (block_of (put 6 (variable v) ∷ s ∷ [])) ∷
-    put 7 (variable v) ∷ [])
+    body (assign (on_line 4) v (number 3) ∷ for_ (on_line 5) i (number 1) (number 4) (record { variable = v; low = low; high = high } ∷ []) (block_of (put (on_line 6) (variable v) ∷ s ∷ [])) ∷
+    put (on_line 7) (variable v) ∷ [])
 
-kept : accept sample_plan (keeping 0 9 (assign 6 v (remainder (add (variable v) (number 7)) 10))) ≡ Ok (costs 0 5 15 ∷ [])
+kept : accept sample_plan (keeping 0 9 (assign (on_line 6) v (remainder (add (variable v) (number 7)) 10))) ≡ Ok (costs 0 5 15 ∷ [])
 unfolding go_on required given if_reached
 kept = refl
 
-kept_not : accept sample_plan (keeping 0 9 (assign 6 v (remainder (add (variable v) (number 7)) 11))) ≡ Err (broken KeepFailsAfterTurn 5 (Kept (Service 0) 0 (record { low = 0; high = 10 }) (record { low = 0; high = 9 })))
+kept_not : accept sample_plan (keeping 0 9 (assign (on_line 6) v (remainder (add (variable v) (number 7)) 11))) ≡ Err (broken KeepFailsAfterTurn (on_line 5) (Kept (Service 0) 0 (record { low = 0; high = 10 }) (record { low = 0; high = 9 })))
 unfolding go_on required given if_reached
 kept_not = refl
 
-kept_not_at_entry : accept sample_plan (keeping 4 9 (assign 6 v (number 5))) ≡ Err (broken KeepFailsAtEntry 5 (Kept (Service 0) 0 (record { low = 3; high = 3 }) (record { low = 4; high = 9 })))
+kept_not_at_entry : accept sample_plan (keeping 4 9 (assign (on_line 6) v (number 5))) ≡ Err (broken KeepFailsAtEntry (on_line 5) (Kept (Service 0) 0 (record { low = 3; high = 3 }) (record { low = 4; high = 9 })))
 unfolding go_on required given if_reached
 kept_not_at_entry = refl
 
-kept_by_no_number : accept sample_plan (keeping 3 2 (assign 6 v (number 3))) ≡ Err (broken KeepFailsAtEntry 5 (Kept (Service 0) 0 (record { low = 3; high = 3 }) (record { low = 3; high = 2 })))
+kept_by_no_number : accept sample_plan (keeping 3 2 (assign (on_line 6) v (number 3))) ≡ Err (broken KeepFailsAtEntry (on_line 5) (Kept (Service 0) 0 (record { low = 3; high = 3 }) (record { low = 3; high = 2 })))
 unfolding go_on required given if_reached
 kept_by_no_number = refl
 
 -- without a turn the keeps are tested at entry all the same, after the number of turns
 keep_without_a_turn :
-    accept sample_plan (body (for_ 5 i (number 2) (number 1) (record { variable = v; low = 1; high = 9 } ∷ []) (block_of []) ∷ []))
-    ≡ Err (broken KeepFailsAtEntry 5 (Kept (Service 0) 0 (record { low = 0; high = 0 }) (record { low = 1; high = 9 })))
+    accept sample_plan (body (for_ (on_line 5) i (number 2) (number 1) (record { variable = v; low = 1; high = 9 } ∷ []) (block_of []) ∷ []))
+    ≡ Err (broken KeepFailsAtEntry (on_line 5) (Kept (Service 0) 0 (record { low = 0; high = 0 }) (record { low = 1; high = 9 })))
 unfolding go_on required given if_reached
 keep_without_a_turn = refl
 
 turns_before_keeps :
-    accept sample_plan (body (for_ 5 i (number 0) (number 65535) (record { variable = v; low = 1; high = 9 } ∷ []) (block_of []) ∷ []))
-    ≡ Err (broken TooManyTurns 5 (Turns 65536 65535))
+    accept sample_plan (body (for_ (on_line 5) i (number 0) (number 65535) (record { variable = v; low = 1; high = 9 } ∷ []) (block_of []) ∷ []))
+    ≡ Err (broken TooManyTurns (on_line 5) (Turns 65536 65535))
 unfolding go_on required given if_reached
 turns_before_keeps = refl
 
 -- fifteen-loops
 abbrev nested : ℕ → List Statement → List Statement
 nested zero ss = ss
-nested (suc n) ss = for_ 4 n (number 1) (number 65535) [] (block_of (nested n ss)) ∷ []
+nested (suc n) ss = for_ (on_line 4) n (number 1) (number 65535) [] (block_of (nested n ss)) ∷ []
 
 abbrev fifteen : List Statement → Script
 fifteen ss = script 4294967295 4096 [] (nested 15 ss)
 
-fifteen_empty : accept sample_plan (fifteen []) ≡ Err (broken TooManySteps 3 (Budget (Service 0) 18446744073709551615 4294967295))
+fifteen_empty : accept sample_plan (fifteen []) ≡ Err (broken TooManySteps (on_line 3) (Budget (Service 0) 18446744073709551615 4294967295))
 unfolding go_on required given if_reached
 fifteen_empty = refl
 
-fifteen_cycles : accept sample_plan (fifteen (crate_call 4 TestInhibit (number 1) ∷ [])) ≡ Err (broken TooManyCycles 3 (Budget (Service 0) 18446744073709551615 4294967295))
+fifteen_cycles : accept sample_plan (fifteen (crate_call (on_line 4) TestInhibit (number 1) ∷ [])) ≡ Err (broken TooManyCycles (on_line 3) (Budget (Service 0) 18446744073709551615 4294967295))
 unfolding go_on required given if_reached
 fifteen_cycles = refl
 
-fifteen_words : accept sample_plan (fifteen (put 4 (number 1) ∷ [])) ≡ Err (broken TooManyWords 3 (Budget (Service 0) 18446744073709551615 4096))
+fifteen_words : accept sample_plan (fifteen (put (on_line 4) (number 1) ∷ [])) ≡ Err (broken TooManyWords (on_line 3) (Budget (Service 0) 18446744073709551615 4096))
 unfolding go_on required given if_reached
 fifteen_words = refl
 
 -- poll-loop, measure-written-twice
 abbrev less_one : Statement
-less_one = assign 6 k (subtract (variable k) (number 1))
+less_one = assign (on_line 6) k (subtract (variable k) (number 1))
 
 abbrev above_0 : ℕ → Part
 above_0 x = plain (compare (variable x) More (number 0))
 
 abbrev poll : ℕ → List Statement → Script
 poll most more =
-    script 30 0 with_r (register r 6 0 ∷ assign 5 k (number 10) ∷
-    while_ 6 (above_0 k ∷ negated flag_q ∷ []) most k [] (block_of (single 6 Full 27 r no_data ∷ less_one ∷ more)) ∷ [])
+    script 30 0 with_r (register r 6 0 ∷ assign (on_line 5) k (number 10) ∷
+    while_ (on_line 6) (above_0 k ∷ negated flag_q ∷ []) most k [] (block_of (single (on_line 6) Full 27 r no_data ∷ less_one ∷ more)) ∷ [])
 
 poll_accepted : accept sample_plan (poll 10 []) ≡ Ok (costs 30 0 33 ∷ [])
 unfolding go_on required given if_reached
 poll_accepted = refl
 
-poll_nine_turns : accept sample_plan (poll 9 []) ≡ Err (broken TooManyTurns 6 (Turns 10 9))
+poll_nine_turns : accept sample_plan (poll 9 []) ≡ Err (broken TooManyTurns (on_line 6) (Turns 10 9))
 unfolding go_on required given if_reached
 poll_nine_turns = refl
 
-poll_written_twice : accept sample_plan (poll 10 (assign 6 k (number 5) ∷ [])) ≡ Err (broken MeasureBroken 6 (Measure (Service 0) 1))
+poll_written_twice : accept sample_plan (poll 10 (assign (on_line 6) k (number 5) ∷ [])) ≡ Err (broken MeasureBroken (on_line 6) (Measure (Service 0) 1))
 unfolding go_on required given if_reached
 poll_written_twice = refl
 
-poll_written_inside : accept sample_plan (poll 10 (choose 6 (plain flag_q ∷ []) (block_of (less_one ∷ [])) ∷ [])) ≡ Err (broken MeasureBroken 6 (Measure (Service 0) 1))
+poll_written_inside : accept sample_plan (poll 10 (choose (on_line 6) (plain flag_q ∷ []) (block_of (less_one ∷ [])) ∷ [])) ≡ Err (broken MeasureBroken (on_line 6) (Measure (Service 0) 1))
 unfolding go_on required given if_reached
 poll_written_inside = refl
 
-poll_turns_past_limit : accept sample_plan (poll 65536 []) ≡ Err (broken TooManyTurns 6 (Annotation 65536 65535))
+poll_turns_past_limit : accept sample_plan (poll 65536 []) ≡ Err (broken TooManyTurns (on_line 6) (Annotation 65536 65535))
 unfolding go_on required given if_reached
 poll_turns_past_limit = refl
 
 -- the measure falls by k, a literal from 1, brackets aside
 abbrev falling : ℕ → Expression → Script
-falling most e = body (assign 4 k (number 10) ∷ while_ 5 (plain (compare (variable k) AtLeast (number 3)) ∷ []) most k [] (block_of (assign 6 k e ∷ [])) ∷ [])
+falling most e = body (assign (on_line 4) k (number 10) ∷ while_ (on_line 5) (plain (compare (variable k) AtLeast (number 3)) ∷ []) most k [] (block_of (assign (on_line 6) k e ∷ [])) ∷ [])
 
 falls_by_three : accept sample_plan (falling 3 (group (subtract (group (variable k)) (group (number 3))))) ≡ Ok (costs 0 0 8 ∷ [])
 unfolding go_on required given if_reached
 falls_by_three = refl
 
-falls_by_three_in_two : accept sample_plan (falling 2 (subtract (variable k) (number 3))) ≡ Err (broken TooManyTurns 5 (Turns 3 2))
+falls_by_three_in_two : accept sample_plan (falling 2 (subtract (variable k) (number 3))) ≡ Err (broken TooManyTurns (on_line 5) (Turns 3 2))
 unfolding go_on required given if_reached
 falls_by_three_in_two = refl
 
-falls_by_nothing : accept sample_plan (falling 3 (subtract (variable k) (number 0))) ≡ Err (broken MeasureBroken 5 (Measure (Service 0) 1))
+falls_by_nothing : accept sample_plan (falling 3 (subtract (variable k) (number 0))) ≡ Err (broken MeasureBroken (on_line 5) (Measure (Service 0) 1))
 unfolding go_on required given if_reached
 falls_by_nothing = refl
 
-falls_below_0 : accept sample_plan (falling 3 (subtract (variable k) (number 4))) ≡ Err (broken ValueOutOfRange 6 (operation Sub (interval 3 10) (interval 4 4)))
+falls_below_0 : accept sample_plan (falling 3 (subtract (variable k) (number 4))) ≡ Err (broken ValueOutOfRange (on_line 6) (operation Sub (interval 3 10) (interval 4 4)))
 unfolding go_on required given if_reached
 falls_below_0 = refl
 
-falls_to_a_variable : accept sample_plan (falling 3 (subtract (variable k) (variable v))) ≡ Err (broken MeasureBroken 5 (Measure (Service 0) 1))
+falls_to_a_variable : accept sample_plan (falling 3 (subtract (variable k) (variable v))) ≡ Err (broken MeasureBroken (on_line 5) (Measure (Service 0) 1))
 unfolding go_on required given if_reached
 falls_to_a_variable = refl
 
 -- keep-range
 abbrev up : Statement
-up = assign 5 i (add (variable i) (number 1))
+up = assign (on_line 5) i (add (variable i) (number 1))
 
 abbrev keeping_i : List Statement → Statement → Script
 keeping_i first s =
-    body (first ++ (assign 4 k (number 20) ∷
-    while_ 5 (above_0 k ∷ []) 20 k (record { variable = i; low = 0; high = 11 } ∷ []) (block_of (less_one ∷ s ∷ [])) ∷ []))
+    body (first ++ (assign (on_line 4) k (number 20) ∷
+    while_ (on_line 5) (above_0 k ∷ []) 20 k (record { variable = i; low = 0; high = 11 } ∷ []) (block_of (less_one ∷ s ∷ [])) ∷ []))
 
-keep_passed : accept sample_plan (keeping_i [] up) ≡ Err (broken KeepFailsAfterTurn 5 (Kept (Service 0) 2 (record { low = 1; high = 12 }) (record { low = 0; high = 11 })))
+keep_passed : accept sample_plan (keeping_i [] up) ≡ Err (broken KeepFailsAfterTurn (on_line 5) (Kept (Service 0) 2 (record { low = 1; high = 12 }) (record { low = 0; high = 11 })))
 unfolding go_on required given if_reached
 keep_passed = refl
 
-keep_range : accept sample_plan (keeping_i [] (choose 5 (plain (compare (variable i) Less (number 11)) ∷ []) (block_of (up ∷ [])))) ≡ Ok (costs 0 0 82 ∷ [])
+keep_range : accept sample_plan (keeping_i [] (choose (on_line 5) (plain (compare (variable i) Less (number 11)) ∷ []) (block_of (up ∷ [])))) ≡ Ok (costs 0 0 82 ∷ [])
 unfolding go_on required given if_reached
 keep_range = refl
 
-keep_at_entry : accept sample_plan (keeping_i (assign 4 i (number 12) ∷ []) up) ≡ Err (broken KeepFailsAtEntry 5 (Kept (Service 0) 2 (record { low = 12; high = 12 }) (record { low = 0; high = 11 })))
+keep_at_entry : accept sample_plan (keeping_i (assign (on_line 4) i (number 12) ∷ []) up) ≡ Err (broken KeepFailsAtEntry (on_line 5) (Kept (Service 0) 2 (record { low = 12; high = 12 }) (record { low = 0; high = 11 })))
 unfolding go_on required given if_reached
 keep_at_entry = refl
 
 -- while-condition-overflow: the condition is tested in the head
 while_condition_overflow :
-    accept sample_plan (body (assign 4 k (number 2) ∷
-    while_ 5 (above_0 k ∷ plain (compare (add (variable v) (number 1)) More (number 0)) ∷ []) 2 k [] (block_of (less_one ∷ assign 5 v (number 4294967295) ∷ [])) ∷ []))
-    ≡ Err (broken ValueOutOfRange 5 (operation Add (interval 0 4294967295) (interval 1 1)))
+    accept sample_plan (body (assign (on_line 4) k (number 2) ∷
+    while_ (on_line 5) (above_0 k ∷ plain (compare (add (variable v) (number 1)) More (number 0)) ∷ []) 2 k [] (block_of (less_one ∷ assign (on_line 5) v (number 4294967295) ∷ [])) ∷ []))
+    ≡ Err (broken ValueOutOfRange (on_line 5) (operation Add (interval 0 4294967295) (interval 1 1)))
 unfolding go_on required given if_reached
 while_condition_overflow = refl
 
 -- a condition that never holds: no turn, whatever is annotated
-never_a_turn : accept sample_plan (body (while_ 5 (above_0 k ∷ []) 7 k [] (block_of (less_one ∷ put 6 (number 16777216) ∷ [])) ∷ [])) ≡ Ok (costs 0 0 1 ∷ [])
+never_a_turn : accept sample_plan (body (while_ (on_line 5) (above_0 k ∷ []) 7 k [] (block_of (less_one ∷ put (on_line 6) (number 16777216) ∷ [])) ∷ [])) ≡ Ok (costs 0 0 1 ∷ [])
 unfolding go_on required given if_reached
 never_a_turn = refl
 
 -- after a loop its condition does not hold
 after_while :
-    accept sample_plan (body (assign 4 k (number 20000000) ∷ while_ 5 (above_0 k ∷ []) 3 k [] (block_of (assign 6 k (subtract (variable k) (number 16777215)) ∷ [])) ∷ []))
-    ≡ Err (broken ValueOutOfRange 6 (operation Sub (interval 1 20000000) (interval 16777215 16777215)))
+    accept sample_plan (body (assign (on_line 4) k (number 20000000) ∷ while_ (on_line 5) (above_0 k ∷ []) 3 k [] (block_of (assign (on_line 6) k (subtract (variable k) (number 16777215)) ∷ [])) ∷ []))
+    ≡ Err (broken ValueOutOfRange (on_line 6) (operation Sub (interval 1 20000000) (interval 16777215 16777215)))
 unfolding go_on required given if_reached
 after_while = refl
 
 put_after_while :
-    accept sample_plan (body (assign 4 k (number 20000000) ∷
-    while_ 5 (plain (compare (variable k) AtLeast (number 16777215)) ∷ []) 2 k [] (block_of (assign 6 k (subtract (variable k) (number 16777215)) ∷ [])) ∷ put 7 (variable k) ∷ []))
+    accept sample_plan (body (assign (on_line 4) k (number 20000000) ∷
+    while_ (on_line 5) (plain (compare (variable k) AtLeast (number 16777215)) ∷ []) 2 k [] (block_of (assign (on_line 6) k (subtract (variable k) (number 16777215)) ∷ [])) ∷ put (on_line 7) (variable k) ∷ []))
     ≡ Ok (costs 0 1 7 ∷ [])
 unfolding go_on required given if_reached
 put_after_while = refl
 
 -- the measure of a `while` can't be the variable of a `for` around it
 measure_of_a_for :
-    accept sample_plan (body (for_ 4 k (number 1) (number 2) [] (block_of (while_ 5 (above_0 k ∷ []) 2 k [] (block_of (less_one ∷ [])) ∷ [])) ∷ []))
-    ≡ Err (broken LoopVariableAssigned 6 (Counted (Service 0) 1))
+    accept sample_plan (body (for_ (on_line 4) k (number 1) (number 2) [] (block_of (while_ (on_line 5) (above_0 k ∷ []) 2 k [] (block_of (less_one ∷ [])) ∷ [])) ∷ []))
+    ≡ Err (broken LoopVariableAssigned (on_line 6) (Counted (Service 0) 1))
 unfolding go_on required given if_reached
 measure_of_a_for = refl

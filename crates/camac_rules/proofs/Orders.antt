@@ -27,9 +27,9 @@ declared_counts s b next_table =
 declared_counts s b next_lam =
     let P : Before → Type 0 = Counts b (next_lam ∷ []) in
     then_all P (slice_get s.lams b.lams) (λ l. unless_broken (lam_stands b l) (with_lam l.name b)) (λ l. unless_all P (lam_stands b l) (with_lam l.name b) (omega arith, omega arith))
-declared_counts s b (next_variables line n) =
+declared_counts s b (next_variables spot n) =
     let xs : List Text = take n (drop b.variables s.variables) in
-    unless_all (Counts b (next_variables line n ∷ [])) (nat_le 1 n && (nat_eq (length xs) n && are_declarable xs b.names)) (with_variables xs b) (omega arith, omega arith)
+    unless_all (Counts b (next_variables spot n ∷ [])) (nat_le 1 n && (nat_eq (length xs) n && are_declarable xs b.names)) (with_variables xs b) (omega arith, omega arith)
 declared_counts s b next_procedure =
     let P : Before → Type 0 = Counts b (next_procedure ∷ []) in
     then_all P (slice_get s.procedures b.procedures) (λ p. unless_broken (procedure_stands b p) (with_procedure p b)) (λ p. unless_all P (procedure_stands b p) (with_procedure p b) (omega arith, omega arith))
@@ -40,7 +40,7 @@ declared_counts s b next_service =
 counts_step : (b k e : Before) (i : Item) (rest : List Item) → Counts b (i ∷ []) k → Counts k rest e → Counts b (i ∷ rest) e
 counts_step b k e next_table rest now later = (omega arith, omega arith)
 counts_step b k e next_lam rest now later = (omega arith, omega arith)
-counts_step b k e (next_variables line n) rest now later = (omega arith, omega arith)
+counts_step b k e (next_variables spot n) rest now later = (omega arith, omega arith)
 counts_step b k e next_procedure rest now later = (omega arith, omega arith)
 counts_step b k e next_service rest now later = (omega arith, omega arith)
 

@@ -12,6 +12,7 @@ use Rattle.camac_rules.specs.Addresses.{crate_end, station_end, sub_address_end,
 use Rattle.camac_rules.proofs.Allows.{Allows, required_allowed, given_then}
 use Rattle.camac_rules.proofs.Stores.{InRegion}
 use Rattle.camac_rules.proofs.Walks.{all_in_at, IsPart, hull_from_at, IsWidth, least_and_greatest_at}
+use Rattle.camac_lang.specs.declared.spot.Spot.{Spot}
 
 -- a command that is allowed in a crate of the plan, with a width in a range
 pub record IsAllowed (plan : Layout) (at : Address) (f : ℕ) (w : Interval) : Type 0 where
@@ -69,6 +70,6 @@ region_allowed plan f g w at there e i =
       high = omega (arith, found.to_high, of_station.high, of_crate.high);
     }
 
-pub command_allowed : (plan : Layout) (line f : ℕ) (g : Region) → Allows (command_widths plan line f g) (λ w. (at : Address) → InRegion g at → IsAllowed plan at f w)
-command_allowed plan line f g =
-    required_allowed _ line _ (λ there. given_then (region_widths plan f g) _ line _ (λ w e at i. region_allowed plan f g w at there e i))
+pub command_allowed : (plan : Layout) (spot : Spot) (f : ℕ) (g : Region) → Allows (command_widths plan spot f g) (λ w. (at : Address) → InRegion g at → IsAllowed plan at f w)
+command_allowed plan spot f g =
+    required_allowed _ spot _ (λ there. given_then (region_widths plan f g) _ spot _ (λ w e at i. region_allowed plan f g w at there e i))

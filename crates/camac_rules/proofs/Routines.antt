@@ -23,6 +23,7 @@ use Rattle.camac_rules.proofs.Stores.{Place, VariablesInside, Reaches}
 use Rattle.camac_rules.proofs.Values.{Fits, Gives, range_holds}
 use Rattle.camac_rules.proofs.Sound.{Paid, step, SafePiece, StopsWell, EndsWell, Sound, SoundFor, meets_more}
 use Rattle.camac_rules.proofs.Actions.{Setting, of, seen, with_given}
+use Rattle.camac_lang.specs.declared.spot.Spot.{Spot}
 
 -- where a procedure's body runs: any crates may be locked around the call
 abbrev pub called : Body → (ℕ → Bool) → Place
@@ -63,14 +64,14 @@ give_both None p r rs g h = g
 give_both (Some v) None r rs g h = h
 give_both (Some v) (Some vs) r rs g h = (g, h)
 
-ranges_hold : (line : ℕ) (es : List Expression) (rs : List Interval) (env : Variables) → VariablesInside rs env → Allows (ranges_of line es rs) (GiveAll (values es env))
-ranges_hold line [] rs env h = allowed tt
-ranges_hold line (e ∷ es) rs env h =
-    then_allowed (range_holds line e rs env h) (λ r g.
-    then_allowed (ranges_hold line es rs env h) (λ others gs. allowed (give_both (value e env) (values es env) r others g gs)))
+ranges_hold : (spot : Spot) (es : List Expression) (rs : List Interval) (env : Variables) → VariablesInside rs env → Allows (ranges_of spot es rs) (GiveAll (values es env))
+ranges_hold spot [] rs env h = allowed tt
+ranges_hold spot (e ∷ es) rs env h =
+    then_allowed (range_holds spot e rs env h) (λ r g.
+    then_allowed (ranges_hold spot es rs env h) (λ others gs. allowed (give_both (value e env) (values es env) r others g gs)))
 
-ranges_each : (line : ℕ) (es : List Expression) (rs : List Interval) → Allows (ranges_of line es rs) (λ found. (env : Variables) → VariablesInside rs env → GiveAll (values es env) found)
-ranges_each line es rs = for_each (VariablesInside rs) (λ env found. GiveAll (values es env) found) (λ env h. ranges_hold line es rs env h)
+ranges_each : (spot : Spot) (es : List Expression) (rs : List Interval) → Allows (ranges_of spot es rs) (λ found. (env : Variables) → VariablesInside rs env → GiveAll (values es env) found)
+ranges_each spot es rs = for_each (VariablesInside rs) (λ env found. GiveAll (values es env) found) (λ env h. ranges_hold spot es rs env h)
 
 record HasArguments (o : Option (List ℕ)) (rs : List Interval) : Type 0 where
   numbers : List ℕ
@@ -106,11 +107,11 @@ locks_after : (body : Body) (outside : ℕ → Bool) (after : Known) (t : State)
 locks_after body outside None t r c = absurd r
 locks_after body outside (Some k) t r c = r.locks c
 
-pub call_sound : (c : Setting) → Serves c → (around : Place) (line p : ℕ) (es : List Expression) (k : Facts) → Allows (call_rule (seen c) line p es k) (SoundFor c.plan around (Some k) (λ n s. effect (of c) n (call line p es) (stepped s)))
-call_sound c serves around line p es k =
-    then_allowed (ranges_each line es k.ranges) (λ rs gives.
-    then_allowed (given_allowed (slice_get c.procedures p) _ line _) (λ q is.
-    required_allowed _ line _ (λ fit. allowed (record {
+pub call_sound : (c : Setting) → Serves c → (around : Place) (spot : Spot) (p : ℕ) (es : List Expression) (k : Facts) → Allows (call_rule (seen c) spot p es k) (SoundFor c.plan around (Some k) (λ n s. effect (of c) n (call spot p es) (stepped s)))
+call_sound c serves around spot p es k =
+    then_allowed (ranges_each spot es k.ranges) (λ rs gives.
+    then_allowed (given_allowed (slice_get c.procedures p) _ spot _) (λ q is.
+    required_allowed _ spot _ (λ fit. allowed (record {
       each = λ n le s i.
           let d : Bounds = call_costs (annotated q) in
           let r = serves.each p q is in
@@ -184,9 +185,9 @@ routine_sound plan body q run check h =
     (if_reached_allowed unreached (at_entry q.parameters) check (λ k v. (outside : ℕ → Bool) → Unit {0} → SoundFor plan (called body outside) k run v)
     (λ outside u. record { each = λ n le s i. absurd i }) h)
     (λ v sound.
-    required_allowed _ q.line _ (λ words.
-    required_allowed _ q.line _ (λ cycles.
-    required_allowed _ q.line _ (λ steps. allowed (record {
+    required_allowed _ q.spot _ (λ words.
+    required_allowed _ q.spot _ (λ cycles.
+    required_allowed _ q.spot _ (λ steps. allowed (record {
       body = body;
       after = v.after;
       each = λ n le outside vs inside small s locks.

@@ -4,7 +4,7 @@ use Rattle.std.specs.Prelude.{codes}
 use Rattle.camac_lang.specs.declared.word.CrateCall.TheVariants.{Initialise, Clear, InhibitOn, TestInhibit, DemandOn, DemandOff, TestDemandOutput, TestDemand}
 use Rattle.camac_lang.specs.declared.word.LamCall as lam_word
 use Rattle.camac_lang.specs.declared.word.WordSize.TheVariants.{Full, Short}
-use Rattle.camac_lang.specs.Tree.{Text, Expression, add, subtract, multiply, divide, remainder, group, number, variable, no_data, into, from, Statement, assign, set_register, single, put, crate_call, lam_call, Script}
+use Rattle.camac_lang.specs.Tree.{Text, Expression, add, subtract, multiply, divide, remainder, group, number, variable, no_data, into, from, Statement, assign, set_register, single, put, crate_call, lam_call, Script, on_line}
 use Rattle.camac_model.specs.Sample.{sample_plan}
 use Rattle.camac_model.proofs.SampleScripts.{adc_lam, script, script_of, v, k}
 use Rattle.camac_range.specs.Interval.{interval}
@@ -30,7 +30,7 @@ abbrev registers : List Text
 registers = codes "r" ∷ codes "s" ∷ []
 
 abbrev register : ℕ → ℕ → ℕ → ℕ → Statement
-register line g n a = set_register line g (number 1) (number n) (number a)
+register line g n a = set_register (on_line line) g (number 1) (number n) (number a)
 
 -- the standard opening with its heading
 abbrev body : List Statement → Script
@@ -39,7 +39,7 @@ body ss = script 100 100 registers ss
 -- straight-line, within-too-small
 abbrev straight_line : ℕ → ℕ → Script
 straight_line cycles words =
-    script_of (codes "v" ∷ []) [] [] cycles words (codes "r" ∷ []) (register 4 r 5 0 ∷ single 5 Full 0 r (into v) ∷ put 6 (variable v) ∷ [])
+    script_of (codes "v" ∷ []) [] [] cycles words (codes "r" ∷ []) (register 4 r 5 0 ∷ single (on_line 5) Full 0 r (into v) ∷ put (on_line 6) (variable v) ∷ [])
 
 straight_line_accepted : accept sample_plan (straight_line 3 1) ≡ Ok (costs 3 1 3 ∷ [])
 unfolding go_on required given if_reached
@@ -50,24 +50,24 @@ straight_line_within_four : accept sample_plan (straight_line 4 2) ≡ Ok (costs
 unfolding go_on required given if_reached
 straight_line_within_four = refl
 
-within_too_small : accept sample_plan (straight_line 2 1) ≡ Err (broken TooManyCycles 3 (Budget (Service 0) 3 2))
+within_too_small : accept sample_plan (straight_line 2 1) ≡ Err (broken TooManyCycles (on_line 3) (Budget (Service 0) 3 2))
 unfolding go_on required given if_reached
 within_too_small = refl
 
 -- more words than the heading's come before more cycles
-event_too_small : accept sample_plan (straight_line 2 0) ≡ Err (broken TooManyWords 3 (Budget (Service 0) 1 0))
+event_too_small : accept sample_plan (straight_line 2 0) ≡ Err (broken TooManyWords (on_line 3) (Budget (Service 0) 1 0))
 unfolding go_on required given if_reached
 event_too_small = refl
 
 -- write-width
 abbrev writing : Expression → Script
-writing e = body (register 4 r 6 0 ∷ single 5 Full 16 r (from e) ∷ [])
+writing e = body (register 4 r 6 0 ∷ single (on_line 5) Full 16 r (from e) ∷ [])
 
 width_kept : accept sample_plan (writing (number 255)) ≡ Ok (costs 3 0 2 ∷ [])
 unfolding go_on required given if_reached
 width_kept = refl
 
-width_passed : accept sample_plan (writing (number 256)) ≡ Err (broken ValueTooWide 5 (Width 256 8))
+width_passed : accept sample_plan (writing (number 256)) ≡ Err (broken ValueTooWide (on_line 5) (Width 256 8))
 unfolding go_on required given if_reached
 width_passed = refl
 
@@ -77,83 +77,83 @@ unfolding go_on required given if_reached
 variable_sent = refl
 
 -- reserved-code
-reserved_code : accept sample_plan (body (register 4 r 6 0 ∷ single 5 Full 5 r (into v) ∷ [])) ≡ Ok (costs 3 0 2 ∷ [])
+reserved_code : accept sample_plan (body (register 4 r 6 0 ∷ single (on_line 5) Full 5 r (into v) ∷ [])) ≡ Ok (costs 3 0 2 ∷ [])
 unfolding go_on required given if_reached
 reserved_code = refl
 
-write_code_read : accept sample_plan (body (register 4 r 6 0 ∷ single 5 Full 16 r (into v) ∷ [])) ≡ Err (broken WrongDirection 5 (Direction 16 Write Read))
+write_code_read : accept sample_plan (body (register 4 r 6 0 ∷ single (on_line 5) Full 16 r (into v) ∷ [])) ≡ Err (broken WrongDirection (on_line 5) (Direction 16 Write Read))
 unfolding go_on required given if_reached
 write_code_read = refl
 
 -- short-read
-short_read : accept sample_plan (script 12 1 registers (register 4 r 6 0 ∷ single 4 Short 0 r (into v) ∷ put 4 (variable v) ∷ [])) ≡ Ok (costs 3 1 3 ∷ [])
+short_read : accept sample_plan (script 12 1 registers (register 4 r 6 0 ∷ single (on_line 4) Short 0 r (into v) ∷ put (on_line 4) (variable v) ∷ [])) ≡ Ok (costs 3 1 3 ∷ [])
 unfolding go_on required given if_reached
 short_read = refl
 
 -- a word of 16 bits can be written in 16 bits, one of 24 can not
 abbrev moved : Script
-moved = body (register 4 r 6 0 ∷ single 5 Full 0 r (into v) ∷ single 6 Short 16 r (from (variable v)) ∷ [])
+moved = body (register 4 r 6 0 ∷ single (on_line 5) Full 0 r (into v) ∷ single (on_line 6) Short 16 r (from (variable v)) ∷ [])
 
-short_write_too_wide : accept sample_plan moved ≡ Err (broken ValueTooWide 6 (Width 16777215 8))
+short_write_too_wide : accept sample_plan moved ≡ Err (broken ValueTooWide (on_line 6) (Width 16777215 8))
 unfolding go_on required given if_reached
 short_write_too_wide = refl
 
 -- E6 comes before all else of the command
-register_unset : accept sample_plan (body (single 4 Full 99 r no_data ∷ [])) ≡ Err (broken RegisterUnset 4 (Unset (Service 0) 0))
+register_unset : accept sample_plan (body (single (on_line 4) Full 99 r no_data ∷ [])) ≡ Err (broken RegisterUnset (on_line 4) (Unset (Service 0) 0))
 unfolding go_on required given if_reached
 register_unset = refl
 
-other_register_unset : accept sample_plan (body (register 4 r 6 0 ∷ single 5 Full 27 s no_data ∷ [])) ≡ Err (broken RegisterUnset 5 (Unset (Service 0) 1))
+other_register_unset : accept sample_plan (body (register 4 r 6 0 ∷ single (on_line 5) Full 27 s no_data ∷ [])) ≡ Err (broken RegisterUnset (on_line 5) (Unset (Service 0) 1))
 unfolding go_on required given if_reached
 other_register_unset = refl
 
 -- E1: no crate 2, no station 7, though the controller's station 30 is there
 crate_not_in_plan :
-    accept sample_plan (body (set_register 4 r (number 2) (number 5) (number 0) ∷ single 5 Full 0 r (into v) ∷ []))
-    ≡ Err (broken StationNotInstalled 5 (NoCrate 2))
+    accept sample_plan (body (set_register (on_line 4) r (number 2) (number 5) (number 0) ∷ single (on_line 5) Full 0 r (into v) ∷ []))
+    ≡ Err (broken StationNotInstalled (on_line 5) (NoCrate 2))
 unfolding go_on required given if_reached
 crate_not_in_plan = refl
 
 crate_past_all :
-    accept sample_plan (body (set_register 4 r (number 4000000000) (number 5) (number 0) ∷ single 5 Full 0 r (into v) ∷ []))
-    ≡ Err (broken StationNotInstalled 5 (NoCrate 4000000000))
+    accept sample_plan (body (set_register (on_line 4) r (number 4000000000) (number 5) (number 0) ∷ single (on_line 5) Full 0 r (into v) ∷ []))
+    ≡ Err (broken StationNotInstalled (on_line 5) (NoCrate 4000000000))
 unfolding go_on required given if_reached
 crate_past_all = refl
 
-station_not_installed : accept sample_plan (body (register 4 r 7 0 ∷ single 5 Full 0 r (into v) ∷ [])) ≡ Err (broken StationNotInstalled 5 (NoModule 1 7))
+station_not_installed : accept sample_plan (body (register 4 r 7 0 ∷ single (on_line 5) Full 0 r (into v) ∷ [])) ≡ Err (broken StationNotInstalled (on_line 5) (NoModule 1 7))
 unfolding go_on required given if_reached
 station_not_installed = refl
 
-controller_station : accept sample_plan (body (register 4 r 30 9 ∷ single 5 Full 26 r no_data ∷ [])) ≡ Ok (costs 3 0 2 ∷ [])
+controller_station : accept sample_plan (body (register 4 r 30 9 ∷ single (on_line 5) Full 26 r no_data ∷ [])) ≡ Ok (costs 3 0 2 ∷ [])
 unfolding go_on required given if_reached
 controller_station = refl
 
 -- E2: no F1, no sub-address 16
-command_not_declared : accept sample_plan (body (register 4 r 5 0 ∷ single 5 Full 1 r (into v) ∷ [])) ≡ Err (broken CommandNotDeclared 5 (NoCommand 1 1 5 0))
+command_not_declared : accept sample_plan (body (register 4 r 5 0 ∷ single (on_line 5) Full 1 r (into v) ∷ [])) ≡ Err (broken CommandNotDeclared (on_line 5) (NoCommand 1 1 5 0))
 unfolding go_on required given if_reached
 command_not_declared = refl
 
-sub_address_past_all : accept sample_plan (body (register 4 r 5 16 ∷ single 5 Full 0 r (into v) ∷ [])) ≡ Err (broken CommandNotDeclared 5 (NoCommand 0 1 5 16))
+sub_address_past_all : accept sample_plan (body (register 4 r 5 16 ∷ single (on_line 5) Full 0 r (into v) ∷ [])) ≡ Err (broken CommandNotDeclared (on_line 5) (NoCommand 0 1 5 16))
 unfolding go_on required given if_reached
 sub_address_past_all = refl
 
 -- E3: a test of status moves no data
-control_code_read : accept sample_plan (body (register 4 r 6 0 ∷ single 5 Full 27 r (into v) ∷ [])) ≡ Err (broken WrongDirection 5 (Direction 27 Control Read))
+control_code_read : accept sample_plan (body (register 4 r 6 0 ∷ single (on_line 5) Full 27 r (into v) ∷ [])) ≡ Err (broken WrongDirection (on_line 5) (Direction 27 Control Read))
 unfolding go_on required given if_reached
 control_code_read = refl
 
 -- word-too-wide, with a number
-word_of_32_bits : accept sample_plan (body (put 4 (number 16777216) ∷ [])) ≡ Err (broken WordTooWide 4 (Word 16777216))
+word_of_32_bits : accept sample_plan (body (put (on_line 4) (number 16777216) ∷ [])) ≡ Err (broken WordTooWide (on_line 4) (Word 16777216))
 unfolding go_on required given if_reached
 word_of_32_bits = refl
 
-word_of_24_bits : accept sample_plan (body (put 4 (number 16777215) ∷ [])) ≡ Ok (costs 0 1 1 ∷ [])
+word_of_24_bits : accept sample_plan (body (put (on_line 4) (number 16777215) ∷ [])) ≡ Ok (costs 0 1 1 ∷ [])
 unfolding go_on required given if_reached
 word_of_24_bits = refl
 
 -- each operator in its range, and E4 past it
 abbrev putting : Expression → Script
-putting e = body (register 4 r 5 0 ∷ single 5 Full 0 r (into v) ∷ put 6 e ∷ [])
+putting e = body (register 4 r 5 0 ∷ single (on_line 5) Full 0 r (into v) ∷ put (on_line 6) e ∷ [])
 
 word_computed :
     accept sample_plan (putting (divide (multiply (add (variable v) (number 1)) (group (remainder (variable v) 16))) 4))
@@ -161,50 +161,50 @@ word_computed :
 unfolding go_on required given if_reached
 word_computed = refl
 
-difference_below_0 : accept sample_plan (putting (subtract (variable v) (number 1))) ≡ Err (broken ValueOutOfRange 6 (operation Sub (interval 0 4095) (interval 1 1)))
+difference_below_0 : accept sample_plan (putting (subtract (variable v) (number 1))) ≡ Err (broken ValueOutOfRange (on_line 6) (operation Sub (interval 0 4095) (interval 1 1)))
 unfolding go_on required given if_reached
 difference_below_0 = refl
 
-product_too_great : accept sample_plan (putting (multiply (variable v) (number 1048833))) ≡ Err (broken ValueOutOfRange 6 (operation Mul (interval 0 4095) (interval 1048833 1048833)))
+product_too_great : accept sample_plan (putting (multiply (variable v) (number 1048833))) ≡ Err (broken ValueOutOfRange (on_line 6) (operation Mul (interval 0 4095) (interval 1048833 1048833)))
 unfolding go_on required given if_reached
 product_too_great = refl
 
 -- a register of a range of sub-addresses: widths 12 and, at the probes, 24
 abbrev computed : ℕ → Script
 computed d =
-    script 6 1 registers (register 4 r 5 0 ∷ single 5 Full 0 r (into v) ∷ set_register 6 s (number 1) (number 5) (remainder (variable v) d) ∷
-    single 7 Full 0 s (into v) ∷ put 8 (variable v) ∷ [])
+    script 6 1 registers (register 4 r 5 0 ∷ single (on_line 5) Full 0 r (into v) ∷ set_register (on_line 6) s (number 1) (number 5) (remainder (variable v) d) ∷
+    single (on_line 7) Full 0 s (into v) ∷ put (on_line 8) (variable v) ∷ [])
 
 sub_addresses_to_15 : accept sample_plan (computed 16) ≡ Ok (costs 6 1 5 ∷ [])
 unfolding go_on required given if_reached
 sub_addresses_to_15 = refl
 
-sub_addresses_to_16 : accept sample_plan (computed 17) ≡ Err (broken CommandNotDeclared 7 (NoCommand 0 1 5 16))
+sub_addresses_to_16 : accept sample_plan (computed 17) ≡ Err (broken CommandNotDeclared (on_line 7) (NoCommand 0 1 5 16))
 unfolding go_on required given if_reached
 sub_addresses_to_16 = refl
 
 -- word-too-wide
-word_of_32_bits_set : accept sample_plan (body (assign 4 v (number 4000000000) ∷ put 5 (variable v) ∷ [])) ≡ Err (broken WordTooWide 5 (Word 4000000000))
+word_of_32_bits_set : accept sample_plan (body (assign (on_line 4) v (number 4000000000) ∷ put (on_line 5) (variable v) ∷ [])) ≡ Err (broken WordTooWide (on_line 5) (Word 4000000000))
 unfolding go_on required given if_reached
 word_of_32_bits_set = refl
 
 word_cut :
-    accept sample_plan (body (assign 4 v (number 4000000000) ∷ assign 5 v (remainder (variable v) 16777216) ∷ put 6 (variable v) ∷ []))
+    accept sample_plan (body (assign (on_line 4) v (number 4000000000) ∷ assign (on_line 5) v (remainder (variable v) 16777216) ∷ put (on_line 6) (variable v) ∷ []))
     ≡ Ok (costs 0 1 3 ∷ [])
 unfolding go_on required given if_reached
 word_cut = refl
 
 sum_too_great :
-    accept sample_plan (body (assign 4 v (number 4000000000) ∷ assign 5 v (add (variable v) (variable v)) ∷ []))
-    ≡ Err (broken ValueOutOfRange 5 (operation Add (interval 4000000000 4000000000) (interval 4000000000 4000000000)))
+    accept sample_plan (body (assign (on_line 4) v (number 4000000000) ∷ assign (on_line 5) v (add (variable v) (variable v)) ∷ []))
+    ≡ Err (broken ValueOutOfRange (on_line 5) (operation Add (interval 4000000000 4000000000) (interval 4000000000 4000000000)))
 unfolding go_on required given if_reached
 sum_too_great = refl
 
 -- computed-sub-address
 abbrev computed_at : ℕ → Script
 computed_at d =
-    script 6 0 registers (register 4 r 5 0 ∷ single 5 Full 0 r (into v) ∷ assign 6 v (remainder (variable v) d) ∷
-    set_register 7 s (number 1) (number 5) (variable v) ∷ single 8 Full 0 s (into k) ∷ [])
+    script 6 0 registers (register 4 r 5 0 ∷ single (on_line 5) Full 0 r (into v) ∷ assign (on_line 6) v (remainder (variable v) d) ∷
+    set_register (on_line 7) s (number 1) (number 5) (variable v) ∷ single (on_line 8) Full 0 s (into k) ∷ [])
 
 computed_12 : accept sample_plan (computed_at 12) ≡ Ok (costs 6 0 5 ∷ [])
 unfolding go_on required given if_reached
@@ -214,17 +214,17 @@ computed_16 : accept sample_plan (computed_at 16) ≡ Ok (costs 6 0 5 ∷ [])
 unfolding go_on required given if_reached
 computed_16 = refl
 
-computed_17 : accept sample_plan (computed_at 17) ≡ Err (broken CommandNotDeclared 8 (NoCommand 0 1 5 16))
+computed_17 : accept sample_plan (computed_at 17) ≡ Err (broken CommandNotDeclared (on_line 8) (NoCommand 0 1 5 16))
 unfolding go_on required given if_reached
 computed_17 = refl
 
 -- demand-disabled, initialise-crate
-demand_disabled : accept sample_plan (script 3 0 registers (crate_call 3 DemandOff (number 1) ∷ [])) ≡ Ok (costs 3 0 1 ∷ [])
+demand_disabled : accept sample_plan (script 3 0 registers (crate_call (on_line 3) DemandOff (number 1) ∷ [])) ≡ Ok (costs 3 0 1 ∷ [])
 unfolding go_on required given if_reached
 demand_disabled = refl
 
 initialise_crate :
-    accept sample_plan (body (crate_call 4 Initialise (number 1) ∷ crate_call 5 TestInhibit (number 1) ∷ crate_call 6 TestDemandOutput (number 1) ∷ []))
+    accept sample_plan (body (crate_call (on_line 4) Initialise (number 1) ∷ crate_call (on_line 5) TestInhibit (number 1) ∷ crate_call (on_line 6) TestDemandOutput (number 1) ∷ []))
     ≡ Ok (costs 9 0 3 ∷ [])
 unfolding go_on required given if_reached
 initialise_crate = refl
@@ -232,39 +232,39 @@ initialise_crate = refl
 -- lam-calls
 abbrev calling : Text → ℕ → ℕ → ℕ → Script
 calling name n a l =
-    record (script 12 1 registers (lam_call 4 lam_word.TheVariants.Disable l ∷ lam_call 4 lam_word.TheVariants.Test l ∷
-    lam_call 4 lam_word.TheVariants.Clear l ∷ lam_call 4 lam_word.TheVariants.Enable l ∷ []))
-    { lams = adc_lam ∷ (record { line = 1; name = name; crate_no = 1; station = n; sub_address = a }) ∷ [] }
+    record (script 12 1 registers (lam_call (on_line 4) lam_word.TheVariants.Disable l ∷ lam_call (on_line 4) lam_word.TheVariants.Test l ∷
+    lam_call (on_line 4) lam_word.TheVariants.Clear l ∷ lam_call (on_line 4) lam_word.TheVariants.Enable l ∷ []))
+    { lams = adc_lam ∷ (record { spot = on_line 1; name = name; crate_no = 1; station = n; sub_address = a }) ∷ [] }
 
 lam_calls : accept sample_plan (calling (codes "m") 5 12 0) ≡ Ok (costs 12 0 4 ∷ [])
 unfolding go_on required given if_reached
 lam_calls = refl
 
 -- the second LAM, at a sub-address without these commands, and at no station
-lam_without_commands : accept sample_plan (calling (codes "m") 5 11 1) ≡ Err (broken CommandNotDeclared 4 (NoCommand 24 1 5 11))
+lam_without_commands : accept sample_plan (calling (codes "m") 5 11 1) ≡ Err (broken CommandNotDeclared (on_line 4) (NoCommand 24 1 5 11))
 unfolding go_on required given if_reached
 lam_without_commands = refl
 
-lam_at_no_station : accept sample_plan (calling (codes "m") 7 12 1) ≡ Err (broken StationNotInstalled 4 (NoModule 1 7))
+lam_at_no_station : accept sample_plan (calling (codes "m") 7 12 1) ≡ Err (broken StationNotInstalled (on_line 4) (NoModule 1 7))
 unfolding go_on required given if_reached
 lam_at_no_station = refl
 
 -- crate-not-in-plan
-call_not_in_plan : accept sample_plan (script 12 1 registers (crate_call 4 InhibitOn (number 2) ∷ [])) ≡ Err (broken CrateUnfit 4 (Crate (record { low = 2; high = 2 })))
+call_not_in_plan : accept sample_plan (script 12 1 registers (crate_call (on_line 4) InhibitOn (number 2) ∷ [])) ≡ Err (broken CrateUnfit (on_line 4) (Crate (record { low = 2; high = 2 })))
 unfolding go_on required given if_reached
 call_not_in_plan = refl
 
-call_past_all : accept sample_plan (body (crate_call 4 Clear (number 4000000000) ∷ [])) ≡ Err (broken CrateUnfit 4 (Crate (record { low = 4000000000; high = 4000000000 })))
+call_past_all : accept sample_plan (body (crate_call (on_line 4) Clear (number 4000000000) ∷ [])) ≡ Err (broken CrateUnfit (on_line 4) (Crate (record { low = 4000000000; high = 4000000000 })))
 unfolding go_on required given if_reached
 call_past_all = refl
 
 -- more than one number is no crate, and a value out of range comes first
 call_of_range :
-    accept sample_plan (body (register 4 r 5 0 ∷ single 5 Full 0 r (into v) ∷ crate_call 6 TestDemand (add (remainder (variable v) 2) (number 1)) ∷ []))
-    ≡ Err (broken CrateUnfit 6 (Crate (record { low = 1; high = 2 })))
+    accept sample_plan (body (register 4 r 5 0 ∷ single (on_line 5) Full 0 r (into v) ∷ crate_call (on_line 6) TestDemand (add (remainder (variable v) 2) (number 1)) ∷ []))
+    ≡ Err (broken CrateUnfit (on_line 6) (Crate (record { low = 1; high = 2 })))
 unfolding go_on required given if_reached
 call_of_range = refl
 
-call_below_0 : accept sample_plan (body (crate_call 4 DemandOn (subtract (number 1) (number 2)) ∷ [])) ≡ Err (broken ValueOutOfRange 4 (operation Sub (interval 1 1) (interval 2 2)))
+call_below_0 : accept sample_plan (body (crate_call (on_line 4) DemandOn (subtract (number 1) (number 2)) ∷ [])) ≡ Err (broken ValueOutOfRange (on_line 4) (operation Sub (interval 1 1) (interval 2 2)))
 unfolding go_on required given if_reached
 call_below_0 = refl

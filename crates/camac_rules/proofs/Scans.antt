@@ -30,6 +30,7 @@ use Rattle.camac_rules.proofs.Sound.{SoundFor}
 use Rattle.camac_rules.proofs.Actions.{Setting, of, HasWidths, seen, with_given, with_test, value_of, address_of, reads}
 use Rattle.camac_rules.proofs.Driven.{IsBounded, transfer_sound}
 use Rattle.camac_rules.proofs.Windows.{InWindow, allowed_there}
+use Rattle.camac_lang.specs.declared.spot.Spot.{Spot}
 
 -- where a scan has come to after these replies: each takes it on by an address, each Q=0 by a station
 record HasCome (first : Address) (m : ℕ) (qs : List Bool) (at : Address) : Type 0 where
@@ -180,16 +181,16 @@ module _ (plan : Layout) (narrow : HasWidths plan) (around : Place) (f r1 r2 x m
           record { most = omega arith; small = omega arith; words = omega arith };
     }
 
-pub scan_sound : (c : Setting) → HasWidths c.plan → (around : Place) (line f r1 r2 : ℕ) (e : Expression) (x : ℕ) (k : Facts) → Allows (scan_rule (seen c) (around_of around) line f r1 r2 e x k) (SoundFor c.plan around (Some k) (λ n s. effect (of c) n (address_scan line f r1 r2 e x) (stepped s)))
-scan_sound c narrow around line f r1 r2 e x k =
-    then_allowed (range_each line e k.ranges) (λ most gives.
-    required_allowed _ line _ (λ may.
-    then_allowed (given_allowed (region_at k.registers r1) _ line _) (λ g set1.
-    then_allowed (given_allowed (region_at k.registers r2) _ line _) (λ h set2.
-    required_allowed _ line _ (λ one.
-    required_allowed _ line _ (λ installed.
-    required_allowed _ line _ (λ declared.
-    required_allowed _ line _ (λ class. allows (record {
+pub scan_sound : (c : Setting) → HasWidths c.plan → (around : Place) (spot : Spot) (f r1 r2 : ℕ) (e : Expression) (x : ℕ) (k : Facts) → Allows (scan_rule (seen c) (around_of around) spot f r1 r2 e x k) (SoundFor c.plan around (Some k) (λ n s. effect (of c) n (address_scan spot f r1 r2 e x) (stepped s)))
+scan_sound c narrow around spot f r1 r2 e x k =
+    then_allowed (range_each spot e k.ranges) (λ most gives.
+    required_allowed _ spot _ (λ may.
+    then_allowed (given_allowed (region_at k.registers r1) _ spot _) (λ g set1.
+    then_allowed (given_allowed (region_at k.registers r2) _ spot _) (λ h set2.
+    required_allowed _ spot _ (λ one.
+    required_allowed _ spot _ (λ installed.
+    required_allowed _ spot _ (λ declared.
+    required_allowed _ spot _ (λ class. allows (record {
       each = λ n le s i.
           let p = and_parts (has_sub_addresses g) (has_sub_addresses h && is_declared c.plan f (window_of g h)) declared in
           let q = and_parts (has_sub_addresses h) (is_declared c.plan f (window_of g h)) p.1 in

@@ -71,9 +71,9 @@ pub record IsAccepted (plan : Layout) (script : Script) (v : Service) (k : Bound
 service_accepted : (plan : Layout) (script : Script) → HasWidths plan → (done : List Procedure) → Serves (setting plan script (context plan script).routines done) → (v : Service) → Allows (accept_service (seen (setting plan script (context plan script).routines done)) v) (IsAccepted plan script v)
 service_accepted plan script narrow done serves v =
     after_any (count_block (body.Service v.lam) v.body 0) (λ judged. then_allowed (block_sound (setting plan script (context plan script).routines done) narrow serves (outermost (body.Service v.lam)) v.body (λ e c. refl) at_start) (λ found h.
-    required_allowed _ v.line _ (λ words.
-    required_allowed _ v.line _ (λ cycles.
-    required_allowed _ v.line _ (λ steps. allowed (record {
+    required_allowed _ v.spot _ (λ words.
+    required_allowed _ v.spot _ (λ cycles.
+    required_allowed _ v.spot _ (λ steps. allowed (record {
       fine = λ n le b answers. sound_fine plan (outermost (body.Service v.lam)) found.after found.costs b answers (block_meaning (context plan script) n v.body (fresh b answers)) (h.each n le (fresh b answers) (start_inside (body.Service v.lam) b answers));
       costs = record { cycles = leb-true found.costs.cycles v.cycles cycles; words = leb-true found.costs.words v.words words; steps = leb-true found.costs.steps greatest steps };
     }))))))
@@ -89,7 +89,7 @@ abbrev pub services_in : List Item → ℕ
 services_in [] = 0
 services_in (next_table ∷ rest) = services_in rest
 services_in (next_lam ∷ rest) = services_in rest
-services_in (next_variables line n ∷ rest) = services_in rest
+services_in (next_variables spot n ∷ rest) = services_in rest
 services_in (next_procedure ∷ rest) = services_in rest
 services_in (next_service ∷ rest) = services_in rest + 1
 
@@ -98,7 +98,7 @@ abbrev pub procedures_in : List Item → ℕ
 procedures_in [] = 0
 procedures_in (next_table ∷ rest) = procedures_in rest
 procedures_in (next_lam ∷ rest) = procedures_in rest
-procedures_in (next_variables line n ∷ rest) = procedures_in rest
+procedures_in (next_variables spot n ∷ rest) = procedures_in rest
 procedures_in (next_procedure ∷ rest) = procedures_in rest + 1
 procedures_in (next_service ∷ rest) = procedures_in rest
 
@@ -128,7 +128,7 @@ module _ (plan : Layout) (script : Script) (narrow : HasWidths plan) where
   items_accepted [] rs done ps vs m e free = allowed (record { accepted = tt; count = omega arith; procedures = record { all = λ n. none_left plan script rs done ps m e n } })
   items_accepted (next_table ∷ rest) rs done ps vs m e free = items_accepted rest rs done ps vs m e free
   items_accepted (next_lam ∷ rest) rs done ps vs m e free = items_accepted rest rs done ps vs m e free
-  items_accepted (next_variables line n ∷ rest) rs done ps vs m e free = items_accepted rest rs done ps vs m e free
+  items_accepted (next_variables spot n ∷ rest) rs done ps vs m e free = items_accepted rest rs done ps vs m e free
   items_accepted (next_procedure ∷ rest) rs done [] vs m e free =
       allowed_more (items_accepted rest rs done [] vs m e free) (λ ks h.
       record { accepted = h.accepted; count = h.count; procedures = record { all = λ n. absurd (omega arith) } })

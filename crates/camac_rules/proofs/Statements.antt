@@ -32,11 +32,12 @@ use Rattle.camac_rules.proofs.Scans.{scan_sound}
 use Rattle.camac_rules.proofs.Lockless.{has_lock, block_has_lock}
 use Rattle.camac_rules.proofs.Routines.{Serves, call_sound}
 use Rattle.std.specs.Prelude.{◌||◌}
+use Rattle.camac_lang.specs.declared.spot.Spot.{Spot}
 
-assign_sound : (c : Setting) (around : Place) (line x : ℕ) (e : Expression) (k : Facts) → Allows (assign_rule (around_of around) line x e k) (SoundFor c.plan around (Some k) (λ n s. effect (of c) n (assign line x e) (stepped s)))
-assign_sound c around line x e k =
-    then_allowed (range_each line e k.ranges) (λ r gives.
-    required_allowed _ line _ (λ may. allows (record {
+assign_sound : (c : Setting) (around : Place) (spot : Spot) (x : ℕ) (e : Expression) (k : Facts) → Allows (assign_rule (around_of around) spot x e k) (SoundFor c.plan around (Some k) (λ n s. effect (of c) n (assign spot x e) (stepped s)))
+assign_sound c around spot x e k =
+    then_allowed (range_each spot e k.ranges) (λ r gives.
+    required_allowed _ spot _ (λ may. allows (record {
       each = λ n le s i.
           let v = value_of (value e s.variables) r (gives s.variables i.variables) in
           with_given c.plan around (Some (with_range x r k)) (costs 0 0 1) s (stepped s) (value e s.variables) (λ m t. ends (with_variable x m t)) v.number v.is
@@ -47,10 +48,10 @@ assign_sound c around line x e k =
           });
     })))
 
-put_sound : (c : Setting) (around : Place) (line : ℕ) (e : Expression) (k : Facts) → Allows (put_rule line e k) (SoundFor c.plan around (Some k) (λ n s. effect (of c) n (put line e) (stepped s)))
-put_sound c around line e k =
-    then_allowed (range_each line e k.ranges) (λ r gives.
-    required_allowed _ line _ (λ small. allows (record {
+put_sound : (c : Setting) (around : Place) (spot : Spot) (e : Expression) (k : Facts) → Allows (put_rule spot e k) (SoundFor c.plan around (Some k) (λ n s. effect (of c) n (put spot e) (stepped s)))
+put_sound c around spot e k =
+    then_allowed (range_each spot e k.ranges) (λ r gives.
+    required_allowed _ spot _ (λ small. allows (record {
       each = λ n le s i.
           let v = value_of (value e s.variables) r (gives s.variables i.variables) in
           let most : r.hi ≤ greatest_word = leb-true r.hi greatest_word small in
@@ -64,11 +65,11 @@ put_sound c around line e k =
           });
     })))
 
-register_set_sound : (c : Setting) (around : Place) (line r : ℕ) (e1 e2 e3 : Expression) (k : Facts) → Allows (register_rule line r e1 e2 e3 k) (SoundFor c.plan around (Some k) (λ n s. effect (of c) n (set_register line r e1 e2 e3) (stepped s)))
-register_set_sound c around line r e1 e2 e3 k =
-    then_allowed (range_each line e1 k.ranges) (λ cs gives_c.
-    then_allowed (range_each line e2 k.ranges) (λ ns gives_n.
-    then_allowed (range_each line e3 k.ranges) (λ subs gives_a. allows (record {
+register_set_sound : (c : Setting) (around : Place) (spot : Spot) (r : ℕ) (e1 e2 e3 : Expression) (k : Facts) → Allows (register_rule spot r e1 e2 e3 k) (SoundFor c.plan around (Some k) (λ n s. effect (of c) n (set_register spot r e1 e2 e3) (stepped s)))
+register_set_sound c around spot r e1 e2 e3 k =
+    then_allowed (range_each spot e1 k.ranges) (λ cs gives_c.
+    then_allowed (range_each spot e2 k.ranges) (λ ns gives_n.
+    then_allowed (range_each spot e3 k.ranges) (λ subs gives_a. allows (record {
       each = λ n le s i.
           let after : Known = Some (with_region r (region cs ns subs) k) in
           let x = value_of (value e1 s.variables) cs (gives_c s.variables i.variables) in
@@ -115,19 +116,19 @@ may_second a b around m e = m (or_right a b e)
 
 mutual
   pub statement_sound : (c : Setting) → HasWidths c.plan → Serves c → (around : Place) (st : Statement) → MayLock around (has_lock st) → (k : Facts) → Allows (accept_statement (seen c) (around_of around) st k) (SoundFor c.plan around (Some k) (λ n s. effect (of c) n st (stepped s)))
-  statement_sound c narrow serves around (assign line x e) may k = assign_sound c around line x e k
-  statement_sound c narrow serves around (set_register line r e1 e2 e3) may k = register_set_sound c around line r e1 e2 e3 k
-  statement_sound c narrow serves around (single line size f r m) may k = single_sound c narrow around line size f r m k
-  statement_sound c narrow serves around (choose line test a) may k =
-      then_allowed (split_each around line test k) (λ arms d.
+  statement_sound c narrow serves around (assign spot x e) may k = assign_sound c around spot x e k
+  statement_sound c narrow serves around (set_register spot r e1 e2 e3) may k = register_set_sound c around spot r e1 e2 e3 k
+  statement_sound c narrow serves around (single spot size f r m) may k = single_sound c narrow around spot size f r m k
+  statement_sound c narrow serves around (choose spot test a) may k =
+      then_allowed (split_each around spot test k) (λ arms d.
       then_allowed (reached_sound c around a arms.holds (λ q. block_sound c narrow serves around a may q)) (λ first h. allows (record {
         each = λ n le s i.
             choice_sound c.plan around arms first (verdict arms.fails no_costs) s (truth test s.variables s.q s.x) (block_meaning (of c) n a) ends (d s i)
             (λ t j. h.each n le t j)
             (λ t j. record { reaches = j; paid = paid_nothing t; untouched = λ y among. refl });
       })))
-  statement_sound c narrow serves around (choose_else line test a b) may k =
-      then_allowed (split_each around line test k) (λ arms d.
+  statement_sound c narrow serves around (choose_else spot test a b) may k =
+      then_allowed (split_each around spot test k) (λ arms d.
       then_allowed (reached_sound c around a arms.holds (λ q. block_sound c narrow serves around a (may_first (block_has_lock a) (block_has_lock b) around may) q)) (λ first h.
       then_allowed (reached_sound c around b arms.fails (λ q. block_sound c narrow serves around b (may_second (block_has_lock a) (block_has_lock b) around may) q)) (λ second g. allows (record {
         each = λ n le s i.
@@ -135,27 +136,27 @@ mutual
             (λ t j. h.each n le t j)
             (λ t j. g.each n le t j);
       }))))
-  statement_sound c narrow serves around (locked line e body) may k =
-      then_allowed (lock_allowed c around line e k) (λ crate_no can.
-      then_allowed (block_sound c narrow serves (holding crate_no around) body (λ e. may refl) k) (λ inner h. allows (lock_sound c around line e body k crate_no inner (may refl) can h)))
-  statement_sound c narrow serves around (put line e) may k = put_sound c around line e k
-  statement_sound c narrow serves around (crate_call line which e) may k = crate_sound c around line which e k
-  statement_sound c narrow serves around (lam_call line which l) may k = lam_sound c around line which l k
-  statement_sound c narrow serves around (address_scan line f r1 r2 max x) may k = scan_sound c narrow around line f r1 r2 max x k
-  statement_sound c narrow serves around (q_stop line f r t max x) may k = q_stop_sound c narrow around line f r t max x k
-  statement_sound c narrow serves around (q_repeat line f r t max limit x) may k = q_repeat_sound c narrow around line f r t max limit x k
-  statement_sound c narrow serves around (for_ line x e1 e2 keeps body) may k =
-      then_allowed (limits_allowed around line x e1 e2 keeps k) (λ l m.
+  statement_sound c narrow serves around (locked spot e body) may k =
+      then_allowed (lock_allowed c around spot e k) (λ crate_no can.
+      then_allowed (block_sound c narrow serves (holding crate_no around) body (λ e. may refl) k) (λ inner h. allows (lock_sound c around spot e body k crate_no inner (may refl) can h)))
+  statement_sound c narrow serves around (put spot e) may k = put_sound c around spot e k
+  statement_sound c narrow serves around (crate_call spot which e) may k = crate_sound c around spot which e k
+  statement_sound c narrow serves around (lam_call spot which l) may k = lam_sound c around spot which l k
+  statement_sound c narrow serves around (address_scan spot f r1 r2 max x) may k = scan_sound c narrow around spot f r1 r2 max x k
+  statement_sound c narrow serves around (q_stop spot f r t max x) may k = q_stop_sound c narrow around spot f r t max x k
+  statement_sound c narrow serves around (q_repeat spot f r t max limit x) may k = q_repeat_sound c narrow around spot f r t max limit x k
+  statement_sound c narrow serves around (for_ spot x e1 e2 keeps body) may k =
+      then_allowed (limits_allowed around spot x e1 e2 keeps k) (λ l m.
       then_allowed (reached_sound c (fixing x around) body (for_head x l keeps body k) (λ q. block_sound c narrow serves (fixing x around) body may q)) (λ turn h.
-      required_allowed _ line _ (λ keep. allows (for_sound c around line x e1 e2 keeps body k l turn m keep h))))
-  statement_sound c narrow serves around (for_each line x v last body) may k =
-      each_sound c around line x v last body (accept_block (seen c) (around_of (fixing x around)) body) (λ q. block_sound c narrow serves (fixing x around) body may q) k
-  statement_sound c narrow serves around (while_ line test most m keeps body) may k =
-      then_allowed (head_allowed around.body line most m keeps body k) (λ top begins.
-      then_allowed (split_each around line test top) (λ arms d.
+      required_allowed _ spot _ (λ keep. allows (for_sound c around spot x e1 e2 keeps body k l turn m keep h))))
+  statement_sound c narrow serves around (for_each spot x v last body) may k =
+      each_sound c around spot x v last body (accept_block (seen c) (around_of (fixing x around)) body) (λ q. block_sound c narrow serves (fixing x around) body may q) k
+  statement_sound c narrow serves around (while_ spot test most m keeps body) may k =
+      then_allowed (head_allowed around.body spot most m keeps body k) (λ top begins.
+      then_allowed (split_each around spot test top) (λ arms d.
       then_allowed (reached_sound c around body arms.holds (λ q. block_sound c narrow serves around body may q)) (λ turn h.
-      required_allowed _ line _ (λ keep. allows (while_sound c around line test most m keeps body k top arms turn begins d h keep)))))
-  statement_sound c narrow serves around (call line p es) may k = call_sound c serves around line p es k
+      required_allowed _ spot _ (λ keep. allows (while_sound c around spot test most m keeps body k top arms turn begins d h keep)))))
+  statement_sound c narrow serves around (call spot p es) may k = call_sound c serves around spot p es k
 
   -- a block, from what is known at its beginning, if that can be reached
   pub block_sound : (c : Setting) → HasWidths c.plan → Serves c → (around : Place) (b : Block) → MayLock around (block_has_lock b) → (k : Facts) → Allows (accept_block (seen c) (around_of around) b k) (SoundFor c.plan around (Some k) (λ n. block_meaning (of c) n b))

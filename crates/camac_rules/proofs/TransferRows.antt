@@ -2,7 +2,7 @@
 use Rattle.std.proofs.Common.{◌≡◌, ℕ, List, [], ◌∷◌, Option, Some, None, Result, Ok, Err, refl}
 use Rattle.camac_range.specs.Interval.{interval, only}
 use Rattle.camac_range.specs.declared.comparison.Cmp.TheVariants.{More}
-use Rattle.camac_lang.specs.Tree.{Expression, number, variable, subtract, plain, compare, assign, address_scan, q_stop, for_, while_, Script}
+use Rattle.camac_lang.specs.Tree.{Expression, number, variable, subtract, plain, compare, assign, address_scan, q_stop, for_, while_, Script, on_line}
 use Rattle.camac_lang.specs.View.{block_of}
 use Rattle.std.specs.Prelude.{codes}
 use Rattle.camac_model.specs.Fine.{Bounds}
@@ -34,7 +34,7 @@ at c n a = Some (region (only c) (only n) (only a))
 
 -- a read of function 0 from one address to another, with its tally in variable 0
 abbrev scan_from : Option Region → Option Region → ℕ → Result Verdict Fault
-scan_from g h most = scan_rule checking (alone_in (body.Service 0)) 6 0 0 1 (number most) 0 (facts [] (g ∷ h ∷ []))
+scan_from g h most = scan_rule checking (alone_in (body.Service 0)) (on_line 6) 0 0 1 (number most) 0 (facts [] (g ∷ h ∷ []))
 
 abbrev scan : ℕ → ℕ → ℕ → ℕ → ℕ → Result Verdict Fault
 scan n1 a1 n2 a2 most = scan_from (at 1 n1 a1) (at 1 n2 a2) most
@@ -50,7 +50,7 @@ scan_through_probes : scan 5 0 5 15 16 ≡ scanned 5 0 5 15 16 (costs 48 16 17)
 unfolding go_on required given
 scan_through_probes = refl
 
-scan_past_declared : scan 5 0 6 15 16 ≡ Err (broken CommandNotDeclared 6 (NoCommand 0 1 6 1))
+scan_past_declared : scan 5 0 6 15 16 ≡ Err (broken CommandNotDeclared (on_line 6) (NoCommand 0 1 6 1))
 unfolding go_on required given
 scan_past_declared = refl
 
@@ -71,20 +71,20 @@ scan_nowhere : scan 40 3 40 1 4 ≡ scanned 40 3 40 1 0 (costs 0 0 1)
 unfolding go_on required given
 scan_nowhere = refl
 
-scan_past_16 : scan 7 20 7 25 4 ≡ Err (broken CommandNotDeclared 6 (NoCommand 0 1 7 20))
+scan_past_16 : scan 7 20 7 25 4 ≡ Err (broken CommandNotDeclared (on_line 6) (NoCommand 0 1 7 20))
 unfolding go_on required given
 scan_past_16 = refl
 
-scan_past_stations : scan 6 0 4000000000 0 4 ≡ Err (broken StationNotInstalled 6 (NoModule 1 7))
+scan_past_stations : scan 6 0 4000000000 0 4 ≡ Err (broken StationNotInstalled (on_line 6) (NoModule 1 7))
 unfolding go_on required given
 scan_past_stations = refl
 
 -- a station that is not installed comes before commands that are not declared
-scan_past_installed : scan 6 0 7 0 4 ≡ Err (broken StationNotInstalled 6 (NoModule 1 7))
+scan_past_installed : scan 6 0 7 0 4 ≡ Err (broken StationNotInstalled (on_line 6) (NoModule 1 7))
 unfolding go_on required given if_reached
 scan_past_installed = refl
 
-scan_of_controller_outside : scan_from (at 2 28 0) (at 2 28 0) 4 ≡ Err (broken StationNotInstalled 6 (NoCrate 2))
+scan_of_controller_outside : scan_from (at 2 28 0) (at 2 28 0) 4 ≡ Err (broken StationNotInstalled (on_line 6) (NoCrate 2))
 unfolding go_on required given
 scan_of_controller_outside = refl
 
@@ -92,21 +92,21 @@ scan_for_nothing : scan 5 0 5 15 0 ≡ scanned 5 0 5 15 0 (costs 0 0 1)
 unfolding go_on required given
 scan_for_nothing = refl
 
-scan_two_crates : scan_from (at 1 5 0) (at 2 5 0) 4 ≡ Err (broken ScanCratesDiffer 6 (Crates (record { low = 1; high = 1 }) (record { low = 2; high = 2 })))
+scan_two_crates : scan_from (at 1 5 0) (at 2 5 0) 4 ≡ Err (broken ScanCratesDiffer (on_line 6) (Crates (record { low = 1; high = 1 }) (record { low = 2; high = 2 })))
 unfolding go_on required given
 scan_two_crates = refl
 
-scan_final_unset : scan_from (at 1 5 0) None 4 ≡ Err (broken RegisterUnset 6 (Unset (body.Service 0) 1))
+scan_final_unset : scan_from (at 1 5 0) None 4 ≡ Err (broken RegisterUnset (on_line 6) (Unset (body.Service 0) 1))
 unfolding go_on required given
 scan_final_unset = refl
 
 -- block transfers at station n; their tally in variable 0
 abbrev stop : ℕ → ℕ → Option ℕ → ℕ → Result Verdict Fault
-stop f n table most = q_stop_rule checking (alone_in (body.Service 0)) 5 f 0 table (number most) 0 (facts [] (at 1 n 0 ∷ []))
+stop f n table most = q_stop_rule checking (alone_in (body.Service 0)) (on_line 5) f 0 table (number most) 0 (facts [] (at 1 n 0 ∷ []))
 
 abbrev q_repeating : ℕ → ℕ → Option ℕ → ℕ → ℕ → Result Verdict Fault
 q_repeating f n table most limit =
-    q_repeat_rule checking (alone_in (body.Service 0)) 5 f 0 table (number most) (number limit) 0 (facts [] (at 1 n 0 ∷ []))
+    q_repeat_rule checking (alone_in (body.Service 0)) (on_line 5) f 0 table (number most) (number limit) 0 (facts [] (at 1 n 0 ∷ []))
 
 abbrev moved : ℕ → ℕ → Bounds → Result Verdict Fault
 moved n tally c = Ok (verdict (Some (facts (interval 0 tally ∷ []) (at 1 n 0 ∷ []))) c)
@@ -119,24 +119,24 @@ table_write : stop 16 6 (Some 0) 3 ≡ moved 6 3 (costs 9 0 4)
 unfolding go_on required given
 table_write = refl
 
-table_too_short : stop 16 6 (Some 0) 4 ≡ Err (broken CountAboveTable 5 (Count 4 3))
+table_too_short : stop 16 6 (Some 0) 4 ≡ Err (broken CountAboveTable (on_line 5) (Count 4 3))
 unfolding go_on required given
 table_too_short = refl
 
 -- every word of a table is looked at, also of one of which nothing is sent
-table_too_wide : stop 16 6 (Some 1) 0 ≡ Err (broken ValueTooWide 5 (Width 256 8))
+table_too_wide : stop 16 6 (Some 1) 0 ≡ Err (broken ValueTooWide (on_line 5) (Width 256 8))
 unfolding go_on required given
 table_too_wide = refl
 
-no_such_table : stop 16 6 (Some 2) 0 ≡ Err (broken CountAboveTable 5 (Count 0 0))
+no_such_table : stop 16 6 (Some 2) 0 ≡ Err (broken CountAboveTable (on_line 5) (Count 0 0))
 unfolding go_on required given
 no_such_table = refl
 
-write_code_read : stop 16 6 None 1 ≡ Err (broken WrongDirection 5 (Direction 16 Write Read))
+write_code_read : stop 16 6 None 1 ≡ Err (broken WrongDirection (on_line 5) (Direction 16 Write Read))
 unfolding go_on required given
 write_code_read = refl
 
-read_code_written : stop 0 6 (Some 0) 1 ≡ Err (broken WrongDirection 5 (Direction 0 Read Write))
+read_code_written : stop 0 6 (Some 0) 1 ≡ Err (broken WrongDirection (on_line 5) (Direction 0 Read Write))
 unfolding go_on required given
 read_code_written = refl
 
@@ -155,49 +155,49 @@ q_repeat_not = refl
 -- scan-by-count as a script, one below its heading, and the tally after it
 abbrev scanning : ℕ → ℕ → ℕ → Expression → Script
 scanning cycles words most after =
-    script cycles words with_r_s (register r 5 0 ∷ register s 5 15 ∷ address_scan 6 0 r s (number most) t ∷ assign 7 t after ∷ [])
+    script cycles words with_r_s (register r 5 0 ∷ register s 5 15 ∷ address_scan (on_line 6) 0 r s (number most) t ∷ assign (on_line 7) t after ∷ [])
 
 scanned_script : accept sample_plan (scanning 39 12 12 (subtract (number 12) (variable t))) ≡ Ok (costs 39 12 17 ∷ [])
 unfolding go_on required given if_reached
 scanned_script = refl
 
-scanned_cycles : accept sample_plan (scanning 38 12 12 (number 0)) ≡ Err (broken TooManyCycles 3 (Budget (body.Service 0) 39 38))
+scanned_cycles : accept sample_plan (scanning 38 12 12 (number 0)) ≡ Err (broken TooManyCycles (on_line 3) (Budget (body.Service 0) 39 38))
 unfolding go_on required given if_reached
 scanned_cycles = refl
 
-scanned_words : accept sample_plan (scanning 39 11 12 (number 0)) ≡ Err (broken TooManyWords 3 (Budget (body.Service 0) 12 11))
+scanned_words : accept sample_plan (scanning 39 11 12 (number 0)) ≡ Err (broken TooManyWords (on_line 3) (Budget (body.Service 0) 12 11))
 unfolding go_on required given if_reached
 scanned_words = refl
 
-tally_not_below : accept sample_plan (scanning 39 12 12 (subtract (number 11) (variable t))) ≡ Err (broken ValueOutOfRange 7 (operation Sub (interval 11 11) (interval 0 12)))
+tally_not_below : accept sample_plan (scanning 39 12 12 (subtract (number 11) (variable t))) ≡ Err (broken ValueOutOfRange (on_line 7) (operation Sub (interval 11 11) (interval 0 12)))
 unfolding go_on required given if_reached
 tally_not_below = refl
 
 -- a tally is no measure, and can't be the variable of a `for` around
 poll_tally :
-    accept sample_plan (script 100 100 with_r (register r 6 0 ∷ assign 5 k (number 10) ∷
-    while_ 6 (plain (compare (variable k) More (number 0)) ∷ []) 10 k []
-    (block_of (assign 6 k (subtract (variable k) (number 1)) ∷ q_stop 6 0 r None (number 1) k ∷ [])) ∷ []))
-    ≡ Err (broken MeasureBroken 6 (Measure (body.Service 0) 1))
+    accept sample_plan (script 100 100 with_r (register r 6 0 ∷ assign (on_line 5) k (number 10) ∷
+    while_ (on_line 6) (plain (compare (variable k) More (number 0)) ∷ []) 10 k []
+    (block_of (assign (on_line 6) k (subtract (variable k) (number 1)) ∷ q_stop (on_line 6) 0 r None (number 1) k ∷ [])) ∷ []))
+    ≡ Err (broken MeasureBroken (on_line 6) (Measure (body.Service 0) 1))
 unfolding go_on required given if_reached
 poll_tally = refl
 
 for_tally :
-    accept sample_plan (script 100 100 with_r (register r 5 0 ∷ for_ 4 i (number 1) (number 2) [] (block_of (q_stop 5 0 r None (number 1) i ∷ [])) ∷ []))
-    ≡ Err (broken LoopVariableAssigned 5 (Counted (body.Service 0) 2))
+    accept sample_plan (script 100 100 with_r (register r 5 0 ∷ for_ (on_line 4) i (number 1) (number 2) [] (block_of (q_stop (on_line 5) 0 r None (number 1) i ∷ [])) ∷ []))
+    ≡ Err (broken LoopVariableAssigned (on_line 5) (Counted (body.Service 0) 2))
 unfolding go_on required given if_reached
 for_tally = refl
 
 -- table-write as a script
 abbrev writing : ℕ → Script
 writing most =
-    script_of opening (record { line = 2; name = codes "g"; words = 1 ∷ 2 ∷ 3 ∷ [] } ∷ []) [] 100 0 with_r
-    (register r 6 0 ∷ q_stop 5 16 r (Some 0) (number most) t ∷ [])
+    script_of opening (record { spot = on_line 2; name = codes "g"; words = 1 ∷ 2 ∷ 3 ∷ [] } ∷ []) [] 100 0 with_r
+    (register r 6 0 ∷ q_stop (on_line 5) 16 r (Some 0) (number most) t ∷ [])
 
 table_script : accept sample_plan (writing 3) ≡ Ok (costs 9 0 5 ∷ [])
 unfolding go_on required given if_reached
 table_script = refl
 
-table_script_short : accept sample_plan (writing 4) ≡ Err (broken CountAboveTable 5 (Count 4 3))
+table_script_short : accept sample_plan (writing 4) ≡ Err (broken CountAboveTable (on_line 5) (Count 4 3))
 unfolding go_on required given if_reached
 table_script_short = refl

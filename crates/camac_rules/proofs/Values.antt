@@ -13,6 +13,7 @@ use Rattle.camac_model.specs.Value.{both, value}
 use Rattle.camac_rules.specs.Expressions.{range_of}
 use Rattle.camac_rules.proofs.Allows.{Allows, allowed, then_allowed, required_allowed, given_then, for_each}
 use Rattle.camac_rules.proofs.Stores.{VariablesInside}
+use Rattle.camac_lang.specs.declared.spot.Spot.{Spot}
 
 -- an expression has a value, in the range
 pub record Fits (r : Interval) (v : ℕ) : Type 0 where
@@ -110,24 +111,24 @@ remainder_gives d (Some x) r i g e =
 pub only_within : (n : ℕ) → IsWithin (only n) n
 only_within n = record { low = omega arith; high = omega arith }
 
-pub range_holds : (line : ℕ) (e : Expression) (rs : List Interval) (env : Variables) → VariablesInside rs env → Allows (range_of line e rs) (Gives (value e env))
-range_holds line (number n) rs env h = required_allowed _ line _ (λ e. allowed (small_gives n (only n) (only_within n) (leb-true n greatest e)))
-range_holds line (variable x) rs env h = allowed (small_gives (env x) _ (h.each x) (h.small x))
-range_holds line (group e) rs env h = range_holds line e rs env h
-range_holds line (add a b) rs env h =
-    then_allowed (range_holds line a rs env h) (λ r ga. then_allowed (range_holds line b rs env h)
-    (λ s gb. given_then (range.add r s) _ line _ (λ i e. add_gives (value a env) (value b env) r s i ga gb e)))
-range_holds line (subtract a b) rs env h =
-    then_allowed (range_holds line a rs env h) (λ r ga. then_allowed (range_holds line b rs env h)
-    (λ s gb. given_then (range.sub r s) _ line _ (λ i e. subtract_gives (value a env) (value b env) r s i ga gb e)))
-range_holds line (multiply a b) rs env h =
-    then_allowed (range_holds line a rs env h) (λ r ga. then_allowed (range_holds line b rs env h)
-    (λ s gb. given_then (range.mul r s) _ line _ (λ i e. multiply_gives (value a env) (value b env) r s i ga gb e)))
-range_holds line (divide a d) rs env h =
-    then_allowed (range_holds line a rs env h) (λ r ga. given_then (range.div r d) _ line _ (λ i e. divide_gives d (value a env) r i ga e))
-range_holds line (remainder a d) rs env h =
-    then_allowed (range_holds line a rs env h) (λ r ga. given_then (range.rem r d) _ line _ (λ i e. remainder_gives d (value a env) r i ga e))
+pub range_holds : (spot : Spot) (e : Expression) (rs : List Interval) (env : Variables) → VariablesInside rs env → Allows (range_of spot e rs) (Gives (value e env))
+range_holds spot (number n) rs env h = required_allowed _ spot _ (λ e. allowed (small_gives n (only n) (only_within n) (leb-true n greatest e)))
+range_holds spot (variable x) rs env h = allowed (small_gives (env x) _ (h.each x) (h.small x))
+range_holds spot (group e) rs env h = range_holds spot e rs env h
+range_holds spot (add a b) rs env h =
+    then_allowed (range_holds spot a rs env h) (λ r ga. then_allowed (range_holds spot b rs env h)
+    (λ s gb. given_then (range.add r s) _ spot _ (λ i e. add_gives (value a env) (value b env) r s i ga gb e)))
+range_holds spot (subtract a b) rs env h =
+    then_allowed (range_holds spot a rs env h) (λ r ga. then_allowed (range_holds spot b rs env h)
+    (λ s gb. given_then (range.sub r s) _ spot _ (λ i e. subtract_gives (value a env) (value b env) r s i ga gb e)))
+range_holds spot (multiply a b) rs env h =
+    then_allowed (range_holds spot a rs env h) (λ r ga. then_allowed (range_holds spot b rs env h)
+    (λ s gb. given_then (range.mul r s) _ spot _ (λ i e. multiply_gives (value a env) (value b env) r s i ga gb e)))
+range_holds spot (divide a d) rs env h =
+    then_allowed (range_holds spot a rs env h) (λ r ga. given_then (range.div r d) _ spot _ (λ i e. divide_gives d (value a env) r i ga e))
+range_holds spot (remainder a d) rs env h =
+    then_allowed (range_holds spot a rs env h) (λ r ga. given_then (range.rem r d) _ spot _ (λ i e. remainder_gives d (value a env) r i ga e))
 
 -- for every state inside the ranges
-pub range_each : (line : ℕ) (e : Expression) (rs : List Interval) → Allows (range_of line e rs) (λ r. (env : Variables) → VariablesInside rs env → Gives (value e env) r)
-range_each line e rs = for_each (VariablesInside rs) (λ env r. Gives (value e env) r) (λ env h. range_holds line e rs env h)
+pub range_each : (spot : Spot) (e : Expression) (rs : List Interval) → Allows (range_of spot e rs) (λ r. (env : Variables) → VariablesInside rs env → Gives (value e env) r)
+range_each spot e rs = for_each (VariablesInside rs) (λ env r. Gives (value e env) r) (λ env h. range_holds spot e rs env h)

@@ -30,6 +30,7 @@ use Rattle.camac_rules.proofs.Frame.{block_sets, Same, Leaves, block_leaves}
 use Rattle.camac_rules.proofs.Heads.{in_keeps, in_keeps_after, reaches_small}
 use Rattle.camac_rules.proofs.Falls.{Fell, Falls, fall_positive, block_falls}
 use Rattle.camac_rules.proofs.Turns.{meets_both, Between, inside_head, paid_begun, paid_turns, paid_turn, stopped_turn, limit_is_most}
+use Rattle.camac_lang.specs.declared.spot.Spot.{Spot}
 
 -- by what a `while` may begin
 pub record MayTurn (most m : ℕ) (qs : List Keep) (body : Block) (k top : Facts) : Type 0 where
@@ -40,12 +41,12 @@ pub record MayTurn (most m : ℕ) (qs : List Keep) (body : Block) (k top : Facts
   pub entry : keeps_hold qs k ≡ true
   pub is : with_range m (interval 0 (range_at k.ranges m).hi) (head body qs k) ≡ top
 
-pub head_allowed : (place : Body) (line most m : ℕ) (qs : List Keep) (body : Block) (k : Facts) → Allows (while_head place line most m qs body k) (MayTurn most m qs body k)
-head_allowed place line most m qs body k =
-    then_allowed (given_allowed (fall_of m body) _ line _) (λ fall falls.
-    required_allowed _ line _ (λ few.
+pub head_allowed : (place : Body) (spot : Spot) (most m : ℕ) (qs : List Keep) (body : Block) (k : Facts) → Allows (while_head place spot most m qs body k) (MayTurn most m qs body k)
+head_allowed place spot most m qs body k =
+    then_allowed (given_allowed (fall_of m body) _ spot _) (λ fall falls.
+    required_allowed _ spot _ (λ few.
     let p = and_parts (nat_le most turn_limit) (nat_le ((range_at k.ranges m).hi / fall) most) few in
-    required_allowed _ line _ (λ entry. allowed (record {
+    required_allowed _ spot _ (λ entry. allowed (record {
       fall = fall;
       falls = falls;
       most_turns = leb-true most turn_limit p.0;
@@ -209,7 +210,7 @@ bound_small None most = omega arith
 bound_small (Some q) most = omega arith
 
 -- a `while` in a script
-module _ (c : Setting) (around : Place) (line : ℕ) (test : Condition) (most m : ℕ) (qs : List Keep) (body : Block) (k top : Facts) (arms : Branches) (turn : Verdict)
+module _ (c : Setting) (around : Place) (spot : Spot) (test : Condition) (most m : ℕ) (qs : List Keep) (body : Block) (k top : Facts) (arms : Branches) (turn : Verdict)
     (may : MayTurn most m qs body k top) (d : (s : State) → Inside around top s → Decides around (truth test s.variables s.q s.x) arms s)
     (h : SoundFor c.plan around arms.holds (λ n. block_meaning (of c) n body) turn) (keep : keeps_hold_after qs turn.after ≡ true) where
   pub checked : (n : ℕ) → fine.most_turns ≤ n → Checked c.plan around test most m may.fall qs body k arms turn (block_meaning (of c) n body)
@@ -238,7 +239,7 @@ module _ (c : Setting) (around : Place) (line : ℕ) (test : Condition) (most m 
         untouched = λ y e. refl;
       }
 
-  pub while_sound : SoundFor c.plan around (Some k) (λ n s. effect (of c) n (while_ line test most m qs body) (stepped s)) (verdict arms.fails (loop_costs (turn_bound arms.holds most) turn.costs))
+  pub while_sound : SoundFor c.plan around (Some k) (λ n s. effect (of c) n (while_ spot test most m qs body) (stepped s)) (verdict arms.fails (loop_costs (turn_bound arms.holds most) turn.costs))
   while_sound = record {
     each = λ n le s i.
         turning c.plan around test most m may.fall qs body k arms turn (block_meaning (of c) n body) (checked n le) s i n (stepped s)

@@ -38,7 +38,7 @@ abbrev pub accept_service : Context → Service → Result Bounds Fault
 accept_service c s = do
   judged ← count_block (body.Service s.lam) s.body 0
   v ← accept_block c (alone_in (body.Service s.lam)) s.body at_start
-  within (body.Service s.lam) (costs s.cycles s.words greatest) v.costs s.line
+  within (body.Service s.lam) (costs s.cycles s.words greatest) v.costs s.spot
 
 -- what has a body: a procedure or a service
 pub data Section : Type 0 where
@@ -50,7 +50,7 @@ abbrev pub sections : List Item → List Procedure → List Service → List Sec
 sections [] ps vs = []
 sections (next_table ∷ rest) ps vs = sections rest ps vs
 sections (next_lam ∷ rest) ps vs = sections rest ps vs
-sections (next_variables line n ∷ rest) ps vs = sections rest ps vs
+sections (next_variables spot n ∷ rest) ps vs = sections rest ps vs
 sections (next_procedure ∷ rest) [] vs = sections rest [] vs
 sections (next_procedure ∷ rest) (p ∷ ps) vs = of_procedure p ∷ sections rest ps vs
 sections (next_service ∷ rest) ps [] = sections rest ps []
@@ -84,6 +84,6 @@ abbrev pub accept_with : (Bounds → Bounds) → Layout → Script → Result (L
 accept_with limit plan script =
     accept_items (bare limit plan script) script.order script.procedures script.services
 
--- what each service can cost, or the first rule broken and its line
+-- what each service can cost, or the first rule broken and its spot
 abbrev pub accept : Layout → Script → Result (List Bounds) Fault
 accept plan script = accept_with (λ c. c) plan script

@@ -10,6 +10,7 @@ use Rattle.camac_rules.specs.Fault.{Fault}
 use Rattle.camac_rules.specs.Refusal.{◌>>◌, required, given}
 use Rattle.camac_rules.specs.Known.{Region}
 use Rattle.camac_rules.specs.Walks.{count_below, all_from, first_outside, greatest_from, hull_from}
+use Rattle.camac_lang.specs.declared.spot.Spot.{Spot}
 
 -- No crate is numbered from 8 on, no station from 32 on, no sub-address from 16 on.
 abbrev pub crate_end : ℕ
@@ -81,10 +82,10 @@ undeclared plan f g =
     (first_outside crate_end g.crates (λ c. is_some (crate_widths plan f g.sub_addresses g.stations c)))
 
 -- the widths of a command at a region, all of whose addresses are installed and declare it
-abbrev pub command_widths : Layout → (line function : ℕ) → Region → Result Interval Fault
-command_widths plan line f g = do
-  required (are_stations plan g) StationNotInstalled line (missing plan g)
-  given (region_widths plan f g) CommandNotDeclared line (undeclared plan f g)
+abbrev pub command_widths : Layout → (spot : Spot) (function : ℕ) → Region → Result Interval Fault
+command_widths plan spot f g = do
+  required (are_stations plan g) StationNotInstalled spot (missing plan g)
+  given (region_widths plan f g) CommandNotDeclared spot (undeclared plan f g)
 
 abbrev pub is_among : ℕ → List ℕ → Bool
 is_among x [] = false

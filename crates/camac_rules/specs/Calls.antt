@@ -17,15 +17,16 @@ use Rattle.camac_rules.specs.Expressions.{range_of}
 use Rattle.camac_rules.specs.Costs.{Verdict, verdict}
 use Rattle.camac_rules.specs.Addresses.{crate_end, in_plan, is_among, command_widths}
 use Rattle.camac_rules.specs.Cycles.{Context, Around, one_cycle}
+use Rattle.camac_lang.specs.declared.spot.Spot.{Spot}
 
 -- one number, which is that of a crate of the plan
 abbrev pub is_crate : Layout → Interval → Bool
 is_crate plan r = nat_eq r.lo r.hi && (nat_lt r.lo crate_end && in_plan plan r.lo)
 
-abbrev pub crate_rule : Context → Around → ℕ → Expression → Facts → Result Verdict Fault
-crate_rule c around line e k = do
-  r ← range_of line e k.ranges
-  required (is_crate c.plan r) CrateUnfit line (crate_of r)
+abbrev pub crate_rule : Context → Around → Spot → Expression → Facts → Result Verdict Fault
+crate_rule c around spot e k = do
+  r ← range_of spot e k.ranges
+  required (is_crate c.plan r) CrateUnfit spot (crate_of r)
   Ok (verdict (Some k) (one_cycle c around r))
 
 -- one address alone
@@ -36,10 +37,10 @@ abbrev pub lam_region : Context → ℕ → Option Region
 lam_region c l = option_map single_region (slice_get c.lams l)
 
 -- at the LAM's address; a LAM that is not there is at no station
-abbrev pub lam_rule : Context → Around → ℕ → LamCall → ℕ → Facts → Result Verdict Fault
-lam_rule c around line which l k = do
-  g ← given (lam_region c l) StationNotInstalled line Malformed
-  widths ← command_widths c.plan line (lam_function which) g
+abbrev pub lam_rule : Context → Around → Spot → LamCall → ℕ → Facts → Result Verdict Fault
+lam_rule c around spot which l k = do
+  g ← given (lam_region c l) StationNotInstalled spot Malformed
+  widths ← command_widths c.plan spot (lam_function which) g
   Ok (verdict (Some k) (one_cycle c around g.crates))
 
 -- a crate that a `lock` can't take: locked already, or not one of the plan
@@ -47,8 +48,8 @@ abbrev pub lock_unfit : Layout → Interval → Case
 lock_unfit plan r = if is_crate plan r then Locked r.lo else crate_of r
 
 -- the crate that a `lock` takes: in the plan, and not locked around it
-abbrev pub lock_rule : Context → Around → ℕ → Expression → Facts → Result ℕ Fault
-lock_rule c around line e k = do
-  r ← range_of line e k.ranges
-  required (is_crate c.plan r && not (is_among r.lo around.locked)) CrateUnfit line (lock_unfit c.plan r)
+abbrev pub lock_rule : Context → Around → Spot → Expression → Facts → Result ℕ Fault
+lock_rule c around spot e k = do
+  r ← range_of spot e k.ranges
+  required (is_crate c.plan r && not (is_among r.lo around.locked)) CrateUnfit spot (lock_unfit c.plan r)
   Ok r.lo

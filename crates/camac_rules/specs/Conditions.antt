@@ -10,6 +10,7 @@ use Rattle.camac_rules.specs.Refusal.{◌>>=◌, if_reached}
 use Rattle.camac_rules.specs.Known.{Facts, Known, range_at, with_range}
 use Rattle.camac_rules.specs.Joined.{join}
 use Rattle.camac_rules.specs.Expressions.{range_of}
+use Rattle.camac_lang.specs.declared.spot.Spot.{Spot}
 
 pub record Branches : Type 0 where
   pub holds : Known
@@ -36,24 +37,24 @@ assume a c b r s k =
     (narrow (turned c) s r)) (narrow c r s)
 
 -- a flag says nothing of variables
-abbrev pub split_test : ℕ → Test → Facts → Result Branches Fault
-split_test line flag_q k = Ok (branches (Some k) (Some k))
-split_test line flag_x k = Ok (branches (Some k) (Some k))
-split_test line (compare a c b) k = do
-  r ← range_of line a k.ranges
-  s ← range_of line b k.ranges
+abbrev pub split_test : Spot → Test → Facts → Result Branches Fault
+split_test spot flag_q k = Ok (branches (Some k) (Some k))
+split_test spot flag_x k = Ok (branches (Some k) (Some k))
+split_test spot (compare a c b) k = do
+  r ← range_of spot a k.ranges
+  s ← range_of spot b k.ranges
   Ok (branches (assume a c b r s k) (assume a (opposite c) b r s k))
 
-abbrev pub split_part : ℕ → Part → Facts → Result Branches Fault
-split_part line (plain t) k = split_test line t k
-split_part line (negated t) k = do
-  b ← split_test line t k
+abbrev pub split_part : Spot → Part → Facts → Result Branches Fault
+split_part spot (plain t) k = split_test spot t k
+split_part spot (negated t) k = do
+  b ← split_test spot t k
   Ok (branches b.fails b.holds)
 
 -- part by part: a later one is looked at where all earlier ones hold
-abbrev pub split : ℕ → Condition → Facts → Result Branches Fault
-split line [] k = Ok (branches (Some k) None)
-split line (p ∷ ps) k = do
-  first ← split_part line p k
-  others ← if_reached (branches None None) first.holds (split line ps)
+abbrev pub split : Spot → Condition → Facts → Result Branches Fault
+split spot [] k = Ok (branches (Some k) None)
+split spot (p ∷ ps) k = do
+  first ← split_part spot p k
+  others ← if_reached (branches None None) first.holds (split spot ps)
   Ok (branches others.holds (join first.fails others.fails))

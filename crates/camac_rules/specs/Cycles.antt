@@ -21,6 +21,7 @@ use Rattle.camac_rules.specs.Known.{Facts, region_at, with_range}
 use Rattle.camac_rules.specs.Expressions.{range_of}
 use Rattle.camac_rules.specs.Costs.{costs, Verdict, verdict}
 use Rattle.camac_rules.specs.Addresses.{is_among, command_widths, cycle_cost}
+use Rattle.camac_lang.specs.declared.spot.Spot.{Spot}
 
 -- What a statement may refer to by its number, and what becomes of each cost: by the rules it stays, in code it is cut at a greatest number.
 pub record Context : Type 0 where
@@ -56,31 +57,31 @@ abbrev pub one_cycle : Context → Around → Interval → Bounds
 one_cycle c around crates = c.limit (costs (cycle_cost c.plan around.locked crates) 0 1)
 
 -- a cycle without data, a read, a write
-abbrev pub control_rule : Context → Around → (line function register : ℕ) → Facts → Result Verdict Fault
-control_rule c around line f r k = do
-  g ← given (region_at k.registers r) RegisterUnset line (Unset around.body r)
-  widths ← command_widths c.plan line f g
-  required (same_class Control (class_of f)) WrongDirection line (direction f Control)
+abbrev pub control_rule : Context → Around → (spot : Spot) (function register : ℕ) → Facts → Result Verdict Fault
+control_rule c around spot f r k = do
+  g ← given (region_at k.registers r) RegisterUnset spot (Unset around.body r)
+  widths ← command_widths c.plan spot f g
+  required (same_class Control (class_of f)) WrongDirection spot (direction f Control)
   Ok (verdict (Some k) (one_cycle c around g.crates))
 
-abbrev pub read_rule : Context → Around → (line : ℕ) → WordSize → (function register variable : ℕ) → Facts → Result Verdict Fault
-read_rule c around line size f r x k = do
-  required (may_write around x) LoopVariableAssigned line (Counted around.body x)
-  g ← given (region_at k.registers r) RegisterUnset line (Unset around.body r)
-  widths ← command_widths c.plan line f g
-  required (same_class Read (class_of f)) WrongDirection line (direction f Read)
+abbrev pub read_rule : Context → Around → (spot : Spot) → WordSize → (function register variable : ℕ) → Facts → Result Verdict Fault
+read_rule c around spot size f r x k = do
+  required (may_write around x) LoopVariableAssigned spot (Counted around.body x)
+  g ← given (region_at k.registers r) RegisterUnset spot (Unset around.body r)
+  widths ← command_widths c.plan spot f g
+  required (same_class Read (class_of f)) WrongDirection spot (direction f Read)
   Ok (verdict (Some (with_range x (interval 0 (2 ^ sized size widths.hi - 1)) k)) (one_cycle c around g.crates))
 
-abbrev pub write_rule : Context → Around → (line : ℕ) → WordSize → (function register : ℕ) → Expression → Facts → Result Verdict Fault
-write_rule c around line size f r e k = do
-  v ← range_of line e k.ranges
-  g ← given (region_at k.registers r) RegisterUnset line (Unset around.body r)
-  widths ← command_widths c.plan line f g
-  required (same_class Write (class_of f)) WrongDirection line (direction f Write)
-  required (nat_lt v.hi (2 ^ widths.lo) && fits_size size v.hi) ValueTooWide line (Width v.hi (sized size widths.lo))
+abbrev pub write_rule : Context → Around → (spot : Spot) → WordSize → (function register : ℕ) → Expression → Facts → Result Verdict Fault
+write_rule c around spot size f r e k = do
+  v ← range_of spot e k.ranges
+  g ← given (region_at k.registers r) RegisterUnset spot (Unset around.body r)
+  widths ← command_widths c.plan spot f g
+  required (same_class Write (class_of f)) WrongDirection spot (direction f Write)
+  required (nat_lt v.hi (2 ^ widths.lo) && fits_size size v.hi) ValueTooWide spot (Width v.hi (sized size widths.lo))
   Ok (verdict (Some k) (one_cycle c around g.crates))
 
-abbrev pub single_rule : Context → Around → (line : ℕ) → WordSize → (function register : ℕ) → Move → Facts → Result Verdict Fault
-single_rule c around line size f r no_data k = control_rule c around line f r k
-single_rule c around line size f r (into x) k = read_rule c around line size f r x k
-single_rule c around line size f r (from e) k = write_rule c around line size f r e k
+abbrev pub single_rule : Context → Around → (spot : Spot) → WordSize → (function register : ℕ) → Move → Facts → Result Verdict Fault
+single_rule c around spot size f r no_data k = control_rule c around spot f r k
+single_rule c around spot size f r (into x) k = read_rule c around spot size f r x k
+single_rule c around spot size f r (from e) k = write_rule c around spot size f r e k

@@ -11,6 +11,7 @@ use Rattle.camac_rules.specs.Known.{Facts, with_range}
 use Rattle.camac_rules.specs.Costs.{costs, no_costs, plus, Verdict, verdict, unreached}
 use Rattle.camac_rules.specs.Cycles.{Context, Around, may_write}
 use Rattle.camac_rules.specs.Loops.{turn_limit}
+use Rattle.camac_lang.specs.declared.spot.Spot.{Spot}
 
 -- a step, and the body
 abbrev pub turn_costs : Bounds → Bounds
@@ -31,16 +32,16 @@ each_from limit zero x v last check k = Ok (verdict (Some k) no_costs)
 each_from limit (suc n) x v last check k = each_turns limit (suc n) x v last check k
 
 -- how many turns there are, by whose rules it may begin: those of a `for` between these numbers that keeps nothing
-abbrev pub each_begins : Around → (line variable first last : ℕ) → Result ℕ Fault
-each_begins around line x v last = do
-  required (nat_le v greatest && nat_le last greatest) ValueOutOfRange line Malformed
-  required (may_write around x) LoopVariableAssigned line (Counted around.body x)
-  required (nat_le (last + 1 - v) turn_limit) TooManyTurns line (Turns (last + 1 - v) turn_limit)
+abbrev pub each_begins : Around → (spot : Spot) (variable first last : ℕ) → Result ℕ Fault
+each_begins around spot x v last = do
+  required (nat_le v greatest && nat_le last greatest) ValueOutOfRange spot Malformed
+  required (may_write around x) LoopVariableAssigned spot (Counted around.body x)
+  required (nat_le (last + 1 - v) turn_limit) TooManyTurns spot (Turns (last + 1 - v) turn_limit)
   Ok (last + 1 - v)
 
 -- where `check` checks its body
-abbrev pub each_rule : Context → Around → (line variable first last : ℕ) → (Facts → Result Verdict Fault) → Facts → Result Verdict Fault
-each_rule c around line x v last check k = do
-  n ← each_begins around line x v last
+abbrev pub each_rule : Context → Around → (spot : Spot) (variable first last : ℕ) → (Facts → Result Verdict Fault) → Facts → Result Verdict Fault
+each_rule c around spot x v last check k = do
+  n ← each_begins around spot x v last
   turns ← each_from c.limit n x v last check k
   Ok (verdict turns.after (c.limit (plus (costs 0 0 1) turns.costs)))

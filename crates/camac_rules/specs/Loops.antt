@@ -15,6 +15,7 @@ use Rattle.camac_rules.specs.Conditions.{split}
 use Rattle.camac_rules.specs.Costs.{loop_costs, Verdict, verdict, unreached}
 use Rattle.camac_rules.specs.Writes.{forget_block, fall_of}
 use Rattle.camac_rules.specs.Cycles.{Context, Around, may_write}
+use Rattle.camac_lang.specs.declared.spot.Spot.{Spot}
 
 -- the most turns of a loop
 abbrev pub turn_limit : ℕ
@@ -70,13 +71,13 @@ abbrev pub values_between : Limits → Interval
 values_between l = interval l.first.lo l.last.hi
 
 -- the limits of a `for`, by whose rules it may begin
-abbrev pub for_limits : Around → (line variable : ℕ) → (first last : Expression) → List Keep → Facts → Result Limits Fault
-for_limits around line x e1 e2 keeps k = do
-  r ← range_of line e1 k.ranges
-  s ← range_of line e2 k.ranges
-  required (may_write around x) LoopVariableAssigned line (Counted around.body x)
-  required (nat_le (turns_between (limits r s)) turn_limit) TooManyTurns line (Turns (turns_between (limits r s)) turn_limit)
-  required (keeps_hold keeps k) KeepFailsAtEntry line (unkept around.body keeps k)
+abbrev pub for_limits : Around → (spot : Spot) (variable : ℕ) → (first last : Expression) → List Keep → Facts → Result Limits Fault
+for_limits around spot x e1 e2 keeps k = do
+  r ← range_of spot e1 k.ranges
+  s ← range_of spot e2 k.ranges
+  required (may_write around x) LoopVariableAssigned spot (Counted around.body x)
+  required (nat_le (turns_between (limits r s)) turn_limit) TooManyTurns spot (Turns (turns_between (limits r s)) turn_limit)
+  required (keeps_hold keeps k) KeepFailsAtEntry spot (unkept around.body keeps k)
   Ok (limits r s)
 
 -- what is known where the body of a `for` begins, if there may be a turn
@@ -92,11 +93,11 @@ for_after x l keeps body k =
 
 -- where `check` checks its body
 abbrev pub for_rule :
-    Context → Around → (line variable : ℕ) → (first last : Expression) → List Keep → Block → (Facts → Result Verdict Fault) → Facts → Result Verdict Fault
-for_rule c around line x e1 e2 keeps body check k = do
-  l ← for_limits around line x e1 e2 keeps k
+    Context → Around → (spot : Spot) (variable : ℕ) → (first last : Expression) → List Keep → Block → (Facts → Result Verdict Fault) → Facts → Result Verdict Fault
+for_rule c around spot x e1 e2 keeps body check k = do
+  l ← for_limits around spot x e1 e2 keeps k
   turn ← if_reached unreached (for_head x l keeps body k) check
-  required (keeps_hold_after keeps turn.after) KeepFailsAfterTurn line (unkept_after around.body keeps turn.after)
+  required (keeps_hold_after keeps turn.after) KeepFailsAfterTurn spot (unkept_after around.body keeps turn.after)
   Ok (verdict (for_after x l keeps body k) (c.limit (loop_costs (turns_between l) turn.costs)))
 
 -- the turns that a `while` may need, or its own number, where that is above the most of any loop
@@ -104,11 +105,11 @@ abbrev pub turns_case : (needed most : ℕ) → Case
 turns_case needed most = if nat_le most turn_limit then Turns needed most else Annotation most turn_limit
 
 -- what is known at the head of a `while` of at most so many turns with measure m, by whose rules it may begin
-abbrev pub while_head : Body → (line most measure : ℕ) → List Keep → Block → Facts → Result Facts Fault
-while_head place line most m keeps body k = do
-  fall ← given (fall_of m body) MeasureBroken line (Measure place m)
-  required (nat_le most turn_limit && nat_le ((range_at k.ranges m).hi / fall) most) TooManyTurns line (turns_case ((range_at k.ranges m).hi / fall) most)
-  required (keeps_hold keeps k) KeepFailsAtEntry line (unkept place keeps k)
+abbrev pub while_head : Body → (spot : Spot) (most measure : ℕ) → List Keep → Block → Facts → Result Facts Fault
+while_head place spot most m keeps body k = do
+  fall ← given (fall_of m body) MeasureBroken spot (Measure place m)
+  required (nat_le most turn_limit && nat_le ((range_at k.ranges m).hi / fall) most) TooManyTurns spot (turns_case ((range_at k.ranges m).hi / fall) most)
+  required (keeps_hold keeps k) KeepFailsAtEntry spot (unkept place keeps k)
   Ok (with_range m (interval 0 (range_at k.ranges m).hi) (head body keeps k))
 
 -- no turn where the condition never holds
@@ -118,10 +119,10 @@ turn_bound (Some k) most = most
 
 -- where `check` checks its body
 abbrev pub while_rule :
-    Context → Around → (line : ℕ) → Condition → (most measure : ℕ) → List Keep → Block → (Facts → Result Verdict Fault) → Facts → Result Verdict Fault
-while_rule c around line test most m keeps body check k = do
-  top ← while_head around.body line most m keeps body k
-  arms ← split line test top
+    Context → Around → (spot : Spot) → Condition → (most measure : ℕ) → List Keep → Block → (Facts → Result Verdict Fault) → Facts → Result Verdict Fault
+while_rule c around spot test most m keeps body check k = do
+  top ← while_head around.body spot most m keeps body k
+  arms ← split spot test top
   turn ← if_reached unreached arms.holds check
-  required (keeps_hold_after keeps turn.after) KeepFailsAfterTurn line (unkept_after around.body keeps turn.after)
+  required (keeps_hold_after keeps turn.after) KeepFailsAfterTurn spot (unkept_after around.body keeps turn.after)
   Ok (verdict arms.fails (c.limit (loop_costs (turn_bound arms.holds most) turn.costs)))

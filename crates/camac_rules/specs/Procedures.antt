@@ -14,12 +14,13 @@ use Rattle.camac_rules.specs.Known.{Facts, facts, Known}
 use Rattle.camac_rules.specs.Expressions.{range_of}
 use Rattle.camac_rules.specs.Costs.{call_costs, Verdict, verdict, unreached}
 use Rattle.camac_rules.specs.Cycles.{Context}
+use Rattle.camac_lang.specs.declared.spot.Spot.{Spot}
 
-abbrev pub ranges_of : ℕ → List Expression → List Interval → Result (List Interval) Fault
-ranges_of line [] rs = Ok []
-ranges_of line (e ∷ es) rs = do
-  r ← range_of line e rs
-  others ← ranges_of line es rs
+abbrev pub ranges_of : Spot → List Expression → List Interval → Result (List Interval) Fault
+ranges_of spot [] rs = Ok []
+ranges_of spot (e ∷ es) rs = do
+  r ← range_of spot e rs
+  others ← ranges_of spot es rs
   Ok (r ∷ others)
 
 abbrev pub parameter_range : Parameter → Interval
@@ -40,11 +41,11 @@ unfit p i (r ∷ rs) (q ∷ qs) =
 unfit p i _ _ = Malformed
 
 -- a call of a procedure, by its heading
-abbrev pub call_rule : Context → ℕ → ℕ → List Expression → Facts → Result Verdict Fault
-call_rule c line p es k = do
-  rs ← ranges_of line es k.ranges
-  procedure ← given (slice_get c.procedures p) ArgumentOutOfRange line Malformed
-  required (arguments_fit rs procedure.parameters) ArgumentOutOfRange line (unfit p 0 rs procedure.parameters)
+abbrev pub call_rule : Context → Spot → ℕ → List Expression → Facts → Result Verdict Fault
+call_rule c spot p es k = do
+  rs ← ranges_of spot es k.ranges
+  procedure ← given (slice_get c.procedures p) ArgumentOutOfRange spot Malformed
+  required (arguments_fit rs procedure.parameters) ArgumentOutOfRange spot (unfit p 0 rs procedure.parameters)
   Ok (verdict (Some k) (c.limit (call_costs (annotated procedure))))
 
 -- whether each parameter has a number at all
@@ -56,16 +57,16 @@ can_be_called (p ∷ ps) = nat_le p.low p.high && can_be_called ps
 abbrev pub at_entry : List Parameter → Known
 at_entry ps = if can_be_called ps then Some (facts (map parameter_range ps) []) else None
 
--- within the numbers of a heading on this line
-abbrev pub within : Body → Bounds → Bounds → ℕ → Result Bounds Fault
-within body most found line = do
-  required (nat_le found.words most.words) TooManyWords line (budget body found.words most.words)
-  required (nat_le found.cycles most.cycles) TooManyCycles line (budget body found.cycles most.cycles)
-  required (nat_le found.steps most.steps) TooManySteps line (budget body found.steps most.steps)
+-- within the numbers of a heading at this spot
+abbrev pub within : Body → Bounds → Bounds → Spot → Result Bounds Fault
+within body most found spot = do
+  required (nat_le found.words most.words) TooManyWords spot (budget body found.words most.words)
+  required (nat_le found.cycles most.cycles) TooManyCycles spot (budget body found.cycles most.cycles)
+  required (nat_le found.steps most.steps) TooManySteps spot (budget body found.steps most.steps)
   Ok found
 
 -- where `check` checks its body
 abbrev pub procedure_rule : Body → (Facts → Result Verdict Fault) → Procedure → Result Bounds Fault
 procedure_rule body check p = do
   v ← if_reached unreached (at_entry p.parameters) check
-  within body (annotated p) v.costs p.line
+  within body (annotated p) v.costs p.spot

@@ -19,6 +19,7 @@ use Rattle.camac_rules.specs.Costs.{Verdict, verdict, transfer_costs}
 use Rattle.camac_rules.specs.Addresses.{sub_address_end, command_widths, cycle_cost}
 use Rattle.camac_rules.specs.Cycles.{Context, Around, may_write, same_class}
 use Rattle.camac_rules.specs.Windows.{Window, window_of, is_installed, missing_over, is_declared, undeclared_over, scan_cycles, scan_kept}
+use Rattle.camac_lang.specs.declared.spot.Spot.{Spot}
 
 -- both registers hold addresses of one crate
 abbrev pub is_one_crate : Region → Region → Bool
@@ -44,16 +45,16 @@ scan_verdict c around w most x k =
     verdict (Some (with_range x (interval 0 (scan_kept w most)) k))
     (c.limit (transfer_costs (scan_cycles w most) (cycle_cost c.plan around.locked (only w.crate_no)) (scan_kept w most)))
 
-abbrev pub scan_rule : Context → Around → (line function first last : ℕ) → (most : Expression) → (tally_variable : ℕ) → Facts → Result Verdict Fault
-scan_rule c around line f r1 r2 e x k = do
-  most ← range_of line e k.ranges
-  required (may_write around x) LoopVariableAssigned line (Counted around.body x)
-  g ← given (region_at k.registers r1) RegisterUnset line (Unset around.body r1)
-  h ← given (region_at k.registers r2) RegisterUnset line (Unset around.body r2)
-  required (is_one_crate g h) ScanCratesDiffer line (crates_of g.crates h.crates)
-  required (is_installed c.plan (window_of g h)) StationNotInstalled line (missing_over c.plan (window_of g h))
-  required (has_sub_addresses g && (has_sub_addresses h && is_declared c.plan f (window_of g h))) CommandNotDeclared line (undeclared_by c.plan f g h)
-  required (same_class Read (class_of f)) WrongDirection line (direction f Read)
+abbrev pub scan_rule : Context → Around → (spot : Spot) (function first last : ℕ) → (most : Expression) → (tally_variable : ℕ) → Facts → Result Verdict Fault
+scan_rule c around spot f r1 r2 e x k = do
+  most ← range_of spot e k.ranges
+  required (may_write around x) LoopVariableAssigned spot (Counted around.body x)
+  g ← given (region_at k.registers r1) RegisterUnset spot (Unset around.body r1)
+  h ← given (region_at k.registers r2) RegisterUnset spot (Unset around.body r2)
+  required (is_one_crate g h) ScanCratesDiffer spot (crates_of g.crates h.crates)
+  required (is_installed c.plan (window_of g h)) StationNotInstalled spot (missing_over c.plan (window_of g h))
+  required (has_sub_addresses g && (has_sub_addresses h && is_declared c.plan f (window_of g h))) CommandNotDeclared spot (undeclared_by c.plan f g h)
+  required (same_class Read (class_of f)) WrongDirection spot (direction f Read)
   Ok (scan_verdict c around (window_of g h) most.hi x k)
 
 -- a block transfer writes where it names a table, else it reads
@@ -90,14 +91,14 @@ event_words (Some t) kept = 0
 
 -- the addresses of a block transfer of at most so many words, by whose rules it may begin once its expressions are in range
 abbrev pub block_region :
-    Context → Around → (line function register : ℕ) → (table : Option ℕ) → (most tally_variable : ℕ) → Facts → Result Region Fault
-block_region c around line f r t most x k = do
-  required (may_write around x) LoopVariableAssigned line (Counted around.body x)
-  g ← given (region_at k.registers r) RegisterUnset line (Unset around.body r)
-  widths ← command_widths c.plan line f g
-  required (same_class (block_class t) (class_of f)) WrongDirection line (direction f (block_class t))
-  required (has_words c.tables t most) CountAboveTable line (Count most (length (words_sent c.tables t)))
-  required (words_fit c.tables t widths.lo) ValueTooWide line (Width (greatest_of (words_sent c.tables t)) widths.lo)
+    Context → Around → (spot : Spot) (function register : ℕ) → (table : Option ℕ) → (most tally_variable : ℕ) → Facts → Result Region Fault
+block_region c around spot f r t most x k = do
+  required (may_write around x) LoopVariableAssigned spot (Counted around.body x)
+  g ← given (region_at k.registers r) RegisterUnset spot (Unset around.body r)
+  widths ← command_widths c.plan spot f g
+  required (same_class (block_class t) (class_of f)) WrongDirection spot (direction f (block_class t))
+  required (has_words c.tables t most) CountAboveTable spot (Count most (length (words_sent c.tables t)))
+  required (words_fit c.tables t widths.lo) ValueTooWide spot (Width (greatest_of (words_sent c.tables t)) widths.lo)
   Ok g
 
 -- a block transfer of at most so many cycles, that keeps at most so many words
@@ -107,10 +108,10 @@ block_verdict c around t cycles kept x g k =
     (c.limit (transfer_costs cycles (cycle_cost c.plan around.locked g.crates) (event_words t kept)))
 
 abbrev pub q_stop_rule :
-    Context → Around → (line function register : ℕ) → (table : Option ℕ) → (most : Expression) → (tally_variable : ℕ) → Facts → Result Verdict Fault
-q_stop_rule c around line f r t e x k = do
-  most ← range_of line e k.ranges
-  g ← block_region c around line f r t most.hi x k
+    Context → Around → (spot : Spot) (function register : ℕ) → (table : Option ℕ) → (most : Expression) → (tally_variable : ℕ) → Facts → Result Verdict Fault
+q_stop_rule c around spot f r t e x k = do
+  most ← range_of spot e k.ranges
+  g ← block_region c around spot f r t most.hi x k
   Ok (block_verdict c around t most.hi most.hi x g k)
 
 -- where no word is wanted there is no cycle
@@ -118,9 +119,9 @@ abbrev pub q_repeat_cycles : (most limit : ℕ) → ℕ
 q_repeat_cycles most limit = if nat_eq most 0 then 0 else limit
 
 abbrev pub q_repeat_rule :
-    Context → Around → (line function register : ℕ) → (table : Option ℕ) → (most limit : Expression) → (tally_variable : ℕ) → Facts → Result Verdict Fault
-q_repeat_rule c around line f r t e1 e2 x k = do
-  most ← range_of line e1 k.ranges
-  limit ← range_of line e2 k.ranges
-  g ← block_region c around line f r t most.hi x k
+    Context → Around → (spot : Spot) (function register : ℕ) → (table : Option ℕ) → (most limit : Expression) → (tally_variable : ℕ) → Facts → Result Verdict Fault
+q_repeat_rule c around spot f r t e1 e2 x k = do
+  most ← range_of spot e1 k.ranges
+  limit ← range_of spot e2 k.ranges
+  g ← block_region c around spot f r t most.hi x k
   Ok (block_verdict c around t (q_repeat_cycles most.hi limit.hi) (min most.hi limit.hi) x g k)

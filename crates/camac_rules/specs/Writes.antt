@@ -15,22 +15,22 @@ reads_into (from e) y = false
 -- whether variable y is written; a call writes none
 abbrev mutual
   pub writes : Statement → ℕ → Bool
-  writes (assign line x e) y = nat_eq y x
-  writes (set_register line r c n a) y = false
-  writes (single line size f r move) y = reads_into move y
-  writes (address_scan line f r1 r2 max x) y = nat_eq y x
-  writes (q_stop line f r t max x) y = nat_eq y x
-  writes (q_repeat line f r t max limit x) y = nat_eq y x
-  writes (put line e) y = false
-  writes (crate_call line which e) y = false
-  writes (lam_call line which l) y = false
-  writes (choose line test a) y = block_writes a y
-  writes (choose_else line test a b) y = block_writes a y || block_writes b y
-  writes (for_ line x e1 e2 keeps body) y = nat_eq y x || block_writes body y
-  writes (for_each line x v last body) y = nat_eq y x || block_writes body y
-  writes (while_ line test most m keeps body) y = block_writes body y
-  writes (locked line e body) y = block_writes body y
-  writes (call line p es) y = false
+  writes (assign spot x e) y = nat_eq y x
+  writes (set_register spot r c n a) y = false
+  writes (single spot size f r move) y = reads_into move y
+  writes (address_scan spot f r1 r2 max x) y = nat_eq y x
+  writes (q_stop spot f r t max x) y = nat_eq y x
+  writes (q_repeat spot f r t max limit x) y = nat_eq y x
+  writes (put spot e) y = false
+  writes (crate_call spot which e) y = false
+  writes (lam_call spot which l) y = false
+  writes (choose spot test a) y = block_writes a y
+  writes (choose_else spot test a b) y = block_writes a y || block_writes b y
+  writes (for_ spot x e1 e2 keeps body) y = nat_eq y x || block_writes body y
+  writes (for_each spot x v last body) y = nat_eq y x || block_writes body y
+  writes (while_ spot test most m keeps body) y = block_writes body y
+  writes (locked spot e body) y = block_writes body y
+  writes (call spot p es) y = false
 
   pub block_writes : Block → ℕ → Bool
   block_writes done y = false
@@ -53,22 +53,22 @@ forget_move (from e) k = k
 -- any number in each variable that is written, and each register that is set may be unset
 abbrev mutual
   pub forget : Statement → Facts → Facts
-  forget (assign line x e) k = forget_variable x k
-  forget (set_register line r c n a) k = forget_register r k
-  forget (single line size f r move) k = forget_move move k
-  forget (address_scan line f r1 r2 max x) k = forget_variable x k
-  forget (q_stop line f r t max x) k = forget_variable x k
-  forget (q_repeat line f r t max limit x) k = forget_variable x k
-  forget (put line e) k = k
-  forget (crate_call line which e) k = k
-  forget (lam_call line which l) k = k
-  forget (choose line test a) k = forget_block a k
-  forget (choose_else line test a b) k = forget_block b (forget_block a k)
-  forget (for_ line x e1 e2 keeps body) k = forget_variable x (forget_block body k)
-  forget (for_each line x v last body) k = forget_variable x (forget_block body k)
-  forget (while_ line test most m keeps body) k = forget_block body k
-  forget (locked line e body) k = forget_block body k
-  forget (call line p es) k = k
+  forget (assign spot x e) k = forget_variable x k
+  forget (set_register spot r c n a) k = forget_register r k
+  forget (single spot size f r move) k = forget_move move k
+  forget (address_scan spot f r1 r2 max x) k = forget_variable x k
+  forget (q_stop spot f r t max x) k = forget_variable x k
+  forget (q_repeat spot f r t max limit x) k = forget_variable x k
+  forget (put spot e) k = k
+  forget (crate_call spot which e) k = k
+  forget (lam_call spot which l) k = k
+  forget (choose spot test a) k = forget_block a k
+  forget (choose_else spot test a b) k = forget_block b (forget_block a k)
+  forget (for_ spot x e1 e2 keeps body) k = forget_variable x (forget_block body k)
+  forget (for_each spot x v last body) k = forget_variable x (forget_block body k)
+  forget (while_ spot test most m keeps body) k = forget_block body k
+  forget (locked spot e body) k = forget_block body k
+  forget (call spot p es) k = k
 
   pub forget_block : Block → Facts → Facts
   forget_block done k = k
@@ -92,7 +92,7 @@ fall_by m e = None
 
 -- k of `m = m - k`
 abbrev pub fall_in : ℕ → Statement → Option ℕ
-fall_in m (assign line x e) = if nat_eq x m then fall_by m e else None
+fall_in m (assign spot x e) = if nat_eq x m then fall_by m e else None
 fall_in m s = None
 
 -- how much a turn takes from m, where one statement of the body itself does so and nothing else in it writes m

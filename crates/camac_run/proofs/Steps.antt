@@ -36,6 +36,7 @@ use Rattle.camac_run.specs.declared.ahead.Sure.TheVariants as sure
 use Rattle.camac_run.specs.declared.progress.Wanted.{Wanted}
 use Rattle.camac_run.specs.declared.progress.Wanted.TheVariants as wanted
 use Rattle.camac_run.proofs.Coming.{knows_held, knows_set, statement_step, turn_step}
+use Rattle.camac_lang.specs.declared.spot.Spot.{Spot}
 
 pub map_some : {A : Type 0} (o : Option A) (P Q : A → Type 0) → ((v : A) → P v → Q v) → IfSome o P → IfSome o Q
 map_some None P Q f h = tt
@@ -64,7 +65,7 @@ read_known known f g x v is k =
 
 -- ---- statements with a cycle
 
-module _ (c : Context) (known : List (Option ℕ)) (registers : List (Option Address)) (k : Command) (line : ℕ) where
+module _ (c : Context) (known : List (Option ℕ)) (registers : List (Option Address)) (k : Command) (spot : Spot) where
   -- a cycle that keeps no word
   sent_makes : (st : Statement) → ((s : State) → IsKnown known registers s → effect c most_turns st s ≡ awaited c (makes k) s) → MakesCycle c known registers st k known
   sent_makes st begins = record {
@@ -74,33 +75,33 @@ module _ (c : Context) (known : List (Option ℕ)) (registers : List (Option Add
     known = λ f g h e. subst (λ (vs : Variables). KnowsVariables known vs) (sym e) h;
   }
 
-  pub lam_makes : (call : LamCall) (l : ℕ) (at : Address) → slice_get c.lams l ≡ Some at → k ≡ command_at at (lam_function call) moved.None → MakesCycle c known registers (lam_call line call l) k known
+  pub lam_makes : (call : LamCall) (l : ℕ) (at : Address) → slice_get c.lams l ≡ Some at → k ≡ command_at at (lam_function call) moved.None → MakesCycle c known registers (lam_call spot call l) k known
   unfolding awaited
-  lam_makes call l at there is = sent_makes (lam_call line call l) (λ s kn.
+  lam_makes call l at there is = sent_makes (lam_call spot call l) (λ s kn.
       ap (λ o. given o (λ a. act c.plan a (lam_function call) Full no_data) s) there ∙ ap (λ j. awaited c (makes j) s) (sym is))
 
-  pub crate_makes : (call : CrateCall) (e : Expression) (n : ℕ) → HasValue known e n → k ≡ command_at (crate_address call n) (crate_function call) moved.None → MakesCycle c known registers (crate_call line call e) k known
+  pub crate_makes : (call : CrateCall) (e : Expression) (n : ℕ) → HasValue known e n → k ≡ command_at (crate_address call n) (crate_function call) moved.None → MakesCycle c known registers (crate_call spot call e) k known
   unfolding awaited
-  crate_makes call e n has is = sent_makes (crate_call line call e) (λ s kn.
+  crate_makes call e n has is = sent_makes (crate_call spot call e) (λ s kn.
       ap (λ o. given o (λ d. act c.plan (crate_address call d) (crate_function call) Full no_data) s) (has s.variables kn.variables_are) ∙ ap (λ j. awaited c (makes j) s) (sym is))
 
   module _ (size : WordSize) (f r : ℕ) (at : Address) (there : slice_index_or registers r None ≡ Some at) where
     -- the register holds the address
-    at_address : (m : Move) (s : State) → IsKnown known registers s → effect c most_turns (single line size f r m) s ≡ act c.plan at f size m s
+    at_address : (m : Move) (s : State) → IsKnown known registers s → effect c most_turns (single spot size f r m) s ≡ act c.plan at f size m s
     at_address m s kn = ap (λ o. given o (λ a. act c.plan a f size m) s) (kn.registers_are r at there)
 
-    pub control_makes : k ≡ command_at at f moved.None → MakesCycle c known registers (single line size f r no_data) k known
+    pub control_makes : k ≡ command_at at f moved.None → MakesCycle c known registers (single spot size f r no_data) k known
     unfolding awaited
-    control_makes is = sent_makes (single line size f r no_data) (λ s kn. at_address no_data s kn ∙ ap (λ j. awaited c (makes j) s) (sym is))
+    control_makes is = sent_makes (single spot size f r no_data) (λ s kn. at_address no_data s kn ∙ ap (λ j. awaited c (makes j) s) (sym is))
 
-    pub write_makes : (e : Expression) (word : ℕ) → HasValue known e word → fits_size size word ≡ true → k ≡ command_at at f (moved.Out word) → MakesCycle c known registers (single line size f r (from e)) k known
+    pub write_makes : (e : Expression) (word : ℕ) → HasValue known e word → fits_size size word ≡ true → k ≡ command_at at f (moved.Out word) → MakesCycle c known registers (single spot size f r (from e)) k known
     unfolding awaited
-    write_makes e word has fits is = sent_makes (single line size f r (from e)) (λ s kn.
+    write_makes e word has fits is = sent_makes (single spot size f r (from e)) (λ s kn.
         at_address (from e) s kn
         ∙ ap (λ o. given o (λ v. unless_wrong (fits_size size v) (λ t. cycle c.plan at f (moved.Out v) t.answers (λ r. ends) t)) s) (has s.variables kn.variables_are)
         ∙ ap (λ b. unless_wrong b (λ t. cycle c.plan at f (moved.Out word) t.answers (λ r. ends) t) s) fits ∙ ap (λ j. awaited c (makes j) s) (sym is))
 
-    pub read_makes : (x : ℕ) → k ≡ command_at at f moved.In → MakesCycle c known registers (single line size f r (into x)) k (set known x None)
+    pub read_makes : (x : ℕ) → k ≡ command_at at f moved.In → MakesCycle c known registers (single spot size f r (into x)) k (set known x None)
     unfolding awaited
     read_makes x is = record {
       operation = reads k x (sized size (width c.plan at f));
@@ -117,22 +118,22 @@ sure_is c known registers st (Some k) after h = (refl, h)
 -- ---- statements without a cycle
 
 module _ (c : Context) (known : List (Option ℕ)) (registers : List (Option Address)) where
-  pub put_needs_none : (line : ℕ) (e : Expression) → NeedsNone c known registers (put line e) known registers
-  put_needs_none line e s kn = go (value e s.variables) refl
+  pub put_needs_none : (spot : Spot) (e : Expression) → NeedsNone c known registers (put spot e) known registers
+  put_needs_none spot e s kn = go (value e s.variables) refl
     where
-      go : (o : Option ℕ) → value e s.variables ≡ o → PassesFrom s (effect c most_turns (put line e)) known registers
+      go : (o : Option ℕ) → value e s.variables ≡ o → PassesFrom s (effect c most_turns (put spot e)) known registers
       go None is = inl (λ answers. ap (λ p. given p (λ v t. ends (with_word v t)) (on answers s)) is)
       go (Some v) is =
           inr (with_word v s, record { variables_are = kn.variables_are; registers_are = kn.registers_are }, λ answers. ap (λ p. given p (λ v t. ends (with_word v t)) (on answers s)) is)
 
-  pub assign_needs_none : (line x : ℕ) (e : Expression) (o : Option ℕ) → IfSome o (HasValue known e) → NeedsNone c known registers (assign line x e) (set known x o) registers
-  assign_needs_none line x e o has s kn = go (value e s.variables) refl
+  pub assign_needs_none : (spot : Spot) (x : ℕ) (e : Expression) (o : Option ℕ) → IfSome o (HasValue known e) → NeedsNone c known registers (assign spot x e) (set known x o) registers
+  assign_needs_none spot x e o has s kn = go (value e s.variables) refl
     where
       is_it : (o : Option ℕ) (v : ℕ) → IfSome o (HasValue known e) → value e s.variables ≡ Some v → (w : ℕ) → o ≡ Some w → v ≡ w
       is_it None v h is w q = absurd (cc)
       is_it (Some u) v h is w q = let a : Some u ≡ Some v = sym (h s.variables kn.variables_are) ∙ is in cc
 
-      go : (p : Option ℕ) → value e s.variables ≡ p → PassesFrom s (effect c most_turns (assign line x e)) (set known x o) registers
+      go : (p : Option ℕ) → value e s.variables ≡ p → PassesFrom s (effect c most_turns (assign spot x e)) (set known x o) registers
       go None is = inl (λ answers. ap (λ p. given p (λ v t. ends (with_variable x v t)) (on answers s)) is)
       go (Some v) is =
           inr (
@@ -141,7 +142,7 @@ module _ (c : Context) (known : List (Option ℕ)) (registers : List (Option Add
             λ answers. ap (λ p. given p (λ v t. ends (with_variable x v t)) (on answers s)) is,
           )
 
-  module _ (line r : ℕ) (e1 e2 e3 : Expression) where
+  module _ (spot : Spot) (r : ℕ) (e1 e2 e3 : Expression) where
     abbrev pub HasAddress : Address → Type 0
     HasAddress at = HasValue known e1 at.crate_no × HasValue known e2 at.station × HasValue known e3 at.sub_address
 
@@ -164,13 +165,13 @@ module _ (c : Context) (known : List (Option ℕ)) (registers : List (Option Add
           same : (a : Address) (x y z : ℕ) → a.crate_no ≡ x → a.station ≡ y → a.sub_address ≡ z → address x y z ≡ a
           same a x y z p q r = rw (← p, ← q, ← r) refl
 
-    pub register_needs_none : (o : Option Address) → IfSome o HasAddress → NeedsNone c known registers (set_register line r e1 e2 e3) known (set registers r o)
+    pub register_needs_none : (o : Option Address) → IfSome o HasAddress → NeedsNone c known registers (set_register spot r e1 e2 e3) known (set registers r o)
     register_needs_none o has s kn = go (value e1 s.variables) (value e2 s.variables) (value e3 s.variables) refl refl refl
       where
-        by : (p1 p2 p3 : Option ℕ) (answers : List Answer) → value e1 s.variables ≡ p1 → value e2 s.variables ≡ p2 → value e3 s.variables ≡ p3 → effect c most_turns (set_register line r e1 e2 e3) (on answers s) ≡ sets p1 p2 p3 (on answers s)
+        by : (p1 p2 p3 : Option ℕ) (answers : List Answer) → value e1 s.variables ≡ p1 → value e2 s.variables ≡ p2 → value e3 s.variables ≡ p3 → effect c most_turns (set_register spot r e1 e2 e3) (on answers s) ≡ sets p1 p2 p3 (on answers s)
         by p1 p2 p3 answers i1 i2 i3 = rw (← i1, ← i2, ← i3) refl
 
-        go : (p1 p2 p3 : Option ℕ) → value e1 s.variables ≡ p1 → value e2 s.variables ≡ p2 → value e3 s.variables ≡ p3 → PassesFrom s (effect c most_turns (set_register line r e1 e2 e3)) known (set registers r o)
+        go : (p1 p2 p3 : Option ℕ) → value e1 s.variables ≡ p1 → value e2 s.variables ≡ p2 → value e3 s.variables ≡ p3 → PassesFrom s (effect c most_turns (set_register spot r e1 e2 e3)) known (set registers r o)
         go None p2 p3 i1 i2 i3 = inl (λ answers. by None p2 p3 answers i1 i2 i3)
         go (Some x) None p3 i1 i2 i3 = inl (λ answers. by (Some x) None p3 answers i1 i2 i3)
         go (Some x) (Some y) None i1 i2 i3 = inl (λ answers. by (Some x) (Some y) None answers i1 i2 i3)

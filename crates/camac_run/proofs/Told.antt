@@ -4,7 +4,7 @@ use Rattle.std.specs.Prelude.{slice_get, option_map, IfSome, IfNone, OnSome, IsT
 use Rattle.std.specs.Borrow.{Bor}
 use Rattle.std.proofs.lemmas.Bool.{false≢true}
 use Rattle.camac_lang.specs.Scope.{is_well_formed}
-use Rattle.camac_lang.specs.Tree.{Service, line_of}
+use Rattle.camac_lang.specs.Tree.{Service, spot_of}
 use Rattle.camac_lang.specs.View.{statement_of}
 use Rattle.camac_lang.specs.declared.tree.Stmt.{Stmt}
 use Rattle.camac_branch.specs.Crates.{Crates, branch_of}
@@ -211,7 +211,7 @@ module _ {V D C : ℕ} where
       let t = asked_of w (StandsIn h) (not_true (is_pause (pending_of w)) some) s in
       let u = rw f at t in u
 
-  pub is_place : (h : Machine V D C) (pending : Option Pending) (b : Bor Stmt) (fed n : ℕ) (has : Bool) (o : Option Overrun) (d : Crates) (m : ℕ) (place : Place) → is_asking (option_map pending_of pending) ≡ true → h.begun ≡ Some b → IfSome (asked pending) (StandsIn h) → place.service ≡ h.service → place.line ≡ line_of (statement_of b.now)
+  pub is_place : (h : Machine V D C) (pending : Option Pending) (b : Bor Stmt) (fed n : ℕ) (has : Bool) (o : Option Overrun) (d : Crates) (m : ℕ) (place : Place) → is_asking (option_map pending_of pending) ≡ true → h.begun ≡ Some b → IfSome (asked pending) (StandsIn h) → place.service ≡ h.service → place.line ≡ (spot_of (statement_of b.now)).line
       → IsPlace (runner_state h pending fed n has o d m) place
   is_place h None b fed n has o d m place some f s p q = absurd (false≢true some)
   is_place h (Some w) b fed n has o d m place some f s p q =

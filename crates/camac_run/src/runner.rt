@@ -355,7 +355,7 @@ impl<'a, const V: usize, const DEPTH: usize, const CAP: usize> Runner<'a, V, DEP
         match self.machine.begun {
             Some(begun) => Place {
                 service: self.machine.service,
-                line: begun.line(),
+                line: begun.spot().line,
             },
             None => unreachable!(),
         }

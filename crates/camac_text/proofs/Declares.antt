@@ -9,7 +9,7 @@ use Rattle.camac_tokens.specs.declared.token.Keyword.TheVariants as word
 use Rattle.camac_tokens.specs.declared.token.TokenKind.{TokenKind}
 use Rattle.camac_tokens.specs.declared.token.TokenKind.TheVariants as kind
 use Rattle.camac_text_cursor.specs.declared.choice.Choice.TheVariants as choice
-use Rattle.camac_text_cursor.specs.Reading.{State, give, change, kind_of, line_of, after_first, past, until, missed}
+use Rattle.camac_text_cursor.specs.Reading.{State, give, change, kind_of, spot_of, after_first, past, until, missed}
 use Rattle.camac_text_cursor.specs.Readers.{new_name, new_variable, is_name as next_is_name, expect, any_number, branch_number, sub_address_number, used_lam}
 use Rattle.camac_text_cursor.specs.Declaring.{with_lam, with_variables_of, with_service}
 use Rattle.camac_text_statements.specs.Statements.{block_at}
@@ -23,17 +23,18 @@ use Rattle.camac_text_statements.proofs.Bodies.{block_ok}
 use Rattle.camac_text.proofs.Variables.{DeclaresVariables, names_then_moves, new_variable_ok, no_variables, one_variable_more, variables_turn}
 use Rattle.camac_text.proofs.ProceduresRead.{ProcedureDeclaration, procedure_is}
 use Rattle.camac_text.proofs.TablesRead.{TableDeclaration, table_is}
+use Rattle.camac_lang.specs.declared.spot.Spot.{Spot}
 
 -- ---- declarations
 
 -- variables are declared, of which there is one at least
 pub record VariableDeclaration (s s' : State) : Type 0 where
-  pub line : ℕ
+  pub spot : Spot
   pub count : ℕ
   pub between : State
   pub variables : DeclaresVariables s count between
   pub some : 1 ≤ count
-  pub left : s' ≡ with_variables_of line count between
+  pub left : s' ≡ with_variables_of spot count between
   pub less : length s'.rest < length s.rest
 
 at_least : (s : State) (n : ℕ) (u : State) → 1 ≤ n → (y : ℕ × State) → DeclaresVariables s n u → until choice.Name next_is_name one_more_variable n u ≡ Ok y → DeclaresVariables s y.0 y.1 × (1 ≤ y.0)
@@ -42,21 +43,21 @@ at_least s n u some y d e =
     let a = then_ok (new_variable t) (λ _. give (m + 1)) (k, v) took in
     (variables_turn s m t k v both.0 took, subst (λ (p : ℕ × State). 1 ≤ p.0) (ok_is (m + 1, a.0.1) (k, v) a.2) (let h : 1 ≤ m + 1 = omega arith in h))) n u y (d, some) e
 
-variables_is : (s : State) (k : TokenKind) (line : ℕ) (y : Unit {0} × State) → kind_of s.rest ≡ Some k → variable_declaration line s ≡ Ok y → VariableDeclaration s y.1
+variables_is : (s : State) (k : TokenKind) (spot : Spot) (y : Unit {0} × State) → kind_of s.rest ≡ Some k → variable_declaration spot s ≡ Ok y → VariableDeclaration s y.1
 unfolding variable_declaration
-variables_is s k line y next e =
+variables_is s k spot y next e =
     let t : State = past s in
     let a = then_ok (new_variable t) _ y e in
     let first = new_variable_ok t a.0 a.1 in
     let one : DeclaresVariables t 1 a.0.1 = one_variable_more t 0 t first.0 a.0.1 (no_variables t) first.1 in
-    let b = then_ok (until choice.Name next_is_name one_more_variable 1 a.0.1) (λ count. change (with_variables_of line count)) y a.2 in
+    let b = then_ok (until choice.Name next_is_name one_more_variable 1 a.0.1) (λ count. change (with_variables_of spot count)) y a.2 in
     let all = at_least t 1 a.0.1 (omega arith) b.0 one b.1 in
     let d = all.0 in
-    let left : y.1 ≡ with_variables_of line b.0.0 b.0.1 = sym (ap (λ (p : Unit {0} × State). p.1) (ok_is (tt, with_variables_of line b.0.0 b.0.1) y b.2)) in
+    let left : y.1 ≡ with_variables_of spot b.0.0 b.0.1 = sym (ap (λ (p : Unit {0} × State). p.1) (ok_is (tt, with_variables_of spot b.0.0 b.0.1) y b.2)) in
     let less : length (after_first s.rest) < length s.rest = after_less s.rest k next in
     let shorter : length b.0.1.rest ≤ length (after_first s.rest) = d.declares.shorter in
     record {
-      line = line;
+      spot = spot;
       count = b.0.0;
       between = b.0.1;
       variables = record {
@@ -89,9 +90,9 @@ pub record LamDeclaration (s s' : State) : Type 0 where
   pub left : s' ≡ with_lam lam between
   pub less : length s'.rest < length s.rest
 
-lam_is : (s : State) (k : TokenKind) (line : ℕ) (y : Unit {0} × State) → kind_of s.rest ≡ Some k → lam_declaration line s ≡ Ok y → LamDeclaration s y.1
+lam_is : (s : State) (k : TokenKind) (spot : Spot) (y : Unit {0} × State) → kind_of s.rest ≡ Some k → lam_declaration spot s ≡ Ok y → LamDeclaration s y.1
 unfolding lam_declaration
-lam_is s k line y next e =
+lam_is s k spot y next e =
     let t : State = past s in
     let c0 = check_ok (nat_lt (length s.lams) 64) (told.Limit limit.Lams) _ s y e in
     let a = then_ok (new_name t) _ y c0.1 in
@@ -105,7 +106,7 @@ lam_is s k line y next e =
     let station = any_number_ok c.0.1 d.0 d.1 in
     let f = then_ok (sub_address_number d.0.1) _ y d.2 in
     let sub_address = sub_address_ok d.0.1 f.0 f.1 in
-    let l : Lam = record { line = line; name = a.0.0; crate_no = c.0.0; station = d.0.0; sub_address = f.0.0 } in
+    let l : Lam = record { spot = spot; name = a.0.0; crate_no = c.0.0; station = d.0.0; sub_address = f.0.0 } in
     let to_a : Moves s a.0.1 = subst (λ (w : State). Moves s w) (sym h.left) (moved s) in
     let to_b : Moves s b.0.1 = then_moves s u b.0.1 (then_moves s a.0.1 u to_a (moved a.0.1)) (one_moves u (kind.Number branch.0) b.0.1 branch.1) in
     let to_c : Moves s c.0.1 = then_moves s b.0.1 c.0.1 to_b (one_moves b.0.1 (kind.Number c.0.0) c.0.1 crate_no) in
@@ -130,7 +131,7 @@ lam_is s k line y next e =
 
 -- a service is declared
 pub record ServiceDeclaration (s s' : State) : Type 0 where
-  pub line : ℕ
+  pub spot : Spot
   pub lam : ℕ
   pub cycles : ℕ
   pub words : ℕ
@@ -141,12 +142,12 @@ pub record ServiceDeclaration (s s' : State) : Type 0 where
   pub lam_fits : lam < length s.lams
   pub cycles_fit : AllFit s.rest → is_number cycles ≡ true
   pub words_fit : AllFit s.rest → is_number words ≡ true
-  pub left : s' ≡ with_service line lam cycles words statements between
+  pub left : s' ≡ with_service spot lam cycles words statements between
   pub less : length s'.rest < length s.rest
 
-service_is : (s : State) (k : TokenKind) (line : ℕ) (y : Unit {0} × State) → kind_of s.rest ≡ Some k → service_declaration line s ≡ Ok y → ServiceDeclaration s y.1
+service_is : (s : State) (k : TokenKind) (spot : Spot) (y : Unit {0} × State) → kind_of s.rest ≡ Some k → service_declaration spot s ≡ Ok y → ServiceDeclaration s y.1
 unfolding service_declaration
-service_is s k line y next e =
+service_is s k spot y next e =
     let t : State = past s in
     let c0 = check_ok (nat_lt (length s.services) 24) (told.Limit limit.Services) _ s y e in
     let a = then_ok (used_lam t) _ y c0.1 in
@@ -168,11 +169,11 @@ service_is s k line y next e =
     let to_g : Moves t g.0.1 = then_moves t f.0.1 g.0.1 to_f (one_moves f.0.1 (kind.Number g.0.0) g.0.1 words) in
     let to_h : Moves t h.0.1 = then_moves t g.0.1 h.0.1 to_g (expect_ok word.Words g.0.1 h.0 h.1) in
     let inner : Body 16 t i.0.0 i.0.1 = after_moves 16 t h.0.1 i.0.0 i.0.1 to_h body in
-    let left : y.1 ≡ with_service line a.0.0 c.0.0 g.0.0 i.0.0 i.0.1 = sym (ap (λ (p : Unit {0} × State). p.1) (ok_is (tt, with_service line a.0.0 c.0.0 g.0.0 i.0.0 i.0.1) y i.2)) in
+    let left : y.1 ≡ with_service spot a.0.0 c.0.0 g.0.0 i.0.0 i.0.1 = sym (ap (λ (p : Unit {0} × State). p.1) (ok_is (tt, with_service spot a.0.0 c.0.0 g.0.0 i.0.0 i.0.1) y i.2)) in
     let less : length (after_first s.rest) < length s.rest = after_less s.rest k next in
     let shorter : length i.0.1.rest ≤ length (after_first s.rest) = inner.shorter in
     record {
-      line = line;
+      spot = spot;
       lam = a.0.0;
       cycles = c.0.0;
       words = g.0.0;
@@ -194,17 +195,17 @@ pub data Declares (s s' : State) : Type 0 where
   some_variables : VariableDeclaration s s' → Declares s s'
   a_service : ServiceDeclaration s s' → Declares s s'
 
-declaration_is : (s : State) (line : ℕ) (k : Option TokenKind) (y : Unit {0} × State) → kind_of s.rest ≡ k → declaration_by line k s ≡ Ok y → Declares s y.1
-declaration_is s line (Some (kind.Keyword word.Table)) y next e = a_table (table_is s (kind.Keyword word.Table) line y next e)
-declaration_is s line (Some (kind.Keyword word.Proc)) y next e = a_procedure (procedure_is s (kind.Keyword word.Proc) line y next e)
-declaration_is s line (Some (kind.Keyword word.Cdlam)) y next e = a_lam (lam_is s (kind.Keyword word.Cdlam) line y next e)
-declaration_is s line (Some (kind.Keyword word.Var)) y next e = some_variables (variables_is s (kind.Keyword word.Var) line y next e)
-declaration_is s line (Some (kind.Keyword word.Service)) y next e = a_service (service_is s (kind.Keyword word.Service) line y next e)
-declaration_is s line _ y next e = absurd (err_no_ok _ _ e)
+declaration_is : (s : State) (spot : Spot) (k : Option TokenKind) (y : Unit {0} × State) → kind_of s.rest ≡ k → declaration_by spot k s ≡ Ok y → Declares s y.1
+declaration_is s spot (Some (kind.Keyword word.Table)) y next e = a_table (table_is s (kind.Keyword word.Table) spot y next e)
+declaration_is s spot (Some (kind.Keyword word.Proc)) y next e = a_procedure (procedure_is s (kind.Keyword word.Proc) spot y next e)
+declaration_is s spot (Some (kind.Keyword word.Cdlam)) y next e = a_lam (lam_is s (kind.Keyword word.Cdlam) spot y next e)
+declaration_is s spot (Some (kind.Keyword word.Var)) y next e = some_variables (variables_is s (kind.Keyword word.Var) spot y next e)
+declaration_is s spot (Some (kind.Keyword word.Service)) y next e = a_service (service_is s (kind.Keyword word.Service) spot y next e)
+declaration_is s spot _ y next e = absurd (err_no_ok _ _ e)
 
 pub declaration_ok : (s : State) (y : Unit {0} × State) → declaration_at s ≡ Ok y → Declares s y.1
 unfolding declaration_at
-declaration_ok s y e = declaration_is s (line_of s.rest s.end_line) (kind_of s.rest) y refl e
+declaration_ok s y e = declaration_is s (spot_of s.rest s.end_line) (kind_of s.rest) y refl e
 
 declares_less : (s s' : State) → Declares s s' → length s'.rest < length s.rest
 declares_less s s' (a_procedure d) = d.less

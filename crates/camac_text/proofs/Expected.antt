@@ -12,13 +12,14 @@ use Rattle.camac_text_cursor.specs.Choice.{held}
 use Rattle.camac_text_cursor.specs.Expected.{Admits}
 use Rattle.camac_text_cursor.specs.Reading.{State, Fault as Failure}
 use Rattle.camac_text_cursor.specs.Tried.{Told}
-use Rattle.camac_text_cursor.proofs.Places.{noted_all, admits, Passes, Refuses}
+use Rattle.camac_text_cursor.proofs.Places.{noted_all, admits, left_at, Passes, Refuses}
 use Rattle.camac_text_cursor.proofs.Sets.{set_of, told_set, none_carried, admitted_in, in_admitted}
 use Rattle.camac_text.specs.Declarations.{declarations_at}
 use Rattle.camac_text.specs.Expecting.{Fits, IsRefused, IsExact, TellsAfter, ExpectsAfter}
 use Rattle.camac_text.specs.Parser.{start, tree_in, tree_of_tokens}
 use Rattle.camac_text.proofs.Faults.{tree_untold}
 use Rattle.camac_text.proofs.LocalDeclarations.{local_declarations}
+use Rattle.camac_lang.specs.declared.spot.Spot.{Spot}
 
 fits_in : (others : List Token) (r : Result (Unit {0} × State) Failure) → Passes others r → Fits others (tree_in r)
 fits_in others (Ok y) at = tt
@@ -35,16 +36,16 @@ not_admitted : (cs : List Choice) (at : Option TokenKind) (b : Bool) → admits 
 not_admitted cs at true is free = absurd (free (admitted_in cs at is))
 not_admitted cs at false is free = refl
 
-exact : (tokens : List Token) (end_line line left : ℕ) (set : Choice → Bool) → declarations_at (start tokens end_line) ≡ Err (record { case = told.Unexpected; line = line; left = left; tried = Told set }) → IsExact tokens left set
+exact : (tokens : List Token) (end_line : ℕ) (spot : Spot) (set : Choice → Bool) → declarations_at (start tokens end_line) ≡ Err (record { case = told.Unexpected; spot = spot; tried = Told set }) → IsExact tokens spot.left set
 unfolding tree_of_tokens
-exact tokens end_line line left set e =
-    let a = (local_declarations (start tokens end_line)).fails (record { case = told.Unexpected; line = line; left = left; tried = Told set }) e in
+exact tokens end_line spot set e =
+    let a = (local_declarations (start tokens end_line)).fails (record { case = told.Unexpected; spot = spot; tried = Told set }) e in
     let set_is : set ≡ set_of a.mine = told_is set (set_of a.mine) (a.tries ∙ ap (noted_all a.mine) (none_carried a.taken) ∙ told_set a.mine) in
     record {
       taken = a.taken;
       left = a.left;
       parts = a.parts;
-      here = a.place;
+      here = ap (λ (at : Spot). at.left) a.place ∙ left_at a.left end_line;
       fits = λ t others last is.
           let fit = in_admitted a.mine (Some t.kind) (subst (λ (w : Choice → Bool). Admits w (Some t.kind)) set_is is) in
           subst (Fits others) (tree_untold (start (a.taken ++ t ∷ others) last)) (fits_in others _ (a.passes refl t others last fit));
@@ -54,5 +55,5 @@ exact tokens end_line line left set e =
     }
 
 pub expects : (made : Result (List Token) Fault) (end_line : ℕ) (e : TextFault) (expected : Choices) → TellsAfter made end_line e expected → ExpectsAfter made e expected
-expects (Ok tokens) end_line (text_fault.Broken told.Unexpected line left) expected at = exact tokens end_line line left (held expected) at
+expects (Ok tokens) end_line (text_fault.Broken told.Unexpected spot) expected at = exact tokens end_line spot (held expected) at
 expects _ end_line e expected at = tt

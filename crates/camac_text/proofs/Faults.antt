@@ -35,7 +35,6 @@ placed tokens end_line f e =
       taken = a.taken;
       left = a.left;
       parts = a.parts;
-      line = a.line;
       place = a.place;
       fits = a.fits;
       settled = λ t after_first others last here. sym (tree_untold (start (a.taken ++ t ∷ others) last)) ∙ ap tree_in (a.again t after_first others last here);
@@ -52,4 +51,4 @@ pub fault_placed : (text : List ℕ) (r : Result Script TextFault) → Answers r
 unfolding script_of
 fault_placed text (Ok x) e = tt
 fault_placed text (Err text_fault.OutOfMemory) e = tt
-fault_placed text (Err (text_fault.Broken case line left)) e = fault_after (tokens_of text) (last_line text) (record { case = case; line = line; left = left }) e
+fault_placed text (Err (text_fault.Broken case spot)) e = fault_after (tokens_of text) (last_line text) (record { case = case; spot = spot }) e

@@ -13,10 +13,11 @@ use Rattle.camac_tokens.specs.declared.fault.Limit.TheVariants as limit
 use Rattle.camac_tokens.specs.declared.fault.TextCase.TheVariants as told
 use Rattle.camac_tokens.specs.Fault.{Fault}
 use Rattle.camac_tokens.specs.Words.{keyword}
-use Rattle.camac_tokens.specs.Scanning.{is_name_byte, is_blank, decimal_value, keyword_or, pair_at, single_at, pair_or_single, start_of, line_number, line_after, with_first, tokens_by, tokens_from, tokens_of}
+use Rattle.camac_tokens.specs.Scanning.{is_name_byte, is_blank, decimal_value, keyword_or, pair_at, single_at, pair_or_single, start_of, spot_at, line_after, with_first, tokens_by, tokens_from, tokens_of}
 use Rattle.camac_tokens.proofs.Scans.{run_some, name_begins}
 use Rattle.camac_text_cursor.proofs.Moves.{kind_fits, AllFit}
 use Rattle.camac_text_cursor.proofs.Registers.{both, below_le}
+use Rattle.camac_lang.specs.declared.spot.Spot.{Spot}
 
 abbrev StartFits : Start → Type 0
 StartFits (start.Found k n) = kind_fits k ≡ true
@@ -60,15 +61,15 @@ first_fits : (t : Token) (r : Result (List Token) Fault) (ts : List Token) → k
 first_fits t (Ok us) ts fits rest e = subst (λ (w : List Token). AllFit w) (list_is (t ∷ us) ts e) (fits, rest us refl)
 first_fits t (Err d) ts fits rest e = absurd cc
 
-step_fits : (f : Start) (line left : ℕ) (more : ℕ → Result (List Token) Fault) (ts : List Token) → StartFits f → ((n : ℕ) (us : List Token) → more n ≡ Ok us → AllFit us) → tokens_by f line left more ≡ Ok ts → AllFit ts
-step_fits (start.Gap n) line left more ts fits rest e = rest (n - 1) ts e
-step_fits (start.Found k n) line left more ts fits rest e = first_fits (record { kind = k; line = line_number line; left = left }) (more (n - 1)) ts fits (λ us h. rest (n - 1) us h) e
-step_fits (start.Wrong rule) line left more ts fits rest e = absurd cc
+step_fits : (f : Start) (spot : Spot) (more : ℕ → Result (List Token) Fault) (ts : List Token) → StartFits f → ((n : ℕ) (us : List Token) → more n ≡ Ok us → AllFit us) → tokens_by f spot more ≡ Ok ts → AllFit ts
+step_fits (start.Gap n) spot more ts fits rest e = rest (n - 1) ts e
+step_fits (start.Found k n) spot more ts fits rest e = first_fits (record { kind = k; spot = spot }) (more (n - 1)) ts fits (λ us h. rest (n - 1) us h) e
+step_fits (start.Wrong rule) spot more ts fits rest e = absurd cc
 
 from_fits : (bs : List ℕ) (skip line : ℕ) (ts : List Token) → tokens_from skip line bs ≡ Ok ts → AllFit ts
 unfolding tokens_from
 from_fits [] skip line ts e = subst (λ (w : List Token). AllFit w) (list_is [] ts e) tt
-from_fits (b ∷ bs) zero line ts e = step_fits (start_of b (b ∷ bs)) line (length (b ∷ bs)) (λ skip. tokens_from skip (line_after line b) bs) ts (start_fits b bs) (λ n us h. from_fits bs n (line_after line b) us h) e
+from_fits (b ∷ bs) zero line ts e = step_fits (start_of b (b ∷ bs)) (spot_at line (length (b ∷ bs))) (λ skip. tokens_from skip (line_after line b) bs) ts (start_fits b bs) (λ n us h. from_fits bs n (line_after line b) us h) e
 from_fits (b ∷ bs) (suc skip) line ts e = from_fits bs skip (line_after line b) ts e
 
 pub tokens_fit : (text : List ℕ) (ts : List Token) → tokens_of text ≡ Ok ts → AllFit ts

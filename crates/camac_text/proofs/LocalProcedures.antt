@@ -17,6 +17,7 @@ use Rattle.camac_text_cursor.proofs.Primitives.{local_give, local_change, begins
 use Rattle.camac_text_cursor.proofs.Local.{local_expect, begins_expect_sign, local_expect_sign, local_any_number, local_new_name, local_new_parameter}
 use Rattle.camac_text_statements.proofs.LocalStatements.{local_block}
 use Rattle.camac_text.proofs.ParametersRead.{parameters_progress, from_steps, from_cycles, from_bracket}
+use Rattle.camac_lang.specs.declared.spot.Spot.{Spot}
 
 -- ---- the heading
 
@@ -77,31 +78,31 @@ local_heading s =
 
 -- ---- the whole procedure
 
-abbrev after_body : ℕ → Text → Heading → ℕ → List Statement → Reader (Unit {0})
-after_body line name h names body = ask (λ s. s.registers) >>= λ registers. change (with_procedure (procedure_made line name h registers body) names)
+abbrev after_body : Spot → Text → Heading → ℕ → List Statement → Reader (Unit {0})
+after_body spot name h names body = ask (λ s. s.registers) >>= λ registers. change (with_procedure (procedure_made spot name h registers body) names)
 
-abbrev after_names : ℕ → Text → ℕ → Reader (Unit {0})
-after_names line name names = heading_at >>= λ h. block_at 16 >>= λ body. after_body line name h names body
+abbrev after_names : Spot → Text → ℕ → Reader (Unit {0})
+after_names spot name names = heading_at >>= λ h. block_at 16 >>= λ body. after_body spot name h names body
 
-abbrev after_name : ℕ → Text → Reader (Unit {0})
-after_name line name = opened name >>= λ names. after_names line name names
+abbrev after_name : Spot → Text → Reader (Unit {0})
+after_name spot name = opened name >>= λ names. after_names spot name names
 
-local_after_names : (line : ℕ) (name : Text) (names : ℕ) (s : State) → IsLocal (after_names line name names) s
-local_after_names line name names s =
-    local_then heading_at (λ h. block_at 16 >>= λ body. after_body line name h names body) s (local_heading s) (λ h u.
-    local_then (block_at 16) (λ body. after_body line name h names body) u (local_block 16 u) (λ body v.
-    local_ask (λ w. w.registers) (λ w ts n. refl) (λ registers. change (with_procedure (procedure_made line name h registers body) names)) v
-    (local_change (with_procedure (procedure_made line name h v.registers body) names) (λ w ts n. refl) (λ w. refl) v)))
+local_after_names : (spot : Spot) (name : Text) (names : ℕ) (s : State) → IsLocal (after_names spot name names) s
+local_after_names spot name names s =
+    local_then heading_at (λ h. block_at 16 >>= λ body. after_body spot name h names body) s (local_heading s) (λ h u.
+    local_then (block_at 16) (λ body. after_body spot name h names body) u (local_block 16 u) (λ body v.
+    local_ask (λ w. w.registers) (λ w ts n. refl) (λ registers. change (with_procedure (procedure_made spot name h registers body) names)) v
+    (local_change (with_procedure (procedure_made spot name h v.registers body) names) (λ w ts n. refl) (λ w. refl) v)))
 
 local_opened : (x : Text) (s : State) → IsLocal (opened x) s
 local_opened x s = local_then (change (in_heading x)) (λ _. ask (λ w. length w.declared)) s (local_change (in_heading x) (λ w ts n. refl) (λ w. refl) s) (λ _ u. local_ask (λ w. length w.declared) (λ w ts n. refl) give u (local_give (length u.declared) u))
 
-pub begins_procedure : (line : ℕ) (s : State) → IsHere s → Begins (procedure_declaration line) s
+pub begins_procedure : (spot : Spot) (s : State) → IsHere s → Begins (procedure_declaration spot) s
 unfolding procedure_declaration
-begins_procedure line s here =
-    begins_ask (λ u. u.procedures) (λ w ts n. refl) (λ known. check (nat_lt (length known) 16) (told.Limit limit.Procedures) >> (advance >> (new_name >>= λ x. advance >> after_name line x))) s
-    (begins_check (nat_lt (length s.procedures) 16) (told.Limit limit.Procedures) (advance >> (new_name >>= λ x. advance >> after_name line x)) s refl tt (λ _.
-    begins_then advance (λ _. new_name >>= λ x. advance >> after_name line x) s (begins_advance s here) (λ _ u.
-    local_new_name (λ x. advance >> after_name line x) u (λ x u at.
-    begins_then advance (λ _. after_name line x) u (begins_advance u (kind.Name x, at)) (λ _ u.
-    local_then (opened x) (λ names. after_names line x names) u (local_opened x u) (λ names v. local_after_names line x names v))))))
+begins_procedure spot s here =
+    begins_ask (λ u. u.procedures) (λ w ts n. refl) (λ known. check (nat_lt (length known) 16) (told.Limit limit.Procedures) >> (advance >> (new_name >>= λ x. advance >> after_name spot x))) s
+    (begins_check (nat_lt (length s.procedures) 16) (told.Limit limit.Procedures) (advance >> (new_name >>= λ x. advance >> after_name spot x)) s refl tt (λ _.
+    begins_then advance (λ _. new_name >>= λ x. advance >> after_name spot x) s (begins_advance s here) (λ _ u.
+    local_new_name (λ x. advance >> after_name spot x) u (λ x u at.
+    begins_then advance (λ _. after_name spot x) u (begins_advance u (kind.Name x, at)) (λ _ u.
+    local_then (opened x) (λ names. after_names spot x names) u (local_opened x u) (λ names v. local_after_names spot x names v))))))

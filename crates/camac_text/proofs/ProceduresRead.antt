@@ -1,5 +1,5 @@
 -- What a procedure that is read leaves.
-use Rattle.std.proofs.Common.{◌≡◌, ℕ, ◌≤◌, ◌<◌, true, nat_lt, List, [], ◌∷◌, ◌++◌, length, Some, Ok, sym, ap, subst, arith}
+use Rattle.std.proofs.Common.{◌≡◌, ◌≤◌, ◌<◌, true, nat_lt, List, [], ◌∷◌, ◌++◌, length, Some, Ok, sym, ap, subst, arith}
 use Rattle.std.proofs.lemmas.Bool.{ltb-true}
 use Rattle.camac_lang.specs.Tests.{is_name, is_new}
 use Rattle.camac_lang.specs.Tree.{Text, Statement}
@@ -17,10 +17,11 @@ use Rattle.camac_text_cursor.proofs.Moves.{AllFit, kind_fit, after_less, moved, 
 use Rattle.camac_text_statements.proofs.Blocks.{Body}
 use Rattle.camac_text_statements.proofs.Bodies.{block_ok}
 use Rattle.camac_text.proofs.ParametersRead.{ReadsHeading, heading_ok}
+use Rattle.camac_lang.specs.declared.spot.Spot.{Spot}
 
 -- a procedure is declared
 pub record ProcedureDeclaration (s s' : State) : Type 0 where
-  pub line : ℕ
+  pub spot : Spot
   pub name : Text
   pub heading : Heading
   pub body : List Statement
@@ -34,36 +35,36 @@ pub record ProcedureDeclaration (s s' : State) : Type 0 where
   pub fit : AllFit s.rest → AllFit rest.rest
   pub reads_heading : ReadsHeading (in_heading name (record s { rest = rest.rest; tried = rest.tried })) heading between
   pub reads_body : Body 16 between body last
-  pub left : s' ≡ with_procedure (procedure_made line name heading last.registers body) (length (s.declared ++ name ∷ [])) last
+  pub left : s' ≡ with_procedure (procedure_made spot name heading last.registers body) (length (s.declared ++ name ∷ [])) last
   pub less : length s'.rest < length s.rest
 
 -- after its name
-abbrev after_name : ℕ → Text → Reader (Unit {0})
-after_name line name =
-    opened name >>= λ names. heading_at >>= λ h. block_at 16 >>= λ body. ask (λ s. s.registers) >>= λ registers. change (with_procedure (procedure_made line name h registers body) names)
+abbrev after_name : Spot → Text → Reader (Unit {0})
+after_name spot name =
+    opened name >>= λ names. heading_at >>= λ h. block_at 16 >>= λ body. ask (λ s. s.registers) >>= λ registers. change (with_procedure (procedure_made spot name h registers body) names)
 
-pub procedure_is : (s : State) (k : TokenKind) (line : ℕ) (y : Unit {0} × State) → kind_of s.rest ≡ Some k → procedure_declaration line s ≡ Ok y → ProcedureDeclaration s y.1
+pub procedure_is : (s : State) (k : TokenKind) (spot : Spot) (y : Unit {0} × State) → kind_of s.rest ≡ Some k → procedure_declaration spot s ≡ Ok y → ProcedureDeclaration s y.1
 unfolding procedure_declaration
-procedure_is s k line y next e =
+procedure_is s k spot y next e =
     let t : State = past s in
-    let c0 = check_ok (nat_lt (length s.procedures) 16) (told.Limit limit.Procedures) (advance >> (new_name >>= λ name. advance >> after_name line name)) s y e in
-    let a = then_ok (new_name t) (λ name. advance >> after_name line name) y c0.1 in
+    let c0 = check_ok (nat_lt (length s.procedures) 16) (told.Limit limit.Procedures) (advance >> (new_name >>= λ name. advance >> after_name spot name)) s y e in
+    let a = then_ok (new_name t) (λ name. advance >> after_name spot name) y c0.1 in
     let h = new_name_ok t a.0 a.1 in
     let u : State = past (past s) in
-    let at : after_name line a.0.0 u ≡ Ok y = subst (λ (w : State). (advance >> after_name line a.0.0) w ≡ Ok y) h.left a.2 in
+    let at : after_name spot a.0.0 u ≡ Ok y = subst (λ (w : State). (advance >> after_name spot a.0.0) w ≡ Ok y) h.left a.2 in
     let v : State = in_heading a.0.0 u in
-    let b = then_ok (heading_at v) (λ g. block_at 16 >>= λ body. ask (λ w. w.registers) >>= λ registers. change (with_procedure (procedure_made line a.0.0 g registers body) (length v.declared))) y at in
+    let b = then_ok (heading_at v) (λ g. block_at 16 >>= λ body. ask (λ w. w.registers) >>= λ registers. change (with_procedure (procedure_made spot a.0.0 g registers body) (length v.declared))) y at in
     let heading = heading_ok v b.0 (omega arith) b.1 in
-    let c = then_ok (block_at 16 b.0.1) (λ body. ask (λ w. w.registers) >>= λ registers. change (with_procedure (procedure_made line a.0.0 b.0.0 registers body) (length v.declared))) y b.2 in
+    let c = then_ok (block_at 16 b.0.1) (λ body. ask (λ w. w.registers) >>= λ registers. change (with_procedure (procedure_made spot a.0.0 b.0.0 registers body) (length v.declared))) y b.2 in
     let body = block_ok 16 b.0.1 c.0 c.1 in
     let last : State = c.0.1 in
-    let left : y.1 ≡ with_procedure (procedure_made line a.0.0 b.0.0 last.registers c.0.0) (length v.declared) last = sym (ap (λ (p : Unit {0} × State). p.1) (ok_is (tt, with_procedure (procedure_made line a.0.0 b.0.0 last.registers c.0.0) (length v.declared) last) y c.2)) in
+    let left : y.1 ≡ with_procedure (procedure_made spot a.0.0 b.0.0 last.registers c.0.0) (length v.declared) last = sym (ap (λ (p : Unit {0} × State). p.1) (ok_is (tt, with_procedure (procedure_made spot a.0.0 b.0.0 last.registers c.0.0) (length v.declared) last) y c.2)) in
     let less : length (after_first s.rest) < length s.rest = after_less s.rest k next in
     let less_u : length (after_first (after_first s.rest)) ≤ length (after_first s.rest) = (moved t).shorter in
     let shorter_b : length b.0.1.rest ≤ length (after_first (after_first s.rest)) = heading.parameters.names.shorter in
     let shorter_c : length last.rest ≤ length b.0.1.rest = body.shorter in
     record {
-      line = line;
+      spot = spot;
       name = a.0.0;
       heading = b.0.0;
       body = c.0.0;

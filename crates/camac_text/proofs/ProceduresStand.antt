@@ -25,7 +25,7 @@ use Rattle.camac_text.proofs.Sofar.{before_of, Extends, Sofar}
 
 module _ (s s' : State) (so : Sofar s) (d : ProcedureDeclaration s s') where
   abbrev p : Procedure
-  p = procedure_made d.line d.name d.heading d.last.registers d.body
+  p = procedure_made d.spot d.name d.heading d.last.registers d.body
 
   abbrev ps : List Parameter
   ps = d.heading.parameters

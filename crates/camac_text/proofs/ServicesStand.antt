@@ -17,15 +17,16 @@ use Rattle.camac_text_phrases.proofs.ConditionsRead.{most_push}
 use Rattle.camac_text.proofs.Declares.{ServiceDeclaration}
 use Rattle.camac_text.proofs.Listed.{declared_push, at_place, total_push, same_number, declarable_same}
 use Rattle.camac_text.proofs.Sofar.{before_of, Extends, Sofar}
+use Rattle.camac_lang.specs.declared.spot.Spot.{Spot}
 
-abbrev service_state : State → State → ℕ → ℕ → ℕ → ℕ → List Statement → State
-service_state s u line lam cycles words body = service_added line lam cycles words body (record s { rest = u.rest; registers = u.registers; statements = s.statements + statements (block_of body); tried = u.tried })
+abbrev service_state : State → State → Spot → ℕ → ℕ → ℕ → List Statement → State
+service_state s u spot lam cycles words body = service_added spot lam cycles words body (record s { rest = u.rest; registers = u.registers; statements = s.statements + statements (block_of body); tried = u.tried })
 
-abbrev service_made : State → ℕ → ℕ → ℕ → ℕ → List Statement → Service
-service_made u line lam cycles words body = record { line = line; lam = lam; cycles = cycles; words = words; registers = u.registers; body = block_of body }
+abbrev service_made : State → Spot → ℕ → ℕ → ℕ → List Statement → Service
+service_made u spot lam cycles words body = record { spot = spot; lam = lam; cycles = cycles; words = words; registers = u.registers; body = block_of body }
 
-service_extends : (s u : State) (line lam cycles words : ℕ) (body : List Statement) (t : Script) → Extends (service_state s u line lam cycles words body) t → Extends s t
-service_extends s u line lam cycles words body t x = record {
+service_extends : (s u : State) (spot : Spot) (lam cycles words : ℕ) (body : List Statement) (t : Script) → Extends (service_state s u spot lam cycles words body) t → Extends s t
+service_extends s u spot lam cycles words body t x = record {
   tables = x.tables;
   tables_are = x.tables_are;
   lams = x.lams;
@@ -34,13 +35,13 @@ service_extends s u line lam cycles words body t x = record {
   variables_are = x.variables_are;
   procedures = x.procedures;
   procedures_are = x.procedures_are;
-  services = service_made u line lam cycles words body ∷ x.services;
-  services_are = x.services_are ∙ append_assoc s.services (service_made u line lam cycles words body ∷ []) x.services;
+  services = service_made u spot lam cycles words body ∷ x.services;
+  services_are = x.services_are ∙ append_assoc s.services (service_made u spot lam cycles words body ∷ []) x.services;
 }
 
-service_next : (s u : State) (line lam cycles words : ℕ) (body : List Statement) (names : List Text) (t : Script) → Extends (service_state s u line lam cycles words body) t → service_stands (before_of names s) (service_made u line lam cycles words body) ≡ true → declared t (before_of names s) next_service ≡ Some (before_of names (service_state s u line lam cycles words body))
-service_next s u line lam cycles words body names t x stands =
-    let v : Service = service_made u line lam cycles words body in
+service_next : (s u : State) (spot : Spot) (lam cycles words : ℕ) (body : List Statement) (names : List Text) (t : Script) → Extends (service_state s u spot lam cycles words body) t → service_stands (before_of names s) (service_made u spot lam cycles words body) ≡ true → declared t (before_of names s) next_service ≡ Some (before_of names (service_state s u spot lam cycles words body))
+service_next s u spot lam cycles words body names t x stands =
+    let v : Service = service_made u spot lam cycles words body in
     ap (option_and_then (λ (m : Service). unless_broken (service_stands (before_of names s) m) (with_service (before_of names s)))) (ap (λ (vs : List Service). slice_get vs (length s.services)) x.services_are ∙ at_place s.services v x.services)
     ∙ ap (λ (b : Bool). unless_broken b (with_service (before_of names s))) stands
     ∙ ap (λ (n : ℕ). Some (record (before_of names s) { services = n })) (sym (length-append s.services (v ∷ [])))
@@ -61,9 +62,9 @@ service_others s service = ap (λ (b : Bool). total (λ (p : Procedure). length 
 pub service_sofar : (s s' : State) → Sofar s → ServiceDeclaration s s' → Sofar s'
 service_sofar s s' so d =
     let u = d.between in
-    let v : Service = service_made u d.line d.lam d.cycles d.words d.statements in
-    let w : State = service_state s u d.line d.lam d.cycles d.words d.statements in
-    let is : s' ≡ w = d.left ∙ ap (λ (z : State). service_added d.line d.lam d.cycles d.words d.statements z) d.body.same in
+    let v : Service = service_made u d.spot d.lam d.cycles d.words d.statements in
+    let w : State = service_state s u d.spot d.lam d.cycles d.words d.statements in
+    let is : s' ≡ w = d.left ∙ ap (λ (z : State). service_added d.spot d.lam d.cycles d.words d.statements z) d.body.same in
     let others : other_registers s ≡ total (λ (p : Procedure). length p.registers) s.procedures = service_others s so.in_service in
     let few_before : total (λ (p : Procedure). length p.registers) s.procedures + most (λ (x : Service). length x.registers) s.services ≤ 64 = so.few_registers in
     let begins : RegistersFit (limits_of s) s.registers = subst (λ (rs : List Text). RegistersFit (limits_of s) rs) (sym so.no_registers) (no_registers_fit (limits_of s) (omega arith)) in
@@ -82,7 +83,7 @@ service_sofar s s' so d =
       no_registers = refl;
       names = so.names;
       same_names = so.same_names;
-      walked = λ t x. declared_push t nothing_before s.order next_service (before_of so.names s) (before_of so.names w) (so.walked t (service_extends s u d.line d.lam d.cycles d.words d.statements t x)) (service_next s u d.line d.lam d.cycles d.words d.statements so.names t x stands);
+      walked = λ t x. declared_push t nothing_before s.order next_service (before_of so.names s) (before_of so.names w) (so.walked t (service_extends s u d.spot d.lam d.cycles d.words d.statements t x)) (service_next s u d.spot d.lam d.cycles d.words d.statements so.names t x stands);
       few_tables = so.few_tables;
       counted_variables = so.counted_variables;
       few_variables = so.few_variables;

@@ -13,6 +13,7 @@ use Rattle.camac_text.proofs.Declares.{VariableDeclaration, LamDeclaration}
 use Rattle.camac_text.proofs.Extends as tree
 use Rattle.camac_text.proofs.TablesRead.{TableDeclaration}
 use Rattle.camac_text.proofs.Listed.{declared_push, at_place, between, same_number, declarable_same, prefix_or_after}
+use Rattle.camac_lang.specs.declared.spot.Spot.{Spot}
 
 -- ---- declarations
 
@@ -132,8 +133,8 @@ lam_sofar s s' so d =
 variables_stand : (names xs : List Text) (n : ℕ) → length xs ≡ n → 1 ≤ n → are_declarable xs names ≡ true → (nat_le 1 n && (nat_eq (length xs) n && are_declarable xs names)) ≡ true
 variables_stand names xs n e some h = both _ _ (below_le 1 n some) (both _ _ (ap (λ (m : ℕ). nat_eq m n) e ∙ same_number n) h)
 
-variables_next : (s u : State) (line n : ℕ) (xs names : List Text) (t : Script) → Extends (with_variables_of line n (record s { rest = u.rest; variables = s.variables ++ xs; variable_count = s.variable_count + length xs; declared = s.declared ++ xs; tried = u.tried })) t → length xs ≡ n → 1 ≤ n → are_declarable xs names ≡ true → declared t (before_of names s) (next_variables line n) ≡ Some (before_of (xs ++ names) (with_variables_of line n (record s { rest = u.rest; variables = s.variables ++ xs; variable_count = s.variable_count + length xs; declared = s.declared ++ xs; tried = u.tried })))
-variables_next s u line n xs names t x e some stands =
+variables_next : (s u : State) (spot : Spot) (n : ℕ) (xs names : List Text) (t : Script) → Extends (with_variables_of spot n (record s { rest = u.rest; variables = s.variables ++ xs; variable_count = s.variable_count + length xs; declared = s.declared ++ xs; tried = u.tried })) t → length xs ≡ n → 1 ≤ n → are_declarable xs names ≡ true → declared t (before_of names s) (next_variables spot n) ≡ Some (before_of (xs ++ names) (with_variables_of spot n (record s { rest = u.rest; variables = s.variables ++ xs; variable_count = s.variable_count + length xs; declared = s.declared ++ xs; tried = u.tried })))
+variables_next s u spot n xs names t x e some stands =
     let found : take n (drop (length s.variables) t.variables) ≡ xs = ap (λ (ys : List Text). take n (drop (length s.variables) ys)) x.variables_are ∙ ap (λ (m : ℕ). take m (drop (length s.variables) ((s.variables ++ xs) ++ x.variables))) (sym e) ∙ between s.variables xs x.variables in
     ap (λ (ys : List Text). unless_broken (nat_le 1 n && (nat_eq (length ys) n && are_declarable ys names)) (with_variables ys (before_of names s))) found
     ∙ ap (λ (b : Bool). unless_broken b (with_variables xs (before_of names s))) (variables_stand names xs n e some stands)
@@ -143,8 +144,8 @@ pub variables_sofar : (s s' : State) → Sofar s → VariableDeclaration s s' �
 variables_sofar s s' so d =
     let xs = d.variables.names in
     let u = d.between in
-    let v : State = with_variables_of d.line d.count (record s { rest = u.rest; variables = s.variables ++ xs; variable_count = s.variable_count + length xs; declared = s.declared ++ xs; tried = u.tried }) in
-    let is : s' ≡ v = d.left ∙ ap (λ (w : State). with_variables_of d.line d.count w) d.variables.declares.same in
+    let v : State = with_variables_of d.spot d.count (record s { rest = u.rest; variables = s.variables ++ xs; variable_count = s.variable_count + length xs; declared = s.declared ++ xs; tried = u.tried }) in
+    let is : s' ≡ v = d.left ∙ ap (λ (w : State). with_variables_of d.spot d.count w) d.variables.declares.same in
     let new : are_declarable xs so.names ≡ true = declarable_same xs so.names s.declared so.same_names ∙ d.variables.declares.new so.fit in
     let few : u.variable_count ≤ 64 = d.variables.declares.few so.few_variables in
     let same : u.variable_count ≡ s.variable_count + length xs = ap (λ (w : State). w.variable_count) d.variables.declares.same in
@@ -154,7 +155,7 @@ variables_sofar s s' so d =
       no_registers = so.no_registers;
       names = xs ++ so.names;
       same_names = prefix_or_after xs so.names s.declared so.same_names;
-      walked = λ t x. declared_push t nothing_before s.order (next_variables d.line d.count) (before_of so.names s) (before_of (xs ++ so.names) v) (so.walked t (tree.fewer None None (Some xs) None None x)) (variables_next s u d.line d.count xs so.names t x d.variables.counted d.some new);
+      walked = λ t x. declared_push t nothing_before s.order (next_variables d.spot d.count) (before_of so.names s) (before_of (xs ++ so.names) v) (so.walked t (tree.fewer None None (Some xs) None None x)) (variables_next s u d.spot d.count xs so.names t x d.variables.counted d.some new);
       few_tables = so.few_tables;
       counted_variables = let longer : length (s.variables ++ xs) ≡ length s.variables + length xs = length-append s.variables xs in let before : s.variable_count ≡ length s.variables + total (λ (p : Procedure). length p.parameters) s.procedures = so.counted_variables in omega arith;
       few_variables = subst (λ (n : ℕ). n ≤ 64) same few;

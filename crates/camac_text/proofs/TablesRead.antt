@@ -16,6 +16,7 @@ use Rattle.camac_text.specs.Tables.{word_after, one_more_word, table_words, tabl
 use Rattle.camac_text_cursor.proofs.Steps.{then_ok, ok_is, Progresses, until_keeps}
 use Rattle.camac_text_cursor.proofs.Moves.{AllFit, Moves, TakesOne, kind_fit, after_less, stays, moved, unmoved, then_moves, one_moves, one_less, check_ok, number_ok, expect_sign_ok, new_name_ok}
 use Rattle.camac_text_cursor.proofs.Registers.{below_le, each_push}
+use Rattle.camac_lang.specs.declared.spot.Spot.{Spot}
 
 -- ---- words
 
@@ -87,9 +88,9 @@ pub record TableDeclaration (s s' : State) : Type 0 where
   pub left : s' ≡ with_table table between
   pub less : length s'.rest < length s.rest
 
-pub table_is : (s : State) (k : TokenKind) (line : ℕ) (y : Unit {0} × State) → kind_of s.rest ≡ Some k → table_declaration line s ≡ Ok y → TableDeclaration s y.1
+pub table_is : (s : State) (k : TokenKind) (spot : Spot) (y : Unit {0} × State) → kind_of s.rest ≡ Some k → table_declaration spot s ≡ Ok y → TableDeclaration s y.1
 unfolding table_declaration
-table_is s k line y next e =
+table_is s k spot y next e =
     let t : State = past s in
     let c0 = check_ok (nat_lt (length s.tables) 16) (told.Limit limit.Tables) _ s y e in
     let a = then_ok (new_name t) _ y c0.1 in
@@ -98,7 +99,7 @@ table_is s k line y next e =
     let b = then_ok (expect_sign sign.Equals u) _ y a.2 in
     let c = then_ok (table_words b.0.1) _ y b.2 in
     let read = words_ok b.0.1 c.0 c.1 in
-    let made : Table = record { line = line; name = a.0.0; words = c.0.0 } in
+    let made : Table = record { spot = spot; name = a.0.0; words = c.0.0 } in
     let to_a : Moves t a.0.1 = subst (λ (w : State). Moves t w) (sym h.left) (stays t) in
     let to_b : Moves t b.0.1 = then_moves t u b.0.1 (then_moves t a.0.1 u to_a (moved a.0.1)) (expect_sign_ok sign.Equals u b.0 b.1) in
     let to_c : Moves t c.0.1 = then_moves t b.0.1 c.0.1 to_b read.moves in

@@ -17,13 +17,13 @@ use Rattle.camac_text.specs.Parser.{start, judged}
 -- nothing is told where a token has a fault
 pub told_none : (made : Result (List Token) Fault) (end_line : ℕ) (e : TextFault) (expected : Choices) → Fails e (judged made) → TellsAfter made end_line e expected
 told_none (Ok ts) end_line text_fault.OutOfMemory expected failed = tt
-told_none (Ok ts) end_line (text_fault.Broken case line left) expected failed = absurd cc
+told_none (Ok ts) end_line (text_fault.Broken case spot) expected failed = absurd cc
 told_none (Err d) end_line e expected failed = tt
 
 told_by : (ts : List Token) (end_line : ℕ) (e : TextFault) (tried : Tried) (expected : Choices) → Told (held expected) ≡ tried → FailsWith e tried (declarations_at (start ts end_line)) → TellsAfter (Ok ts) end_line e expected
 told_by ts end_line text_fault.OutOfMemory tried expected told failed = tt
-told_by ts end_line (text_fault.Broken case line left) tried expected told failed =
-    failed ∙ ap (λ (t : Tried). let r : Result (Unit {0} × State) Failure = Err (record { case = case; line = line; left = left; tried = t }) in r) (sym told)
+told_by ts end_line (text_fault.Broken case spot) tried expected told failed =
+    failed ∙ ap (λ (t : Tried). let r : Result (Unit {0} × State) Failure = Err (record { case = case; spot = spot; tried = t }) in r) (sym told)
 
 pub told_fault : (text : List ℕ) (ts : List Token) (e : TextFault) (tried : Tried) (expected : Choices) → tokens_of text ≡ Ok ts → Told (held expected) ≡ tried → FailsWith e tried (declarations_at (start ts (last_line text))) → TellsAfter (tokens_of text) (last_line text) e expected
 told_fault text ts e tried expected made told failed = subst (λ (m : Result (List Token) Fault). TellsAfter m (last_line text) e expected) (sym made) (told_by ts (last_line text) e tried expected told failed)

@@ -17,8 +17,8 @@ use Rattle.camac_text.specs.Declarations.{declarations_at}
 use Rattle.camac_text.specs.Parser.{start, tree_of_tokens}
 
 abbrev pub TellsAfter : Result (List Token) Fault → ℕ → TextFault → Choices → Type 0
-TellsAfter (Ok tokens) end_line (text_fault.Broken case line left) expected =
-    declarations_at (start tokens end_line) ≡ Err (record { case = case; line = line; left = left; tried = Told (held expected) })
+TellsAfter (Ok tokens) end_line (text_fault.Broken case spot) expected =
+    declarations_at (start tokens end_line) ≡ Err (record { case = case; spot = spot; tried = Told (held expected) })
 TellsAfter made end_line fault expected = Unit {0}
 
 -- Where no token of a text has a fault, a fault of the grammar is told with what the reader looked for at its token.
@@ -30,7 +30,7 @@ Tells text (Err fault) expected = TellsAfter (tokens_of text) (last_line text) f
 
 -- the fault is at one of these tokens, or at the text's end
 abbrev pub IsBehind : List Token → Fault → Type 0
-IsBehind others fault = (left : List Token) × Ends left others × (fault.left ≡ left_of left)
+IsBehind others fault = (left : List Token) × Ends left others × (fault.spot.left ≡ left_of left)
 
 -- The token before these is taken, or refused for what it says alone.
 abbrev pub Fits : List Token → Result Script Fault → Type 0
@@ -40,7 +40,7 @@ Fits others (Err fault) = is_of_order fault.case ≡ true → IsBehind others fa
 -- The order of tokens refuses it.
 abbrev pub IsRefused : Token → Result Script Fault → Type 0
 IsRefused t (Ok script) = ⊥
-IsRefused t (Err fault) = (is_of_order fault.case ≡ true) × (fault.line ≡ t.line) × (fault.left ≡ t.left)
+IsRefused t (Err fault) = (is_of_order fault.case ≡ true) × (fault.spot ≡ t.spot)
 
 -- The tokens up to a place, and another one there, whatever follows it: it fits where the set admits it, and else it is refused.
 pub record IsExact (tokens : List Token) (place : ℕ) (set : Choice → Bool) : Type 0 where
@@ -52,7 +52,7 @@ pub record IsExact (tokens : List Token) (place : ℕ) (set : Choice → Bool) :
   pub refuses : (t : Token) (others : List Token) (last : ℕ) → (Admits set (Some t.kind) → ⊥) → IsRefused t (tree_of_tokens (taken ++ t ∷ others) last)
 
 abbrev pub ExpectsAfter : Result (List Token) Fault → TextFault → Choices → Type 0
-ExpectsAfter (Ok tokens) (text_fault.Broken told.Unexpected line left) expected = IsExact tokens left (held expected)
+ExpectsAfter (Ok tokens) (text_fault.Broken told.Unexpected spot) expected = IsExact tokens spot.left (held expected)
 ExpectsAfter made fault expected = Unit {0}
 
 -- Where a token is told that the grammar does not allow there, what is told of its place is exact.

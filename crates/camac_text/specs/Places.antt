@@ -6,7 +6,7 @@ use Rattle.camac_tokens.specs.declared.fault.TextFault.TheVariants as text_fault
 use Rattle.camac_tokens.specs.Fault.{Fault}
 use Rattle.camac_tokens.specs.Scanning.{tokens_of, last_line}
 use Rattle.camac_text_cursor.specs.Places.{CaseFits}
-use Rattle.camac_text_cursor.specs.Reading.{kind_of, line_of, left_of}
+use Rattle.camac_text_cursor.specs.Reading.{kind_of, spot_of}
 use Rattle.camac_text.specs.Parser.{tree_of_tokens}
 
 -- The fault is that of a token, or of the text's end, and whatever follows that token, to whatever last line, it stays the
@@ -15,8 +15,7 @@ pub record IsPlaced (tokens : List Token) (end_line : ℕ) (fault : Fault) : Typ
   pub taken : List Token
   pub left : List Token
   pub parts : tokens ≡ taken ++ left
-  pub line : fault.line ≡ line_of left end_line
-  pub place : fault.left ≡ left_of left
+  pub place : fault.spot ≡ spot_of left end_line
   pub fits : CaseFits fault.case (kind_of left)
   pub settled : (t : Token) (after_first others : List Token) (last : ℕ) → left ≡ t ∷ after_first → tree_of_tokens (taken ++ t ∷ others) last ≡ Err fault
 
@@ -31,4 +30,4 @@ HasFault text fault = HasFaultAfter (tokens_of text) (last_line text) fault
 abbrev pub FaultIs : {A : Type 0} → Result A TextFault → (Fault → Type 0) → Type 0
 FaultIs (Ok x) P = Unit {0}
 FaultIs (Err text_fault.OutOfMemory) P = Unit {0}
-FaultIs (Err (text_fault.Broken case line left)) P = P (record { case = case; line = line; left = left })
+FaultIs (Err (text_fault.Broken case spot)) P = P (record { case = case; spot = spot })

@@ -11,6 +11,7 @@ use Rattle.camac_text_cursor.specs.Reading.{Reader, ◌>>=◌, ◌>>◌, give, a
 use Rattle.camac_text_cursor.specs.Readers.{is_sign, expect, expect_sign, any_number, new_name, new_parameter}
 use Rattle.camac_text_cursor.specs.Declaring.{opened, with_procedure}
 use Rattle.camac_text_statements.specs.Statements.{block_at}
+use Rattle.camac_lang.specs.declared.spot.Spot.{Spot}
 
 -- ---- the heading
 
@@ -58,9 +59,9 @@ heading_at = do
 
 -- ---- the whole procedure
 
-abbrev pub procedure_made : ℕ → Text → Heading → List Text → List Statement → Procedure
-procedure_made line name h registers body = record {
-  line = line;
+abbrev pub procedure_made : Spot → Text → Heading → List Text → List Statement → Procedure
+procedure_made spot name h registers body = record {
+  spot = spot;
   name = name;
   parameters = h.parameters;
   cycles = h.cycles;
@@ -70,8 +71,8 @@ procedure_made line name h registers body = record {
   body = block_of body;
 }
 
-unfoldable pub procedure_declaration : ℕ → Reader (Unit {0})
-procedure_declaration line = do
+unfoldable pub procedure_declaration : Spot → Reader (Unit {0})
+procedure_declaration spot = do
   known ← ask (λ s. s.procedures)
   check (nat_lt (length known) 16) (told.Limit limit.Procedures)
   advance
@@ -81,4 +82,4 @@ procedure_declaration line = do
   heading ← heading_at
   body ← block_at 16
   registers ← ask (λ s. s.registers)
-  change (with_procedure (procedure_made line name heading registers body) names)
+  change (with_procedure (procedure_made spot name heading registers body) names)

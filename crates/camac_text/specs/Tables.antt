@@ -7,6 +7,7 @@ use Rattle.camac_text_cursor.specs.declared.choice.Choice.TheVariants as choice
 use Rattle.camac_text_cursor.specs.Reading.{Reader, ◌>>=◌, ◌>>◌, give, ask, change, advance, check, until}
 use Rattle.camac_text_cursor.specs.Readers.{is_number, expect_sign, number_here, new_name}
 use Rattle.camac_text_cursor.specs.Declaring.{with_table}
+use Rattle.camac_lang.specs.declared.spot.Spot.{Spot}
 
 -- a word after so many words
 unfoldable pub word_after : ℕ → Reader ℕ
@@ -25,8 +26,8 @@ table_words = do
   first ← word_after 0
   until choice.Number is_number one_more_word (first ∷ [])
 
-unfoldable pub table_declaration : ℕ → Reader (Unit {0})
-table_declaration line = do
+unfoldable pub table_declaration : Spot → Reader (Unit {0})
+table_declaration spot = do
   known ← ask (λ s. s.tables)
   check (nat_lt (length known) 16) (told.Limit limit.Tables)
   advance
@@ -34,4 +35,4 @@ table_declaration line = do
   advance
   expect_sign sign.Equals
   words ← table_words
-  change (with_table (record { line = line; name = name; words = words }))
+  change (with_table (record { spot = spot; name = name; words = words }))

@@ -9,7 +9,7 @@ ghost use Rattle.camac_text_cursor.specs.Parser.{state, Gives};
 
 use crate::procedures::procedure_declaration;
 use crate::tables::table_declaration;
-use camac_lang::{Lam, limits};
+use camac_lang::{Lam, Spot, limits};
 use camac_text_cursor::{Choice, Parser};
 use camac_text_statements::block;
 use camac_tokens::{Keyword, Limit, TextCase, TextFault, TokenKind};
@@ -35,20 +35,20 @@ fn has_token(parser: &Parser<'_>) -> bool
 fn declaration(parser: &mut Parser<'_>) -> Result<(), TextFault>
     ensures { Gives (λ _. tt) result parser.new (declaration_at (state parser.old)) }
 {
-    let line = parser.line_here();
+    let spot = parser.spot_here();
     match parser.peek() {
-        Some(TokenKind::Keyword(Keyword::Table)) => table_declaration(parser, line),
-        Some(TokenKind::Keyword(Keyword::Cdlam)) => lam_declaration(parser, line),
-        Some(TokenKind::Keyword(Keyword::Var)) => variable_declaration(parser, line),
-        Some(TokenKind::Keyword(Keyword::Proc)) => procedure_declaration(parser, line),
-        Some(TokenKind::Keyword(Keyword::Service)) => service_declaration(parser, line),
+        Some(TokenKind::Keyword(Keyword::Table)) => table_declaration(parser, spot),
+        Some(TokenKind::Keyword(Keyword::Cdlam)) => lam_declaration(parser, spot),
+        Some(TokenKind::Keyword(Keyword::Var)) => variable_declaration(parser, spot),
+        Some(TokenKind::Keyword(Keyword::Proc)) => procedure_declaration(parser, spot),
+        Some(TokenKind::Keyword(Keyword::Service)) => service_declaration(parser, spot),
         _ => Err(parser.unexpected(Choice::Declaration)),
     }
 }
 
 #[tactic(auto, unfolding(crate::specs::Declarations::lam_declaration))]
-fn lam_declaration(parser: &mut Parser<'_>, line: u32) -> Result<(), TextFault>
-    ensures { Gives (λ _. tt) result parser.new (lam_declaration line (state parser.old)) }
+fn lam_declaration(parser: &mut Parser<'_>, spot: Spot) -> Result<(), TextFault>
+    ensures { Gives (λ _. tt) result parser.new (lam_declaration spot (state parser.old)) }
 {
     if parser.lam_count() >= limits::LAMS {
         return Err(parser.fault(TextCase::Limit(Limit::Lams)));
@@ -61,7 +61,7 @@ fn lam_declaration(parser: &mut Parser<'_>, line: u32) -> Result<(), TextFault>
     let station = parser.any_number()?;
     let sub_address = parser.sub_address_number()?;
     parser.add_lam(Lam {
-        line,
+        spot,
         name,
         crate_no,
         station,
@@ -70,13 +70,13 @@ fn lam_declaration(parser: &mut Parser<'_>, line: u32) -> Result<(), TextFault>
 }
 
 #[tactic(auto, unfolding(crate::specs::Declarations::variable_declaration))]
-fn variable_declaration(parser: &mut Parser<'_>, line: u32) -> Result<(), TextFault>
-    ensures { Gives (λ _. tt) result parser.new (variable_declaration line (state parser.old)) }
+fn variable_declaration(parser: &mut Parser<'_>, spot: Spot) -> Result<(), TextFault>
+    ensures { Gives (λ _. tt) result parser.new (variable_declaration spot (state parser.old)) }
 {
     parser.advance();
     parser.new_variable()?;
     let count = more_variables(parser)?;
-    parser.add_variables(line, count)
+    parser.add_variables(spot, count)
 }
 
 /// The number of variables of a declaration, of which one is read.
@@ -93,8 +93,8 @@ fn more_variables(parser: &mut Parser<'_>) -> Result<usize, TextFault>
 }
 
 #[tactic(auto, unfolding(crate::specs::Declarations::service_declaration))]
-fn service_declaration(parser: &mut Parser<'_>, line: u32) -> Result<(), TextFault>
-    ensures { Gives (λ _. tt) result parser.new (service_declaration line (state parser.old)) }
+fn service_declaration(parser: &mut Parser<'_>, spot: Spot) -> Result<(), TextFault>
+    ensures { Gives (λ _. tt) result parser.new (service_declaration spot (state parser.old)) }
 {
     if parser.service_count() >= limits::SERVICES {
         return Err(parser.fault(TextCase::Limit(Limit::Services)));
@@ -108,5 +108,5 @@ fn service_declaration(parser: &mut Parser<'_>, line: u32) -> Result<(), TextFau
     let words = parser.any_number()?;
     parser.expect(Keyword::Words)?;
     let body = block(parser, limits::DEPTH as u32)?;
-    parser.add_service(line, lam, cycles, words, body)
+    parser.add_service(spot, lam, cycles, words, body)
 }

@@ -6,7 +6,7 @@ ghost use Rattle.camac_text_cursor.specs.Parser.{state, Gives};
 ghost use Rattle.camac_text.specs.Headings.{heading_of};
 ghost use Rattle.camac_text.specs.Procedures.{parameter_at, next_parameter, parameter_list, parameters_at, heading_at, procedure_declaration};
 
-use camac_lang::{Parameter, Procedure, limits};
+use camac_lang::{Parameter, Procedure, Spot, limits};
 use camac_text_cursor::{Choice, Parser};
 use camac_text_statements::block;
 use camac_tokens::{Keyword, Limit, Sign, TextCase, TextFault};
@@ -22,8 +22,8 @@ pub struct Heading {
 
 /// `proc`
 #[tactic(auto, unfolding(crate::specs::Procedures::procedure_declaration))]
-pub fn procedure_declaration(parser: &mut Parser<'_>, line: u32) -> Result<(), TextFault>
-    ensures { Gives (λ _. tt) result parser.new (procedure_declaration line (state parser.old)) }
+pub fn procedure_declaration(parser: &mut Parser<'_>, spot: Spot) -> Result<(), TextFault>
+    ensures { Gives (λ _. tt) result parser.new (procedure_declaration spot (state parser.old)) }
 {
     if parser.procedure_count() >= limits::PROCEDURES {
         return Err(parser.fault(TextCase::Limit(Limit::Procedures)));
@@ -36,7 +36,7 @@ pub fn procedure_declaration(parser: &mut Parser<'_>, line: u32) -> Result<(), T
     let body = block(parser, limits::DEPTH as u32)?;
     let registers = parser.take_registers();
     let procedure = Procedure {
-        line,
+        spot,
         name,
         parameters: heading.parameters,
         cycles: heading.cycles,

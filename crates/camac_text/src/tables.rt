@@ -4,15 +4,15 @@ ghost use Rattle.std.specs.Prelude.{◌≡◌};
 ghost use Rattle.camac_text_cursor.specs.Parser.{state, Gives};
 ghost use Rattle.camac_text.specs.Tables.{word_after, table_words, table_declaration};
 
-use camac_lang::{Table, limits};
+use camac_lang::{Spot, Table, limits};
 use camac_text_cursor::{Choice, Parser};
 use camac_tokens::{Limit, Sign, TextCase, TextFault};
 use camac_word::Word24;
 
 /// `table`
 #[tactic(auto, unfolding(crate::specs::Tables::table_declaration))]
-pub fn table_declaration(parser: &mut Parser<'_>, line: u32) -> Result<(), TextFault>
-    ensures { Gives (λ _. tt) result parser.new (table_declaration line (state parser.old)) }
+pub fn table_declaration(parser: &mut Parser<'_>, spot: Spot) -> Result<(), TextFault>
+    ensures { Gives (λ _. tt) result parser.new (table_declaration spot (state parser.old)) }
 {
     if parser.table_count() >= limits::TABLES {
         return Err(parser.fault(TextCase::Limit(Limit::Tables)));
@@ -22,7 +22,7 @@ pub fn table_declaration(parser: &mut Parser<'_>, line: u32) -> Result<(), TextF
     parser.advance();
     parser.expect_sign(Sign::Equals)?;
     let words = table_words(parser)?;
-    parser.add_table(Table { line, name, words })
+    parser.add_table(Table { spot, name, words })
 }
 
 #[tactic(auto, unfolding(crate::specs::Tables::table_words))]

@@ -15,7 +15,7 @@ module _ {A : Type 0} (goes_on : Option TokenKind → Bool) (turn : A → Reader
 
   pub fails : (e : TextFault) (tried : Tried) → goes_on (kind_of s.rest) ≡ true → FailsWith e tried (turn x s) → while_next goes_on turn x s ≡ total → FailsWith e tried total
   fails fault.OutOfMemory tried on failed so_far = tt
-  fails (fault.Broken case line left) tried on failed so_far = sym so_far ∙ while_on goes_on turn progress x s on ∙ ap (λ (r : Result (A × State) Fault). then_read r (while_next goes_on turn)) failed
+  fails (fault.Broken case spot) tried on failed so_far = sym so_far ∙ while_on goes_on turn progress x s on ∙ ap (λ (r : Result (A × State) Fault). then_read r (while_next goes_on turn)) failed
 
   pub ends : goes_on (kind_of s.rest) ≡ false → while_next goes_on turn x s ≡ total → total ≡ Ok (x, s)
   ends off so_far = sym so_far ∙ while_off goes_on turn x s off
@@ -27,7 +27,7 @@ module _ {A : Type 0} (c : Choice) (goes_on : Option TokenKind → Bool) (turn :
 
   pub until_fails : (e : TextFault) (tried : Tried) → goes_on (kind_of s.rest) ≡ true → FailsWith e tried (turn x s) → until c goes_on turn x s ≡ total → FailsWith e tried total
   until_fails fault.OutOfMemory tried on failed so_far = tt
-  until_fails (fault.Broken case line left) tried on failed so_far = sym so_far ∙ ap (λ (r : Result (A × State) Fault). then_read r (missing c)) (fails goes_on turn progress x s (while_next goes_on turn x s) (fault.Broken case line left) tried on failed refl)
+  until_fails (fault.Broken case spot) tried on failed so_far = sym so_far ∙ ap (λ (r : Result (A × State) Fault). then_read r (missing c)) (fails goes_on turn progress x s (while_next goes_on turn x s) (fault.Broken case spot) tried on failed refl)
 
   pub until_ends : goes_on (kind_of s.rest) ≡ false → until c goes_on turn x s ≡ total → total ≡ Ok (x, missed c s)
   until_ends off so_far = sym so_far ∙ ap (λ (r : Result (A × State) Fault). then_read r (missing c)) (while_off goes_on turn x s off)
@@ -39,7 +39,7 @@ module _ {A : Type 0} (goes_on : Option TokenKind → Bool) (read : Reader A) (p
 
   pub more_fails : (e : TextFault) (tried : Tried) → goes_on (kind_of s.rest) ≡ true → FailsWith e tried (read s) → while_next goes_on (one_more read) xs s ≡ total → FailsWith e tried total
   more_fails fault.OutOfMemory tried on failed so_far = tt
-  more_fails (fault.Broken case line left) tried on failed so_far = fails goes_on (one_more read) progress xs s total (fault.Broken case line left) tried on (ap (λ (r : Result (A × State) Fault). then_read r (λ y. give (xs ++ y ∷ []))) failed) so_far
+  more_fails (fault.Broken case spot) tried on failed so_far = fails goes_on (one_more read) progress xs s total (fault.Broken case spot) tried on (ap (λ (r : Result (A × State) Fault). then_read r (λ y. give (xs ++ y ∷ []))) failed) so_far
 
 -- and such a one that makes a list
 module _ {A : Type 0} (c : Choice) (goes_on : Option TokenKind → Bool) (read : Reader A) (progress : Progresses goes_on (one_more read)) (xs : List A) (s : State) (total : Result (List A × State) Fault) where
@@ -48,9 +48,9 @@ module _ {A : Type 0} (c : Choice) (goes_on : Option TokenKind → Bool) (read :
 
   pub until_more_fails : (e : TextFault) (tried : Tried) → goes_on (kind_of s.rest) ≡ true → FailsWith e tried (read s) → until c goes_on (one_more read) xs s ≡ total → FailsWith e tried total
   until_more_fails fault.OutOfMemory tried on failed so_far = tt
-  until_more_fails (fault.Broken case line left) tried on failed so_far = until_fails c goes_on (one_more read) progress xs s total (fault.Broken case line left) tried on (ap (λ (r : Result (A × State) Fault). then_read r (λ y. give (xs ++ y ∷ []))) failed) so_far
+  until_more_fails (fault.Broken case spot) tried on failed so_far = until_fails c goes_on (one_more read) progress xs s total (fault.Broken case spot) tried on (ap (λ (r : Result (A × State) Fault). then_read r (λ y. give (xs ++ y ∷ []))) failed) so_far
 
 -- what fails, fails whatever would follow it
 pub then_fails : {A B : Type 0} (e : TextFault) (tried : Tried) (r : Result (A × State) Fault) (g : A → Reader B) → FailsWith e tried r → FailsWith e tried (then_read r g)
 then_fails fault.OutOfMemory tried r g failed = tt
-then_fails (fault.Broken case line left) tried r g failed = ap (λ (q : Result (_ × State) Fault). then_read q g) failed
+then_fails (fault.Broken case spot) tried r g failed = ap (λ (q : Result (_ × State) Fault). then_read q g) failed

@@ -1,13 +1,14 @@
 -- Where readers stop: what a reader answers depends on no token after the one where it stops, and with another token there it does the same
 -- unless it has looked for that one.
 use Rattle.std.proofs.Common.{◌≡◌, ℕ, ◌+◌, Bool, true, false, ◌||◌, List, [], ◌∷◌, ◌++◌, length, Option, Some, Result, Ok, Err, refl, sym, ap, subst, ◌∙◌, append_assoc, length-append, arith, ◌⊎◌, inl, inr}
+use Rattle.camac_lang.specs.declared.spot.Spot.{Spot}
 use Rattle.camac_tokens.specs.declared.token.Token.{Token}
 use Rattle.camac_tokens.specs.declared.token.TokenKind.{TokenKind}
 use Rattle.camac_tokens.specs.declared.fault.TextCase.{TextCase}
 use Rattle.camac_tokens.specs.declared.fault.TextCase.TheVariants as told
 use Rattle.camac_text_cursor.specs.declared.choice.Choice.{Choice}
 use Rattle.camac_text_cursor.specs.Tried.{Tried, Untold, Told, noted, cleared}
-use Rattle.camac_text_cursor.specs.Reading.{State, Reader, then_read, ◌>>=◌, ask, line_here, peek, kind_of, line_of, left_of, Fault}
+use Rattle.camac_text_cursor.specs.Reading.{State, Reader, then_read, ◌>>=◌, ask, spot_here, peek, kind_of, spot_of, left_of, Fault}
 use Rattle.camac_text_cursor.specs.Expected.{suits, is_of_order, Ends}
 use Rattle.camac_text_cursor.specs.Places.{CaseFits}
 use Rattle.camac_text_cursor.proofs.Steps.{then_ok}
@@ -55,7 +56,7 @@ admits (c ∷ cs) at = suits c at || admits cs at
 
 -- the fault is at one of these tokens, or behind them
 abbrev pub IsIn : List Token → Fault → Type 0
-IsIn ts e = (left : List Token) × Ends left ts × (e.left ≡ left_of left)
+IsIn ts e = (left : List Token) × Ends left ts × (e.spot.left ≡ left_of left)
 
 -- a run over these tokens
 abbrev pub Within : {A : Type 0} → List Token → Result (A × State) Fault → Type 0
@@ -70,7 +71,7 @@ Passes ts (Err e) = is_of_order e.case ≡ true → IsIn ts e
 -- The token does not fit.
 abbrev pub Refuses : {A : Type 0} → Token → Result (A × State) Fault → Type 0
 Refuses t (Ok y) = ⊥
-Refuses t (Err e) = (is_of_order e.case ≡ true) × (e.line ≡ t.line) × (e.left ≡ t.left)
+Refuses t (Err e) = (is_of_order e.case ≡ true) × (e.spot ≡ t.spot)
 
 -- Where a reader stopped with a value: what it took, and what it looked for there. With another token there it does the same, unless it looked
 -- for that one; then it passes it.
@@ -91,8 +92,7 @@ pub record FailsAt {A : Type 0} (f : Reader A) (s : State) (e : Fault) : Type 0 
   pub left : List Token
   pub mine : List Choice
   pub parts : s.rest ≡ taken ++ left
-  pub line : e.line ≡ line_of left s.end_line
-  pub place : e.left ≡ left_of left
+  pub place : e.spot ≡ spot_of left s.end_line
   pub fits : CaseFits e.case (kind_of left)
   pub tries : e.tried ≡ noted_all mine (carried taken s.tried)
   pub untold : f (hushed s) ≡ Err (without e)
@@ -216,11 +216,18 @@ pub refuses_then : {A B : Type 0} (t : Token) (r : Result (A × State) Fault) (g
 refuses_then t (Ok y) g at = absurd at
 refuses_then t (Err e) g at = at
 
+pub left_at : (ts : List Token) (end_line : ℕ) → (spot_of ts end_line).left ≡ left_of ts
+left_at [] end_line = refl
+left_at (t ∷ ts) end_line = refl
+
+pub in_place : {A : Type 0} (f : Reader A) (s : State) (e : Fault) (a : FailsAt f s e) → e.spot.left ≡ left_of a.left
+in_place f s e a = ap (λ (p : Spot). p.left) a.place ∙ left_at a.left s.end_line
+
 pub within_local : {A : Type 0} (f : Reader A) (s : State) → IsLocal f s → Within s.rest (f s)
 within_local {A} f s at = by (f s) refl where
   by : (r : Result (A × State) Fault) → f s ≡ r → Within s.rest r
   by (Ok y) e = let a = at.stops y.0 y.1 e in (a.taken, a.parts)
-  by (Err d) e = let a = at.fails d e in (a.left, (a.taken, a.parts), a.place)
+  by (Err d) e = let a = at.fails d e in (a.left, (a.taken, a.parts), in_place f s d a)
 
 -- behind the first token
 tail_ends : (t : Token) (ts taken left : List Token) → t ∷ ts ≡ taken ++ left → IsSome taken → Ends left ts
@@ -231,7 +238,7 @@ pub passes_begins : {A : Type 0} (f : Reader A) (s : State) (t : Token) (ts : Li
 passes_begins {A} f s t ts here at = by (f s) refl where
   by : (r : Result (A × State) Fault) → f s ≡ r → Passes ts r
   by (Ok y) e = let a = at.stops y.0 y.1 e in tail_ends t ts a.0.taken y.1.rest (sym here ∙ a.0.parts) a.1
-  by (Err d) e = let a = at.fails d e in λ is. (a.0.left, tail_ends t ts a.0.taken a.0.left (sym here ∙ a.0.parts) (a.1 is), a.0.place)
+  by (Err d) e = let a = at.fails d e in λ is. (a.0.left, tail_ends t ts a.0.taken a.0.left (sym here ∙ a.0.parts) (a.1 is), in_place f s d a.0)
 
 -- ---- one after the other
 
@@ -240,9 +247,9 @@ pub kind_same : (ts taken left : List Token) (t : Token) (r r' : List Token) →
 kind_same ts [] left t r r' parts h = rw (parts, h) refl
 kind_same ts (c ∷ cs) left t r r' parts h = rw parts refl
 
-line_same : (ts taken left : List Token) (end_line n : ℕ) (t : Token) (r r' : List Token) → ts ≡ taken ++ left → left ≡ t ∷ r → line_of (taken ++ t ∷ r') n ≡ line_of ts end_line
-line_same ts [] left end_line n t r r' parts h = rw (parts, h) refl
-line_same ts (c ∷ cs) left end_line n t r r' parts h = rw parts refl
+spot_same : (ts taken left : List Token) (end_line n : ℕ) (t : Token) (r r' : List Token) → ts ≡ taken ++ left → left ≡ t ∷ r → spot_of (taken ++ t ∷ r') n ≡ spot_of ts end_line
+spot_same ts [] left end_line n t r r' parts h = rw (parts, h) refl
+spot_same ts (c ∷ cs) left end_line n t r r' parts h = rw parts refl
 
 too_long : (t : Token) (ts : List Token) → Ends (t ∷ ts) ts → ⊥
 too_long t ts e =
@@ -309,8 +316,7 @@ module _ {A B : Type 0} (f : Reader A) (g : A → Reader B) (on : GoesOn g) (s :
     left = b.left;
     mine = joined b.taken b.mine a.mine;
     parts = join_parts s.rest a.taken s'.rest b.taken b.left a.parts b.parts;
-    line = b.line ∙ ap (line_of b.left) a.same_end;
-    place = b.place;
+    place = b.place ∙ ap (spot_of b.left) a.same_end;
     fits = b.fits;
     tries = b.tries ∙ tried_joined a.taken b.taken b.mine a.mine s.tried s'.tried a.tries;
     untold = ap (λ (q : Result (A × State) Fault). then_read q g) a.untold ∙ b.untold;
@@ -327,7 +333,6 @@ fails_first {A} f g on s e a = record {
   left = a.left;
   mine = a.mine;
   parts = a.parts;
-  line = a.line;
   place = a.place;
   fits = a.fits;
   tries = a.tries;
@@ -402,7 +407,6 @@ module _ {A : Type 0} (f g : Reader A) (s : State) (here : f s ≡ g s) (same : 
     left = a.left;
     mine = a.mine;
     parts = a.parts;
-    line = a.line;
     place = a.place;
     fits = a.fits;
     tries = a.tries;
@@ -439,14 +443,14 @@ same_kind : (ts : List Token) (taken left : List Token) (us : List Token) → ts
 same_kind ts [] left us parts some = absurd some
 same_kind ts (c ∷ cs) left us parts some = rw parts refl
 
-same_line : (ts : List Token) (taken left : List Token) (us : List Token) (n m : ℕ) → ts ≡ taken ++ left → IsSome taken → line_of (taken ++ us) n ≡ line_of ts m
-same_line ts [] left us n m parts some = absurd some
-same_line ts (c ∷ cs) left us n m parts some = rw parts refl
+same_spot : (ts : List Token) (taken left : List Token) (us : List Token) (n m : ℕ) → ts ≡ taken ++ left → IsSome taken → spot_of (taken ++ us) n ≡ spot_of ts m
+same_spot ts [] left us n m parts some = absurd some
+same_spot ts (c ∷ cs) left us n m parts some = rw parts refl
 
 unexpected_is : (case : TextCase) → case ≡ told.Unexpected → is_of_order case ≡ true
 unexpected_is case is = ap is_of_order is
 
-pub begins_first : {A : Type 0} (f g : Reader A) (s : State) → f s ≡ g s → ((ts : List Token) (n : ℕ) → kind_of ts ≡ kind_of s.rest → line_of ts n ≡ line_of s.rest s.end_line → f (with_rest n s ts) ≡ g (with_rest n s ts)) → Begins g s → Begins f s
+pub begins_first : {A : Type 0} (f g : Reader A) (s : State) → f s ≡ g s → ((ts : List Token) (n : ℕ) → kind_of ts ≡ kind_of s.rest → spot_of ts n ≡ spot_of s.rest s.end_line → f (with_rest n s ts) ≡ g (with_rest n s ts)) → Begins g s → Begins f s
 begins_first {A} f g s here same at = record {
   stops = λ x s' e.
       let a = at.stops x s' (sym here ∙ e) in (
@@ -469,12 +473,11 @@ begins_first {A} f g s here same at = record {
           left = a.0.left;
           mine = a.0.mine;
           parts = a.0.parts;
-          line = a.0.line;
           place = a.0.place;
           fits = a.0.fits;
           tries = a.0.tries;
           untold = same s.rest s.end_line refl refl ∙ a.0.untold;
-          again = λ t r r' n k. same (a.0.taken ++ t ∷ r') n (kind_same s.rest a.0.taken a.0.left t r r' a.0.parts k) (line_same s.rest a.0.taken a.0.left s.end_line n t r r' a.0.parts k) ∙ a.0.again t r r' n k;
+          again = λ t r r' n k. same (a.0.taken ++ t ∷ r') n (kind_same s.rest a.0.taken a.0.left t r r' a.0.parts k) (spot_same s.rest a.0.taken a.0.left s.end_line n t r r' a.0.parts k) ∙ a.0.again t r r' n k;
           refuses = λ is t r n free. subst (λ (q : Result (A × State) Fault). Refuses t q) (sym (like a.0.taken a.0.left a.0.parts (a.1 (unexpected_is e.case is)) (t ∷ r) n)) (a.0.refuses is t r n free);
           passes = λ is t r n fit. subst (λ (q : Result (A × State) Fault). Passes r q) (sym (like a.0.taken a.0.left a.0.parts (a.1 (unexpected_is e.case is)) (t ∷ r) n)) (a.0.passes is t r n fit);
         },
@@ -482,10 +485,10 @@ begins_first {A} f g s here same at = record {
       );
 } where
   like : (taken left : List Token) → s.rest ≡ taken ++ left → IsSome taken → (us : List Token) (n : ℕ) → f (with_rest n s (taken ++ us)) ≡ g (with_rest n s (taken ++ us))
-  like taken left parts some us n = same (taken ++ us) n (same_kind s.rest taken left us parts some) (same_line s.rest taken left us n s.end_line parts some)
+  like taken left parts some us n = same (taken ++ us) n (same_kind s.rest taken left us parts some) (same_spot s.rest taken left us n s.end_line parts some)
 
-pub begins_line : {B : Type 0} (g : ℕ → Reader B) (s : State) → Begins (g (line_of s.rest s.end_line)) s → Begins (line_here >>= g) s
-begins_line g s at = begins_first (line_here >>= g) (g (line_of s.rest s.end_line)) s refl (λ ts n k l. ap (λ (m : ℕ). g m (with_rest n s ts)) l) at
+pub begins_spot : {B : Type 0} (g : Spot → Reader B) (s : State) → Begins (g (spot_of s.rest s.end_line)) s → Begins (spot_here >>= g) s
+begins_spot g s at = begins_first (spot_here >>= g) (g (spot_of s.rest s.end_line)) s refl (λ ts n k p. ap (λ (q : Spot). g q (with_rest n s ts)) p) at
 
 pub begins_peek : {B : Type 0} (g : Option TokenKind → Reader B) (s : State) → Begins (g (kind_of s.rest)) s → Begins (peek >>= g) s
 begins_peek g s at = begins_first (peek >>= g) (g (kind_of s.rest)) s refl (λ ts n k l. ap (λ (w : Option TokenKind). g w (with_rest n s ts)) k) at

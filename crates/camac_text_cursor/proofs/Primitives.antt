@@ -7,7 +7,7 @@ use Rattle.camac_tokens.specs.declared.fault.TextCase.TheVariants as told
 use Rattle.camac_text_cursor.specs.declared.choice.Choice.{Choice}
 use Rattle.camac_text_cursor.specs.declared.choice.Choice.TheVariants as choice
 use Rattle.camac_text_cursor.specs.Tried.{Tried, Untold, cleared}
-use Rattle.camac_text_cursor.specs.Reading.{State, Reader, then_read, ◌>>=◌, ◌>>◌, give, change, peek, advance, past, fail, check, kind_of, after_first, line_of, left_of, miss, while_next, missing, until, Fault}
+use Rattle.camac_text_cursor.specs.Reading.{State, Reader, then_read, ◌>>=◌, ◌>>◌, give, change, peek, advance, past, fail, check, kind_of, after_first, spot_of, miss, while_next, missing, until, Fault}
 use Rattle.camac_text_cursor.specs.Expected.{suits, is_of_order}
 use Rattle.camac_text_cursor.specs.Places.{CaseFits}
 use Rattle.camac_text_cursor.proofs.Steps.{then_ok, ok_is, err_is, Progresses, while_choice, while_on, while_off}
@@ -46,7 +46,7 @@ pub local_give : {A : Type 0} (x : A) (s : State) → IsLocal (give x) s
 local_give x s = local_ok (give x) s x s refl (record { taken = []; mine = []; parts = refl; same_end = refl; tries = refl; untold = refl; again = λ t r n free. refl; passes = λ t r n is. none_admitted (Some t.kind) is })
 
 abbrev fault_at : TextCase → State → Fault
-fault_at case s = record { case = case; line = line_of s.rest s.end_line; left = left_of s.rest; tried = s.tried }
+fault_at case s = record { case = case; spot = spot_of s.rest s.end_line; tried = s.tried }
 
 fails_at : {A : Type 0} (case : TextCase) (s : State) → CaseFits case (kind_of s.rest) → FailsAt (let f : Reader A = fail case in f) s (fault_at case s)
 fails_at case s fits = record {
@@ -54,13 +54,12 @@ fails_at case s fits = record {
   left = s.rest;
   mine = [];
   parts = refl;
-  line = refl;
   place = refl;
   fits = fits;
   tries = refl;
   untold = refl;
   again = λ t r r' n h. rw h refl;
-  refuses = λ is t r n free. (ap is_of_order is, refl, refl);
+  refuses = λ is t r n free. (ap is_of_order is, refl);
   passes = λ is t r n fit. none_admitted (Some t.kind) fit;
 }
 
@@ -218,7 +217,6 @@ module _ {A : Type 0} (cs : List Choice) (f g : Reader A) (s : State) (off : adm
           left = a.left;
           mine = joined a.taken a.mine cs;
           parts = a.parts;
-          line = a.line;
           place = a.place;
           fits = a.fits;
           tries = a.tries ∙ tried_joined [] a.taken a.mine cs s.tried (noted_all cs s.tried) refl;
@@ -247,15 +245,15 @@ refusal cs (Some wanted) = fail (told.ArgumentCount wanted)
 pub local_refusing : {A : Type 0} (cs : List Choice) (bars : Option TokenKind → Option ℕ) (f : Reader A) (s : State) → ((u : State) → admits cs (kind_of u.rest) ≡ true → Begins f u) → ((u : State) → admits cs (kind_of u.rest) ≡ false → f u ≡ refusal cs (bars (kind_of u.rest)) u) → IsLocal f s
 local_refusing {A} cs bars f s on other = by (admits cs (kind_of s.rest)) refl (bars (kind_of s.rest)) refl where
   refused : (b : Option ℕ) (t : Token) (r : List Token) (n : ℕ) → Refuses t (let q : Result (A × State) Fault = refusal cs b (with_rest n s (t ∷ r)) in q)
-  refused None t r n = (refl, refl, refl)
-  refused (Some wanted) t r n = (refl, refl, refl)
+  refused None t r n = (refl, refl)
+  refused (Some wanted) t r n = (refl, refl)
 
   first : (t : Token) (r r' : List Token) (n : ℕ) (b : Option ℕ) → s.rest ≡ t ∷ r → admits cs (kind_of s.rest) ≡ false → bars (kind_of s.rest) ≡ b → f (with_rest n s (t ∷ r')) ≡ refusal cs b (with_rest n s (t ∷ r'))
   first t r r' n b here off is =
       let kind_is : kind_of s.rest ≡ Some t.kind = ap kind_of here in
       other (with_rest n s (t ∷ r')) (ap (admits cs) (sym kind_is) ∙ off) ∙ ap (λ (w : Option ℕ). let q : Result (A × State) Fault = refusal cs w (with_rest n s (t ∷ r')) in q) (ap bars (sym kind_is) ∙ is)
 
-  hushed_is : (u : State) → (let q : Result (A × State) Fault = refusal cs None u in q) ≡ Err (record { case = told.Unexpected; line = line_of u.rest u.end_line; left = left_of u.rest; tried = noted_all cs u.tried })
+  hushed_is : (u : State) → (let q : Result (A × State) Fault = refusal cs None u in q) ≡ Err (record { case = told.Unexpected; spot = spot_of u.rest u.end_line; tried = noted_all cs u.tried })
   hushed_is u = refl
 
   by : (fit : Bool) → admits cs (kind_of s.rest) ≡ fit → (b : Option ℕ) → bars (kind_of s.rest) ≡ b → IsLocal f s
@@ -265,12 +263,11 @@ local_refusing {A} cs bars f s on other = by (admits cs (kind_of s.rest)) refl (
     left = s.rest;
     mine = cs;
     parts = refl;
-    line = refl;
     place = refl;
     fits = tt;
     tries = refl;
-    untold = other (hushed s) off ∙ ap (λ (w : Option ℕ). let q : Result (A × State) Fault = refusal cs w (hushed s) in q) bar ∙ ap (λ (w : Tried). let q : Result (A × State) Fault = Err (record { case = told.Unexpected; line = line_of s.rest s.end_line; left = left_of s.rest; tried = w }) in q) (noted_untold cs);
-    again = λ t r r' n h. first t r r' n None h off bar ∙ ap (λ (w : Tried). let q : Result (A × State) Fault = Err (record { case = told.Unexpected; line = t.line; left = t.left; tried = w }) in q) (noted_untold cs) ∙ rw h refl;
+    untold = other (hushed s) off ∙ ap (λ (w : Option ℕ). let q : Result (A × State) Fault = refusal cs w (hushed s) in q) bar ∙ ap (λ (w : Tried). let q : Result (A × State) Fault = Err (record { case = told.Unexpected; spot = spot_of s.rest s.end_line; tried = w }) in q) (noted_untold cs);
+    again = λ t r r' n h. first t r r' n None h off bar ∙ ap (λ (w : Tried). let q : Result (A × State) Fault = Err (record { case = told.Unexpected; spot = t.spot; tried = w }) in q) (noted_untold cs) ∙ rw h refl;
     refuses = λ is t r n free. subst (λ (q : Result (A × State) Fault). Refuses t q) (sym (other (with_rest n s (t ∷ r)) free)) (refused (bars (Some t.kind)) t r n);
     passes = λ is t r n fit. passes_begins f (with_rest n s (t ∷ r)) t r refl (on (with_rest n s (t ∷ r)) fit);
   })
@@ -279,7 +276,6 @@ local_refusing {A} cs bars f s on other = by (admits cs (kind_of s.rest)) refl (
     left = s.rest;
     mine = [];
     parts = refl;
-    line = refl;
     place = refl;
     fits = tt;
     tries = refl;
@@ -334,7 +330,6 @@ begins_missed {A} cs g s at = record {
           left = a.0.left;
           mine = joined a.0.taken a.0.mine cs;
           parts = a.0.parts;
-          line = a.0.line;
           place = a.0.place;
           fits = a.0.fits;
           tries = a.0.tries ∙ tried_joined [] a.0.taken a.0.mine cs s.tried (noted_all cs s.tried) refl;
@@ -455,7 +450,6 @@ module _ {A : Type 0} (goes_on : Option TokenKind → Bool) (turn : A → Reader
           left = a.left;
           mine = a.mine;
           parts = a.parts;
-          line = a.line;
           place = a.place;
           fits = a.fits;
           tries = a.tries;

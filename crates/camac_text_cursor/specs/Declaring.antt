@@ -1,5 +1,6 @@
 -- The steps that change what is declared.
 use Rattle.std.specs.Prelude.{ℕ, true, false, List, [], ◌∷◌, ◌++◌, length, take}
+use Rattle.camac_lang.specs.declared.spot.Spot.{Spot}
 use Rattle.camac_lang.specs.Depth.{callable}
 use Rattle.camac_lang.specs.Tree.{Text, Statement, Table, Lam, Procedure, Script, next_table, next_lam, next_variables, next_procedure, next_service}
 use Rattle.camac_lang.specs.View.{block_of}
@@ -13,13 +14,13 @@ with_table t s = record s { tables = s.tables ++ t ∷ []; declared = s.declared
 abbrev pub with_lam : Lam → State → State
 with_lam l s = record s { lams = s.lams ++ l ∷ []; declared = s.declared ++ l.name ∷ []; order = s.order ++ next_lam ∷ [] }
 
-abbrev pub with_variables_of : ℕ → ℕ → State → State
-with_variables_of line count s = record s { order = s.order ++ next_variables line count ∷ [] }
+abbrev pub with_variables_of : Spot → ℕ → State → State
+with_variables_of spot count s = record s { order = s.order ++ next_variables spot count ∷ [] }
 
 -- the registers of the body belong to the service, and the next body has none yet
-abbrev pub with_service : ℕ → ℕ → ℕ → ℕ → List Statement → State → State
-with_service line lam cycles words body s = record s {
-  services = s.services ++ record { line = line; lam = lam; cycles = cycles; words = words; registers = s.registers; body = block_of body } ∷ [];
+abbrev pub with_service : Spot → ℕ → ℕ → ℕ → List Statement → State → State
+with_service spot lam cycles words body s = record s {
+  services = s.services ++ record { spot = spot; lam = lam; cycles = cycles; words = words; registers = s.registers; body = block_of body } ∷ [];
   registers = [];
   order = s.order ++ next_service ∷ [];
 }

@@ -59,7 +59,7 @@ unread tokens end_line = record {
 -- A fault that is returned is the one that is read, and this was looked for at its token, unless memory was refused.
 abbrev pub FailsWith : {A : Type 0} → TextFault → Tried → Result A Fault → Type 0
 FailsWith text_fault.OutOfMemory tried read = Unit {0}
-FailsWith (text_fault.Broken case line left) tried read = read ≡ Err (record { case = case; line = line; left = left; tried = tried })
+FailsWith (text_fault.Broken case spot) tried read = read ≡ Err (record { case = case; spot = spot; tried = tried })
 
 -- What a function returned, seen by view, and what it left are what is read, unless memory was refused.
 abbrev pub Gives : {X Y : Type 0} → (X → Y) → Result X TextFault → Parser → Result (Y × State) Fault → Type 0

@@ -2,6 +2,7 @@
 use Rattle.std.specs.Prelude.{ℕ, zero, suc, Bool, List, [], ◌∷◌, ◌++◌, length, Option, Some, None, Result, Ok, Err, if◌then◌else◌}
 use Rattle.camac_lang.specs.Expressions.{Callable}
 use Rattle.camac_lang.specs.Tree.{Text, Item, Table, Lam, Procedure, Service}
+use Rattle.camac_lang.specs.declared.spot.Spot.{Spot}
 use Rattle.camac_tokens.specs.declared.token.Token.{Token}
 use Rattle.camac_tokens.specs.declared.token.TokenKind.{TokenKind}
 use Rattle.camac_tokens.specs.declared.fault.TextCase.{TextCase}
@@ -40,12 +41,11 @@ pub record State : Type 0 where
 -- a fault, and what was looked for at its token
 pub record Fault : Type 0 where
   pub case : TextCase
-  pub line : ℕ
-  pub left : ℕ
+  pub spot : Spot
   pub tried : Tried
 
 abbrev pub fault_of : Fault → of_text.Fault
-fault_of e = record { case = e.case; line = e.line; left = e.left }
+fault_of e = record { case = e.case; spot = e.spot }
 
 abbrev pub Reader : Type 0 → Type 0
 Reader A = State → Result (A × State) Fault
@@ -73,15 +73,15 @@ ask look = λ s. Ok (look s, s)
 abbrev pub change : (State → State) → Reader (Unit {0})
 change to = λ s. Ok (tt, to s)
 
--- the line of the next token, or of the text's end
-abbrev pub line_of : List Token → ℕ → ℕ
-line_of [] end_line = end_line
-line_of (t ∷ ts) end_line = t.line
+-- where the next token stands, or the text's end
+abbrev pub spot_of : List Token → ℕ → Spot
+spot_of [] end_line = record { line = end_line; left = 0 }
+spot_of (t ∷ ts) end_line = t.spot
 
 -- how many bytes of the text stand from the first byte of the next token on
 abbrev pub left_of : List Token → ℕ
 left_of [] = 0
-left_of (t ∷ ts) = t.left
+left_of (t ∷ ts) = t.spot.left
 
 abbrev pub kind_of : List Token → Option TokenKind
 kind_of [] = None
@@ -91,8 +91,8 @@ abbrev pub after_first : List Token → List Token
 after_first [] = []
 after_first (t ∷ ts) = ts
 
-abbrev pub line_here : Reader ℕ
-line_here = ask (λ s. line_of s.rest s.end_line)
+abbrev pub spot_here : Reader Spot
+spot_here = ask (λ s. spot_of s.rest s.end_line)
 
 abbrev pub peek : Reader (Option TokenKind)
 peek = ask (λ s. kind_of s.rest)
@@ -116,7 +116,7 @@ missing c x = miss c >> give x
 
 -- a fault at the next token
 abbrev pub fail : {A : Type 0} → TextCase → Reader A
-fail case = λ s. Err (record { case = case; line = line_of s.rest s.end_line; left = left_of s.rest; tried = s.tried })
+fail case = λ s. Err (record { case = case; spot = spot_of s.rest s.end_line; tried = s.tried })
 
 -- a fault at the next token, in whose place this may stand, and what was looked for before
 abbrev pub unexpected : {A : Type 0} → Choice → Reader A

@@ -1,7 +1,7 @@
 // The parser's state, and its steps over single tokens.
 
 ghost use Rattle.std.specs.Prelude.{◌≡◌, [], false, not, ◌&&◌, ◌==◌, is_none, option_copied};
-ghost use Rattle.camac_text_cursor.specs.Reading.{line_of, left_of, kind_of, past, missed};
+ghost use Rattle.camac_text_cursor.specs.Reading.{spot_of, kind_of, past, missed};
 ghost use Rattle.camac_text_cursor.specs.Readers.{begin, is_keyword, is_sign, is_name, is_number, is_each, expect, expect_sign, name_here, number_here, any_number, branch_number, function_number, sub_address_number};
 ghost use Rattle.camac_text_cursor.specs.Choice.{takes, held};
 ghost use Rattle.camac_text_cursor.specs.Tried.{Told};
@@ -9,7 +9,7 @@ ghost use Rattle.camac_text_cursor.specs.Parser.{state, unread, line_in, Gives};
 ghost use Rattle.camac_tokens.specs.declared.fault.TextCase.TheVariants.{Unexpected};
 
 use crate::choice::{Choice, Choices};
-use camac_lang::{Callable, Item, Lam, Name, Node, Procedure, Service, Table, limits};
+use camac_lang::{Callable, Item, Lam, Name, Node, Procedure, Service, Spot, Table, limits};
 use camac_tokens::{Keyword, Limit, Sign, TextCase, TextFault, TokenKind, TokensLeft, are_same};
 use camac_word::{Function, SubAddress};
 use std::alloc::Global;
@@ -115,13 +115,16 @@ impl Parser<'_> {
         }
     }
 
-    /// The line of the next token, or of the text's end. It is 0 where a token fault ends the tokens.
-    pub fn line_here(&self) -> u32
-        ensures { result ≡ line_of (state self.now).rest (state self.now).end_line }
+    /// Where the next token stands, or the text's end. The line is 0 where a token fault ends the tokens.
+    pub fn spot_here(&self) -> Spot
+        ensures { result ≡ spot_of (state self.now).rest (state self.now).end_line }
     {
         match self.rest.first() {
-            Some(token) => token.line,
-            None => self.rest.end().unwrap_or(0),
+            Some(token) => token.spot,
+            None => Spot {
+                line: self.rest.end().unwrap_or(0),
+                left: 0,
+            },
         }
     }
 
@@ -129,27 +132,16 @@ impl Parser<'_> {
     pub fn is_at_end(&self) -> bool
         ensures { result ≡ (is_none (kind_of (state self.now).rest) && not ((state self.now).end_line == 0)) }
     {
-        self.rest.first().is_none() && self.line_here() != 0
-    }
-
-    /// How many bytes of the text stand from the first byte of the next token on, 0 at the text's end.
-    pub fn left_here(&self) -> usize
-        ensures { result ≡ left_of (state self.now).rest }
-    {
-        match self.rest.first() {
-            Some(token) => token.left,
-            None => 0,
-        }
+        self.rest.first().is_none() && self.spot_here().line != 0
     }
 
     /// A fault at the next token.
     pub fn fault(&self, case: TextCase) -> TextFault
-        ensures { result ≡ TextFault.Broken case (line_of (state self.now).rest (state self.now).end_line) (left_of (state self.now).rest) }
+        ensures { result ≡ TextFault.Broken case (spot_of (state self.now).rest (state self.now).end_line) }
     {
         TextFault::Broken {
             case,
-            line: self.line_here(),
-            left: self.left_here(),
+            spot: self.spot_here(),
         }
     }
 
@@ -166,7 +158,7 @@ impl Parser<'_> {
     #[inline(never)]
     pub fn unexpected(&mut self, choice: Choice) -> TextFault
         requires { takes choice (kind_of (state self.old).rest) ≡ false }
-        ensures fault { result ≡ TextFault.Broken Unexpected (line_of (state self.old).rest (state self.old).end_line) (left_of (state self.old).rest) }
+        ensures fault { result ≡ TextFault.Broken Unexpected (spot_of (state self.old).rest (state self.old).end_line) }
         ensures missed { state self.new ≡ missed choice (state self.old) }
     {
         self.miss(choice);

@@ -9,7 +9,7 @@ ghost use Rattle.camac_text_cursor.specs.Declaring.{with_table, with_lam, with_v
 ghost use Rattle.camac_text_cursor.specs.Parser.{state, Gives};
 
 use crate::cursor::Parser;
-use camac_lang::{Callable, Item, Lam, Name, Procedure, Script, Service, Stmt, Table};
+use camac_lang::{Callable, Item, Lam, Name, Procedure, Script, Service, Spot, Stmt, Table};
 use camac_tokens::TextFault;
 use std::mem;
 
@@ -63,10 +63,10 @@ impl Parser<'_> {
     }
 
     /// Ends a declaration of so many variables, whose names are declared already; S8 where memory is refused.
-    pub fn add_variables(&mut self, line: u32, count: usize) -> Result<(), TextFault>
-        ensures { Gives (λ _. tt) result self.new (change (with_variables_of line count) (state self.old)) }
+    pub fn add_variables(&mut self, spot: Spot, count: usize) -> Result<(), TextFault>
+        ensures { Gives (λ _. tt) result self.new (change (with_variables_of spot count) (state self.old)) }
     {
-        self.order.push(Item::Variables { line, count })?;
+        self.order.push(Item::Variables { spot, count })?;
         Ok(())
     }
 
@@ -74,17 +74,17 @@ impl Parser<'_> {
     /// memory is refused.
     pub fn add_service(
         &mut self,
-        line: u32,
+        spot: Spot,
         lam: usize,
         cycles: u32,
         words: u32,
         body: Vec<Stmt>,
     ) -> Result<(), TextFault>
-        ensures { Gives (λ _. tt) result self.new (change (with_service line lam cycles words (map statement_of body.items)) (state self.old)) }
+        ensures { Gives (λ _. tt) result self.new (change (with_service spot lam cycles words (map statement_of body.items)) (state self.old)) }
     {
         let registers = self.take_registers();
         self.services.push(Service {
-            line,
+            spot,
             lam,
             cycles,
             words,

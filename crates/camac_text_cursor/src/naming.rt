@@ -4,7 +4,7 @@ ghost use Rattle.std.specs.Prelude.{◌≡◌, true, Some, None, Ok, IfSome, IfN
 ghost use Rattle.camac_lang.specs.Tests.{is_new};
 ghost use Rattle.camac_tokens.specs.declared.fault.NameKind.TheVariants.{Parameter, Register, Variable};
 ghost use Rattle.camac_tokens.specs.declared.fault.TextCase.TheVariants.{Undeclared};
-ghost use Rattle.camac_text_cursor.specs.Reading.{kind_of, line_of, left_of};
+ghost use Rattle.camac_text_cursor.specs.Reading.{kind_of, spot_of};
 ghost use Rattle.camac_text_cursor.specs.Readers.{is_name, new_name, added, new_variable, new_parameter, register_at, set_name, declared_as, found_as, found_here, no_name, used_register, used_variable, used_lam, used_table, variable_here, procedure_here, called};
 ghost use Rattle.camac_text_cursor.specs.Parser.{state, FailsWith, Gives};
 
@@ -160,7 +160,7 @@ impl Parser<'_> {
 
     /// The fault of a name that is not declared as the kind that is wanted.
     fn undeclared(&self, wanted: NameKind, name: &Name) -> TextFault
-        ensures { result ≡ TextFault.Broken (Undeclared wanted (found_here wanted name.now (state self.now))) (line_of (state self.now).rest (state self.now).end_line) (left_of (state self.now).rest) }
+        ensures { result ≡ TextFault.Broken (Undeclared wanted (found_here wanted name.now (state self.now))) (spot_of (state self.now).rest (state self.now).end_line) }
     {
         let found = self.found_here(wanted, name);
         self.fault(TextCase::Undeclared { wanted, found })

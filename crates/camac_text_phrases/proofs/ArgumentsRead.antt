@@ -123,7 +123,7 @@ arguments_go wanted room n es s e t total took so_far = ap (λ (r : Result (Expr
 pub arguments_fail : (wanted room n : ℕ) (es : List Expression) (s : State) (f : TextFault) (tried : Tried) (total : Result (List Expression × State) Fault) → FailsWith f tried (argument_after wanted room es s) → more_arguments wanted room (suc n) es s ≡ total → FailsWith f tried total
 unfolding more_arguments
 arguments_fail wanted room n es s fault.OutOfMemory tried total failed so_far = tt
-arguments_fail wanted room n es s (fault.Broken case line left) tried total failed so_far = sym so_far ∙ ap (λ (r : Result (Expression × State) Fault). then_read r (λ x. more_arguments wanted room n (es ++ x ∷ []))) failed
+arguments_fail wanted room n es s (fault.Broken case spot) tried total failed so_far = sym so_far ∙ ap (λ (r : Result (Expression × State) Fault). then_read r (λ x. more_arguments wanted room n (es ++ x ∷ []))) failed
 
 pub arguments_end : (wanted room : ℕ) (es : List Expression) (s : State) (total : Result (List Expression × State) Fault) → more_arguments wanted room 0 es s ≡ total → total ≡ Ok (es, s)
 unfolding more_arguments

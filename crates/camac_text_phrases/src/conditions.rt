@@ -5,7 +5,7 @@ ghost use Rattle.camac_lang.specs.View.{test_of, part_of, condition_of};
 ghost use Rattle.camac_text_phrases.specs.Conditions.{comparison_sign, compared, test_at, part_at, part_limit, and_part, condition_at};
 ghost use Rattle.camac_text_cursor.specs.Choice.{takes};
 ghost use Rattle.camac_text_cursor.specs.declared.choice.Choice.TheVariants as choice;
-ghost use Rattle.camac_text_cursor.specs.Reading.{kind_of, left_of, line_of, missed};
+ghost use Rattle.camac_text_cursor.specs.Reading.{kind_of, missed, spot_of};
 ghost use Rattle.camac_tokens.specs.declared.fault.TextCase.TheVariants.{Unexpected};
 ghost use Rattle.camac_tokens.specs.declared.token.Keyword.TheVariants as word;
 ghost use Rattle.camac_tokens.specs.declared.token.Sign.TheVariants as sign;
@@ -74,7 +74,7 @@ fn no_part(parser: &mut Parser<'_>) -> TextFault
     requires number { takes choice.Number (kind_of (state parser.old).rest) ≡ false }
     requires name { takes choice.Name (kind_of (state parser.old).rest) ≡ false }
     requires bracket { takes (choice.Mark sign.LeftBracket) (kind_of (state parser.old).rest) ≡ false }
-    ensures fault { result ≡ TextFault.Broken Unexpected (line_of (state parser.old).rest (state parser.old).end_line) (left_of (state parser.old).rest) }
+    ensures fault { result ≡ TextFault.Broken Unexpected (spot_of (state parser.old).rest (state parser.old).end_line) }
     ensures missed { state parser.new ≡ missed (choice.Mark sign.LeftBracket) (missed choice.Name (missed choice.Number (missed choice.Flag (missed (choice.Word word.Not) (state parser.old))))) }
 {
     parser.miss(Choice::Word(Keyword::Not));

@@ -10,6 +10,7 @@ use Rattle.camac_text_spelling.specs.Pieces.{Piece, Prefix}
 use Rattle.camac_text_spelling.specs.Declarations as spell
 use Rattle.camac_text_spelling.specs.Declarations.{Passed, none_passed, pass}
 use Rattle.camac_text_spelling.proofs.Prefixes.{prefix_join}
+use Rattle.camac_lang.specs.declared.spot.Spot.{Spot}
 
 abbrev pub counts : Script → Passed
 counts s = record {
@@ -58,18 +59,18 @@ declares_lam s l ts ts' f = record {
       subst (λ (o : Option Lam). Prefix ts (spell.if_there spell.lam_declaration o) ts') (sym there) f;
 }
 
-abbrev pub with_variables : Script → ℕ → ℕ → List Text → Script
-with_variables s line n xs = record s { variables = s.variables ++ xs; order = s.order ++ next_variables line n ∷ [] }
+abbrev pub with_variables : Script → Spot → ℕ → List Text → Script
+with_variables s spot n xs = record s { variables = s.variables ++ xs; order = s.order ++ next_variables spot n ∷ [] }
 
-pub declares_variables : (s : Script) (line n : ℕ) (xs : List Text) (ts ts' : List Token) → length xs ≡ n → Prefix ts (spell.variable_declaration line xs) ts' → Declares s ts (with_variables s line n xs) ts'
-declares_variables s line n xs ts ts' many f = record {
-  item = next_variables line n;
+pub declares_variables : (s : Script) (spot : Spot) (n : ℕ) (xs : List Text) (ts ts' : List Token) → length xs ≡ n → Prefix ts (spell.variable_declaration spot xs) ts' → Declares s ts (with_variables s spot n xs) ts'
+declares_variables s spot n xs ts ts' many f = record {
+  item = next_variables spot n;
   ordered = refl;
   counted = ap (λ (k : ℕ). record (counts s) { variables = k }) (length-append s.variables xs ∙ ap (λ (k : ℕ). length s.variables + k) many);
   fewer = λ t x. fewer None None (Some xs) None None x;
   prefix = λ t x.
       let there : take n (drop (length s.variables) t.variables) ≡ xs = ap (λ (ys : List Text). take n (drop (length s.variables) ys)) x.variables_are ∙ ap (λ (m : ℕ). take m (drop (length s.variables) ((s.variables ++ xs) ++ x.variables))) (sym many) ∙ between s.variables xs x.variables in
-      subst (λ (ys : List Text). Prefix ts (spell.variable_declaration line ys) ts') (sym there) f;
+      subst (λ (ys : List Text). Prefix ts (spell.variable_declaration spot ys) ts') (sym there) f;
 }
 
 abbrev pub with_service : Script → Service → Script

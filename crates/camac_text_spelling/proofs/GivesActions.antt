@@ -32,83 +32,84 @@ use Rattle.camac_text_cursor.proofs.Registers.{first_of_both, second_of_both}
 use Rattle.camac_text_spelling.specs.Pieces.{Piece, word, sign, numeral, name_at, text_at, Names, Prefix}
 use Rattle.camac_text_spelling.specs.Phrases as phrase
 use Rattle.camac_text_spelling.specs.Statements as spell
-use Rattle.camac_text_spelling.proofs.Prefixes.{prefix_split, prefix_first, prefix_line}
+use Rattle.camac_text_spelling.proofs.Prefixes.{prefix_split, prefix_first, prefix_spot}
 use Rattle.camac_text_spelling.proofs.Gives.{at, ok, after, left, expected_sign, branch_given, function_given, variable_seen, register_given, lam_given}
 use Rattle.camac_text_spelling.proofs.GivesExpressions.{NoSign, expression_given}
 use Rattle.camac_text_spelling.proofs.GivesPhrases.{value_begins, value_no_sign, no_sign}
 use Rattle.camac_text_spelling.proofs.GivesKeeps.{move_given}
 use Rattle.camac_text_spelling.proofs.Runs.{Runs, left_at, begin_given, first_given, simple_given, Ends, set_name_given}
+use Rattle.camac_lang.specs.declared.spot.Spot.{Spot}
 
 -- A statement that is spelled is read.
 abbrev pub IsGiven : Names → Statement → Type 0
 IsGiven n x = (room : ℕ) (s0 : State) → let s : State = hushed s0 in (rest : List Token) (j k m : ℕ) → Runs n s j k m room (reached_by (scope_of s) j x) (statement_depth s.callables x) (statements_in x) → Prefix s.rest (spell.statement n x) rest → Ends (kind_of rest) → statement_with room (block_at room) s ≡ ok x (left_at n s rest k m)
 
-pub put_given : (n : Names) (line : ℕ) (e : Expression) → IsGiven n (put line e)
+pub put_given : (n : Names) (spot : Spot) (e : Expression) → IsGiven n (put spot e)
 unfolding put_action
-put_given n line e room s0 rest j k m c f ends =
+put_given n spot e room s0 rest j k m c f ends =
     let s : State = hushed s0 in
     let w : Keyword = keyword.Put in
     let ps : List Piece = phrase.expression n e in
-    let h = prefix_line s.rest s.end_line line (kind.Keyword w) ps rest f in
-    let r = unless_parts (head_fits (scope_of s) j (put line e)) j k c.reached in
-    first_given line room (block_at room) (kind.Keyword w) s ps rest f
-    ∙ simple_given n (put line e) s rest j k m room _ _ _ c r.1
+    let h = prefix_spot s.rest s.end_line spot (kind.Keyword w) ps rest f in
+    let r = unless_parts (head_fits (scope_of s) j (put spot e)) j k c.reached in
+    first_given spot room (block_at room) (kind.Keyword w) s ps rest f
+    ∙ simple_given n (put spot e) s rest j k m room _ _ _ c r.1
     (after (expression_at room (begun s)) _ e (at (begun s) rest) (expression_given n e room (begun s) rest c.finds r.0 c.deep h.2 ends.signs) refl)
 
-pub assignment_given : (n : Names) (line x : ℕ) (e : Expression) → IsGiven n (assign line x e)
+pub assignment_given : (n : Names) (spot : Spot) (x : ℕ) (e : Expression) → IsGiven n (assign spot x e)
 unfolding assignment
-assignment_given n line x e room s0 rest j k m c f ends =
+assignment_given n spot x e room s0 rest j k m c f ends =
     let s : State = hushed s0 in
     let ps : List Piece = sign mark.Equals ∷ phrase.expression n e in
     let named : TokenKind = kind.Name (text_at n.variables x) in
-    let h = prefix_line s.rest s.end_line line named ps rest f in
+    let h = prefix_spot s.rest s.end_line spot named ps rest f in
     let q = prefix_first (after_first s.rest) (sign mark.Equals) (phrase.expression n e) rest h.2 in
-    let r = unless_parts (head_fits (scope_of s) j (assign line x e)) j k c.reached in
+    let r = unless_parts (head_fits (scope_of s) j (assign spot x e)) j k c.reached in
     let ts : List Token = after_first (after_first s.rest) in
-    first_given line room (block_at room) named s ps rest f
+    first_given spot room (block_at room) named s ps rest f
     ∙ after (variable_here s) _ x s (variable_seen n s x c.finds (first_of_both (nat_lt x (length s.variables)) _ r.0) h.0)
-    (simple_given n (assign line x e) s rest j k m room _ _ (expect_sign mark.Equals >> (expression_at room >>= λ value. give (assign line x value))) c r.1
+    (simple_given n (assign spot x e) s rest j k m room _ _ (expect_sign mark.Equals >> (expression_at room >>= λ value. give (assign spot x value))) c r.1
     (after (expect_sign mark.Equals (begun s)) _ tt (at (begun s) ts) (expected_sign mark.Equals (begun s) q.0)
     (after (expression_at room (at (begun s) ts)) _ e (at (begun s) rest) (expression_given n e room (at (begun s) ts) rest c.finds (second_of_both (nat_lt x (length s.variables)) _ r.0) c.deep q.1 ends.signs) refl)))
 
-single_by : (size : WordSize) (room : ℕ) (block : Reader (List Statement)) (line : ℕ) (s0 : State) → let s : State = hushed s0 in statement_by room block line (Some (kind.Keyword (spell.single_word size))) s ≡ single_action size room line s
-single_by Full room block line s0 = let s : State = hushed s0 in refl
-single_by Short room block line s0 = let s : State = hushed s0 in refl
+single_by : (size : WordSize) (room : ℕ) (block : Reader (List Statement)) (spot : Spot) (s0 : State) → let s : State = hushed s0 in statement_by room block spot (Some (kind.Keyword (spell.single_word size))) s ≡ single_action size room spot s
+single_by Full room block spot s0 = let s : State = hushed s0 in refl
+single_by Short room block spot s0 = let s : State = hushed s0 in refl
 
-pub single_given : (n : Names) (line : ℕ) (size : WordSize) (g r : ℕ) (d : Move) → IsGiven n (single line size g r d)
+pub single_given : (n : Names) (spot : Spot) (size : WordSize) (g r : ℕ) (d : Move) → IsGiven n (single spot size g r d)
 unfolding single_action
-single_given n line size g r d room s0 rest j k m c f ends =
+single_given n spot size g r d room s0 rest j k m c f ends =
     let s : State = hushed s0 in
     let w : Keyword = spell.single_word size in
-    let h = prefix_line s.rest s.end_line line (kind.Keyword w) (numeral g ∷ name_at n.registers r ∷ phrase.move n d) rest f in
+    let h = prefix_spot s.rest s.end_line spot (kind.Keyword w) (numeral g ∷ name_at n.registers r ∷ phrase.move n d) rest f in
     let t1 : List Token = after_first s.rest in
     let number = prefix_first t1 (numeral g) (name_at n.registers r ∷ phrase.move n d) rest h.2 in
     let t2 : List Token = after_first t1 in
     let register = prefix_first t2 (name_at n.registers r) (phrase.move n d) rest number.1 in
     let t3 : List Token = after_first t2 in
-    let rule = unless_parts (head_fits (scope_of s) j (single line size g r d)) j k c.reached in
+    let rule = unless_parts (head_fits (scope_of s) j (single spot size g r d)) j k c.reached in
     let few : g ≤ 31 = leb-true g 31 (first_of_both (is_function g) _ rule.0) in
     let more = second_of_both (is_function g) _ rule.0 in
     let below : r < j = ltb-true r j (first_of_both (nat_lt r j) _ more) in
     let same : j ≡ k = rule.1 in
     let within : k ≤ length n.registers = c.within in
-    first_given line room (block_at room) (kind.Keyword w) s (numeral g ∷ name_at n.registers r ∷ phrase.move n d) rest f
-    ∙ single_by size room (block_at room) line s
-    ∙ simple_given n (single line size g r d) s rest j k m room _ _ _ c same
+    first_given spot room (block_at room) (kind.Keyword w) s (numeral g ∷ name_at n.registers r ∷ phrase.move n d) rest f
+    ∙ single_by size room (block_at room) spot s
+    ∙ simple_given n (single spot size g r d) s rest j k m room _ _ _ c same
     (after (function_number (begun s)) _ g (at (begun s) t2) (function_given (begun s) g number.0 (let less : g < 32 = omega arith in lt-ltb g 32 less))
     (after (used_register (at (begun s) t2)) _ r (at (begun s) t3) (register_given n (at (begun s) t2) r (ap (place_of (text_at n.registers r)) c.registers ∙ c.sets.set r j below (omega arith)) register.0)
     (after (move_at room (at (begun s) t3)) _ d (at (begun s) rest) (move_given n d room (at (begun s) t3) rest c.finds (second_of_both (nat_lt r j) _ more) c.deep register.1 ends.signs ends.no_move) refl)))
 
-pub setting_given : (n : Names) (line r : ℕ) (e1 e2 e3 : Expression) → IsGiven n (set_register line r e1 e2 e3)
+pub setting_given : (n : Names) (spot : Spot) (r : ℕ) (e1 e2 e3 : Expression) → IsGiven n (set_register spot r e1 e2 e3)
 unfolding register_setting
-setting_given n line r e1 e2 e3 room s0 rest j k m c f ends =
+setting_given n spot r e1 e2 e3 room s0 rest j k m c f ends =
     let s : State = hushed s0 in
-    let x : Statement = set_register line r e1 e2 e3 in
+    let x : Statement = set_register spot r e1 e2 e3 in
     let w : Keyword = keyword.Cdreg in
     let p1 : List Piece = phrase.expression n e1 in
     let p2 : List Piece = phrase.expression n e2 in
     let p3 : List Piece = phrase.expression n e3 in
-    let h = prefix_line s.rest s.end_line line (kind.Keyword w) (name_at n.registers r ∷ numeral 1 ∷ (p1 ++ (p2 ++ p3))) rest f in
+    let h = prefix_spot s.rest s.end_line spot (kind.Keyword w) (name_at n.registers r ∷ numeral 1 ∷ (p1 ++ (p2 ++ p3))) rest f in
     let t1 : List Token = after_first s.rest in
     let name' = prefix_first t1 (name_at n.registers r) (numeral 1 ∷ (p1 ++ (p2 ++ p3))) rest h.2 in
     let t2 : List Token = after_first t1 in
@@ -127,7 +128,7 @@ setting_given n line r e1 e2 e3 room s0 rest j k m c f ends =
     let counted : m ≡ s.statements + 1 = c.counted in
     let is_m : suc s.statements ≡ m = omega arith in
     let u : State = record (begun s) { registers = take k n.registers } in
-    first_given line room (block_at room) (kind.Keyword w) s (name_at n.registers r ∷ numeral 1 ∷ (p1 ++ (p2 ++ p3))) rest f
+    first_given spot room (block_at room) (kind.Keyword w) s (name_at n.registers r ∷ numeral 1 ∷ (p1 ++ (p2 ++ p3))) rest f
     ∙ after (begin s) _ tt (begun s) (begin_given s (omega arith))
     (after (set_name (begun s)) _ r (at u t2) (set_name_given n (begun s) r j k c.sets c.registers below rule.1 c.within name'.0)
     (after (branch_number (at u t2)) _ tt (at u t3) (branch_given (at u t2) one.0)
@@ -144,108 +145,108 @@ switch_given true s0 e = let s : State = hushed s0 in ap (λ (k : Option TokenKi
 switch_given false s0 e = let s : State = hushed s0 in ap (λ (k : Option TokenKind). switch_by k s) e
 
 -- a call on a crate without a switch
-crate_plain : (n : Names) (call : CrateCall) (line : ℕ) (e : Expression) (room : ℕ) (s0 : State) → let s : State = hushed s0 in (rest : List Token) (j k m : ℕ) → Runs n s j k m room (reached_by (scope_of s) j (crate_call line call e)) (expression_depth e) 1 → Prefix (after_first s.rest) (phrase.expression n e ++ []) rest → NoSign (kind_of rest) → crate_action call room line s ≡ ok (crate_call line call e) (left_at n s rest k m)
+crate_plain : (n : Names) (call : CrateCall) (spot : Spot) (e : Expression) (room : ℕ) (s0 : State) → let s : State = hushed s0 in (rest : List Token) (j k m : ℕ) → Runs n s j k m room (reached_by (scope_of s) j (crate_call spot call e)) (expression_depth e) 1 → Prefix (after_first s.rest) (phrase.expression n e ++ []) rest → NoSign (kind_of rest) → crate_action call room spot s ≡ ok (crate_call spot call e) (left_at n s rest k m)
 unfolding crate_action
-crate_plain n call line e room s0 rest j k m c f ends =
+crate_plain n call spot e room s0 rest j k m c f ends =
     let s : State = hushed s0 in
     let parts = prefix_split (after_first s.rest) (phrase.expression n e) [] rest f in
     let g : Prefix (after_first s.rest) (phrase.expression n e) rest = subst (λ (ts : List Token). Prefix (after_first s.rest) (phrase.expression n e) ts) parts.2 parts.1 in
-    let r = unless_parts (head_fits (scope_of s) j (crate_call line call e)) j k c.reached in
-    simple_given n (crate_call line call e) s rest j k m room _ _ (expression_at room >>= λ crate_no. give (crate_call line call crate_no)) c r.1
+    let r = unless_parts (head_fits (scope_of s) j (crate_call spot call e)) j k c.reached in
+    simple_given n (crate_call spot call e) s rest j k m room _ _ (expression_at room >>= λ crate_no. give (crate_call spot call crate_no)) c r.1
     (after (expression_at room (begun s)) _ e (at (begun s) rest) (expression_given n e room (begun s) rest c.finds r.0 c.deep g ends) refl)
 
 switch_no_sign : (b : Bool) → NoSign (Some (kind.Keyword (cond b keyword.On keyword.Off)))
 switch_no_sign true = record { product = refl; sum = refl }
 switch_no_sign false = record { product = refl; sum = refl }
 
-crate_switched : (n : Names) (on off : CrateCall) (b : Bool) (line : ℕ) (e : Expression) (room : ℕ) (s0 : State) → let s : State = hushed s0 in (rest : List Token) (j k m : ℕ) → Runs n s j k m room (reached_by (scope_of s) j (crate_call line (cond b on off) e)) (expression_depth e) 1 → Prefix (after_first s.rest) (phrase.expression n e ++ word (cond b keyword.On keyword.Off) ∷ []) rest → crate_switch on off room line s ≡ ok (crate_call line (cond b on off) e) (left_at n s rest k m)
+crate_switched : (n : Names) (on off : CrateCall) (b : Bool) (spot : Spot) (e : Expression) (room : ℕ) (s0 : State) → let s : State = hushed s0 in (rest : List Token) (j k m : ℕ) → Runs n s j k m room (reached_by (scope_of s) j (crate_call spot (cond b on off) e)) (expression_depth e) 1 → Prefix (after_first s.rest) (phrase.expression n e ++ word (cond b keyword.On keyword.Off) ∷ []) rest → crate_switch on off room spot s ≡ ok (crate_call spot (cond b on off) e) (left_at n s rest k m)
 unfolding crate_switch
-crate_switched n on off b line e room s0 rest j k m c f =
+crate_switched n on off b spot e room s0 rest j k m c f =
     let s : State = hushed s0 in
     let w : Keyword = cond b keyword.On keyword.Off in
     let parts = prefix_split (after_first s.rest) (phrase.expression n e) (word w ∷ []) rest f in
     let us : List Token = parts.0 in
     let h = prefix_first us (word w) [] rest parts.2 in
-    let r = unless_parts (head_fits (scope_of s) j (crate_call line (cond b on off) e)) j k c.reached in
-    simple_given n (crate_call line (cond b on off) e) s rest j k m room _ _ (expression_at room >>= λ crate_no. switch >>= λ is_on. give (crate_call line (cond is_on on off) crate_no)) c r.1
+    let r = unless_parts (head_fits (scope_of s) j (crate_call spot (cond b on off) e)) j k c.reached in
+    simple_given n (crate_call spot (cond b on off) e) s rest j k m room _ _ (expression_at room >>= λ crate_no. switch >>= λ is_on. give (crate_call spot (cond is_on on off) crate_no)) c r.1
     (after (expression_at room (begun s)) _ e (at (begun s) us) (expression_given n e room (begun s) us c.finds r.0 c.deep parts.1 (no_sign (kind_of us) _ h.0 (switch_no_sign b)))
-    (after (switch (at (begun s) us)) _ b (at (begun s) (after_first us)) (switch_given b (at (begun s) us) h.0) (left (crate_call line (cond b on off) e) (begun s) (after_first us) rest h.1)))
+    (after (switch (at (begun s) us)) _ b (at (begun s) (after_first us)) (switch_given b (at (begun s) us) h.0) (left (crate_call spot (cond b on off) e) (begun s) (after_first us) rest h.1)))
 
-pub crate_given : (n : Names) (line : ℕ) (call : CrateCall) (e : Expression) → IsGiven n (crate_call line call e)
-crate_given n line crate_word.Initialise e room s0 rest j k m c f ends =
+pub crate_given : (n : Names) (spot : Spot) (call : CrateCall) (e : Expression) → IsGiven n (crate_call spot call e)
+crate_given n spot crate_word.Initialise e room s0 rest j k m c f ends =
     let s : State = hushed s0 in
     let ps : List Piece = phrase.expression n e ++ [] in
-    first_given line room (block_at room) (kind.Keyword keyword.Cccz) s ps rest f ∙ crate_plain n crate_word.Initialise line e room s rest j k m c (prefix_line s.rest s.end_line line (kind.Keyword keyword.Cccz) ps rest f).2 ends.signs
-crate_given n line crate_word.Clear e room s0 rest j k m c f ends =
+    first_given spot room (block_at room) (kind.Keyword keyword.Cccz) s ps rest f ∙ crate_plain n crate_word.Initialise spot e room s rest j k m c (prefix_spot s.rest s.end_line spot (kind.Keyword keyword.Cccz) ps rest f).2 ends.signs
+crate_given n spot crate_word.Clear e room s0 rest j k m c f ends =
     let s : State = hushed s0 in
     let ps : List Piece = phrase.expression n e ++ [] in
-    first_given line room (block_at room) (kind.Keyword keyword.Cccc) s ps rest f ∙ crate_plain n crate_word.Clear line e room s rest j k m c (prefix_line s.rest s.end_line line (kind.Keyword keyword.Cccc) ps rest f).2 ends.signs
-crate_given n line crate_word.TestInhibit e room s0 rest j k m c f ends =
+    first_given spot room (block_at room) (kind.Keyword keyword.Cccc) s ps rest f ∙ crate_plain n crate_word.Clear spot e room s rest j k m c (prefix_spot s.rest s.end_line spot (kind.Keyword keyword.Cccc) ps rest f).2 ends.signs
+crate_given n spot crate_word.TestInhibit e room s0 rest j k m c f ends =
     let s : State = hushed s0 in
     let ps : List Piece = phrase.expression n e ++ [] in
-    first_given line room (block_at room) (kind.Keyword keyword.Ctci) s ps rest f ∙ crate_plain n crate_word.TestInhibit line e room s rest j k m c (prefix_line s.rest s.end_line line (kind.Keyword keyword.Ctci) ps rest f).2 ends.signs
-crate_given n line crate_word.TestDemandOutput e room s0 rest j k m c f ends =
+    first_given spot room (block_at room) (kind.Keyword keyword.Ctci) s ps rest f ∙ crate_plain n crate_word.TestInhibit spot e room s rest j k m c (prefix_spot s.rest s.end_line spot (kind.Keyword keyword.Ctci) ps rest f).2 ends.signs
+crate_given n spot crate_word.TestDemandOutput e room s0 rest j k m c f ends =
     let s : State = hushed s0 in
     let ps : List Piece = phrase.expression n e ++ [] in
-    first_given line room (block_at room) (kind.Keyword keyword.Ctcd) s ps rest f ∙ crate_plain n crate_word.TestDemandOutput line e room s rest j k m c (prefix_line s.rest s.end_line line (kind.Keyword keyword.Ctcd) ps rest f).2 ends.signs
-crate_given n line crate_word.TestDemand e room s0 rest j k m c f ends =
+    first_given spot room (block_at room) (kind.Keyword keyword.Ctcd) s ps rest f ∙ crate_plain n crate_word.TestDemandOutput spot e room s rest j k m c (prefix_spot s.rest s.end_line spot (kind.Keyword keyword.Ctcd) ps rest f).2 ends.signs
+crate_given n spot crate_word.TestDemand e room s0 rest j k m c f ends =
     let s : State = hushed s0 in
     let ps : List Piece = phrase.expression n e ++ [] in
-    first_given line room (block_at room) (kind.Keyword keyword.Ctgl) s ps rest f ∙ crate_plain n crate_word.TestDemand line e room s rest j k m c (prefix_line s.rest s.end_line line (kind.Keyword keyword.Ctgl) ps rest f).2 ends.signs
-crate_given n line crate_word.InhibitOn e room s0 rest j k m c f ends =
+    first_given spot room (block_at room) (kind.Keyword keyword.Ctgl) s ps rest f ∙ crate_plain n crate_word.TestDemand spot e room s rest j k m c (prefix_spot s.rest s.end_line spot (kind.Keyword keyword.Ctgl) ps rest f).2 ends.signs
+crate_given n spot crate_word.InhibitOn e room s0 rest j k m c f ends =
     let s : State = hushed s0 in
     let ps : List Piece = phrase.expression n e ++ word keyword.On ∷ [] in
-    first_given line room (block_at room) (kind.Keyword keyword.Ccci) s ps rest f ∙ crate_switched n crate_word.InhibitOn crate_word.InhibitOff true line e room s rest j k m c (prefix_line s.rest s.end_line line (kind.Keyword keyword.Ccci) ps rest f).2
-crate_given n line crate_word.InhibitOff e room s0 rest j k m c f ends =
+    first_given spot room (block_at room) (kind.Keyword keyword.Ccci) s ps rest f ∙ crate_switched n crate_word.InhibitOn crate_word.InhibitOff true spot e room s rest j k m c (prefix_spot s.rest s.end_line spot (kind.Keyword keyword.Ccci) ps rest f).2
+crate_given n spot crate_word.InhibitOff e room s0 rest j k m c f ends =
     let s : State = hushed s0 in
     let ps : List Piece = phrase.expression n e ++ word keyword.Off ∷ [] in
-    first_given line room (block_at room) (kind.Keyword keyword.Ccci) s ps rest f ∙ crate_switched n crate_word.InhibitOn crate_word.InhibitOff false line e room s rest j k m c (prefix_line s.rest s.end_line line (kind.Keyword keyword.Ccci) ps rest f).2
-crate_given n line crate_word.DemandOn e room s0 rest j k m c f ends =
+    first_given spot room (block_at room) (kind.Keyword keyword.Ccci) s ps rest f ∙ crate_switched n crate_word.InhibitOn crate_word.InhibitOff false spot e room s rest j k m c (prefix_spot s.rest s.end_line spot (kind.Keyword keyword.Ccci) ps rest f).2
+crate_given n spot crate_word.DemandOn e room s0 rest j k m c f ends =
     let s : State = hushed s0 in
     let ps : List Piece = phrase.expression n e ++ word keyword.On ∷ [] in
-    first_given line room (block_at room) (kind.Keyword keyword.Cccd) s ps rest f ∙ crate_switched n crate_word.DemandOn crate_word.DemandOff true line e room s rest j k m c (prefix_line s.rest s.end_line line (kind.Keyword keyword.Cccd) ps rest f).2
-crate_given n line crate_word.DemandOff e room s0 rest j k m c f ends =
+    first_given spot room (block_at room) (kind.Keyword keyword.Cccd) s ps rest f ∙ crate_switched n crate_word.DemandOn crate_word.DemandOff true spot e room s rest j k m c (prefix_spot s.rest s.end_line spot (kind.Keyword keyword.Cccd) ps rest f).2
+crate_given n spot crate_word.DemandOff e room s0 rest j k m c f ends =
     let s : State = hushed s0 in
     let ps : List Piece = phrase.expression n e ++ word keyword.Off ∷ [] in
-    first_given line room (block_at room) (kind.Keyword keyword.Cccd) s ps rest f ∙ crate_switched n crate_word.DemandOn crate_word.DemandOff false line e room s rest j k m c (prefix_line s.rest s.end_line line (kind.Keyword keyword.Cccd) ps rest f).2
+    first_given spot room (block_at room) (kind.Keyword keyword.Cccd) s ps rest f ∙ crate_switched n crate_word.DemandOn crate_word.DemandOff false spot e room s rest j k m c (prefix_spot s.rest s.end_line spot (kind.Keyword keyword.Cccd) ps rest f).2
 
-lam_plain : (n : Names) (call : LamCall) (line l room : ℕ) (s0 : State) → let s : State = hushed s0 in (rest : List Token) (j k m : ℕ) → Runs n s j k m room (reached_by (scope_of s) j (lam_call line call l)) 0 1 → Prefix (after_first s.rest) (name_at n.lams l ∷ []) rest → lam_action call line s ≡ ok (lam_call line call l) (left_at n s rest k m)
+lam_plain : (n : Names) (call : LamCall) (spot : Spot) (l room : ℕ) (s0 : State) → let s : State = hushed s0 in (rest : List Token) (j k m : ℕ) → Runs n s j k m room (reached_by (scope_of s) j (lam_call spot call l)) 0 1 → Prefix (after_first s.rest) (name_at n.lams l ∷ []) rest → lam_action call spot s ≡ ok (lam_call spot call l) (left_at n s rest k m)
 unfolding lam_action
-lam_plain n call line l room s0 rest j k m c f =
+lam_plain n call spot l room s0 rest j k m c f =
     let s : State = hushed s0 in
     let h = prefix_first (after_first s.rest) (name_at n.lams l) [] rest f in
-    let r = unless_parts (head_fits (scope_of s) j (lam_call line call l)) j k c.reached in
-    simple_given n (lam_call line call l) s rest j k m room _ _ (used_lam >>= λ lam. give (lam_call line call lam)) c r.1
-    (after (used_lam (begun s)) _ l (at (begun s) (after_first (after_first s.rest))) (lam_given n (begun s) l c.finds r.0 h.0) (left (lam_call line call l) (begun s) (after_first (after_first s.rest)) rest h.1))
+    let r = unless_parts (head_fits (scope_of s) j (lam_call spot call l)) j k c.reached in
+    simple_given n (lam_call spot call l) s rest j k m room _ _ (used_lam >>= λ lam. give (lam_call spot call lam)) c r.1
+    (after (used_lam (begun s)) _ l (at (begun s) (after_first (after_first s.rest))) (lam_given n (begun s) l c.finds r.0 h.0) (left (lam_call spot call l) (begun s) (after_first (after_first s.rest)) rest h.1))
 
-lam_switched : (n : Names) (b : Bool) (line l room : ℕ) (s0 : State) → let s : State = hushed s0 in (rest : List Token) (j k m : ℕ) → Runs n s j k m room (reached_by (scope_of s) j (lam_call line (cond b lam_word.Enable lam_word.Disable) l)) 0 1 → Prefix (after_first s.rest) (name_at n.lams l ∷ word (cond b keyword.On keyword.Off) ∷ []) rest → lam_switch line s ≡ ok (lam_call line (cond b lam_word.Enable lam_word.Disable) l) (left_at n s rest k m)
+lam_switched : (n : Names) (b : Bool) (spot : Spot) (l room : ℕ) (s0 : State) → let s : State = hushed s0 in (rest : List Token) (j k m : ℕ) → Runs n s j k m room (reached_by (scope_of s) j (lam_call spot (cond b lam_word.Enable lam_word.Disable) l)) 0 1 → Prefix (after_first s.rest) (name_at n.lams l ∷ word (cond b keyword.On keyword.Off) ∷ []) rest → lam_switch spot s ≡ ok (lam_call spot (cond b lam_word.Enable lam_word.Disable) l) (left_at n s rest k m)
 unfolding lam_switch
-lam_switched n b line l room s0 rest j k m c f =
+lam_switched n b spot l room s0 rest j k m c f =
     let s : State = hushed s0 in
     let call : LamCall = cond b lam_word.Enable lam_word.Disable in
     let w : Keyword = cond b keyword.On keyword.Off in
     let h = prefix_first (after_first s.rest) (name_at n.lams l) (word w ∷ []) rest f in
     let ts : List Token = after_first (after_first s.rest) in
     let g = prefix_first ts (word w) [] rest h.1 in
-    let r = unless_parts (head_fits (scope_of s) j (lam_call line call l)) j k c.reached in
-    simple_given n (lam_call line call l) s rest j k m room _ _ (used_lam >>= λ lam. switch >>= λ is_on. give (lam_call line (cond is_on lam_word.Enable lam_word.Disable) lam)) c r.1
+    let r = unless_parts (head_fits (scope_of s) j (lam_call spot call l)) j k c.reached in
+    simple_given n (lam_call spot call l) s rest j k m room _ _ (used_lam >>= λ lam. switch >>= λ is_on. give (lam_call spot (cond is_on lam_word.Enable lam_word.Disable) lam)) c r.1
     (after (used_lam (begun s)) _ l (at (begun s) ts) (lam_given n (begun s) l c.finds r.0 h.0)
-    (after (switch (at (begun s) ts)) _ b (at (begun s) (after_first ts)) (switch_given b (at (begun s) ts) g.0) (left (lam_call line call l) (begun s) (after_first ts) rest g.1)))
+    (after (switch (at (begun s) ts)) _ b (at (begun s) (after_first ts)) (switch_given b (at (begun s) ts) g.0) (left (lam_call spot call l) (begun s) (after_first ts) rest g.1)))
 
-pub lam_call_given : (n : Names) (line : ℕ) (call : LamCall) (l : ℕ) → IsGiven n (lam_call line call l)
-lam_call_given n line lam_word.Clear l room s0 rest j k m c f ends =
+pub lam_call_given : (n : Names) (spot : Spot) (call : LamCall) (l : ℕ) → IsGiven n (lam_call spot call l)
+lam_call_given n spot lam_word.Clear l room s0 rest j k m c f ends =
     let s : State = hushed s0 in
     let ps : List Piece = name_at n.lams l ∷ [] in
-    first_given line room (block_at room) (kind.Keyword keyword.Cclc) s ps rest f ∙ lam_plain n lam_word.Clear line l room s rest j k m c (prefix_line s.rest s.end_line line (kind.Keyword keyword.Cclc) ps rest f).2
-lam_call_given n line lam_word.Test l room s0 rest j k m c f ends =
+    first_given spot room (block_at room) (kind.Keyword keyword.Cclc) s ps rest f ∙ lam_plain n lam_word.Clear spot l room s rest j k m c (prefix_spot s.rest s.end_line spot (kind.Keyword keyword.Cclc) ps rest f).2
+lam_call_given n spot lam_word.Test l room s0 rest j k m c f ends =
     let s : State = hushed s0 in
     let ps : List Piece = name_at n.lams l ∷ [] in
-    first_given line room (block_at room) (kind.Keyword keyword.Ctlm) s ps rest f ∙ lam_plain n lam_word.Test line l room s rest j k m c (prefix_line s.rest s.end_line line (kind.Keyword keyword.Ctlm) ps rest f).2
-lam_call_given n line lam_word.Enable l room s0 rest j k m c f ends =
+    first_given spot room (block_at room) (kind.Keyword keyword.Ctlm) s ps rest f ∙ lam_plain n lam_word.Test spot l room s rest j k m c (prefix_spot s.rest s.end_line spot (kind.Keyword keyword.Ctlm) ps rest f).2
+lam_call_given n spot lam_word.Enable l room s0 rest j k m c f ends =
     let s : State = hushed s0 in
     let ps : List Piece = name_at n.lams l ∷ word keyword.On ∷ [] in
-    first_given line room (block_at room) (kind.Keyword keyword.Cclm) s ps rest f ∙ lam_switched n true line l room s rest j k m c (prefix_line s.rest s.end_line line (kind.Keyword keyword.Cclm) ps rest f).2
-lam_call_given n line lam_word.Disable l room s0 rest j k m c f ends =
+    first_given spot room (block_at room) (kind.Keyword keyword.Cclm) s ps rest f ∙ lam_switched n true spot l room s rest j k m c (prefix_spot s.rest s.end_line spot (kind.Keyword keyword.Cclm) ps rest f).2
+lam_call_given n spot lam_word.Disable l room s0 rest j k m c f ends =
     let s : State = hushed s0 in
     let ps : List Piece = name_at n.lams l ∷ word keyword.Off ∷ [] in
-    first_given line room (block_at room) (kind.Keyword keyword.Cclm) s ps rest f ∙ lam_switched n false line l room s rest j k m c (prefix_line s.rest s.end_line line (kind.Keyword keyword.Cclm) ps rest f).2
+    first_given spot room (block_at room) (kind.Keyword keyword.Cclm) s ps rest f ∙ lam_switched n false spot l room s rest j k m c (prefix_spot s.rest s.end_line spot (kind.Keyword keyword.Cclm) ps rest f).2

@@ -61,22 +61,22 @@ next_given n x b first others room acc s0 rest j k m c f brace =
 
 mutual
   statement_given : (n : Names) (x : Statement) → IsGiven n x
-  statement_given n (assign line x e) = assignment_given n line x e
-  statement_given n (set_register line r c s a) = setting_given n line r c s a
-  statement_given n (single line size f r d) = single_given n line size f r d
-  statement_given n (address_scan line f r1 r2 e x) = scan_given n line f r1 r2 e x
-  statement_given n (q_stop line f r g e x) = stop_given n line f r g e x
-  statement_given n (q_repeat line f r g e l x) = q_repeat_given n line f r g e l x
-  statement_given n (put line e) = put_given n line e
-  statement_given n (crate_call line k e) = crate_given n line k e
-  statement_given n (lam_call line k l) = lam_call_given n line k l
-  statement_given n (choose line c a) = choose_given n line c a (block_given n a)
-  statement_given n (choose_else line c a b) = choose_else_given n line c a b (block_given n a) (block_given n b)
-  statement_given n (for_ line x e1 e2 ks b) = count_given n line x e1 e2 ks b (block_given n b)
-  statement_given n (for_each line x a e b) = each_given n line x a e b (block_given n b)
-  statement_given n (while_ line c t x ks b) = while_given n line c t x ks b (block_given n b)
-  statement_given n (locked line e b) = locked_given n line e b (block_given n b)
-  statement_given n (call line p es) = call_given n line p es
+  statement_given n (assign spot x e) = assignment_given n spot x e
+  statement_given n (set_register spot r c s a) = setting_given n spot r c s a
+  statement_given n (single spot size f r d) = single_given n spot size f r d
+  statement_given n (address_scan spot f r1 r2 e x) = scan_given n spot f r1 r2 e x
+  statement_given n (q_stop spot f r g e x) = stop_given n spot f r g e x
+  statement_given n (q_repeat spot f r g e l x) = q_repeat_given n spot f r g e l x
+  statement_given n (put spot e) = put_given n spot e
+  statement_given n (crate_call spot k e) = crate_given n spot k e
+  statement_given n (lam_call spot k l) = lam_call_given n spot k l
+  statement_given n (choose spot c a) = choose_given n spot c a (block_given n a)
+  statement_given n (choose_else spot c a b) = choose_else_given n spot c a b (block_given n a) (block_given n b)
+  statement_given n (for_ spot x e1 e2 ks b) = count_given n spot x e1 e2 ks b (block_given n b)
+  statement_given n (for_each spot x a e b) = each_given n spot x a e b (block_given n b)
+  statement_given n (while_ spot c t x ks b) = while_given n spot c t x ks b (block_given n b)
+  statement_given n (locked spot e b) = locked_given n spot e b (block_given n b)
+  statement_given n (call spot p es) = call_given n spot p es
 
   block_given : (n : Names) (b : Block) → AreGiven n b
   block_given n done = done_given n

@@ -28,7 +28,7 @@ use Rattle.camac_text_statements.proofs.Acts.{begun}
 use Rattle.camac_text_cursor.proofs.Registers.{first_of_both, second_of_both}
 use Rattle.camac_text_spelling.specs.Pieces.{Piece, sign, others, separated, text_at, name_at, Names, Prefix}
 use Rattle.camac_text_spelling.specs.Phrases as phrase
-use Rattle.camac_text_spelling.proofs.Prefixes.{prefix_split, prefix_first, prefix_line}
+use Rattle.camac_text_spelling.proofs.Prefixes.{prefix_split, prefix_first, prefix_spot}
 use Rattle.camac_text_spelling.proofs.Gives.{at, ok, after, checked, left, expected_sign, FindsAll, known_seen, sign_same}
 use Rattle.camac_text_spelling.proofs.GivesExpressions.{NoSign, expression_given}
 use Rattle.camac_text_spelling.proofs.GivesPhrases.{no_sign, begins_value, value_begins}
@@ -36,6 +36,7 @@ use Rattle.camac_text_spelling.proofs.Runs.{first_given, simple_given}
 use Rattle.camac_text_spelling.proofs.GivesActions.{IsGiven}
 use Rattle.camac_tokens.specs.declared.token.Sign.{Sign}
 use Rattle.camac_tokens.specs.declared.token.TokenKind.{TokenKind}
+use Rattle.camac_lang.specs.declared.spot.Spot.{Spot}
 
 -- ---- what is called
 
@@ -131,13 +132,13 @@ has_there : (o : Option Callable) (test : Callable → Bool) → has o test ≡ 
 has_there None test e = absurd cc
 has_there (Some q) test e = (q, refl, e)
 
-pub call_given : (n : Names) (line p : ℕ) (es : List Expression) → IsGiven n (call line p es)
+pub call_given : (n : Names) (spot : Spot) (p : ℕ) (es : List Expression) → IsGiven n (call spot p es)
 unfolding call_statement
-call_given n line p es room s0 rest j k m c f ends =
+call_given n spot p es room s0 rest j k m c f ends =
     let s : State = hushed s0 in
-    let x : Statement = call line p es in
+    let x : Statement = call spot p es in
     let ps : List Piece = name_at n.procedures p ∷ bracketed n es in
-    let h = prefix_line s.rest s.end_line line (kind.Keyword keyword.Call) ps rest f in
+    let h = prefix_spot s.rest s.end_line spot (kind.Keyword keyword.Call) ps rest f in
     let t1 : List Token = after_first s.rest in
     let named = prefix_first t1 (name_at n.procedures p) (bracketed n es) rest h.2 in
     let t2 : List Token = after_first t1 in
@@ -150,7 +151,7 @@ call_given n line p es room s0 rest j k m c f ends =
     let is_deep : depth_of (slice_get s.callables p) ≡ q.depth = ap depth_of called_one.1 in
     let deep_q : q.depth ≤ room = omega arith in
     let g : State = begun s in
-    first_given line room (block_at room) (kind.Keyword keyword.Call) s ps rest f
+    first_given spot room (block_at room) (kind.Keyword keyword.Call) s ps rest f
     ∙ simple_given n x s rest j k m room _ _ _ c r.1
     (after (procedure_here g) _ p g (procedure_seen n g p c.finds (slice_get_within s.callables p q called_one.1) named.0)
     (after (called room p g) _ q.parameters (at g t2) (called_given room g p q called_one.1 deep_q)

@@ -21,19 +21,20 @@ use Rattle.camac_text.proofs.Listed.{new_same, prefix_or_after}
 use Rattle.camac_text_spelling.specs.Pieces.{Piece, first_piece, word, numeral, name, name_at, Names, Prefix}
 use Rattle.camac_text_spelling.specs.Declarations as spell
 use Rattle.camac_text_spelling.specs.Statements.{braced, block}
-use Rattle.camac_text_spelling.proofs.Prefixes.{prefix_first, prefix_line}
+use Rattle.camac_text_spelling.proofs.Prefixes.{prefix_first, prefix_spot}
 use Rattle.camac_text_spelling.proofs.Gives.{at, ok, after, checked, expected, number_given, branch_given, sub_address_given, new_name_seen, lam_given, until_off, until_turn}
 use Rattle.camac_text_spelling.proofs.Fresh.{take_all}
 use Rattle.camac_text_spelling.proofs.Runs.{left_at, listed, block_of_listed, runs_with}
 use Rattle.camac_text_spelling.proofs.GivesStatements.{RunsBraced}
 use Rattle.camac_text_spelling.proofs.GivesBlocks.{body_given}
+use Rattle.camac_lang.specs.declared.spot.Spot.{Spot}
 
 -- how a declaration begins
-pub first_given : (line : ℕ) (k : TokenKind) (s : State) (ps : List Piece) (rest : List Token) → Prefix s.rest (first_piece line k ∷ ps) rest → declaration_at s ≡ declaration_by line (Some k) s
+pub first_given : (spot : Spot) (k : TokenKind) (s : State) (ps : List Piece) (rest : List Token) → Prefix s.rest (first_piece spot k ∷ ps) rest → declaration_at s ≡ declaration_by spot (Some k) s
 unfolding declaration_at
-first_given line k s ps rest f =
-    let h = prefix_line s.rest s.end_line line k ps rest f in
-    ap (λ (l : ℕ). declaration_by l (kind_of s.rest) s) h.1 ∙ ap (λ (o : Option TokenKind). declaration_by line o s) h.0
+first_given spot k s ps rest f =
+    let h = prefix_spot s.rest s.end_line spot k ps rest f in
+    ap (λ (at : Spot). declaration_by at (kind_of s.rest) s) h.1 ∙ ap (λ (o : Option TokenKind). declaration_by spot o s) h.0
 
 -- ---- a LAM
 
@@ -45,7 +46,7 @@ lam_declared l s0 rest room new below f =
     let q3 : List Piece = numeral l.station ∷ q4 in
     let q2 : List Piece = numeral l.crate_no ∷ q3 in
     let q1 : List Piece = numeral 1 ∷ q2 in
-    let h = prefix_line s.rest s.end_line l.line (kind.Keyword keyword.Cdlam) (name l.name ∷ q1) rest f in
+    let h = prefix_spot s.rest s.end_line l.spot (kind.Keyword keyword.Cdlam) (name l.name ∷ q1) rest f in
     let t1 : List Token = after_first s.rest in
     let f1 = prefix_first t1 (name l.name) q1 rest h.2 in
     let t2 : List Token = after_first t1 in
@@ -56,7 +57,7 @@ lam_declared l s0 rest room new below f =
     let f4 = prefix_first t4 (numeral l.station) q4 rest f3.1 in
     let t5 : List Token = after_first t4 in
     let f5 = prefix_first t5 (numeral l.sub_address) [] rest f4.1 in
-    first_given l.line (kind.Keyword keyword.Cdlam) s (name l.name ∷ q1) rest f
+    first_given l.spot (kind.Keyword keyword.Cdlam) s (name l.name ∷ q1) rest f
     ∙ checked (nat_lt (length s.lams) 64) _ _ s (lt-ltb (length s.lams) 64 room)
     (after (new_name (at s t1)) _ l.name (at s t1) (new_name_seen (at s t1) l.name f1.0 new)
     (after (branch_number (at s t2)) _ tt (at s t3) (branch_given (at s t2) f2.0)
@@ -122,21 +123,21 @@ names_declared (x ∷ xs) counted s0 rest new room f off =
     ∙ ap (λ (i : ℕ). ok i (with_names u rest xs)) total
     ∙ ap (λ (w : State). ok (counted + suc (length xs)) w) (names_joined s (after_first s.rest) rest x xs))
 
-pub variables_declared : (line n : ℕ) (xs : List Text) (s0 : State) → let s : State = hushed s0 in (rest : List Token) → 1 ≤ n → length xs ≡ n → are_new xs s.declared ≡ true → s.variable_count + length xs ≤ 64 → Prefix s.rest (spell.variable_declaration line xs) rest → is_name (kind_of rest) ≡ false → declaration_at s ≡ ok tt (with_variables_of line n (with_names s rest xs))
+pub variables_declared : (spot : Spot) (n : ℕ) (xs : List Text) (s0 : State) → let s : State = hushed s0 in (rest : List Token) → 1 ≤ n → length xs ≡ n → are_new xs s.declared ≡ true → s.variable_count + length xs ≤ 64 → Prefix s.rest (spell.variable_declaration spot xs) rest → is_name (kind_of rest) ≡ false → declaration_at s ≡ ok tt (with_variables_of spot n (with_names s rest xs))
 unfolding variable_declaration
-variables_declared line n [] s0 rest some many new room f off = let s : State = hushed s0 in absurd (omega arith)
-variables_declared line n (x ∷ xs) s0 rest some many new room f off =
+variables_declared spot n [] s0 rest some many new room f off = let s : State = hushed s0 in absurd (omega arith)
+variables_declared spot n (x ∷ xs) s0 rest some many new room f off =
     let s : State = hushed s0 in
-    let h = prefix_line s.rest s.end_line line (kind.Keyword keyword.Var) (map name (x ∷ xs)) rest f in
+    let h = prefix_spot s.rest s.end_line spot (kind.Keyword keyword.Var) (map name (x ∷ xs)) rest f in
     let t1 : List Token = after_first s.rest in
     let f1 = prefix_first t1 (name x) (map name xs) rest h.2 in
     let u : State = with_names s (after_first t1) (x ∷ []) in
     let is_n : 1 + length xs ≡ n = omega arith in
-    first_given line (kind.Keyword keyword.Var) s (map name (x ∷ xs)) rest f
+    first_given spot (kind.Keyword keyword.Var) s (map name (x ∷ xs)) rest f
     ∙ after (new_variable (at s t1)) _ tt u (variable_declared (at s t1) x f1.0 (first_of_both (is_new x s.declared) _ new) (omega arith))
     (after (until choice.Name is_name one_more_variable 1 u) _ (1 + length xs) (with_names u rest xs) (names_declared xs 1 u rest (new_after x xs s.declared (second_of_both (is_new x s.declared) _ new)) (omega arith) f1.1 off)
-    (ap (λ (i : ℕ). ok tt (with_variables_of line i (with_names u rest xs))) is_n
-    ∙ ap (λ (w : State). ok tt (with_variables_of line n w)) (names_joined (at s t1) (after_first t1) rest x xs)))
+    (ap (λ (i : ℕ). ok tt (with_variables_of spot i (with_names u rest xs))) is_n
+    ∙ ap (λ (w : State). ok tt (with_variables_of spot n w)) (names_joined (at s t1) (after_first t1) rest x xs)))
 
 -- ---- a service
 
@@ -157,7 +158,7 @@ service_declared t v s0 rest m room lam_fits c f =
     let q3 : List Piece = numeral v.cycles ∷ q4 in
     let q2 : List Piece = word keyword.Within ∷ q3 in
     let q1 : List Piece = name_at n.lams v.lam ∷ q2 in
-    let h = prefix_line s.rest s.end_line v.line (kind.Keyword keyword.Service) q1 rest f in
+    let h = prefix_spot s.rest s.end_line v.spot (kind.Keyword keyword.Service) q1 rest f in
     let t1 : List Token = after_first s.rest in
     let f1 = prefix_first t1 (name_at n.lams v.lam) q2 rest h.2 in
     let t2 : List Token = after_first t1 in
@@ -175,7 +176,7 @@ service_declared t v s0 rest m room lam_fits c f =
     let t8 : List Token = after_first t7 in
     let inside : RunsBraced n (at s t8) 0 (length v.registers) m 16 v.body = runs_with c c.registers c.reached c.within c.deep c.counted c.few in
     let k : ℕ = length v.registers in
-    first_given v.line (kind.Keyword keyword.Service) s q1 rest f
+    first_given v.spot (kind.Keyword keyword.Service) s q1 rest f
     ∙ checked (nat_lt (length s.services) 24) _ _ s (lt-ltb (length s.services) 24 room)
     (after (used_lam (at s t1)) _ v.lam (at s t2) (lam_given n (at s t1) v.lam c.finds lam_fits f1.0)
     (after (expect keyword.Within (at s t2)) _ tt (at s t3) (expected keyword.Within (at s t2) f2.0)
@@ -185,5 +186,5 @@ service_declared t v s0 rest m room lam_fits c f =
     (after (any_number (at s t6)) _ v.words (at s t7) (number_given (at s t6) v.words f6.0)
     (after (expect keyword.Words (at s t7)) _ tt (at s t8) (expected keyword.Words (at s t7) f7.0)
     (after (block_at 16 (at s t8)) _ (listed v.body) (left_at n s rest k m) (body_given n v.body 16 (at s t8) rest 0 k m inside f7.1)
-    (ap (λ (rs : List Text). ok tt (with_service v.line v.lam v.cycles v.words (listed v.body) (record s { rest = rest; registers = rs; statements = m }))) (take_all v.registers)
+    (ap (λ (rs : List Text). ok tt (with_service v.spot v.lam v.cycles v.words (listed v.body) (record s { rest = rest; registers = rs; statements = m }))) (take_all v.registers)
     ∙ ap (λ (b : Block). ok tt (with_body s rest (record v { body = b }) m)) (block_of_listed v.body))))))))))

@@ -26,7 +26,7 @@ use Rattle.camac_text_cursor.proofs.Registers.{both, first_of_both, second_of_bo
 use Rattle.camac_text_spelling.specs.Pieces.{Piece, word, sign, numeral, name, separated, name_at, Names, Prefix}
 use Rattle.camac_text_spelling.specs.Phrases as phrase
 use Rattle.camac_text_spelling.specs.Statements as spell
-use Rattle.camac_text_spelling.proofs.Prefixes.{prefix_split, prefix_first, prefix_line}
+use Rattle.camac_text_spelling.proofs.Prefixes.{prefix_split, prefix_first, prefix_spot}
 use Rattle.camac_text_spelling.proofs.Gives.{at, ok, after, FindsAll, expected, expected_sign, number_given, variable_given}
 use Rattle.camac_text_spelling.proofs.GivesExpressions.{NoSign, expression_given}
 use Rattle.camac_text_spelling.proofs.GivesPhrases.{no_sign, condition_given}
@@ -34,6 +34,7 @@ use Rattle.camac_text_spelling.proofs.GivesKeeps.{keeps_given}
 use Rattle.camac_text_spelling.proofs.Runs.{left_at, begin_given, first_given, listed, block_of_listed}
 use Rattle.camac_text_spelling.proofs.GivesActions.{IsGiven}
 use Rattle.camac_text_spelling.proofs.GivesStatements.{AreGiven, runs_inside, braced_given, brace_no_sign, brace_first}
+use Rattle.camac_lang.specs.declared.spot.Spot.{Spot}
 
 -- kept ranges, or the brace
 keeps_first : (n : Names) (ks : List Keep) (ts us : List Token) → Prefix ts (phrase.keeps n ks) us → kind_of us ≡ Some (kind.Sign mark.LeftBrace) → NoSign (kind_of ts)
@@ -47,21 +48,21 @@ keeps_no_each n (k ∷ ks) ts us f brace = ap is_each (prefix_first ts (word key
 
 -- ---- loops
 
-ends_given : (block : Reader (List Statement)) (line v : ℕ) (e1 e2 : Expression) (o p : Option ℕ) (s0 : State) → let s : State = hushed s0 in is_each (kind_of s.rest) ≡ false → ends_by block line v e1 e2 o p s ≡ for_ends block line v e1 e2 s
-ends_given block line v e1 e2 (Some a) (Some b) s0 free = let s : State = hushed s0 in ap (λ (c : Bool). cond c (each_ends block line v a b) (miss choice.Each >> for_ends block line v e1 e2) s) free
-ends_given block line v e1 e2 _ _ s0 free = refl
+ends_given : (block : Reader (List Statement)) (spot : Spot) (v : ℕ) (e1 e2 : Expression) (o p : Option ℕ) (s0 : State) → let s : State = hushed s0 in is_each (kind_of s.rest) ≡ false → ends_by block spot v e1 e2 o p s ≡ for_ends block spot v e1 e2 s
+ends_given block spot v e1 e2 (Some a) (Some b) s0 free = let s : State = hushed s0 in ap (λ (c : Bool). cond c (each_ends block spot v a b) (miss choice.Each >> for_ends block spot v e1 e2) s) free
+ends_given block spot v e1 e2 _ _ s0 free = refl
 
-pub count_given : (n : Names) (line v : ℕ) (e1 e2 : Expression) (ks : List Keep) (b : Block) → AreGiven n b → IsGiven n (for_ line v e1 e2 ks b)
+pub count_given : (n : Names) (spot : Spot) (v : ℕ) (e1 e2 : Expression) (ks : List Keep) (b : Block) → AreGiven n b → IsGiven n (for_ spot v e1 e2 ks b)
 unfolding for_statement
-count_given n line v e1 e2 ks b given room s0 rest j k m c f ends =
+count_given n spot v e1 e2 ks b given room s0 rest j k m c f ends =
     let s : State = hushed s0 in
-    let x : Statement = for_ line v e1 e2 ks b in
+    let x : Statement = for_ spot v e1 e2 ks b in
     let p1 : List Piece = phrase.expression n e1 in
     let p2 : List Piece = phrase.expression n e2 in
     let p3 : List Piece = phrase.keeps n ks in
     let body : List Piece = spell.braced (spell.block n b) in
     let all : List Piece = name_at n.variables v ∷ sign mark.Equals ∷ (p1 ++ word keyword.To ∷ (p2 ++ (p3 ++ body))) in
-    let h = prefix_line s.rest s.end_line line (kind.Keyword keyword.For) all rest f in
+    let h = prefix_spot s.rest s.end_line spot (kind.Keyword keyword.For) all rest f in
     let t1 : List Token = after_first s.rest in
     let own = prefix_first t1 (name_at n.variables v) (sign mark.Equals ∷ (p1 ++ word keyword.To ∷ (p2 ++ (p3 ++ body)))) rest h.2 in
     let t2 : List Token = after_first t1 in
@@ -82,17 +83,17 @@ count_given n line v e1 e2 ks b given room s0 rest j k m c f ends =
     let own_fits = first_of_both (nat_lt v (length s.variables)) _ inside.keeps in
     let fits = second_of_both (nat_lt v (length s.variables)) _ inside.keeps in
     let fits_more = second_of_both (expression_fits (scope_of s) e1) _ fits in
-    first_given line room (block_at room) (kind.Keyword keyword.For) s all rest f
+    first_given spot room (block_at room) (kind.Keyword keyword.For) s all rest f
     ∙ after (begin s) _ tt g (begin_given s (omega arith))
     (after (used_variable g) _ v (at g t2) (variable_given n g v c.finds own_fits own.0)
     (after (expect_sign mark.Equals (at g t2)) _ tt (at g t3) (expected_sign mark.Equals (at g t2) equals.0)
     (after (expression_at room (at g t3)) _ e1 (at g s1.0) (expression_given n e1 room (at g t3) s1.0 c.finds (first_of_both (expression_fits (scope_of s) e1) _ fits) (omega arith) s1.1 (no_sign (kind_of s1.0) _ to.0 (record { product = refl; sum = refl })))
     (after (expect keyword.To (at g s1.0)) _ tt (at g t4) (expected keyword.To (at g s1.0) to.0)
     (after (expression_at room (at g t4)) _ e2 (at g s2.0) (expression_given n e2 room (at g t4) s2.0 c.finds (first_of_both (expression_fits (scope_of s) e2) _ fits_more) (omega arith) s2.1 (keeps_first n ks s2.0 us s3.1 brace))
-    (ends_given (block_at room) line v e1 e2 (single_number e1) (single_number e2) (at g s2.0) (keeps_no_each n ks s2.0 us s3.1 brace)
+    (ends_given (block_at room) spot v e1 e2 (single_number e1) (single_number e2) (at g s2.0) (keeps_no_each n ks s2.0 us s3.1 brace)
     ∙ after (keeps_at (of_loop.Counter v) (at g s2.0)) _ ks (at g us) (keeps_given n (of_loop.Counter v) ks (at g s2.0) us c.finds (second_of_both (expression_fits (scope_of s) e2) _ fits_more) s3.1 brace)
     (after (block_at room (at g us)) _ (listed b) (left_at n s rest k m) (braced_given n b given room (at g us) rest inside.first k m (inside.runs us) s3.2)
-    (ap (λ (w : Block). ok (for_ line v e1 e2 ks w) (left_at n s rest k m)) (block_of_listed b)))))))))
+    (ap (λ (w : Block). ok (for_ spot v e1 e2 ks w) (left_at n s rest k m)) (block_of_listed b)))))))))
 
 -- a number stands alone
 number_alone : (n : Names) (a room : ℕ) (s0 : State) → let s : State = hushed s0 in (j : TokenKind) (rest : List Token) → FindsAll n s → is_number a ≡ true → Prefix s.rest (numeral a ∷ []) rest → kind_of rest ≡ Some j → NoSign (Some j) → expression_at room s ≡ ok (number a) (at s rest)
@@ -100,21 +101,21 @@ number_alone n a room s0 j rest finds fits f next ends =
     let s : State = hushed s0 in
     expression_given n (number a) room s rest finds (both (is_number a) _ fits refl) (omega arith) f (no_sign (kind_of rest) j next ends)
 
-each_given_ends : (block : Reader (List Statement)) (line v : ℕ) (e1 e2 : Expression) (a b : ℕ) (s0 : State) → let s : State = hushed s0 in kind_of s.rest ≡ Some (kind.Name each_word) → ends_by block line v e1 e2 (Some a) (Some b) s ≡ each_ends block line v a b s
-each_given_ends block line v e1 e2 a b s0 is =
+each_given_ends : (block : Reader (List Statement)) (spot : Spot) (v : ℕ) (e1 e2 : Expression) (a b : ℕ) (s0 : State) → let s : State = hushed s0 in kind_of s.rest ≡ Some (kind.Name each_word) → ends_by block spot v e1 e2 (Some a) (Some b) s ≡ each_ends block spot v a b s
+each_given_ends block spot v e1 e2 a b s0 is =
     let s : State = hushed s0 in
-    ap (λ (k : Option TokenKind). cond (is_each k) (each_ends block line v a b) (miss choice.Each >> for_ends block line v e1 e2) s) is
+    ap (λ (k : Option TokenKind). cond (is_each k) (each_ends block spot v a b) (miss choice.Each >> for_ends block spot v e1 e2) s) is
 
-pub each_given : (n : Names) (line v a e : ℕ) (b : Block) → AreGiven n b → IsGiven n (for_each line v a e b)
+pub each_given : (n : Names) (spot : Spot) (v a e : ℕ) (b : Block) → AreGiven n b → IsGiven n (for_each spot v a e b)
 unfolding for_statement
-each_given n line v a e b given room s0 rest j k m c f ends =
+each_given n spot v a e b given room s0 rest j k m c f ends =
     let s : State = hushed s0 in
-    let x : Statement = for_each line v a e b in
+    let x : Statement = for_each spot v a e b in
     let body : List Piece = spell.braced (spell.block n b) in
     let q6 : List Piece = name each_word ∷ body in
     let q5 : List Piece = word keyword.To ∷ numeral e ∷ q6 in
     let q4 : List Piece = numeral a ∷ q5 in
-    let h = prefix_line s.rest s.end_line line (kind.Keyword keyword.For) (name_at n.variables v ∷ sign mark.Equals ∷ q4) rest f in
+    let h = prefix_spot s.rest s.end_line spot (kind.Keyword keyword.For) (name_at n.variables v ∷ sign mark.Equals ∷ q4) rest f in
     let t1 : List Token = after_first s.rest in
     let own = prefix_first t1 (name_at n.variables v) (sign mark.Equals ∷ q4) rest h.2 in
     let t2 : List Token = after_first t1 in
@@ -133,22 +134,22 @@ each_given n line v a e b given room s0 rest j k m c f ends =
     let inside = runs_inside n s j k m room (head_fits (scope_of s) j x) b c (omega arith) in
     let own_fits = first_of_both (nat_lt v (length s.variables)) _ inside.keeps in
     let fits = second_of_both (nat_lt v (length s.variables)) _ inside.keeps in
-    first_given line room (block_at room) (kind.Keyword keyword.For) s (name_at n.variables v ∷ sign mark.Equals ∷ q4) rest f
+    first_given spot room (block_at room) (kind.Keyword keyword.For) s (name_at n.variables v ∷ sign mark.Equals ∷ q4) rest f
     ∙ after (begin s) _ tt g (begin_given s (omega arith))
     (after (used_variable g) _ v (at g t2) (variable_given n g v c.finds own_fits own.0)
     (after (expect_sign mark.Equals (at g t2)) _ tt (at g t3) (expected_sign mark.Equals (at g t2) equals.0)
     (after (expression_at room (at g t3)) _ (number a) (at g s1.0) (number_alone n a room (at g t3) (kind.Keyword keyword.To) s1.0 c.finds (first_of_both (is_number a) _ fits) s1.1 to.0 (record { product = refl; sum = refl }))
     (after (expect keyword.To (at g s1.0)) _ tt (at g t4) (expected keyword.To (at g s1.0) to.0)
     (after (expression_at room (at g t4)) _ (number e) (at g s2.0) (number_alone n e room (at g t4) (kind.Name each_word) s2.0 c.finds (second_of_both (is_number a) _ fits) s2.1 each.0 (record { product = refl; sum = refl }))
-    (each_given_ends (block_at room) line v (number a) (number e) a e (at g s2.0) each.0
+    (each_given_ends (block_at room) spot v (number a) (number e) a e (at g s2.0) each.0
     ∙ after (block_at room (at g us)) _ (listed b) (left_at n s rest k m) (braced_given n b given room (at g us) rest inside.first k m (inside.runs us) each.1)
-    (ap (λ (w : Block). ok (for_each line v a e w) (left_at n s rest k m)) (block_of_listed b))))))))
+    (ap (λ (w : Block). ok (for_each spot v a e w) (left_at n s rest k m)) (block_of_listed b))))))))
 
-pub while_given : (n : Names) (line : ℕ) (t : Condition) (turns v : ℕ) (ks : List Keep) (b : Block) → AreGiven n b → IsGiven n (while_ line t turns v ks b)
+pub while_given : (n : Names) (spot : Spot) (t : Condition) (turns v : ℕ) (ks : List Keep) (b : Block) → AreGiven n b → IsGiven n (while_ spot t turns v ks b)
 unfolding while_statement
-while_given n line t turns v ks b given room s0 rest j k m c f ends =
+while_given n spot t turns v ks b given room s0 rest j k m c f ends =
     let s : State = hushed s0 in
-    let x : Statement = while_ line t turns v ks b in
+    let x : Statement = while_ spot t turns v ks b in
     let p1 : List Piece = phrase.condition n t in
     let p3 : List Piece = phrase.keeps n ks in
     let body : List Piece = spell.braced (spell.block n b) in
@@ -156,7 +157,7 @@ while_given n line t turns v ks b given room s0 rest j k m c f ends =
     let q3 : List Piece = word keyword.By ∷ q4 in
     let q2 : List Piece = numeral turns ∷ q3 in
     let q1 : List Piece = word keyword.Turns ∷ q2 in
-    let h = prefix_line s.rest s.end_line line (kind.Keyword keyword.While) (p1 ++ q1) rest f in
+    let h = prefix_spot s.rest s.end_line spot (kind.Keyword keyword.While) (p1 ++ q1) rest f in
     let s1 = prefix_split (after_first s.rest) p1 q1 rest h.2 in
     let f1 = prefix_first s1.0 (word keyword.Turns) q2 rest s1.2 in
     let t2 : List Token = after_first s1.0 in
@@ -176,7 +177,7 @@ while_given n line t turns v ks b given room s0 rest j k m c f ends =
     let inside = runs_inside n s j k m room (head_fits (scope_of s) j x) b c (omega arith) in
     let fits = second_of_both (condition_fits (scope_of s) t) _ inside.keeps in
     let fits_more = second_of_both (is_number turns) _ fits in
-    first_given line room (block_at room) (kind.Keyword keyword.While) s (p1 ++ q1) rest f
+    first_given spot room (block_at room) (kind.Keyword keyword.While) s (p1 ++ q1) rest f
     ∙ after (begin s) _ tt g (begin_given s (omega arith))
     (after (condition_at room g) _ t (at g s1.0) (condition_given n t room g s1.0 c.finds (first_of_both (condition_fits (scope_of s) t) _ inside.keeps) (omega arith) s1.1 (no_sign (kind_of s1.0) _ f1.0 (record { product = refl; sum = refl })) (ap (is_keyword keyword.And) f1.0))
     (after (expect keyword.Turns (at g s1.0)) _ tt (at g t2) (expected keyword.Turns (at g s1.0) f1.0)
@@ -185,4 +186,4 @@ while_given n line t turns v ks b given room s0 rest j k m c f ends =
     (after (used_variable (at g t4)) _ v (at g t5) (variable_given n (at g t4) v c.finds (first_of_both (nat_lt v (length s.variables)) _ fits_more) f4.0)
     (after (keeps_at (of_loop.Measure v) (at g t5)) _ ks (at g us) (keeps_given n (of_loop.Measure v) ks (at g t5) us c.finds (second_of_both (nat_lt v (length s.variables)) _ fits_more) s3.1 brace)
     (after (block_at room (at g us)) _ (listed b) (left_at n s rest k m) (braced_given n b given room (at g us) rest inside.first k m (inside.runs us) s3.2)
-    (ap (λ (w : Block). ok (while_ line t turns v ks w) (left_at n s rest k m)) (block_of_listed b)))))))))
+    (ap (λ (w : Block). ok (while_ spot t turns v ks w) (left_at n s rest k m)) (block_of_listed b)))))))))

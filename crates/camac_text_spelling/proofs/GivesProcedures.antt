@@ -24,7 +24,7 @@ use Rattle.camac_text.proofs.ParametersRead.{names_of, parameters_progress}
 use Rattle.camac_text_spelling.specs.Pieces.{Piece, word, sign, numeral, name, others, separated, Names, Prefix}
 use Rattle.camac_text_spelling.specs.Declarations as spell
 use Rattle.camac_text_spelling.specs.Statements.{braced, block}
-use Rattle.camac_text_spelling.proofs.Prefixes.{prefix_split, prefix_first, prefix_line}
+use Rattle.camac_text_spelling.proofs.Prefixes.{prefix_split, prefix_first, prefix_spot}
 use Rattle.camac_text_spelling.proofs.Gives.{at, ok, after, checked, left, expected, expected_sign, sign_same, number_given, new_name_seen, until_off, until_turn}
 use Rattle.camac_text_spelling.proofs.Fresh.{take_all}
 use Rattle.camac_text_spelling.proofs.Runs.{left_at, listed, block_of_listed, runs_with}
@@ -209,7 +209,7 @@ procedure_declared t p s0 rest m room new new_parameters few count c f =
     let n : Names = spell.procedure_names t p in
     let body : List Piece = braced (block n p.body) in
     let q1 : List Piece = heading p body in
-    let h = prefix_line s.rest s.end_line p.line (kind.Keyword keyword.Proc) (name p.name ∷ q1) rest f in
+    let h = prefix_spot s.rest s.end_line p.spot (kind.Keyword keyword.Proc) (name p.name ∷ q1) rest f in
     let t1 : List Token = after_first s.rest in
     let f1 = prefix_first t1 (name p.name) q1 rest h.2 in
     let t2 : List Token = after_first t1 in
@@ -223,11 +223,11 @@ procedure_declared t p s0 rest m room new new_parameters few count c f =
     let names : ℕ = length (s.declared ++ p.name ∷ []) in
     let made : (rs : List Text) (b : Block) → Procedure = λ rs b. record p { registers = rs; body = b } in
     let with_it : Procedure → State = λ q. with_procedure q names w in
-    first_given p.line (kind.Keyword keyword.Proc) s (name p.name ∷ q1) rest f
+    first_given p.spot (kind.Keyword keyword.Proc) s (name p.name ∷ q1) rest f
     ∙ checked (nat_lt (length s.procedures) 16) _ _ s (lt-ltb (length s.procedures) 16 room)
     (after (new_name (at s t1)) _ p.name (at s t1) (new_name_seen (at s t1) p.name f1.0 new)
     (after (heading_at u) _ (heading_of p) v g.1
     (after (block_at 16 v) _ (listed p.body) w (body_given n p.body 16 v rest 0 k m runs g.2)
-    (ap (λ (rs : List Text). ok tt (with_it (procedure_made p.line p.name (heading_of p) rs (listed p.body)))) (take_all p.registers)
+    (ap (λ (rs : List Text). ok tt (with_it (procedure_made p.spot p.name (heading_of p) rs (listed p.body)))) (take_all p.registers)
     ∙ ap (λ (b : Block). ok tt (with_it (record p { body = b }))) (block_of_listed p.body)
     ∙ ap (λ (ds : List Text). ok tt (record (with_procedure_body s rest p m) { declared = ds })) (take-append_seam (s.declared ++ p.name ∷ []) (names_of p.parameters))))))

@@ -26,12 +26,13 @@ use Rattle.camac_text_cursor.proofs.Registers.{first_of_both, second_of_both}
 use Rattle.camac_text_spelling.specs.Pieces.{Piece, word, sign, Names, Prefix}
 use Rattle.camac_text_spelling.specs.Phrases as phrase
 use Rattle.camac_text_spelling.specs.Statements as spell
-use Rattle.camac_text_spelling.proofs.Prefixes.{prefix_split, prefix_first, prefix_line}
+use Rattle.camac_text_spelling.proofs.Prefixes.{prefix_split, prefix_first, prefix_spot}
 use Rattle.camac_text_spelling.proofs.Gives.{at, ok, after, checked, left, expected_sign}
 use Rattle.camac_text_spelling.proofs.GivesExpressions.{NoSign, expression_given}
 use Rattle.camac_text_spelling.proofs.GivesPhrases.{no_sign, condition_given}
 use Rattle.camac_text_spelling.proofs.Runs.{Runs, left_at, begin_given, first_given, listed, block_of_listed, runs_with}
 use Rattle.camac_text_spelling.proofs.GivesActions.{IsGiven}
+use Rattle.camac_lang.specs.declared.spot.Spot.{Spot}
 
 -- The statements of a block that is spelled are read, up to its brace.
 abbrev pub AreGiven : Names → Block → Type 0
@@ -85,41 +86,41 @@ runs_inside n s j k m room rule b c deep =
 
 -- ---- `lock`
 
-pub locked_given : (n : Names) (line : ℕ) (e : Expression) (b : Block) → AreGiven n b → IsGiven n (locked line e b)
+pub locked_given : (n : Names) (spot : Spot) (e : Expression) (b : Block) → AreGiven n b → IsGiven n (locked spot e b)
 unfolding lock_statement
-locked_given n line e b given room s0 rest j k m c f ends =
+locked_given n spot e b given room s0 rest j k m c f ends =
     let s : State = hushed s0 in
-    let x : Statement = locked line e b in
+    let x : Statement = locked spot e b in
     let p1 : List Piece = phrase.expression n e in
     let body : List Piece = spell.braced (spell.block n b) in
-    let h = prefix_line s.rest s.end_line line (kind.Keyword keyword.Lock) (p1 ++ body) rest f in
+    let h = prefix_spot s.rest s.end_line spot (kind.Keyword keyword.Lock) (p1 ++ body) rest f in
     let parts = prefix_split (after_first s.rest) p1 body rest h.2 in
     let us : List Token = parts.0 in
     let deep : max (expression_depth e) (suc (inner_depth s.callables b)) ≤ room = c.deep in
     let counted : m ≡ s.statements + suc (statements b) = c.counted in
     let few : m ≤ 4096 = c.few in
     let inside = runs_inside n s j k m room (head_fits (scope_of s) j x) b c (omega arith) in
-    first_given line room (block_at room) (kind.Keyword keyword.Lock) s (p1 ++ body) rest f
+    first_given spot room (block_at room) (kind.Keyword keyword.Lock) s (p1 ++ body) rest f
     ∙ checked (not s.in_procedure) _ _ s (first_of_both (not s.in_procedure) _ inside.keeps)
     (after (begin s) _ tt (begun s) (begin_given s (omega arith))
     (after (expression_at room (begun s)) _ e (at (begun s) us) (expression_given n e room (begun s) us c.finds (second_of_both (not s.in_procedure) _ inside.keeps) (omega arith) parts.1 (no_sign (kind_of us) _ (brace_first n b us rest parts.2) brace_no_sign))
     (after (block_at room (at (begun s) us)) _ (listed b) (left_at n s rest k m) (braced_given n b given room (at (begun s) us) rest inside.first k m (inside.runs us) parts.2)
-    (ap (λ (w : Block). ok (locked line e w) (left_at n s rest k m)) (block_of_listed b)))))
+    (ap (λ (w : Block). ok (locked spot e w) (left_at n s rest k m)) (block_of_listed b)))))
 
 -- ---- `if`
 
-no_else_by : (block : Reader (List Statement)) (line : ℕ) (c : Condition) (xs : List Statement) (o : Option TokenKind) (s0 : State) → let s : State = hushed s0 in is_keyword keyword.Else o ≡ false → else_by block line c xs o s ≡ ok (choose line c (block_of xs)) s
-no_else_by block line c xs (Some (kind.Keyword keyword.Else)) s0 off = let s : State = hushed s0 in absurd cc
-no_else_by block line c xs _ s0 off = let s : State = hushed s0 in refl
+no_else_by : (block : Reader (List Statement)) (spot : Spot) (c : Condition) (xs : List Statement) (o : Option TokenKind) (s0 : State) → let s : State = hushed s0 in is_keyword keyword.Else o ≡ false → else_by block spot c xs o s ≡ ok (choose spot c (block_of xs)) s
+no_else_by block spot c xs (Some (kind.Keyword keyword.Else)) s0 off = let s : State = hushed s0 in absurd cc
+no_else_by block spot c xs _ s0 off = let s : State = hushed s0 in refl
 
-pub choose_given : (n : Names) (line : ℕ) (t : Condition) (b : Block) → AreGiven n b → IsGiven n (choose line t b)
+pub choose_given : (n : Names) (spot : Spot) (t : Condition) (b : Block) → AreGiven n b → IsGiven n (choose spot t b)
 unfolding if_statement
-choose_given n line t b given room s0 rest j k m c f ends =
+choose_given n spot t b given room s0 rest j k m c f ends =
     let s : State = hushed s0 in
-    let x : Statement = choose line t b in
+    let x : Statement = choose spot t b in
     let p1 : List Piece = phrase.condition n t in
     let body : List Piece = spell.braced (spell.block n b) in
-    let h = prefix_line s.rest s.end_line line (kind.Keyword keyword.If) (p1 ++ body) rest f in
+    let h = prefix_spot s.rest s.end_line spot (kind.Keyword keyword.If) (p1 ++ body) rest f in
     let parts = prefix_split (after_first s.rest) p1 body rest h.2 in
     let us : List Token = parts.0 in
     let brace = brace_first n b us rest parts.2 in
@@ -127,22 +128,22 @@ choose_given n line t b given room s0 rest j k m c f ends =
     let counted : m ≡ s.statements + suc (statements b) = c.counted in
     let few : m ≤ 4096 = c.few in
     let inside = runs_inside n s j k m room (head_fits (scope_of s) j x) b c (omega arith) in
-    first_given line room (block_at room) (kind.Keyword keyword.If) s (p1 ++ body) rest f
+    first_given spot room (block_at room) (kind.Keyword keyword.If) s (p1 ++ body) rest f
     ∙ after (begin s) _ tt (begun s) (begin_given s (omega arith))
     (after (condition_at room (begun s)) _ t (at (begun s) us) (condition_given n t room (begun s) us c.finds inside.keeps (omega arith) parts.1 (no_sign (kind_of us) _ brace brace_no_sign) (ap (is_keyword keyword.And) brace))
     (after (block_at room (at (begun s) us)) _ (listed b) (left_at n s rest k m) (braced_given n b given room (at (begun s) us) rest inside.first k m (inside.runs us) parts.2)
-    (no_else_by (block_at room) line t (listed b) (kind_of rest) (left_at n s rest k m) ends.no_else
-    ∙ ap (λ (w : Block). ok (choose line t w) (left_at n s rest k m)) (block_of_listed b))))
+    (no_else_by (block_at room) spot t (listed b) (kind_of rest) (left_at n s rest k m) ends.no_else
+    ∙ ap (λ (w : Block). ok (choose spot t w) (left_at n s rest k m)) (block_of_listed b))))
 
-pub choose_else_given : (n : Names) (line : ℕ) (t : Condition) (a b : Block) → AreGiven n a → AreGiven n b → IsGiven n (choose_else line t a b)
+pub choose_else_given : (n : Names) (spot : Spot) (t : Condition) (a b : Block) → AreGiven n a → AreGiven n b → IsGiven n (choose_else spot t a b)
 unfolding if_statement
-choose_else_given n line t a b given_a given_b room s0 rest j k m c f ends =
+choose_else_given n spot t a b given_a given_b room s0 rest j k m c f ends =
     let s : State = hushed s0 in
-    let x : Statement = choose_else line t a b in
+    let x : Statement = choose_else spot t a b in
     let p1 : List Piece = phrase.condition n t in
     let body : List Piece = spell.braced (spell.block n a) in
     let other : List Piece = spell.braced (spell.block n b) in
-    let h = prefix_line s.rest s.end_line line (kind.Keyword keyword.If) (p1 ++ (body ++ word keyword.Else ∷ other)) rest f in
+    let h = prefix_spot s.rest s.end_line spot (kind.Keyword keyword.If) (p1 ++ (body ++ word keyword.Else ∷ other)) rest f in
     let parts = prefix_split (after_first s.rest) p1 (body ++ word keyword.Else ∷ other) rest h.2 in
     let us : List Token = parts.0 in
     let more = prefix_split us body (word keyword.Else ∷ other) rest parts.2 in
@@ -161,11 +162,11 @@ choose_else_given n line t a b given_a given_b room s0 rest j k m c f ends =
     let inside_a : RunsBraced n (at (begun s) us) q.0 p.0 m1 room a = runs_with c (c.registers ∙ ap (λ (i : ℕ). take i n.registers) r.1) q.2 (omega arith) (omega arith) refl (omega arith) in
     let w : State = left_at n s (after_first vs) p.0 m1 in
     let inside_b : RunsBraced n w p.0 k m room b = runs_with c refl p.2 c.within (omega arith) (omega arith) c.few in
-    first_given line room (block_at room) (kind.Keyword keyword.If) s (p1 ++ (body ++ word keyword.Else ∷ other)) rest f
+    first_given spot room (block_at room) (kind.Keyword keyword.If) s (p1 ++ (body ++ word keyword.Else ∷ other)) rest f
     ∙ after (begin s) _ tt (begun s) (begin_given s (omega arith))
     (after (condition_at room (begun s)) _ t (at (begun s) us) (condition_given n t room (begun s) us c.finds r.0 (omega arith) parts.1 (no_sign (kind_of us) _ brace brace_no_sign) (ap (is_keyword keyword.And) brace))
     (after (block_at room (at (begun s) us)) _ (listed a) (left_at n s vs p.0 m1) (braced_given n a given_a room (at (begun s) us) vs q.0 p.0 m1 inside_a more.1)
-    (ap (λ (o : Option TokenKind). else_by (block_at room) line t (listed a) o (left_at n s vs p.0 m1)) els.0
+    (ap (λ (o : Option TokenKind). else_by (block_at room) spot t (listed a) o (left_at n s vs p.0 m1)) els.0
     ∙ after (block_at room w) _ (listed b) (left_at n s rest k m) (braced_given n b given_b room w rest p.0 k m inside_b els.1)
-    (ap (λ (z : Block). ok (choose_else line t z (block_of (listed b))) (left_at n s rest k m)) (block_of_listed a)
-    ∙ ap (λ (z : Block). ok (choose_else line t a z) (left_at n s rest k m)) (block_of_listed b)))))
+    (ap (λ (z : Block). ok (choose_else spot t z (block_of (listed b))) (left_at n s rest k m)) (block_of_listed a)
+    ∙ ap (λ (z : Block). ok (choose_else spot t a z) (left_at n s rest k m)) (block_of_listed b)))))

@@ -19,7 +19,7 @@ use Rattle.camac_text_cursor.proofs.Registers.{first_of_both, second_of_both}
 use Rattle.camac_text.proofs.TablesRead.{words_progress}
 use Rattle.camac_text_spelling.specs.Pieces.{Piece, sign, numeral, name, Prefix}
 use Rattle.camac_text_spelling.specs.Declarations as spell
-use Rattle.camac_text_spelling.proofs.Prefixes.{prefix_first, prefix_line}
+use Rattle.camac_text_spelling.proofs.Prefixes.{prefix_first, prefix_spot}
 use Rattle.camac_text_spelling.proofs.Gives.{at, ok, after, checked, left, expected_sign, number_seen, new_name_seen, until_off, until_turn}
 use Rattle.camac_text_spelling.proofs.GivesDeclarations.{first_given}
 
@@ -67,13 +67,13 @@ table_declared g s0 rest room new some few fit f off =
     let s : State = hushed s0 in
     let q2 : List Piece = map numeral g.words in
     let q1 : List Piece = sign mark.Equals ∷ q2 in
-    let h = prefix_line s.rest s.end_line g.line (kind.Keyword keyword.Table) (name g.name ∷ q1) rest f in
+    let h = prefix_spot s.rest s.end_line g.spot (kind.Keyword keyword.Table) (name g.name ∷ q1) rest f in
     let t1 : List Token = after_first s.rest in
     let f1 = prefix_first t1 (name g.name) q1 rest h.2 in
     let t2 : List Token = after_first t1 in
     let f2 = prefix_first t2 (sign mark.Equals) q2 rest f1.1 in
     let t3 : List Token = after_first t2 in
-    first_given g.line (kind.Keyword keyword.Table) s (name g.name ∷ q1) rest f
+    first_given g.spot (kind.Keyword keyword.Table) s (name g.name ∷ q1) rest f
     ∙ checked (nat_lt (length s.tables) 16) _ _ s (lt-ltb (length s.tables) 16 room)
     (after (new_name (at s t1)) _ g.name (at s t1) (new_name_seen (at s t1) g.name f1.0 new)
     (after (expect_sign mark.Equals (at s t2)) _ tt (at s t3) (expected_sign mark.Equals (at s t2) f2.0)

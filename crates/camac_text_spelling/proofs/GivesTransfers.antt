@@ -24,12 +24,13 @@ use Rattle.camac_text_cursor.proofs.Uses.{scope_of}
 use Rattle.camac_text_cursor.proofs.Registers.{first_of_both, second_of_both}
 use Rattle.camac_text_spelling.specs.Pieces.{Piece, word, numeral, name_at, text_at, Names, Prefix}
 use Rattle.camac_text_spelling.specs.Phrases as phrase
-use Rattle.camac_text_spelling.proofs.Prefixes.{prefix_split, prefix_first, prefix_line}
+use Rattle.camac_text_spelling.proofs.Prefixes.{prefix_split, prefix_first, prefix_spot}
 use Rattle.camac_text_spelling.proofs.Gives.{at, ok, after, left, expected, function_given, FindsAll, variable_given, register_given, table_given}
 use Rattle.camac_text_spelling.proofs.GivesExpressions.{NoSign, expression_given}
 use Rattle.camac_text_spelling.proofs.GivesPhrases.{no_sign}
 use Rattle.camac_text_spelling.proofs.Runs.{Runs, first_given, simple_given}
 use Rattle.camac_text_spelling.proofs.GivesActions.{IsGiven}
+use Rattle.camac_lang.specs.declared.spot.Spot.{Spot}
 
 -- ---- their parts
 
@@ -86,15 +87,15 @@ write_given n (Some g) s0 rest finds fits f next =
 
 -- ---- `cfmad`
 
-pub scan_given : (n : Names) (line g r1 r2 : ℕ) (e : Expression) (x : ℕ) → IsGiven n (address_scan line g r1 r2 e x)
+pub scan_given : (n : Names) (spot : Spot) (g r1 r2 : ℕ) (e : Expression) (x : ℕ) → IsGiven n (address_scan spot g r1 r2 e x)
 unfolding scan_statement
-scan_given n line g r1 r2 e x room s0 rest j k m c f ends =
+scan_given n spot g r1 r2 e x room s0 rest j k m c f ends =
     let s : State = hushed s0 in
-    let y : Statement = address_scan line g r1 r2 e x in
+    let y : Statement = address_scan spot g r1 r2 e x in
     let p4 : List Piece = phrase.most n e ++ phrase.tally n x in
     let p3 : List Piece = name_at n.registers r2 ∷ p4 in
     let p2 : List Piece = name_at n.registers r1 ∷ p3 in
-    let h = prefix_line s.rest s.end_line line (kind.Keyword keyword.Cfmad) (numeral g ∷ p2) rest f in
+    let h = prefix_spot s.rest s.end_line spot (kind.Keyword keyword.Cfmad) (numeral g ∷ p2) rest f in
     let t1 : List Token = after_first s.rest in
     let number = prefix_first t1 (numeral g) p2 rest h.2 in
     let t2 : List Token = after_first t1 in
@@ -106,7 +107,7 @@ scan_given n line g r1 r2 e x room s0 rest j k m c f ends =
     let q1 = second_of_both (is_function g) _ rule.0 in
     let q2 = second_of_both (nat_lt r1 j) _ q1 in
     let q3 = second_of_both (nat_lt r2 j) _ q2 in
-    first_given line room (block_at room) (kind.Keyword keyword.Cfmad) s (numeral g ∷ p2) rest f
+    first_given spot room (block_at room) (kind.Keyword keyword.Cfmad) s (numeral g ∷ p2) rest f
     ∙ simple_given n y s rest j k m room _ _ _ c rule.1
     (after (function_number (begun s)) _ g (at (begun s) t2) (function_read (begun s) g (first_of_both (is_function g) _ rule.0) number.0)
     (after (used_register (at (begun s) t2)) _ r1 (at (begun s) t3) (register_read n s t2 r1 j k m room _ _ c rule.1 (first_of_both (nat_lt r1 j) _ q1) first.0)
@@ -116,15 +117,15 @@ scan_given n line g r1 r2 e x room s0 rest j k m c f ends =
 
 -- ---- `cfubc`
 
-pub stop_given : (n : Names) (line g r : ℕ) (t : Option ℕ) (e : Expression) (x : ℕ) → IsGiven n (q_stop line g r t e x)
+pub stop_given : (n : Names) (spot : Spot) (g r : ℕ) (t : Option ℕ) (e : Expression) (x : ℕ) → IsGiven n (q_stop spot g r t e x)
 unfolding q_stop_statement
-stop_given n line g r t e x room s0 rest j k m c f ends =
+stop_given n spot g r t e x room s0 rest j k m c f ends =
     let s : State = hushed s0 in
-    let y : Statement = q_stop line g r t e x in
+    let y : Statement = q_stop spot g r t e x in
     let p4 : List Piece = phrase.expression n e ++ phrase.tally n x in
     let p3 : List Piece = phrase.table n t ++ word keyword.Max ∷ p4 in
     let p2 : List Piece = name_at n.registers r ∷ p3 in
-    let h = prefix_line s.rest s.end_line line (kind.Keyword keyword.Cfubc) (numeral g ∷ p2) rest f in
+    let h = prefix_spot s.rest s.end_line spot (kind.Keyword keyword.Cfubc) (numeral g ∷ p2) rest f in
     let t1 : List Token = after_first s.rest in
     let number = prefix_first t1 (numeral g) p2 rest h.2 in
     let t2 : List Token = after_first t1 in
@@ -137,7 +138,7 @@ stop_given n line g r t e x room s0 rest j k m c f ends =
     let q1 = second_of_both (is_function g) _ rule.0 in
     let q2 = second_of_both (nat_lt r j) _ q1 in
     let q3 = second_of_both (table_fits (scope_of s) t) _ q2 in
-    first_given line room (block_at room) (kind.Keyword keyword.Cfubc) s (numeral g ∷ p2) rest f
+    first_given spot room (block_at room) (kind.Keyword keyword.Cfubc) s (numeral g ∷ p2) rest f
     ∙ simple_given n y s rest j k m room _ _ _ c rule.1
     (after (function_number (begun s)) _ g (at (begun s) t2) (function_read (begun s) g (first_of_both (is_function g) _ rule.0) number.0)
     (after (used_register (at (begun s) t2)) _ r (at (begun s) t3) (register_read n s t2 r j k m room _ _ c rule.1 (first_of_both (nat_lt r j) _ q1) register.0)
@@ -147,16 +148,16 @@ stop_given n line g r t e x room s0 rest j k m c f ends =
 
 -- ---- `cfubr`
 
-pub q_repeat_given : (n : Names) (line g r : ℕ) (t : Option ℕ) (e l : Expression) (x : ℕ) → IsGiven n (q_repeat line g r t e l x)
+pub q_repeat_given : (n : Names) (spot : Spot) (g r : ℕ) (t : Option ℕ) (e l : Expression) (x : ℕ) → IsGiven n (q_repeat spot g r t e l x)
 unfolding q_repeat_statement
-q_repeat_given n line g r t e l x room s0 rest j k m c f ends =
+q_repeat_given n spot g r t e l x room s0 rest j k m c f ends =
     let s : State = hushed s0 in
-    let y : Statement = q_repeat line g r t e l x in
+    let y : Statement = q_repeat spot g r t e l x in
     let p5 : List Piece = word keyword.Limit ∷ (phrase.expression n l ++ phrase.tally n x) in
     let p4 : List Piece = phrase.expression n e ++ p5 in
     let p3 : List Piece = phrase.table n t ++ word keyword.Max ∷ p4 in
     let p2 : List Piece = name_at n.registers r ∷ p3 in
-    let h = prefix_line s.rest s.end_line line (kind.Keyword keyword.Cfubr) (numeral g ∷ p2) rest f in
+    let h = prefix_spot s.rest s.end_line spot (kind.Keyword keyword.Cfubr) (numeral g ∷ p2) rest f in
     let t1 : List Token = after_first s.rest in
     let number = prefix_first t1 (numeral g) p2 rest h.2 in
     let t2 : List Token = after_first t1 in
@@ -174,7 +175,7 @@ q_repeat_given n line g r t e l x room s0 rest j k m c f ends =
     let q3 = second_of_both (table_fits (scope_of s) t) _ q2 in
     let q4 = second_of_both (expression_fits (scope_of s) e) _ q3 in
     let deep : max (expression_depth e) (expression_depth l) ≤ room = c.deep in
-    first_given line room (block_at room) (kind.Keyword keyword.Cfubr) s (numeral g ∷ p2) rest f
+    first_given spot room (block_at room) (kind.Keyword keyword.Cfubr) s (numeral g ∷ p2) rest f
     ∙ simple_given n y s rest j k m room _ _ _ c rule.1
     (after (function_number (begun s)) _ g (at (begun s) t2) (function_read (begun s) g (first_of_both (is_function g) _ rule.0) number.0)
     (after (used_register (at (begun s) t2)) _ r (at (begun s) t3) (register_read n s t2 r j k m room _ _ c rule.1 (first_of_both (nat_lt r j) _ q1) register.0)

@@ -41,7 +41,7 @@ passes t b b' next_table e =
 passes t b b' next_lam e =
     let p = then_parts (λ x. unless_broken (lam_stands b x) (with_lam x.name b)) (slice_get t.lams b.lams) b' e in
     ap passed_of (sym (unless_parts (lam_stands b p.0) (with_lam p.0.name b) b' p.2).1)
-passes t b b' (next_variables line n) e =
+passes t b b' (next_variables spot n) e =
     let xs : List Text = take n (drop b.variables t.variables) in
     let r = unless_parts (nat_le 1 n && (nat_eq (length xs) n && are_declarable xs b.names)) (with_variables xs b) b' e in
     let many : length xs ≡ n = eqb-true (length xs) n (first_of_both (nat_eq (length xs) n) _ (second_of_both (nat_le 1 n) _ r.0)) in

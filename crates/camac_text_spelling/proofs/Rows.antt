@@ -7,14 +7,13 @@ use Rattle.camac_tokens.specs.declared.token.Sign.TheVariants as mark
 use Rattle.camac_tokens.specs.declared.token.Token.{Token}
 use Rattle.camac_tokens.specs.declared.token.TokenKind.{TokenKind}
 use Rattle.camac_tokens.specs.declared.token.TokenKind.TheVariants as kind
-use Rattle.camac_tokens.specs.Scanning.{start_of, tokens_from, tokens_of}
+use Rattle.camac_tokens.specs.Scanning.{spot_at, start_of, tokens_from, tokens_of}
 use Rattle.camac_tokens.specs.Words.{keyword as keyword_of}
-use Rattle.camac_lang.specs.Example.{straight_line}
 use Rattle.camac_text_spelling.specs.Spells.{IsSpelled}
-use Rattle.camac_text_spelling.specs.Laws.{example_text}
+use Rattle.camac_text_spelling.specs.Laws.{example_text, example_tree}
 
 abbrev at : ℕ → ℕ → TokenKind → Token
-at line left k = record { kind = k; line = line; left = left }
+at line left k = record { kind = k; spot = spot_at line left }
 
 abbrev example_tokens : List Token
 example_tokens =
@@ -50,7 +49,7 @@ example_tokens =
     at 6 3 (kind.Name (codes "v")) ∷
     at 6 1 (kind.Sign mark.RightBrace) ∷ []
 
-pub example_is_spelled : IsSpelled example_text straight_line
+pub example_is_spelled : IsSpelled example_text example_tree
 unfolding tokens_of tokens_from start_of keyword_of is_well_formed
 example_is_spelled = record {
   tokens = example_tokens;

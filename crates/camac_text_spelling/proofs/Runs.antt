@@ -20,10 +20,11 @@ use Rattle.camac_text_statements.proofs.Acts.{begun}
 use Rattle.camac_text_cursor.proofs.Places.{hushed}
 use Rattle.camac_text_cursor.proofs.Registers.{first_of_both, second_of_both}
 use Rattle.camac_text_spelling.specs.Pieces.{Piece, first_piece, text_at, Names, Prefix}
-use Rattle.camac_text_spelling.proofs.Prefixes.{prefix_line}
+use Rattle.camac_text_spelling.proofs.Prefixes.{prefix_spot}
 use Rattle.camac_text_spelling.proofs.Gives.{at, ok, after, checked, new_name_seen, FindsAll}
 use Rattle.camac_text_spelling.proofs.GivesExpressions.{NoSign}
 use Rattle.camac_text_spelling.proofs.GivesKeeps.{is_move_sign}
+use Rattle.camac_lang.specs.declared.spot.Spot.{Spot}
 
 -- The registers of a body are new names, each found from its first `cdreg` on, and few with those that count beside them.
 pub record Sets (n : Names) (declared : List Text) (beside : ℕ) : Type 0 where
@@ -70,12 +71,12 @@ pub begin_given : (s0 : State) → let s : State = hushed s0 in s.statements < 4
 unfolding begin
 begin_given s0 below = let s : State = hushed s0 in checked (nat_lt s.statements 4096) _ (change (λ u. record u { statements = suc u.statements }) >> advance) s (lt-ltb s.statements 4096 below) refl
 
-pub first_given : (line room : ℕ) (block : Reader (List Statement)) (k : TokenKind) (s0 : State) → let s : State = hushed s0 in (ps : List Piece) (rest : List Token) → Prefix s.rest (first_piece line k ∷ ps) rest → statement_with room block s ≡ statement_by room block line (Some k) s
+pub first_given : (spot : Spot) (room : ℕ) (block : Reader (List Statement)) (k : TokenKind) (s0 : State) → let s : State = hushed s0 in (ps : List Piece) (rest : List Token) → Prefix s.rest (first_piece spot k ∷ ps) rest → statement_with room block s ≡ statement_by room block spot (Some k) s
 unfolding statement_with
-first_given line room block k s0 ps rest f =
+first_given spot room block k s0 ps rest f =
     let s : State = hushed s0 in
-    let h = prefix_line s.rest s.end_line line k ps rest f in
-    ap (λ (l : ℕ). statement_by room block l (kind_of s.rest) s) h.1 ∙ ap (λ (o : Option TokenKind). statement_by room block line o s) h.0
+    let h = prefix_spot s.rest s.end_line spot k ps rest f in
+    ap (λ (at : Spot). statement_by room block at (kind_of s.rest) s) h.1 ∙ ap (λ (o : Option TokenKind). statement_by room block spot o s) h.0
 
 -- one that sets no register and holds no block
 pub simple_given : (n : Names) (x : Statement) (s0 : State) → let s : State = hushed s0 in (rest : List Token) (j k m room : ℕ) (reaches : Option ℕ) (depth : ℕ) (g : Reader Statement) → Runs n s j k m room reaches depth 1 → j ≡ k → g (begun s) ≡ ok x (at (begun s) rest) → (begin >> g) s ≡ ok x (left_at n s rest k m)

@@ -1,7 +1,7 @@
 -- Declarations that are read are spelled so, and the whole script.
 use Rattle.std.proofs.Common.{◌≡◌, ℕ, ◌+◌, nat_lt, List, [], ◌∷◌, ◌++◌, map, length, Option, Some, Ok, refl, sym, ap, subst, ◌∙◌, append_assoc, length-append}
 use Rattle.std.proofs.lemmas.List.{append-nil, map_push, map-append}
-use Rattle.camac_lang.specs.Tree.{Text, Table, Lam, Procedure, Service, next_variables, Script}
+use Rattle.camac_lang.specs.Tree.{Text, Table, Lam, Procedure, Service, next_variables, Script, on_line}
 use Rattle.camac_lang.specs.View.{block_of}
 use Rattle.camac_tokens.specs.declared.token.Keyword.TheVariants as keyword
 use Rattle.camac_tokens.specs.declared.token.Sign.TheVariants as mark
@@ -9,7 +9,7 @@ use Rattle.camac_tokens.specs.declared.token.Token.{Token}
 use Rattle.camac_tokens.specs.declared.token.TokenKind.{TokenKind}
 use Rattle.camac_tokens.specs.declared.token.TokenKind.TheVariants as kind
 use Rattle.camac_text_cursor.specs.declared.choice.Choice.TheVariants as choice
-use Rattle.camac_text_cursor.specs.Reading.{State, give, change, kind_of, line_of, after_first, advance, Reader, ◌>>◌, past, until}
+use Rattle.camac_text_cursor.specs.Reading.{State, give, change, kind_of, spot_of, after_first, advance, Reader, ◌>>◌, past, until}
 use Rattle.camac_text_cursor.specs.Readers.{is_number, new_name, new_variable, is_name, expect, any_number, branch_number, sub_address_number, used_lam, expect_sign, number_here}
 use Rattle.camac_text_cursor.specs.Declaring.{with_lam as lam_added, with_variables_of, with_service as service_added, with_table as table_added, tree_so_far}
 use Rattle.camac_text_statements.specs.Statements.{block_at}
@@ -29,6 +29,7 @@ use Rattle.camac_text_spelling.proofs.Takes.{Tells, Took, join, returns, took_on
 use Rattle.camac_text_spelling.proofs.SpelledProcedures.{procedure_spelled}
 use Rattle.camac_text_spelling.proofs.SpelledStatements.{took_block}
 use Rattle.camac_text_spelling.proofs.Declared.{Declares, with_table, declares_table, with_lam, declares_lam, declares_variables, with_service, declares_service, Sofar, one_more}
+use Rattle.camac_lang.specs.declared.spot.Spot.{Spot}
 
 -- ---- names
 
@@ -49,7 +50,7 @@ tells_names s t v x same = record {
 }
 
 abbrev own : State → Service
-own s = record { line = 0; lam = 0; cycles = 0; words = 0; registers = s.registers; body = block_of [] }
+own s = record { spot = on_line 0; lam = 0; cycles = 0; words = 0; registers = s.registers; body = block_of [] }
 
 -- the tokens of what uses no names
 plainly : (s : State) (ps : List Piece) (u : State) → Took (service_names (tree_so_far u) (own u)) s ps u → Prefix s.rest ps u.rest
@@ -57,7 +58,7 @@ plainly s ps u took = took.prefix (tells_names u (tree_so_far u) (own u) (itself
 
 -- ---- a LAM
 
-lam_spelled : (s : State) (y : Unit {0} × State) → kind_of s.rest ≡ Some (kind.Keyword keyword.Cdlam) → lam_declaration (line_of s.rest s.end_line) s ≡ Ok y → Declares (tree_so_far s) s.rest (tree_so_far y.1) y.1.rest
+lam_spelled : (s : State) (y : Unit {0} × State) → kind_of s.rest ≡ Some (kind.Keyword keyword.Cdlam) → lam_declaration (spot_of s.rest s.end_line) s ≡ Ok y → Declares (tree_so_far s) s.rest (tree_so_far y.1) y.1.rest
 unfolding lam_declaration
 lam_spelled s y next e =
     let t : State = past s in
@@ -69,7 +70,7 @@ lam_spelled s y next e =
     let c = then_ok (any_number b.0.1) _ y b.2 in
     let d = then_ok (any_number c.0.1) _ y c.2 in
     let f = then_ok (sub_address_number d.0.1) _ y d.2 in
-    let l : Lam = record { line = line_of s.rest s.end_line; name = a.0.0; crate_no = c.0.0; station = d.0.0; sub_address = f.0.0 } in
+    let l : Lam = record { spot = spot_of s.rest s.end_line; name = a.0.0; crate_no = c.0.0; station = d.0.0; sub_address = f.0.0 } in
     let v : State = f.0.1 in
     let took : Took (service_names (tree_so_far v) (own v)) s (spell.lam_declaration l) v =
     join (took_first s (kind.Keyword keyword.Cdlam) next) (join (took_one {s' = u} h.next (ap past h.left)) (join (took_branch u b.0 b.1)
@@ -102,7 +103,7 @@ took_words {n} s y e =
     let a = then_ok (word_after (length ws) u) (λ w. give (ws ++ w ∷ [])) (vs, v) took in
     returns {x = ws ++ a.0.0 ∷ []} (map numeral) a.2 (subst (λ (ps : List Piece). Took n s ps a.0.1) (sym (words_push ws a.0.0)) (join so (took_word_of (length ws) u a.0 a.1)))) (m.0.0 ∷ []) m.0.1 y (took_word_of 0 s m.0 m.1) m.2
 
-table_spelled : (s : State) (y : Unit {0} × State) → kind_of s.rest ≡ Some (kind.Keyword keyword.Table) → table_declaration (line_of s.rest s.end_line) s ≡ Ok y → Declares (tree_so_far s) s.rest (tree_so_far y.1) y.1.rest
+table_spelled : (s : State) (y : Unit {0} × State) → kind_of s.rest ≡ Some (kind.Keyword keyword.Table) → table_declaration (spot_of s.rest s.end_line) s ≡ Ok y → Declares (tree_so_far s) s.rest (tree_so_far y.1) y.1.rest
 unfolding table_declaration
 table_spelled s y next e =
     let t : State = past s in
@@ -112,7 +113,7 @@ table_spelled s y next e =
     let u : State = past a.0.1 in
     let b = then_ok (expect_sign mark.Equals u) _ y a.2 in
     let c = then_ok (table_words b.0.1) _ y b.2 in
-    let l : Table = record { line = line_of s.rest s.end_line; name = a.0.0; words = c.0.0 } in
+    let l : Table = record { spot = spot_of s.rest s.end_line; name = a.0.0; words = c.0.0 } in
     let v : State = c.0.1 in
     let took : Took (service_names (tree_so_far v) (own v)) s (spell.table_declaration l) v =
     join (took_first s (kind.Keyword keyword.Table) next) (join (took_one {s' = u} h.next (ap past h.left)) (join (took_sign mark.Equals u b.0 b.1) (took_words b.0.1 c.0 c.1))) in
@@ -150,28 +151,28 @@ name_turn s n u m v d e =
     let one = new_variable_ok u a.0 a.1 in
     subst (λ (p : ℕ × State). Names' s p.0 p.1) (ok_is (n + 1, a.0.1) (m, v) a.2) (name_more s n u one.0 a.0.1 d one.1)
 
-variables_spelled : (s : State) (y : Unit {0} × State) → kind_of s.rest ≡ Some (kind.Keyword keyword.Var) → variable_declaration (line_of s.rest s.end_line) s ≡ Ok y → Declares (tree_so_far s) s.rest (tree_so_far y.1) y.1.rest
+variables_spelled : (s : State) (y : Unit {0} × State) → kind_of s.rest ≡ Some (kind.Keyword keyword.Var) → variable_declaration (spot_of s.rest s.end_line) s ≡ Ok y → Declares (tree_so_far s) s.rest (tree_so_far y.1) y.1.rest
 unfolding variable_declaration
 variables_spelled s y next e =
-    let line : ℕ = line_of s.rest s.end_line in
+    let spot : Spot = spot_of s.rest s.end_line in
     let t : State = past s in
     let a = then_ok (new_variable t) _ y e in
     let first = new_variable_ok t a.0 a.1 in
     let one : Names' t 1 a.0.1 = name_more t 0 t first.0 a.0.1 (no_names t) first.1 in
-    let b = then_ok (until choice.Name is_name one_more_variable 1 a.0.1) (λ count. change (with_variables_of line count)) y a.2 in
+    let b = then_ok (until choice.Name is_name one_more_variable 1 a.0.1) (λ count. change (with_variables_of spot count)) y a.2 in
     let d = until_keeps (λ (n : ℕ) (u : State). Names' t n u) choice.Name (λ n u d. record { names = d.names; counted = d.counted; prefix = d.prefix; tree = d.tree }) is_name one_more_variable (λ n u m v d on took. name_turn t n u m v d took) 1 a.0.1 b.0 one b.1 in
     let v : State = b.0.1 in
-    let prefix : Prefix s.rest (spell.variable_declaration line d.names) v.rest = prefix_join s.rest (first_word line keyword.Var ∷ []) t.rest (map name d.names) v.rest (prefix_begin s.rest s.end_line (kind.Keyword keyword.Var) next) d.prefix in
-    subst (λ (p : Unit {0} × State). Declares (tree_so_far s) s.rest (tree_so_far p.1) p.1.rest) (ok_is (tt, with_variables_of line b.0.0 v) y b.2)
-    (subst (λ (w : Script). Declares (tree_so_far s) s.rest (record w { order = w.order ++ next_variables line b.0.0 ∷ [] }) v.rest) (sym d.tree)
-    (declares_variables (tree_so_far s) line b.0.0 d.names s.rest v.rest d.counted prefix))
+    let prefix : Prefix s.rest (spell.variable_declaration spot d.names) v.rest = prefix_join s.rest (first_word spot keyword.Var ∷ []) t.rest (map name d.names) v.rest (prefix_begin s.rest s.end_line (kind.Keyword keyword.Var) next) d.prefix in
+    subst (λ (p : Unit {0} × State). Declares (tree_so_far s) s.rest (tree_so_far p.1) p.1.rest) (ok_is (tt, with_variables_of spot b.0.0 v) y b.2)
+    (subst (λ (w : Script). Declares (tree_so_far s) s.rest (record w { order = w.order ++ next_variables spot b.0.0 ∷ [] }) v.rest) (sym d.tree)
+    (declares_variables (tree_so_far s) spot b.0.0 d.names s.rest v.rest d.counted prefix))
 
 -- ---- a service
 
-service_spelled : (s : State) (y : Unit {0} × State) → kind_of s.rest ≡ Some (kind.Keyword keyword.Service) → service_declaration (line_of s.rest s.end_line) s ≡ Ok y → Declares (tree_so_far s) s.rest (tree_so_far y.1) y.1.rest
+service_spelled : (s : State) (y : Unit {0} × State) → kind_of s.rest ≡ Some (kind.Keyword keyword.Service) → service_declaration (spot_of s.rest s.end_line) s ≡ Ok y → Declares (tree_so_far s) s.rest (tree_so_far y.1) y.1.rest
 unfolding service_declaration
 service_spelled s y next e =
-    let line : ℕ = line_of s.rest s.end_line in
+    let spot : Spot = spot_of s.rest s.end_line in
     let t : State = past s in
     let c0 = check_ok (nat_lt (length s.services) 24) _ _ s y e in
     let l = then_ok (used_lam t) _ y c0.1 in
@@ -181,20 +182,20 @@ service_spelled s y next e =
     let d = then_ok (expect keyword.Event c.0.1) _ y c.2 in
     let f = then_ok (any_number d.0.1) _ y d.2 in
     let g = then_ok (expect keyword.Words f.0.1) _ y f.2 in
-    let h = then_ok (block_at 16 g.0.1) (λ body. change (service_added line l.0.0 b.0.0 f.0.0 body)) y g.2 in
+    let h = then_ok (block_at 16 g.0.1) (λ body. change (service_added spot l.0.0 b.0.0 f.0.0 body)) y g.2 in
     let u : State = h.0.1 in
-    let v : Service = record { line = line; lam = l.0.0; cycles = b.0.0; words = f.0.0; registers = u.registers; body = block_of h.0.0 } in
+    let v : Service = record { spot = spot; lam = l.0.0; cycles = b.0.0; words = f.0.0; registers = u.registers; body = block_of h.0.0 } in
     let took : (w : Script) → Took (service_names w v) s (spell.service_declaration w v) u = λ w.
     join (took_first s (kind.Keyword keyword.Service) next) (join (took_lam t l.0 l.1) (join (took_word keyword.Within l.0.1 a.0 a.1) (join (took_token (any_number_ok a.0.1 b.0 b.1))
     (join (took_word keyword.Cycles b.0.1 c.0 c.1) (join (took_word keyword.Event c.0.1 d.0 d.1) (join (took_token (any_number_ok d.0.1 f.0 f.1)) (join (took_word keyword.Words f.0.1 g.0 g.1)
     (took_block (service_names w v) 16 g.0.1 h.0 h.1)))))))) in
-    subst (λ (p : Unit {0} × State). Declares (tree_so_far s) s.rest (tree_so_far p.1) p.1.rest) (ok_is (tt, service_added line l.0.0 b.0.0 f.0.0 h.0.0 u) y h.2)
+    subst (λ (p : Unit {0} × State). Declares (tree_so_far s) s.rest (tree_so_far p.1) p.1.rest) (ok_is (tt, service_added spot l.0.0 b.0.0 f.0.0 h.0.0 u) y h.2)
     (subst (λ (w : Script). Declares w s.rest (with_service (tree_so_far u) v) u.rest) (took (tree_so_far u)).same
     (declares_service (tree_so_far u) v s.rest u.rest (λ w x. (took w).prefix (tells_names u w v x refl))))
 
 -- ---- the whole script
 
-declaration_spelled_by : (s : State) (k : Option TokenKind) (y : Unit {0} × State) → kind_of s.rest ≡ k → declaration_by (line_of s.rest s.end_line) k s ≡ Ok y → Declares (tree_so_far s) s.rest (tree_so_far y.1) y.1.rest
+declaration_spelled_by : (s : State) (k : Option TokenKind) (y : Unit {0} × State) → kind_of s.rest ≡ k → declaration_by (spot_of s.rest s.end_line) k s ≡ Ok y → Declares (tree_so_far s) s.rest (tree_so_far y.1) y.1.rest
 declaration_spelled_by s (Some (kind.Keyword keyword.Table)) y next e = table_spelled s y next e
 declaration_spelled_by s (Some (kind.Keyword keyword.Cdlam)) y next e = lam_spelled s y next e
 declaration_spelled_by s (Some (kind.Keyword keyword.Var)) y next e = variables_spelled s y next e

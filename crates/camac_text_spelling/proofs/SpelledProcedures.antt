@@ -9,7 +9,7 @@ use Rattle.camac_tokens.specs.declared.token.Sign.TheVariants as mark
 use Rattle.camac_tokens.specs.declared.token.TokenKind.{TokenKind}
 use Rattle.camac_tokens.specs.declared.token.TokenKind.TheVariants as kind
 use Rattle.camac_text_cursor.specs.declared.choice.Choice.TheVariants as choice
-use Rattle.camac_text_cursor.specs.Reading.{State, Reader, ◌>>=◌, ◌>>◌, give, ask, change, advance, kind_of, line_of, one_more, miss, missed, past, until}
+use Rattle.camac_text_cursor.specs.Reading.{State, Reader, ◌>>=◌, ◌>>◌, give, ask, change, advance, kind_of, spot_of, one_more, miss, missed, past, until}
 use Rattle.camac_text_cursor.specs.Readers.{is_sign, expect, expect_sign, any_number, new_name, added, new_parameter}
 use Rattle.camac_text_cursor.specs.Declaring.{tree_so_far, in_heading, opened, with_procedure as procedure_added}
 use Rattle.camac_text_cursor.proofs.Steps.{then_ok, ok_is, until_keeps}
@@ -30,6 +30,7 @@ use Rattle.camac_text_spelling.proofs.SpelledStatements.{took_block}
 use Rattle.camac_text_spelling.proofs.Declared.{Declares, with_procedure, declares_procedure}
 use Rattle.camac_text_statements.proofs.Bodies.{block_ok}
 use Rattle.camac_text.proofs.ParametersRead.{heading_ok}
+use Rattle.camac_lang.specs.declared.spot.Spot.{Spot}
 
 -- The tokens between two states are these pieces, and these variables are declared between them.
 record Heads (s : State) (ps : List Piece) (xs : List Text) (s' : State) : Type 0 where
@@ -237,7 +238,7 @@ record Encloses (s : State) (p : Procedure) (v : State) : Type 0 where
 body_pieces : Script → Procedure → List Piece
 body_pieces t p = braced (block (procedure_names t p) p.body)
 
-encloses : (s : State) (p : Procedure) (u : State) (h : Heading) (w v : State) → Prefix s.rest (first_word p.line keyword.Proc ∷ name p.name ∷ []) u.rest → tree_so_far u ≡ record (tree_so_far s) { variables = [] } → Heads u (heading h) (map parameter_of h.parameters ++ []) w → p.parameters ≡ h.parameters → p.cycles ≡ h.cycles → p.words ≡ h.words → p.steps ≡ h.steps → p.registers ≡ v.registers → ((t : Script) → Took (procedure_names t p) w (body_pieces t p) v) → Encloses s p v
+encloses : (s : State) (p : Procedure) (u : State) (h : Heading) (w v : State) → Prefix s.rest (first_word p.spot keyword.Proc ∷ name p.name ∷ []) u.rest → tree_so_far u ≡ record (tree_so_far s) { variables = [] } → Heads u (heading h) (map parameter_of h.parameters ++ []) w → p.parameters ≡ h.parameters → p.cycles ≡ h.cycles → p.words ≡ h.words → p.steps ≡ h.steps → p.registers ≡ v.registers → ((t : Script) → Took (procedure_names t p) w (body_pieces t p) v) → Encloses s p v
 unfolding body_pieces
 encloses s p u h w v opens start read parameters cycles words steps registers taken =
     let names : List Text = map parameter_of p.parameters in
@@ -258,7 +259,7 @@ encloses s p u h w v opens start read parameters cycles words steps registers ta
     let both : Prefix u.rest (heading made ++ body_pieces t p) v.rest = prefix_join u.rest (heading made) w.rest (body_pieces t p) v.rest headed inside in
     let joined : Prefix u.rest (sign mark.LeftBracket ∷ (listed p.parameters ++ (middle_pieces made ++ body_pieces t p))) v.rest =
     subst (λ (qs : List Piece). Prefix u.rest (sign mark.LeftBracket ∷ qs) v.rest) (append_assoc (listed p.parameters) (middle_pieces made) (body_pieces t p)) both in
-    prefix_join s.rest (first_word p.line keyword.Proc ∷ name p.name ∷ []) u.rest (sign mark.LeftBracket ∷ (listed p.parameters ++ (middle_pieces made ++ body_pieces t p))) v.rest opens joined in
+    prefix_join s.rest (first_word p.spot keyword.Proc ∷ name p.name ∷ []) u.rest (sign mark.LeftBracket ∷ (listed p.parameters ++ (middle_pieces made ++ body_pieces t p))) v.rest opens joined in
     record { declares = declares_procedure (tree_so_far s) p s.rest v.rest prefix; tree = tree }
 
 -- the script's variables stand outside of its heading and its body
@@ -268,37 +269,37 @@ outside_kept u h b none headed body =
     ∙ ap (λ (w : State). w.outside) (heading_ok u h (subst (λ (xs : List Text). length xs ≤ 8) (sym none) (omega arith)) headed).parameters.names.same
 
 -- after its name
-abbrev after_its_name : ℕ → Text → ℕ → Reader (Unit {0})
-after_its_name line x names = do
+abbrev after_its_name : Spot → Text → ℕ → Reader (Unit {0})
+after_its_name spot x names = do
   h ← heading_at
   body ← block_at 16
   registers ← ask (λ w. w.registers)
-  change (procedure_added (procedure_made line x h registers body) names)
+  change (procedure_added (procedure_made spot x h registers body) names)
 
-after_its_name_spelled : (s : State) (x : Text) (names : ℕ) (u : State) (y : Unit {0} × State) → Prefix s.rest (first_word (line_of s.rest s.end_line) keyword.Proc ∷ name x ∷ []) u.rest → tree_so_far u ≡ record (tree_so_far s) { variables = [] } → u.outside ≡ s.variables → after_its_name (line_of s.rest s.end_line) x names u ≡ Ok y → Declares (tree_so_far s) s.rest (tree_so_far y.1) y.1.rest
+after_its_name_spelled : (s : State) (x : Text) (names : ℕ) (u : State) (y : Unit {0} × State) → Prefix s.rest (first_word (spot_of s.rest s.end_line) keyword.Proc ∷ name x ∷ []) u.rest → tree_so_far u ≡ record (tree_so_far s) { variables = [] } → u.outside ≡ s.variables → after_its_name (spot_of s.rest s.end_line) x names u ≡ Ok y → Declares (tree_so_far s) s.rest (tree_so_far y.1) y.1.rest
 unfolding body_pieces
 after_its_name_spelled s x names u y opens start outside e =
-    let line : ℕ = line_of s.rest s.end_line in
+    let spot : Spot = spot_of s.rest s.end_line in
     let h = then_ok (heading_at u) _ y e in
     let b = then_ok (block_at 16 h.0.1) _ y h.2 in
     let v : State = b.0.1 in
-    let p : Procedure = procedure_made line x h.0.0 v.registers b.0.0 in
+    let p : Procedure = procedure_made spot x h.0.0 v.registers b.0.0 in
     let made = encloses s p u h.0.0 h.0.1 v opens start (read_heading u h.0 h.1) refl refl refl refl refl (λ t. took_block (procedure_names t p) 16 h.0.1 b.0 b.1) in
     let kept : v.outside ≡ s.variables = outside_kept u h.0 b.0 (ap (λ (t : Script). t.variables) start) h.1 b.1 ∙ outside in
     subst (λ (z : Unit {0} × State). Declares (tree_so_far s) s.rest (tree_so_far z.1) z.1.rest) (ok_is (tt, procedure_added p names v) y b.2)
     (subst (λ (xs : List Text). Declares (tree_so_far s) s.rest (record (tree_so_far v) { variables = xs; procedures = v.procedures ++ p ∷ []; order = v.order ++ next_procedure ∷ [] }) v.rest) (sym kept)
     (subst (λ (w : Script). Declares (tree_so_far s) s.rest (record w { variables = s.variables; procedures = w.procedures ++ p ∷ []; order = w.order ++ next_procedure ∷ [] }) v.rest) (sym made.tree) made.declares))
 
-pub procedure_spelled : (s : State) (y : Unit {0} × State) → kind_of s.rest ≡ Some (kind.Keyword keyword.Proc) → procedure_declaration (line_of s.rest s.end_line) s ≡ Ok y → Declares (tree_so_far s) s.rest (tree_so_far y.1) y.1.rest
+pub procedure_spelled : (s : State) (y : Unit {0} × State) → kind_of s.rest ≡ Some (kind.Keyword keyword.Proc) → procedure_declaration (spot_of s.rest s.end_line) s ≡ Ok y → Declares (tree_so_far s) s.rest (tree_so_far y.1) y.1.rest
 unfolding procedure_declaration
 procedure_spelled s y ahead e =
-    let line : ℕ = line_of s.rest s.end_line in
+    let spot : Spot = spot_of s.rest s.end_line in
     let t : State = past s in
     let c0 = check_ok (nat_lt (length s.procedures) 16) _ _ s y e in
-    let a = then_ok (new_name t) (λ x. advance >> (opened x >>= λ names. after_its_name line x names)) y c0.1 in
+    let a = then_ok (new_name t) (λ x. advance >> (opened x >>= λ names. after_its_name spot x names)) y c0.1 in
     let n = new_name_ok t a.0 a.1 in
-    let after_name : Reader (Unit {0}) = advance >> (opened a.0.0 >>= λ names. after_its_name line a.0.0 names) in
+    let after_name : Reader (Unit {0}) = advance >> (opened a.0.0 >>= λ names. after_its_name spot a.0.0 names) in
     let at : after_name t ≡ Ok y = subst (λ (w : State). after_name w ≡ Ok y) n.left a.2 in
     let u : State = past t in
-    let opens : Prefix s.rest (first_word line keyword.Proc ∷ name a.0.0 ∷ []) u.rest = prefix_join s.rest (first_word line keyword.Proc ∷ []) t.rest (name a.0.0 ∷ []) u.rest (prefix_begin s.rest s.end_line (kind.Keyword keyword.Proc) ahead) (prefix_token t.rest (kind.Name a.0.0) n.next) in
+    let opens : Prefix s.rest (first_word spot keyword.Proc ∷ name a.0.0 ∷ []) u.rest = prefix_join s.rest (first_word spot keyword.Proc ∷ []) t.rest (name a.0.0 ∷ []) u.rest (prefix_begin s.rest s.end_line (kind.Keyword keyword.Proc) ahead) (prefix_token t.rest (kind.Name a.0.0) n.next) in
     after_its_name_spelled s a.0.0 (length (in_heading a.0.0 u).declared) (in_heading a.0.0 u) y opens refl refl at

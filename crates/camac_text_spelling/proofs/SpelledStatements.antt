@@ -11,7 +11,7 @@ use Rattle.camac_tokens.specs.declared.token.Sign.TheVariants as mark
 use Rattle.camac_tokens.specs.declared.token.TokenKind.{TokenKind}
 use Rattle.camac_tokens.specs.declared.token.TokenKind.TheVariants as kind
 use Rattle.camac_text_cursor.specs.declared.choice.Choice.TheVariants as choice
-use Rattle.camac_text_cursor.specs.Reading.{State, Reader, give, fail, ◌>>◌, kind_of, line_of, miss, one_more, many, missed, past, unexpected}
+use Rattle.camac_text_cursor.specs.Reading.{State, Reader, give, fail, ◌>>◌, kind_of, spot_of, miss, one_more, many, missed, past, unexpected}
 use Rattle.camac_text_cursor.specs.Readers.{is_sign, each_word, is_each, expect, expect_sign, any_number, used_variable}
 use Rattle.camac_text_phrases.specs.Expressions.{expression_at}
 use Rattle.camac_text_phrases.specs.Conditions.{condition_at}
@@ -31,6 +31,7 @@ use Rattle.camac_text_spelling.proofs.SpelledExpressions.{took_expression}
 use Rattle.camac_text_spelling.proofs.SpelledPhrases.{took_condition, took_keeps}
 use Rattle.camac_text_spelling.proofs.SpelledActions.{took_begin, took_assignment, took_setting, took_single, took_put}
 use Rattle.camac_text_spelling.proofs.SpelledTransfers.{took_transfer_by}
+use Rattle.camac_lang.specs.declared.spot.Spot.{Spot}
 
 abbrev body : Names → List Statement → List Piece
 body n xs = spell.block n (block_of xs)
@@ -39,36 +40,36 @@ abbrev in_braces : Names → List Statement → List Piece
 in_braces n xs = spell.braced (body n xs)
 
 module _ (n : Names) (room : ℕ) (block : Reader (List Statement)) (block_took : (s : State) (y : List Statement × State) → block s ≡ Ok y → Took n s (in_braces n y.0) y.1) where
-  took_else : (s : State) (line : ℕ) (c : Condition) (xs : List Statement) (u : State) (k : Option TokenKind) (y : Statement × State) → Took n s (first_word line keyword.If ∷ (phrase.condition n c ++ in_braces n xs)) u → kind_of u.rest ≡ k → else_by block line c xs k u ≡ Ok y → Took n s (spell.statement n y.0) y.1
-  took_else s line c xs u (Some (kind.Keyword keyword.Else)) y before next e =
+  took_else : (s : State) (spot : Spot) (c : Condition) (xs : List Statement) (u : State) (k : Option TokenKind) (y : Statement × State) → Took n s (first_word spot keyword.If ∷ (phrase.condition n c ++ in_braces n xs)) u → kind_of u.rest ≡ k → else_by block spot c xs k u ≡ Ok y → Took n s (spell.statement n y.0) y.1
+  took_else s spot c xs u (Some (kind.Keyword keyword.Else)) y before next e =
       let v : State = past u in
-      let m = then_ok (block v) (λ other. give (choose_else line c (block_of xs) (block_of other))) y e in
-      let all : Took n s ((first_word line keyword.If ∷ (phrase.condition n c ++ in_braces n xs)) ++ (word keyword.Else ∷ in_braces n m.0.0)) m.0.1 = join before (join (took_one {s' = v} next refl) (block_took v m.0 m.1)) in
-      returns {x = choose_else line c (block_of xs) (block_of m.0.0)} (spell.statement n) m.2
-      (subst (λ (ps : List Piece). Took n s (first_word line keyword.If ∷ ps) m.0.1) (append_assoc (phrase.condition n c) (in_braces n xs) (word keyword.Else ∷ in_braces n m.0.0)) all)
-  took_else s line c xs u _ y before next e = returns {x = choose line c (block_of xs)} (spell.statement n) e (then_missed (choice.Word keyword.Else) before)
+      let m = then_ok (block v) (λ other. give (choose_else spot c (block_of xs) (block_of other))) y e in
+      let all : Took n s ((first_word spot keyword.If ∷ (phrase.condition n c ++ in_braces n xs)) ++ (word keyword.Else ∷ in_braces n m.0.0)) m.0.1 = join before (join (took_one {s' = v} next refl) (block_took v m.0 m.1)) in
+      returns {x = choose_else spot c (block_of xs) (block_of m.0.0)} (spell.statement n) m.2
+      (subst (λ (ps : List Piece). Took n s (first_word spot keyword.If ∷ ps) m.0.1) (append_assoc (phrase.condition n c) (in_braces n xs) (word keyword.Else ∷ in_braces n m.0.0)) all)
+  took_else s spot c xs u _ y before next e = returns {x = choose spot c (block_of xs)} (spell.statement n) e (then_missed (choice.Word keyword.Else) before)
 
-  took_choice : (s : State) (y : Statement × State) → kind_of s.rest ≡ Some (kind.Keyword keyword.If) → if_statement room block (line_of s.rest s.end_line) s ≡ Ok y → Took n s (spell.statement n y.0) y.1
+  took_choice : (s : State) (y : Statement × State) → kind_of s.rest ≡ Some (kind.Keyword keyword.If) → if_statement room block (spot_of s.rest s.end_line) s ≡ Ok y → Took n s (spell.statement n y.0) y.1
   unfolding if_statement
   took_choice s y next e =
-      let line : ℕ = line_of s.rest s.end_line in
+      let spot : Spot = spot_of s.rest s.end_line in
       let a = then_ok (begin s) _ y e in
       let c = then_ok (condition_at room a.0.1) _ y a.2 in
       let b = then_ok (block c.0.1) _ y c.2 in
-      took_else s line c.0.0 b.0.0 b.0.1 (kind_of b.0.1.rest) y
+      took_else s spot c.0.0 b.0.0 b.0.1 (kind_of b.0.1.rest) y
       (join (took_begin s (kind.Keyword keyword.If) a.0 next a.1) (join (took_condition room a.0.1 c.0 c.1) (block_took c.0.1 b.0 b.1))) refl b.2
 
   -- what is read behind the ends of a `for` is spelled behind them
-  record Ended (line own : ℕ) (first last : Expression) (s : State) (y : Statement × State) : Type 0 where
+  record Ended (spot : Spot) (own : ℕ) (first last : Expression) (s : State) (y : Statement × State) : Type 0 where
     pieces : List Piece
     took : Took n s pieces y.1
-    same : spell.statement n y.0 ≡ first_word line keyword.For ∷ name_at n.variables own ∷ sign mark.Equals ∷ (phrase.expression n first ++ word keyword.To ∷ (phrase.expression n last ++ pieces))
+    same : spell.statement n y.0 ≡ first_word spot keyword.For ∷ name_at n.variables own ∷ sign mark.Equals ∷ (phrase.expression n first ++ word keyword.To ∷ (phrase.expression n last ++ pieces))
 
-  for_ended : (line own : ℕ) (first last : Expression) (s : State) (y : Statement × State) → for_ends block line own first last s ≡ Ok y → Ended line own first last s y
-  for_ended line own first last s y e =
+  for_ended : (spot : Spot) (own : ℕ) (first last : Expression) (s : State) (y : Statement × State) → for_ends block spot own first last s ≡ Ok y → Ended spot own first last s y
+  for_ended spot own first last s y e =
       let k = then_ok (keeps_at (of_loop.Counter own) s) _ y e in
-      let b = then_ok (block k.0.1) (λ xs. give (for_ line own first last k.0.0 (block_of xs))) y k.2 in
-      subst (λ (p : Statement × State). Ended line own first last s p) (ok_is (for_ line own first last k.0.0 (block_of b.0.0), b.0.1) y b.2)
+      let b = then_ok (block k.0.1) (λ xs. give (for_ spot own first last k.0.0 (block_of xs))) y k.2 in
+      subst (λ (p : Statement × State). Ended spot own first last s p) (ok_is (for_ spot own first last k.0.0 (block_of b.0.0), b.0.1) y b.2)
       (record {
         pieces = phrase.keeps n k.0.0 ++ in_braces n b.0.0;
         took = join (took_keeps (of_loop.Counter own) s k.0 k.1) (block_took k.0.1 b.0 b.1);
@@ -79,47 +80,47 @@ module _ (n : Names) (room : ℕ) (block : Reader (List Statement)) (block_took 
   each_is (Some (kind.Name x)) is = ap (λ (w : Text). Some (kind.Name w)) ((bytes_eq-Decides x each_word).0 is)
   each_is _ is = absurd cc
 
-  each_ended : (line own : ℕ) (first last : Expression) (a b : ℕ) (s : State) (y : Statement × State) → first ≡ number a → last ≡ number b → kind_of s.rest ≡ Some (kind.Name each_word) → each_ends block line own a b s ≡ Ok y → Ended line own first last s y
-  each_ended line own first last a b s y is_first is_last next e =
+  each_ended : (spot : Spot) (own : ℕ) (first last : Expression) (a b : ℕ) (s : State) (y : Statement × State) → first ≡ number a → last ≡ number b → kind_of s.rest ≡ Some (kind.Name each_word) → each_ends block spot own a b s ≡ Ok y → Ended spot own first last s y
+  each_ended spot own first last a b s y is_first is_last next e =
       let u : State = past s in
-      let d = then_ok (block u) (λ xs. give (for_each line own a b (block_of xs))) y e in
-      subst (λ (p : Statement × State). Ended line own first last s p) (ok_is (for_each line own a b (block_of d.0.0), d.0.1) y d.2)
+      let d = then_ok (block u) (λ xs. give (for_each spot own a b (block_of xs))) y e in
+      subst (λ (p : Statement × State). Ended spot own first last s p) (ok_is (for_each spot own a b (block_of d.0.0), d.0.1) y d.2)
       (record {
         pieces = name each_word ∷ in_braces n d.0.0;
         took = join (took_one {s' = u} next refl) (block_took u d.0 d.1);
         same = rw (is_first, is_last) refl;
       })
 
-  missed_ended : (line own : ℕ) (first last : Expression) (s : State) (y : Statement × State) → Ended line own first last (missed choice.Each s) y → Ended line own first last s y
-  missed_ended line own first last s y r = record { pieces = r.pieces; took = missed_then choice.Each r.took; same = r.same }
+  missed_ended : (spot : Spot) (own : ℕ) (first last : Expression) (s : State) (y : Statement × State) → Ended spot own first last (missed choice.Each s) y → Ended spot own first last s y
+  missed_ended spot own first last s y r = record { pieces = r.pieces; took = missed_then choice.Each r.took; same = r.same }
 
-  chosen_ended : (is_next : Bool) (line own : ℕ) (first last : Expression) (a b : ℕ) (s : State) (y : Statement × State) → first ≡ number a → last ≡ number b → is_each (kind_of s.rest) ≡ is_next → cond is_next (each_ends block line own a b) (miss choice.Each >> for_ends block line own first last) s ≡ Ok y → Ended line own first last s y
-  chosen_ended true line own first last a b s y is_first is_last next e = each_ended line own first last a b s y is_first is_last (each_is (kind_of s.rest) next) e
-  chosen_ended false line own first last a b s y is_first is_last next e = missed_ended line own first last s y (for_ended line own first last (missed choice.Each s) y e)
+  chosen_ended : (is_next : Bool) (spot : Spot) (own : ℕ) (first last : Expression) (a b : ℕ) (s : State) (y : Statement × State) → first ≡ number a → last ≡ number b → is_each (kind_of s.rest) ≡ is_next → cond is_next (each_ends block spot own a b) (miss choice.Each >> for_ends block spot own first last) s ≡ Ok y → Ended spot own first last s y
+  chosen_ended true spot own first last a b s y is_first is_last next e = each_ended spot own first last a b s y is_first is_last (each_is (kind_of s.rest) next) e
+  chosen_ended false spot own first last a b s y is_first is_last next e = missed_ended spot own first last s y (for_ended spot own first last (missed choice.Each s) y e)
 
-  ended : (line own : ℕ) (first last : Expression) (o p : Option ℕ) (s : State) (y : Statement × State) → single_number first ≡ o → single_number last ≡ p → ends_by block line own first last o p s ≡ Ok y → Ended line own first last s y
-  ended line own first last (Some a) (Some b) s y is_first is_last e = chosen_ended (is_each (kind_of s.rest)) line own first last a b s y (number_of first a is_first) (number_of last b is_last) refl e
-  ended line own first last _ _ s y is_first is_last e = for_ended line own first last s y e
+  ended : (spot : Spot) (own : ℕ) (first last : Expression) (o p : Option ℕ) (s : State) (y : Statement × State) → single_number first ≡ o → single_number last ≡ p → ends_by block spot own first last o p s ≡ Ok y → Ended spot own first last s y
+  ended spot own first last (Some a) (Some b) s y is_first is_last e = chosen_ended (is_each (kind_of s.rest)) spot own first last a b s y (number_of first a is_first) (number_of last b is_last) refl e
+  ended spot own first last _ _ s y is_first is_last e = for_ended spot own first last s y e
 
-  took_for : (s : State) (y : Statement × State) → kind_of s.rest ≡ Some (kind.Keyword keyword.For) → for_statement room block (line_of s.rest s.end_line) s ≡ Ok y → Took n s (spell.statement n y.0) y.1
+  took_for : (s : State) (y : Statement × State) → kind_of s.rest ≡ Some (kind.Keyword keyword.For) → for_statement room block (spot_of s.rest s.end_line) s ≡ Ok y → Took n s (spell.statement n y.0) y.1
   unfolding for_statement
   took_for s y next e =
-      let line : ℕ = line_of s.rest s.end_line in
+      let spot : Spot = spot_of s.rest s.end_line in
       let a = then_ok (begin s) _ y e in
       let x = then_ok (used_variable a.0.1) _ y a.2 in
       let q = then_ok (expect_sign mark.Equals x.0.1) _ y x.2 in
       let f = then_ok (expression_at room q.0.1) _ y q.2 in
       let w = then_ok (expect keyword.To f.0.1) _ y f.2 in
-      let l = then_ok (expression_at room w.0.1) (λ last. ends_by block line x.0.0 f.0.0 last (single_number f.0.0) (single_number last)) y w.2 in
-      let r = ended line x.0.0 f.0.0 l.0.0 (single_number f.0.0) (single_number l.0.0) l.0.1 y refl refl l.2 in
+      let l = then_ok (expression_at room w.0.1) (λ last. ends_by block spot x.0.0 f.0.0 last (single_number f.0.0) (single_number last)) y w.2 in
+      let r = ended spot x.0.0 f.0.0 l.0.0 (single_number f.0.0) (single_number l.0.0) l.0.1 y refl refl l.2 in
       subst (λ (ps : List Piece). Took n s ps y.1) (sym r.same)
       (join (took_begin s (kind.Keyword keyword.For) a.0 next a.1) (join (took_variable a.0.1 x.0 x.1) (join (took_sign mark.Equals x.0.1 q.0 q.1)
       (join (took_expression room q.0.1 f.0 f.1) (join (took_word keyword.To f.0.1 w.0 w.1) (join (took_expression room w.0.1 l.0 l.1) r.took))))))
 
-  took_while : (s : State) (y : Statement × State) → kind_of s.rest ≡ Some (kind.Keyword keyword.While) → while_statement room block (line_of s.rest s.end_line) s ≡ Ok y → Took n s (spell.statement n y.0) y.1
+  took_while : (s : State) (y : Statement × State) → kind_of s.rest ≡ Some (kind.Keyword keyword.While) → while_statement room block (spot_of s.rest s.end_line) s ≡ Ok y → Took n s (spell.statement n y.0) y.1
   unfolding while_statement
   took_while s y next e =
-      let line : ℕ = line_of s.rest s.end_line in
+      let spot : Spot = spot_of s.rest s.end_line in
       let a = then_ok (begin s) _ y e in
       let c = then_ok (condition_at room a.0.1) _ y a.2 in
       let w = then_ok (expect keyword.Turns c.0.1) _ y c.2 in
@@ -127,31 +128,31 @@ module _ (n : Names) (room : ℕ) (block : Reader (List Statement)) (block_took 
       let v = then_ok (expect keyword.By t.0.1) _ y t.2 in
       let m = then_ok (used_variable v.0.1) _ y v.2 in
       let k = then_ok (keeps_at (of_loop.Measure m.0.0) m.0.1) _ y m.2 in
-      let b = then_ok (block k.0.1) (λ xs. give (while_ line c.0.0 t.0.0 m.0.0 k.0.0 (block_of xs))) y k.2 in
-      returns {x = while_ line c.0.0 t.0.0 m.0.0 k.0.0 (block_of b.0.0)} (spell.statement n) b.2
+      let b = then_ok (block k.0.1) (λ xs. give (while_ spot c.0.0 t.0.0 m.0.0 k.0.0 (block_of xs))) y k.2 in
+      returns {x = while_ spot c.0.0 t.0.0 m.0.0 k.0.0 (block_of b.0.0)} (spell.statement n) b.2
       (join (took_begin s (kind.Keyword keyword.While) a.0 next a.1) (join (took_condition room a.0.1 c.0 c.1) (join (took_word keyword.Turns c.0.1 w.0 w.1)
       (join (took_token (any_number_ok w.0.1 t.0 t.1)) (join (took_word keyword.By t.0.1 v.0 v.1) (join (took_variable v.0.1 m.0 m.1)
       (join (took_keeps (of_loop.Measure m.0.0) m.0.1 k.0 k.1) (block_took k.0.1 b.0 b.1))))))))
 
-  took_locking : (s : State) (y : Statement × State) → kind_of s.rest ≡ Some (kind.Keyword keyword.Lock) → lock_statement room block (line_of s.rest s.end_line) s ≡ Ok y → Took n s (spell.statement n y.0) y.1
+  took_locking : (s : State) (y : Statement × State) → kind_of s.rest ≡ Some (kind.Keyword keyword.Lock) → lock_statement room block (spot_of s.rest s.end_line) s ≡ Ok y → Took n s (spell.statement n y.0) y.1
   unfolding lock_statement
   took_locking s y next e =
-      let line : ℕ = line_of s.rest s.end_line in
+      let spot : Spot = spot_of s.rest s.end_line in
       let outside = check_ok (not s.in_procedure) _ _ s y e in
       let a = then_ok (begin s) _ y outside.1 in
       let c = then_ok (expression_at room a.0.1) _ y a.2 in
-      let b = then_ok (block c.0.1) (λ xs. give (locked line c.0.0 (block_of xs))) y c.2 in
-      returns {x = locked line c.0.0 (block_of b.0.0)} (spell.statement n) b.2
+      let b = then_ok (block c.0.1) (λ xs. give (locked spot c.0.0 (block_of xs))) y c.2 in
+      returns {x = locked spot c.0.0 (block_of b.0.0)} (spell.statement n) b.2
       (join (took_begin s (kind.Keyword keyword.Lock) a.0 next a.1) (join (took_expression room a.0.1 c.0 c.1) (block_took c.0.1 b.0 b.1)))
 
-  took_nested : (s : State) (k : Option TokenKind) (y : Statement × State) → kind_of s.rest ≡ k → nested_by room block (line_of s.rest s.end_line) k s ≡ Ok y → Took n s (spell.statement n y.0) y.1
+  took_nested : (s : State) (k : Option TokenKind) (y : Statement × State) → kind_of s.rest ≡ k → nested_by room block (spot_of s.rest s.end_line) k s ≡ Ok y → Took n s (spell.statement n y.0) y.1
   took_nested s (Some (kind.Keyword keyword.If)) y next e = took_choice s y next e
   took_nested s (Some (kind.Keyword keyword.For)) y next e = took_for s y next e
   took_nested s (Some (kind.Keyword keyword.While)) y next e = took_while s y next e
   took_nested s (Some (kind.Keyword keyword.Lock)) y next e = took_locking s y next e
   took_nested s k y next e = took_transfer_by room s k y next e
 
-  took_statement_by : (s : State) (k : Option TokenKind) (y : Statement × State) → kind_of s.rest ≡ k → statement_by room block (line_of s.rest s.end_line) k s ≡ Ok y → Took n s (spell.statement n y.0) y.1
+  took_statement_by : (s : State) (k : Option TokenKind) (y : Statement × State) → kind_of s.rest ≡ k → statement_by room block (spot_of s.rest s.end_line) k s ≡ Ok y → Took n s (spell.statement n y.0) y.1
   took_statement_by s (Some (kind.Name x)) y next e = missed_then choice.Statement (took_assignment room (missed choice.Statement s) y e)
   took_statement_by s (Some (kind.Keyword keyword.Cdreg)) y next e = took_setting room s y next e
   took_statement_by s (Some (kind.Keyword keyword.Cfsa)) y next e = took_single Full room s y next e

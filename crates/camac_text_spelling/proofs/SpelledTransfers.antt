@@ -10,7 +10,7 @@ use Rattle.camac_tokens.specs.declared.token.Sign.TheVariants as mark
 use Rattle.camac_tokens.specs.declared.token.TokenKind.{TokenKind}
 use Rattle.camac_tokens.specs.declared.token.TokenKind.TheVariants as kind
 use Rattle.camac_text_cursor.specs.declared.choice.Choice.TheVariants as choice
-use Rattle.camac_text_cursor.specs.Reading.{State, Reader, ◌>>=◌, give, fail, kind_of, line_of, advance, past, unexpected}
+use Rattle.camac_text_cursor.specs.Reading.{State, Reader, ◌>>=◌, give, fail, kind_of, spot_of, advance, past, unexpected}
 use Rattle.camac_text_cursor.specs.Readers.{begin, is_sign, expect, expect_sign, function_number, used_register, used_variable, used_table, procedure_here, called}
 use Rattle.camac_text_phrases.specs.Arguments.{argument_after, more_arguments, arguments_at, counted_sign, shows_more}
 use Rattle.camac_text_phrases.specs.Expressions.{expression_at}
@@ -26,6 +26,7 @@ use Rattle.camac_text_spelling.proofs.Lists.{separated_push}
 use Rattle.camac_text_spelling.proofs.SpelledExpressions.{took_expression}
 use Rattle.camac_text_spelling.proofs.SpelledActions.{took_begin, took_crate_call}
 use Rattle.camac_tokens.specs.declared.token.Sign.{Sign}
+use Rattle.camac_lang.specs.declared.spot.Spot.{Spot}
 
 -- ---- transfers
 
@@ -52,43 +53,43 @@ took_write : {n : Names} (s : State) (y : Option ℕ × State) → table_at s �
 unfolding table_at
 took_write s y e = took_table_by (kind_of s.rest) s y refl e
 
-took_scanning : {n : Names} (room : ℕ) (s : State) (y : Statement × State) → kind_of s.rest ≡ Some (kind.Keyword keyword.Cfmad) → scan_statement room (line_of s.rest s.end_line) s ≡ Ok y → Took n s (spell.statement n y.0) y.1
+took_scanning : {n : Names} (room : ℕ) (s : State) (y : Statement × State) → kind_of s.rest ≡ Some (kind.Keyword keyword.Cfmad) → scan_statement room (spot_of s.rest s.end_line) s ≡ Ok y → Took n s (spell.statement n y.0) y.1
 unfolding scan_statement
 took_scanning {n} room s y next e =
-    let line : ℕ = line_of s.rest s.end_line in
+    let spot : Spot = spot_of s.rest s.end_line in
     let a = then_ok (begin s) _ y e in
     let f = then_ok (function_number a.0.1) _ y a.2 in
     let r = then_ok (used_register f.0.1) _ y f.2 in
     let l = then_ok (used_register r.0.1) _ y r.2 in
-    let b = then_ok (last_bound keyword.Max room l.0.1) (λ end. give (address_scan line f.0.0 r.0.0 l.0.0 end.0 end.1)) y l.2 in
-    returns {x = address_scan line f.0.0 r.0.0 l.0.0 b.0.0.0 b.0.0.1} (spell.statement n) b.2
+    let b = then_ok (last_bound keyword.Max room l.0.1) (λ end. give (address_scan spot f.0.0 r.0.0 l.0.0 end.0 end.1)) y l.2 in
+    returns {x = address_scan spot f.0.0 r.0.0 l.0.0 b.0.0.0 b.0.0.1} (spell.statement n) b.2
     (join (took_begin s (kind.Keyword keyword.Cfmad) a.0 next a.1) (join (took_token (function_ok a.0.1 f.0 f.1).one) (join (took_register f.0.1 r.0 r.1) (join (took_register r.0.1 l.0 l.1) (took_bound keyword.Max room l.0.1 b.0 b.1)))))
 
-took_stopping : {n : Names} (room : ℕ) (s : State) (y : Statement × State) → kind_of s.rest ≡ Some (kind.Keyword keyword.Cfubc) → q_stop_statement room (line_of s.rest s.end_line) s ≡ Ok y → Took n s (spell.statement n y.0) y.1
+took_stopping : {n : Names} (room : ℕ) (s : State) (y : Statement × State) → kind_of s.rest ≡ Some (kind.Keyword keyword.Cfubc) → q_stop_statement room (spot_of s.rest s.end_line) s ≡ Ok y → Took n s (spell.statement n y.0) y.1
 unfolding q_stop_statement
 took_stopping {n} room s y next e =
-    let line : ℕ = line_of s.rest s.end_line in
+    let spot : Spot = spot_of s.rest s.end_line in
     let a = then_ok (begin s) _ y e in
     let f = then_ok (function_number a.0.1) _ y a.2 in
     let r = then_ok (used_register f.0.1) _ y f.2 in
     let g = then_ok (table_at r.0.1) _ y r.2 in
-    let b = then_ok (last_bound keyword.Max room g.0.1) (λ end. give (q_stop line f.0.0 r.0.0 g.0.0 end.0 end.1)) y g.2 in
-    returns {x = q_stop line f.0.0 r.0.0 g.0.0 b.0.0.0 b.0.0.1} (spell.statement n) b.2
+    let b = then_ok (last_bound keyword.Max room g.0.1) (λ end. give (q_stop spot f.0.0 r.0.0 g.0.0 end.0 end.1)) y g.2 in
+    returns {x = q_stop spot f.0.0 r.0.0 g.0.0 b.0.0.0 b.0.0.1} (spell.statement n) b.2
     (join (took_begin s (kind.Keyword keyword.Cfubc) a.0 next a.1) (join (took_token (function_ok a.0.1 f.0 f.1).one) (join (took_register f.0.1 r.0 r.1) (join (took_write r.0.1 g.0 g.1) (took_bound keyword.Max room g.0.1 b.0 b.1)))))
 
-took_q_repeat : {n : Names} (room : ℕ) (s : State) (y : Statement × State) → kind_of s.rest ≡ Some (kind.Keyword keyword.Cfubr) → q_repeat_statement room (line_of s.rest s.end_line) s ≡ Ok y → Took n s (spell.statement n y.0) y.1
+took_q_repeat : {n : Names} (room : ℕ) (s : State) (y : Statement × State) → kind_of s.rest ≡ Some (kind.Keyword keyword.Cfubr) → q_repeat_statement room (spot_of s.rest s.end_line) s ≡ Ok y → Took n s (spell.statement n y.0) y.1
 unfolding q_repeat_statement
 took_q_repeat {n} room s y next e =
-    let line : ℕ = line_of s.rest s.end_line in
+    let spot : Spot = spot_of s.rest s.end_line in
     let a = then_ok (begin s) _ y e in
     let f = then_ok (function_number a.0.1) _ y a.2 in
     let r = then_ok (used_register f.0.1) _ y f.2 in
     let g = then_ok (table_at r.0.1) _ y r.2 in
     let w = then_ok (expect keyword.Max g.0.1) _ y g.2 in
     let m = then_ok (expression_at room w.0.1) _ y w.2 in
-    let b = then_ok (last_bound keyword.Limit room m.0.1) (λ end. give (q_repeat line f.0.0 r.0.0 g.0.0 m.0.0 end.0 end.1)) y m.2 in
+    let b = then_ok (last_bound keyword.Limit room m.0.1) (λ end. give (q_repeat spot f.0.0 r.0.0 g.0.0 m.0.0 end.0 end.1)) y m.2 in
     let most : Took n g.0.1 (phrase.most n m.0.0 ++ bounded n keyword.Limit b.0.0) b.0.1 = join (took_word keyword.Max g.0.1 w.0 w.1) (join (took_expression room w.0.1 m.0 m.1) (took_bound keyword.Limit room m.0.1 b.0 b.1)) in
-    returns {x = q_repeat line f.0.0 r.0.0 g.0.0 m.0.0 b.0.0.0 b.0.0.1} (spell.statement n) b.2
+    returns {x = q_repeat spot f.0.0 r.0.0 g.0.0 m.0.0 b.0.0.0 b.0.0.1} (spell.statement n) b.2
     (join (took_begin s (kind.Keyword keyword.Cfubr) a.0 next a.1) (join (took_token (function_ok a.0.1 f.0 f.1).one) (join (took_register f.0.1 r.0 r.1) (join (took_write r.0.1 g.0 g.1) most))))
 
 -- ---- calls
@@ -139,21 +140,21 @@ took_arguments {n} (suc room) m s y e =
     let c = then_ok (counted_sign mark.RightBracket (shows_more m) m b.0.1) (λ _. give b.0.0) y b.2 in
     returns {x = b.0.0} (in_brackets n) c.2 (join (took_sign mark.LeftBracket s a.0 a.1) (join (took_more m room m [] a.0.1 a.0.1 b.0 (nothing n a.0.1) b.1) (took_counted mark.RightBracket (shows_more m) m b.0.1 c.0 c.1)))
 
-took_calling : {n : Names} (room : ℕ) (s : State) (y : Statement × State) → kind_of s.rest ≡ Some (kind.Keyword keyword.Call) → call_statement room (line_of s.rest s.end_line) s ≡ Ok y → Took n s (spell.statement n y.0) y.1
+took_calling : {n : Names} (room : ℕ) (s : State) (y : Statement × State) → kind_of s.rest ≡ Some (kind.Keyword keyword.Call) → call_statement room (spot_of s.rest s.end_line) s ≡ Ok y → Took n s (spell.statement n y.0) y.1
 unfolding call_statement
 took_calling {n} room s y next e =
-    let line : ℕ = line_of s.rest s.end_line in
+    let spot : Spot = spot_of s.rest s.end_line in
     let a = then_ok (begin s) _ y e in
-    let p = then_ok (procedure_here a.0.1) (λ place. called room place >>= λ wanted. arguments_at room wanted >>= λ es. give (call line place es)) y a.2 in
+    let p = then_ok (procedure_here a.0.1) (λ place. called room place >>= λ wanted. arguments_at room wanted >>= λ es. give (call spot place es)) y a.2 in
     let here = sees_procedure {n = n} a.0.1 p.0 p.1 in
-    let rest : Reader Statement = called room p.0.0 >>= λ wanted. arguments_at room wanted >>= λ es. give (call line p.0.0 es) in
+    let rest : Reader Statement = called room p.0.0 >>= λ wanted. arguments_at room wanted >>= λ es. give (call spot p.0.0 es) in
     let at : rest a.0.1 ≡ Ok y = subst (λ (u : State). rest u ≡ Ok y) here.left p.2 in
-    let q = then_ok (called room p.0.0 a.0.1) (λ wanted. arguments_at room wanted >>= λ es. give (call line p.0.0 es)) y at in
-    let b = then_ok (arguments_at room q.0.0 q.0.1) (λ es. give (call line p.0.0 es)) y q.2 in
-    returns {x = call line p.0.0 b.0.0} (spell.statement n) b.2
+    let q = then_ok (called room p.0.0 a.0.1) (λ wanted. arguments_at room wanted >>= λ es. give (call spot p.0.0 es)) y at in
+    let b = then_ok (arguments_at room q.0.0 q.0.1) (λ es. give (call spot p.0.0 es)) y q.2 in
+    returns {x = call spot p.0.0 b.0.0} (spell.statement n) b.2
     (join (took_begin s (kind.Keyword keyword.Call) a.0 next a.1) (join (took_called room p.0.0 a.0.1 p.0.1 q.0 here q.1) (took_arguments room q.0.0 q.0.1 b.0 b.1)))
 
-pub took_transfer_by : {n : Names} (room : ℕ) (s : State) (k : Option TokenKind) (y : Statement × State) → kind_of s.rest ≡ k → transfer_by room (line_of s.rest s.end_line) k s ≡ Ok y → Took n s (spell.statement n y.0) y.1
+pub took_transfer_by : {n : Names} (room : ℕ) (s : State) (k : Option TokenKind) (y : Statement × State) → kind_of s.rest ≡ k → transfer_by room (spot_of s.rest s.end_line) k s ≡ Ok y → Took n s (spell.statement n y.0) y.1
 took_transfer_by room s (Some (kind.Keyword keyword.Cfmad)) y next e = took_scanning room s y next e
 took_transfer_by room s (Some (kind.Keyword keyword.Cfubc)) y next e = took_stopping room s y next e
 took_transfer_by room s (Some (kind.Keyword keyword.Cfubr)) y next e = took_q_repeat room s y next e

@@ -15,7 +15,7 @@ use Rattle.camac_tokens.specs.declared.fault.NameKind.{NameKind}
 use Rattle.camac_text_cursor.specs.Names.{place_of, lam_place, table_place, procedure_place}
 use Rattle.camac_text_cursor.specs.declared.choice.Choice.{Choice}
 use Rattle.camac_text_cursor.specs.declared.choice.Choice.TheVariants as choice
-use Rattle.camac_text_cursor.specs.Reading.{◌>>◌, State, advance, kind_of, line_of, give, Fault, missed, past, unexpected}
+use Rattle.camac_text_cursor.specs.Reading.{◌>>◌, State, advance, kind_of, spot_of, give, Fault, missed, past, unexpected}
 use Rattle.camac_text_cursor.specs.Readers.{is_keyword, is_sign, expect, expect_sign, number_here, branch_number, used, used_register, used_variable, used_lam, used_table, variable_here, procedure_here, callable_by, called}
 use Rattle.camac_text_cursor.specs.Declaring.{tree_so_far}
 use Rattle.camac_text_cursor.proofs.Steps.{then_ok, ok_is, err_no_ok}
@@ -69,7 +69,7 @@ pub took_token : {n : Names} {s : State} {k : TokenKind} {s' : State} → TakesO
 took_token t = took_one t.next t.left
 
 -- the first token of a declaration
-pub took_first : {n : Names} (s : State) (k : TokenKind) → kind_of s.rest ≡ Some k → Took n s (first_piece (line_of s.rest s.end_line) k ∷ []) (past s)
+pub took_first : {n : Names} (s : State) (k : TokenKind) → kind_of s.rest ≡ Some k → Took n s (first_piece (spot_of s.rest s.end_line) k ∷ []) (past s)
 took_first s k next = record { prefix = λ t. prefix_begin s.rest s.end_line k next; tells = λ t. t; same = refl }
 
 -- ---- words and signs

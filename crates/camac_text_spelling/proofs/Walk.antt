@@ -27,6 +27,7 @@ use Rattle.camac_text_spelling.proofs.Prefixes.{prefix_first}
 use Rattle.camac_text_spelling.proofs.Gives.{Finds, FindsAll}
 use Rattle.camac_text_spelling.proofs.Fresh.{each_new, found_there, absent_there, take_next, take_all}
 use Rattle.camac_text_spelling.proofs.Runs.{Sets}
+use Rattle.camac_lang.specs.declared.spot.Spot.{Spot}
 
 abbrev pub lam_name : Lam → Text
 lam_name l = l.name
@@ -174,21 +175,21 @@ pub record Opens (k : Option TokenKind) : Type 0 where
 opened : (k : Option TokenKind) (j : TokenKind) → k ≡ Some j → Opens (Some j) → Opens k
 opened k j e h = subst Opens (sym e) h
 
-begins_with : (line : ℕ) (k : TokenKind) (ps more : List Piece) (ts rest : List Token) → ps ≡ first_piece line k ∷ more → Prefix ts ps rest → kind_of ts ≡ Some k
-begins_with line k ps more ts rest e f = (prefix_first ts (first_piece line k) more rest (subst (λ (qs : List Piece). Prefix ts qs rest) e f)).0
+begins_with : (spot : Spot) (k : TokenKind) (ps more : List Piece) (ts rest : List Token) → ps ≡ first_piece spot k ∷ more → Prefix ts ps rest → kind_of ts ≡ Some k
+begins_with spot k ps more ts rest e f = (prefix_first ts (first_piece spot k) more rest (subst (λ (qs : List Piece). Prefix ts qs rest) e f)).0
 
 pub declaration_opens : (t : Script) (b b' : Before) (i : Item) (ts rest : List Token) → declared t b i ≡ Some b' → Prefix ts (spell.declaration t (passed_of b) i) rest → Opens (kind_of ts)
 declaration_opens t b b' next_table ts rest e f =
     let p = then_parts _ (slice_get t.tables b.tables) b' e in
-    opened (kind_of ts) _ (begins_with p.0.line (kind.Keyword keyword.Table) (spell.table_declaration p.0) _ ts rest refl (there spell.table_declaration (slice_get t.tables b.tables) p.0 ts rest p.1 f)) (record { closes = record { no_name = refl; no_number = refl }; token = refl })
+    opened (kind_of ts) _ (begins_with p.0.spot (kind.Keyword keyword.Table) (spell.table_declaration p.0) _ ts rest refl (there spell.table_declaration (slice_get t.tables b.tables) p.0 ts rest p.1 f)) (record { closes = record { no_name = refl; no_number = refl }; token = refl })
 declaration_opens t b b' next_lam ts rest e f =
     let p = then_parts _ (slice_get t.lams b.lams) b' e in
-    opened (kind_of ts) _ (begins_with p.0.line (kind.Keyword keyword.Cdlam) (spell.lam_declaration p.0) _ ts rest refl (there spell.lam_declaration (slice_get t.lams b.lams) p.0 ts rest p.1 f)) (record { closes = record { no_name = refl; no_number = refl }; token = refl })
-declaration_opens t b b' (next_variables line n) ts rest e f =
-    opened (kind_of ts) _ (begins_with line (kind.Keyword keyword.Var) (spell.variable_declaration line (take n (drop b.variables t.variables))) _ ts rest refl f) (record { closes = record { no_name = refl; no_number = refl }; token = refl })
+    opened (kind_of ts) _ (begins_with p.0.spot (kind.Keyword keyword.Cdlam) (spell.lam_declaration p.0) _ ts rest refl (there spell.lam_declaration (slice_get t.lams b.lams) p.0 ts rest p.1 f)) (record { closes = record { no_name = refl; no_number = refl }; token = refl })
+declaration_opens t b b' (next_variables spot n) ts rest e f =
+    opened (kind_of ts) _ (begins_with spot (kind.Keyword keyword.Var) (spell.variable_declaration spot (take n (drop b.variables t.variables))) _ ts rest refl f) (record { closes = record { no_name = refl; no_number = refl }; token = refl })
 declaration_opens t b b' next_procedure ts rest e f =
     let p = then_parts _ (slice_get t.procedures b.procedures) b' e in
-    opened (kind_of ts) _ (begins_with p.0.line (kind.Keyword keyword.Proc) (spell.procedure_declaration t p.0) _ ts rest refl (there (spell.procedure_declaration t) (slice_get t.procedures b.procedures) p.0 ts rest p.1 f)) (record { closes = record { no_name = refl; no_number = refl }; token = refl })
+    opened (kind_of ts) _ (begins_with p.0.spot (kind.Keyword keyword.Proc) (spell.procedure_declaration t p.0) _ ts rest refl (there (spell.procedure_declaration t) (slice_get t.procedures b.procedures) p.0 ts rest p.1 f)) (record { closes = record { no_name = refl; no_number = refl }; token = refl })
 declaration_opens t b b' next_service ts rest e f =
     let p = then_parts _ (slice_get t.services b.services) b' e in
-    opened (kind_of ts) _ (begins_with p.0.line (kind.Keyword keyword.Service) (spell.service_declaration t p.0) _ ts rest refl (there (spell.service_declaration t) (slice_get t.services b.services) p.0 ts rest p.1 f)) (record { closes = record { no_name = refl; no_number = refl }; token = refl })
+    opened (kind_of ts) _ (begins_with p.0.spot (kind.Keyword keyword.Service) (spell.service_declaration t p.0) _ ts rest refl (there (spell.service_declaration t) (slice_get t.services b.services) p.0 ts rest p.1 f)) (record { closes = record { no_name = refl; no_number = refl }; token = refl })

@@ -27,6 +27,7 @@ use Rattle.camac_text_spelling.proofs.Fresh.{take_one, new_after, total_first}
 use Rattle.camac_text_spelling.proofs.GivesDeclarations.{lam_declared, with_names, variables_declared}
 use Rattle.camac_text_spelling.proofs.GivesTables.{table_declared}
 use Rattle.camac_text_spelling.proofs.Walk.{parameter_count, passed_of, AreFirst, first_count, Limited, Stands, there}
+use Rattle.camac_lang.specs.declared.spot.Spot.{Spot}
 
 -- One more declaration is read, and the state after it is that after the first declarations.
 pub record Goes (t : Script) (b : Before) (i : Item) (s : State) (rest : List Token) : Type 0 where
@@ -150,8 +151,8 @@ take_names m n ys xs same many within =
     let bound : length (take (m + n) ys) ≡ min (m + n) (length ys) = length-take (m + n) ys in
     (joined, omega arith)
 
-pub variables_goes : (t : Script) (line n : ℕ) (b b' : Before) (s : State) (rest : List Token) → Limited t → Stands t b s → declared t b (next_variables line n) ≡ Some b' → Prefix s.rest (spell.declaration t (passed_of b) (next_variables line n)) rest → next_is_name (kind_of rest) ≡ false → Goes t b' (next_variables line n) s rest
-variables_goes t line n b b' s rest limits st e f off =
+pub variables_goes : (t : Script) (spot : Spot) (n : ℕ) (b b' : Before) (s : State) (rest : List Token) → Limited t → Stands t b s → declared t b (next_variables spot n) ≡ Some b' → Prefix s.rest (spell.declaration t (passed_of b) (next_variables spot n)) rest → next_is_name (kind_of rest) ≡ false → Goes t b' (next_variables spot n) s rest
+variables_goes t spot n b b' s rest limits st e f off =
     let xs : List Text = take n (drop b.variables t.variables) in
     let r = unless_parts (nat_le 1 n && (nat_eq (length xs) n && are_declarable xs b.names)) (with_variables xs b) b' e in
     let some : 1 ≤ n = leb-true 1 n (first_of_both (nat_le 1 n) _ r.0) in
@@ -166,7 +167,7 @@ variables_goes t line n b b' s rest limits st e f off =
     let count : s.variable_count ≡ length s.variables + total parameter_count s.procedures = st.counted in
     let parameters : total parameter_count s.procedures ≤ total parameter_count t.procedures = subst (λ (ps : List Procedure). total parameter_count ps ≤ total parameter_count t.procedures) (sym st.procedures.first) (total_first parameter_count t.procedures b.procedures) in
     let longer : length (s.variables ++ xs) ≡ length s.variables + length xs = length-append s.variables xs in
-    let u : State = with_variables_of line n (with_names s rest xs) in
+    let u : State = with_variables_of spot n (with_names s rest xs) in
     let grown : s.variables ++ xs ≡ take (b.variables + length xs) t.variables = ap (λ (ys : List Text). ys ++ xs) st.variables ∙ grows.0 ∙ ap (λ (i : ℕ). take (b.variables + i) t.variables) (sym many) in
     let stands : Stands t (with_variables xs b) u = record {
       tables = still_first xs st.tables;
@@ -188,7 +189,7 @@ variables_goes t line n b b' s rest limits st e f off =
     } in
     record {
       next = u;
-      read = variables_declared line n xs s rest some many new (omega arith) f off;
+      read = variables_declared spot n xs s rest some many new (omega arith) f off;
       ordered = refl;
       left = refl;
       stands = subst (λ (k : Before). Stands t k u) r.1 stands;

@@ -275,6 +275,6 @@ procedure_goes t b b' s rest limits st e f =
 pub declaration_goes : (t : Script) (i : Item) (b b' : Before) (s : State) (rest : List Token) → Limited t → Stands t b s → declared t b i ≡ Some b' → Prefix s.rest (spell.declaration t (passed_of b) i) rest → Closes (kind_of rest) → Goes t b' i s rest
 declaration_goes t next_table b b' s rest limits st e f ends = table_goes t b b' s rest limits st e f ends.no_number
 declaration_goes t next_lam b b' s rest limits st e f ends = lam_goes t b b' s rest limits st e f
-declaration_goes t (next_variables line n) b b' s rest limits st e f ends = variables_goes t line n b b' s rest limits st e f ends.no_name
+declaration_goes t (next_variables spot n) b b' s rest limits st e f ends = variables_goes t spot n b b' s rest limits st e f ends.no_name
 declaration_goes t next_procedure b b' s rest limits st e f ends = procedure_goes t b b' s rest limits st e f
 declaration_goes t next_service b b' s rest limits st e f ends = service_goes t b b' s rest limits st e f

@@ -5,6 +5,7 @@ use Rattle.camac_tokens.specs.declared.token.Keyword.TheVariants as keyword
 use Rattle.camac_tokens.specs.declared.token.Sign.TheVariants as mark
 use Rattle.camac_text_spelling.specs.Pieces.{Piece, first_word, word, sign, numeral, name, separated, Names, name_at}
 use Rattle.camac_text_spelling.specs.Statements.{braced, block}
+use Rattle.camac_lang.specs.declared.spot.Spot.{Spot}
 
 -- what a body of a service may name, and a body of a procedure
 abbrev pub service_names : Script → Service → Names
@@ -28,28 +29,28 @@ procedure_names s p = record {
 -- ---- one declaration
 
 abbrev pub table_declaration : Table → List Piece
-table_declaration t = first_word t.line keyword.Table ∷ name t.name ∷ sign mark.Equals ∷ map numeral t.words
+table_declaration t = first_word t.spot keyword.Table ∷ name t.name ∷ sign mark.Equals ∷ map numeral t.words
 
 abbrev pub lam_declaration : Lam → List Piece
 lam_declaration l =
-    first_word l.line keyword.Cdlam ∷ name l.name ∷ numeral 1 ∷ numeral l.crate_no ∷ numeral l.station ∷ numeral l.sub_address ∷ []
+    first_word l.spot keyword.Cdlam ∷ name l.name ∷ numeral 1 ∷ numeral l.crate_no ∷ numeral l.station ∷ numeral l.sub_address ∷ []
 
-abbrev pub variable_declaration : ℕ → List Text → List Piece
-variable_declaration line xs = first_word line keyword.Var ∷ map name xs
+abbrev pub variable_declaration : Spot → List Text → List Piece
+variable_declaration spot xs = first_word spot keyword.Var ∷ map name xs
 
 abbrev pub parameter : Parameter → List Piece
 parameter p = name p.name ∷ word keyword.In ∷ numeral p.low ∷ sign mark.UpTo ∷ numeral p.high ∷ []
 
 abbrev pub procedure_declaration : Script → Procedure → List Piece
 procedure_declaration s p =
-    first_word p.line keyword.Proc ∷ name p.name ∷ sign mark.LeftBracket
+    first_word p.spot keyword.Proc ∷ name p.name ∷ sign mark.LeftBracket
     ∷ (separated (sign mark.Comma) parameter p.parameters ++ sign mark.RightBracket
     ∷ word keyword.Within ∷ numeral p.cycles ∷ word keyword.Cycles ∷ word keyword.Event ∷ numeral p.words ∷ word keyword.Words
     ∷ word keyword.Steps ∷ numeral p.steps ∷ braced (block (procedure_names s p) p.body))
 
 abbrev pub service_declaration : Script → Service → List Piece
 service_declaration s v =
-    first_word v.line keyword.Service ∷ name_at (map (λ l. l.name) s.lams) v.lam
+    first_word v.spot keyword.Service ∷ name_at (map (λ l. l.name) s.lams) v.lam
     ∷ word keyword.Within ∷ numeral v.cycles ∷ word keyword.Cycles ∷ word keyword.Event ∷ numeral v.words ∷ word keyword.Words
     ∷ braced (block (service_names s v) v.body)
 
@@ -69,7 +70,7 @@ none_passed = record { tables = 0; lams = 0; variables = 0; procedures = 0; serv
 abbrev pub pass : Item → Passed → Passed
 pass next_table b = record b { tables = b.tables + 1 }
 pass next_lam b = record b { lams = b.lams + 1 }
-pass (next_variables line n) b = record b { variables = b.variables + n }
+pass (next_variables spot n) b = record b { variables = b.variables + n }
 pass next_procedure b = record b { procedures = b.procedures + 1 }
 pass next_service b = record b { services = b.services + 1 }
 
@@ -81,7 +82,7 @@ if_there spell (Some x) = spell x
 abbrev pub declaration : Script → Passed → Item → List Piece
 declaration s b next_table = if_there table_declaration (slice_get s.tables b.tables)
 declaration s b next_lam = if_there lam_declaration (slice_get s.lams b.lams)
-declaration s b (next_variables line n) = variable_declaration line (take n (drop b.variables s.variables))
+declaration s b (next_variables spot n) = variable_declaration spot (take n (drop b.variables s.variables))
 declaration s b next_procedure = if_there (procedure_declaration s) (slice_get s.procedures b.procedures)
 declaration s b next_service = if_there (service_declaration s) (slice_get s.services b.services)
 

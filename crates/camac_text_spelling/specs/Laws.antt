@@ -1,9 +1,12 @@
 -- Laws of the spelling.
-use Rattle.std.specs.Prelude.{◌≡◌, ℕ, List, ◌∷◌, ◌++◌, Ok, Err, codes}
-use Rattle.camac_lang.specs.Example.{straight_line}
-use Rattle.camac_lang.specs.Tree.{Script}
+use Rattle.std.specs.Prelude.{◌≡◌, ℕ, List, [], ◌∷◌, ◌++◌, Ok, Err, codes}
+use Rattle.camac_lang.specs.Example.{adc, adc_service, straight_line}
+use Rattle.camac_lang.specs.Tree.{number, variable, into, set_register, single, put, next_lam, next_variables, next_service, Script}
+use Rattle.camac_lang.specs.View.{block_of}
+use Rattle.camac_lang.specs.declared.word.WordSize.TheVariants.{Full}
 use Rattle.camac_tokens.specs.declared.token.Token.{Token}
 use Rattle.camac_tokens.specs.Fault.{Fault}
+use Rattle.camac_tokens.specs.Scanning.{spot_at}
 use Rattle.camac_text.specs.Parser.{tree_of_tokens, script_of}
 use Rattle.camac_text.specs.Places.{IsPlaced}
 use Rattle.camac_text_spelling.specs.Spells.{Spells, IsSpelled}
@@ -13,8 +16,19 @@ abbrev pub example_text : List ℕ
 example_text =
     codes "cdlam adc 1 1 5 12\nvar v\nservice adc within 3 cycles event 1 words {\ncdreg r 1 1 5 0\ncfsa 0 r -> v\nput v }"
 
+-- its tree, with the spots of this text
+abbrev pub example_tree : Script
+example_tree = record straight_line {
+  order = next_lam ∷ next_variables (spot_at 2 87) 1 ∷ next_service ∷ [];
+  lams = record adc { spot = spot_at 1 106 } ∷ [];
+  services = record adc_service {
+    spot = spot_at 3 81;
+    body = block_of (set_register (spot_at 4 37) 0 (number 1) (number 5) (number 0) ∷ single (spot_at 5 21) Full 0 0 (into 0) ∷ put (spot_at 6 7) (variable 0) ∷ []);
+  } ∷ [];
+}
+
 abbrev pub ExampleIsSpelled : Type 0
-ExampleIsSpelled = IsSpelled example_text straight_line
+ExampleIsSpelled = IsSpelled example_text example_tree
 
 -- the tree that is read of a text is one that its tokens spell
 abbrev pub ReadIsSpelled : Type 0

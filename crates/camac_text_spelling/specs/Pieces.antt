@@ -6,21 +6,22 @@ use Rattle.camac_tokens.specs.declared.token.Sign.{Sign}
 use Rattle.camac_tokens.specs.declared.token.Token.{Token}
 use Rattle.camac_tokens.specs.declared.token.TokenKind.{TokenKind}
 use Rattle.camac_tokens.specs.declared.token.TokenKind.TheVariants as kind
+use Rattle.camac_lang.specs.declared.spot.Spot.{Spot}
 
--- a token of a spelling, and its line where the tree holds it
+-- a token of a spelling, and its spot where the tree holds it
 pub record Piece : Type 0 where
   pub kind : TokenKind
-  pub line : Option ℕ
+  pub spot : Option Spot
 
 abbrev pub piece : TokenKind → Piece
-piece k = record { kind = k; line = None }
+piece k = record { kind = k; spot = None }
 
--- the first token of a statement or a declaration, whose line the tree holds
-abbrev pub first_piece : ℕ → TokenKind → Piece
-first_piece line k = record { kind = k; line = Some line }
+-- the first token of a statement or a declaration, whose spot the tree holds
+abbrev pub first_piece : Spot → TokenKind → Piece
+first_piece spot k = record { kind = k; spot = Some spot }
 
-abbrev pub first_word : ℕ → Keyword → Piece
-first_word line w = first_piece line (kind.Keyword w)
+abbrev pub first_word : Spot → Keyword → Piece
+first_word spot w = first_piece spot (kind.Keyword w)
 
 abbrev pub word : Keyword → Piece
 word w = piece (kind.Keyword w)
@@ -73,7 +74,7 @@ name_at names place = name (text_at names place)
 
 -- a token is this piece
 abbrev pub Fits : Token → Piece → Type 0
-Fits t p = (t.kind ≡ p.kind) × IfSome p.line (λ line. t.line ≡ line)
+Fits t p = (t.kind ≡ p.kind) × IfSome p.spot (λ spot. t.spot ≡ spot)
 
 -- the tokens begin with these pieces, and then come the others
 abbrev pub Prefix : List Token → List Piece → List Token → Type 0

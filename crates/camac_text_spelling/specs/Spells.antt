@@ -7,7 +7,7 @@ use Rattle.camac_tokens.specs.Scanning.{tokens_of}
 use Rattle.camac_text_spelling.specs.Pieces.{Prefix}
 use Rattle.camac_text_spelling.specs.Declarations.{script}
 
--- The tokens are the tree's, each line that it holds is that of its first token, and every rule of the language holds: operators
+-- The tokens are the tree's, each spot that it holds is that of its first token, and every rule of the language holds: operators
 -- grouped from the left, scopes, numbers and limits.
 pub record Spells (tokens : List Token) (tree : Script) : Type 0 where
   pub all : Prefix tokens (script tree) []

@@ -55,36 +55,36 @@ braced ps = sign mark.LeftBrace ∷ (ps ++ sign mark.RightBrace ∷ [])
 
 abbrev mutual
   pub statement : Names → Statement → List Piece
-  statement n (assign line x e) = first_piece line (kind.Name (text_at n.variables x)) ∷ sign mark.Equals ∷ expression n e
-  statement n (set_register line r c s a) =
-      first_word line keyword.Cdreg ∷ name_at n.registers r ∷ numeral 1 ∷ (expression n c ++ (expression n s ++ expression n a))
-  statement n (single line size f r m) =
-      first_word line (single_word size) ∷ numeral f ∷ name_at n.registers r ∷ move n m
-  statement n (address_scan line f first last e x) =
-      first_word line keyword.Cfmad ∷ numeral f ∷ name_at n.registers first ∷ name_at n.registers last ∷ (most n e ++ tally n x)
-  statement n (q_stop line f r g e x) =
-      first_word line keyword.Cfubc ∷ numeral f ∷ name_at n.registers r ∷ (table n g ++ (most n e ++ tally n x))
-  statement n (q_repeat line f r g e limit x) =
-      first_word line keyword.Cfubr ∷ numeral f ∷ name_at n.registers r
+  statement n (assign spot x e) = first_piece spot (kind.Name (text_at n.variables x)) ∷ sign mark.Equals ∷ expression n e
+  statement n (set_register spot r c s a) =
+      first_word spot keyword.Cdreg ∷ name_at n.registers r ∷ numeral 1 ∷ (expression n c ++ (expression n s ++ expression n a))
+  statement n (single spot size f r m) =
+      first_word spot (single_word size) ∷ numeral f ∷ name_at n.registers r ∷ move n m
+  statement n (address_scan spot f first last e x) =
+      first_word spot keyword.Cfmad ∷ numeral f ∷ name_at n.registers first ∷ name_at n.registers last ∷ (most n e ++ tally n x)
+  statement n (q_stop spot f r g e x) =
+      first_word spot keyword.Cfubc ∷ numeral f ∷ name_at n.registers r ∷ (table n g ++ (most n e ++ tally n x))
+  statement n (q_repeat spot f r g e limit x) =
+      first_word spot keyword.Cfubr ∷ numeral f ∷ name_at n.registers r
       ∷ (table n g ++ (most n e ++ word keyword.Limit ∷ (expression n limit ++ tally n x)))
-  statement n (put line e) = first_word line keyword.Put ∷ expression n e
-  statement n (crate_call line k e) = first_word line (crate_keyword k) ∷ (expression n e ++ crate_switch k)
-  statement n (lam_call line k l) = first_word line (lam_keyword k) ∷ name_at n.lams l ∷ lam_switch k
-  statement n (choose line c a) = first_word line keyword.If ∷ (condition n c ++ braced (block n a))
-  statement n (choose_else line c a b) =
-      first_word line keyword.If ∷ (condition n c ++ (braced (block n a) ++ word keyword.Else ∷ braced (block n b)))
-  statement n (for_ line x e1 e2 ks body) =
-      first_word line keyword.For ∷ name_at n.variables x ∷ sign mark.Equals
+  statement n (put spot e) = first_word spot keyword.Put ∷ expression n e
+  statement n (crate_call spot k e) = first_word spot (crate_keyword k) ∷ (expression n e ++ crate_switch k)
+  statement n (lam_call spot k l) = first_word spot (lam_keyword k) ∷ name_at n.lams l ∷ lam_switch k
+  statement n (choose spot c a) = first_word spot keyword.If ∷ (condition n c ++ braced (block n a))
+  statement n (choose_else spot c a b) =
+      first_word spot keyword.If ∷ (condition n c ++ (braced (block n a) ++ word keyword.Else ∷ braced (block n b)))
+  statement n (for_ spot x e1 e2 ks body) =
+      first_word spot keyword.For ∷ name_at n.variables x ∷ sign mark.Equals
       ∷ (expression n e1 ++ word keyword.To ∷ (expression n e2 ++ (keeps n ks ++ braced (block n body))))
-  statement n (for_each line x v last body) =
-      first_word line keyword.For ∷ name_at n.variables x ∷ sign mark.Equals
+  statement n (for_each spot x v last body) =
+      first_word spot keyword.For ∷ name_at n.variables x ∷ sign mark.Equals
       ∷ numeral v ∷ word keyword.To ∷ numeral last ∷ name each_word ∷ braced (block n body)
-  statement n (while_ line c turns x ks body) =
-      first_word line keyword.While
+  statement n (while_ spot c turns x ks body) =
+      first_word spot keyword.While
       ∷ (condition n c ++ word keyword.Turns ∷ numeral turns ∷ word keyword.By ∷ name_at n.variables x ∷ (keeps n ks ++ braced (block n body)))
-  statement n (locked line e body) = first_word line keyword.Lock ∷ (expression n e ++ braced (block n body))
-  statement n (call line p es) =
-      first_word line keyword.Call ∷ name_at n.procedures p ∷ sign mark.LeftBracket
+  statement n (locked spot e body) = first_word spot keyword.Lock ∷ (expression n e ++ braced (block n body))
+  statement n (call spot p es) =
+      first_word spot keyword.Call ∷ name_at n.procedures p ∷ sign mark.LeftBracket
       ∷ (separated (sign mark.Comma) (expression n) es ++ sign mark.RightBracket ∷ [])
 
   pub block : Names → Block → List Piece

@@ -21,6 +21,7 @@ use Rattle.camac_text_cursor.proofs.Uses.{scope_of, same_scope, used_register_ok
 use Rattle.camac_text_phrases.proofs.BracketsRead.{expression_ok}
 use Rattle.camac_text_cursor.proofs.Registers.{limits_of, both, below_le, RegistersFit, set_name_ok}
 use Rattle.camac_text_statements.proofs.Acts.{begun, begin_ok, Acts, acts}
+use Rattle.camac_lang.specs.declared.spot.Spot.{Spot}
 
 -- ---- what a single action moves
 
@@ -56,38 +57,38 @@ move_ok room s y e = move_is room (kind_of s.rest) s y e
 
 -- ---- statements
 
-pub put_is : (room : ℕ) (s : State) (k : TokenKind) (line : ℕ) (y : Statement × State) → kind_of s.rest ≡ Some k → put_action room line s ≡ Ok y → Acts room s y.0 y.1
+pub put_is : (room : ℕ) (s : State) (k : TokenKind) (spot : Spot) (y : Statement × State) → kind_of s.rest ≡ Some k → put_action room spot s ≡ Ok y → Acts room s y.0 y.1
 unfolding put_action
-put_is room s k line y next e =
+put_is room s k spot y next e =
     let a = then_ok (begin s) _ y e in
     let begins = begin_ok s a.0 a.1 in
-    let at : then_read (expression_at room (begun s)) (λ value. give (put line value)) ≡ Ok y = subst (λ (u : State). then_read (expression_at room u) (λ value. give (put line value)) ≡ Ok y) begins.1 a.2 in
-    let b = then_ok (expression_at room (begun s)) (λ value. give (put line value)) y at in
+    let at : then_read (expression_at room (begun s)) (λ value. give (put spot value)) ≡ Ok y = subst (λ (u : State). then_read (expression_at room u) (λ value. give (put spot value)) ≡ Ok y) begins.1 a.2 in
+    let b = then_ok (expression_at room (begun s)) (λ value. give (put spot value)) y at in
     let read = expression_ok room (begun s) b.0 b.1 in
-    subst (λ (p : Statement × State). Acts room s p.0 p.1) (ok_is (put line b.0.0, b.0.1) y b.2)
-    (acts room s (put line b.0.0) k b.0.1 next begins.0 read.moves
+    subst (λ (p : Statement × State). Acts room s p.0 p.1) (ok_is (put spot b.0.0, b.0.1) y b.2)
+    (acts room s (put spot b.0.0) k b.0.1 next begins.0 read.moves
     (λ h. ap (λ (holds : Bool). unless_broken holds (length s.registers)) (read.fits ((moved s).fit h)))
     read.deep refl)
 
-pub single_is : (room : ℕ) (s : State) (k : TokenKind) (size : WordSize) (line : ℕ) (y : Statement × State) → kind_of s.rest ≡ Some k → single_action size room line s ≡ Ok y → Acts room s y.0 y.1
+pub single_is : (room : ℕ) (s : State) (k : TokenKind) (size : WordSize) (spot : Spot) (y : Statement × State) → kind_of s.rest ≡ Some k → single_action size room spot s ≡ Ok y → Acts room s y.0 y.1
 unfolding single_action
-single_is room s k size line y next e =
+single_is room s k size spot y next e =
     let a = then_ok (begin s) _ y e in
     let begins = begin_ok s a.0 a.1 in
-    let rest : Reader Statement = function_number >>= λ f. used_register >>= λ r. move_at room >>= λ move. give (single line size f r move) in
+    let rest : Reader Statement = function_number >>= λ f. used_register >>= λ r. move_at room >>= λ move. give (single spot size f r move) in
     let at : rest (begun s) ≡ Ok y = subst (λ (u : State). rest u ≡ Ok y) begins.1 a.2 in
-    let b = then_ok (function_number (begun s)) (λ f. used_register >>= λ r. move_at room >>= λ move. give (single line size f r move)) y at in
+    let b = then_ok (function_number (begun s)) (λ f. used_register >>= λ r. move_at room >>= λ move. give (single spot size f r move)) y at in
     let f = function_ok (begun s) b.0 b.1 in
-    let c = then_ok (used_register b.0.1) (λ r. move_at room >>= λ move. give (single line size b.0.0 r move)) y b.2 in
+    let c = then_ok (used_register b.0.1) (λ r. move_at room >>= λ move. give (single spot size b.0.0 r move)) y b.2 in
     let r = used_register_ok b.0.1 c.0 c.1 in
-    let d = then_ok (move_at room c.0.1) (λ move. give (single line size b.0.0 c.0.0 move)) y c.2 in
+    let d = then_ok (move_at room c.0.1) (λ move. give (single spot size b.0.0 c.0.0 move)) y c.2 in
     let m = move_ok room c.0.1 d.0 d.1 in
     let to_b : Moves (begun s) b.0.1 = one_moves (begun s) (kind.Number b.0.0) b.0.1 f.one in
     let to_c : Moves (begun s) c.0.1 = then_moves (begun s) b.0.1 c.0.1 to_b r.1 in
     let function_fits : is_function b.0.0 ≡ true = below_le b.0.0 31 (let below : b.0.0 < 32 = ltb-true b.0.0 32 f.below in omega arith) in
     let register_fits : nat_lt c.0.0 (length s.registers) ≡ true = subst (λ (u : State). nat_lt c.0.0 (length u.registers) ≡ true) to_b.same (lt-ltb c.0.0 (length b.0.1.registers) r.0) in
-    subst (λ (p : Statement × State). Acts room s p.0 p.1) (ok_is (single line size b.0.0 c.0.0 d.0.0, d.0.1) y d.2)
-    (acts room s (single line size b.0.0 c.0.0 d.0.0) k d.0.1 next begins.0 (then_moves (begun s) c.0.1 d.0.1 to_c m.moves)
+    subst (λ (p : Statement × State). Acts room s p.0 p.1) (ok_is (single spot size b.0.0 c.0.0 d.0.0, d.0.1) y d.2)
+    (acts room s (single spot size b.0.0 c.0.0 d.0.0) k d.0.1 next begins.0 (then_moves (begun s) c.0.1 d.0.1 to_c m.moves)
     (λ h.
     let move_stands : move_fits (scope_of s) d.0.0 ≡ true = subst (λ (scope : Scope). move_fits scope d.0.0 ≡ true) (same_scope (begun s) c.0.1 to_c) (m.fits (to_c.fit ((moved s).fit h))) in
     ap (λ (holds : Bool). unless_broken holds (length s.registers)) (both (is_function b.0.0) _ function_fits (both (nat_lt c.0.0 (length s.registers)) _ register_fits move_stands)))
@@ -96,28 +97,28 @@ single_is room s k size line y next e =
 three_deep : (a b c n : ℕ) → a ≤ n → b ≤ n → c ≤ n → max a (max b c) ≤ n
 three_deep a b c n p q r = omega arith
 
-pub setting_is : (room : ℕ) (s : State) (k : TokenKind) (line : ℕ) (y : Statement × State) → kind_of s.rest ≡ Some k → register_setting room line s ≡ Ok y → Acts room s y.0 y.1
+pub setting_is : (room : ℕ) (s : State) (k : TokenKind) (spot : Spot) (y : Statement × State) → kind_of s.rest ≡ Some k → register_setting room spot s ≡ Ok y → Acts room s y.0 y.1
 unfolding register_setting
-setting_is room s k line y next e =
+setting_is room s k spot y next e =
     let a = then_ok (begin s) _ y e in
     let begins = begin_ok s a.0 a.1 in
-    let rest : Reader Statement = set_name >>= λ r. branch_number >> (expression_at room >>= λ c. expression_at room >>= λ n. expression_at room >>= λ a. give (set_register line r c n a)) in
+    let rest : Reader Statement = set_name >>= λ r. branch_number >> (expression_at room >>= λ c. expression_at room >>= λ n. expression_at room >>= λ a. give (set_register spot r c n a)) in
     let at : rest (begun s) ≡ Ok y = subst (λ (u : State). rest u ≡ Ok y) begins.1 a.2 in
-    let b = then_ok (set_name (begun s)) (λ r. branch_number >> (expression_at room >>= λ c. expression_at room >>= λ n. expression_at room >>= λ a. give (set_register line r c n a))) y at in
+    let b = then_ok (set_name (begun s)) (λ r. branch_number >> (expression_at room >>= λ c. expression_at room >>= λ n. expression_at room >>= λ a. give (set_register spot r c n a))) y at in
     let r = set_name_ok (begun s) b.0 b.1 in
-    let u1 = then_ok (branch_number b.0.1) (λ _. expression_at room >>= λ c. expression_at room >>= λ n. expression_at room >>= λ a. give (set_register line b.0.0 c n a)) y b.2 in
+    let u1 = then_ok (branch_number b.0.1) (λ _. expression_at room >>= λ c. expression_at room >>= λ n. expression_at room >>= λ a. give (set_register spot b.0.0 c n a)) y b.2 in
     let branch = branch_ok b.0.1 u1.0 u1.1 in
-    let u2 = then_ok (expression_at room u1.0.1) (λ c. expression_at room >>= λ n. expression_at room >>= λ a. give (set_register line b.0.0 c n a)) y u1.2 in
+    let u2 = then_ok (expression_at room u1.0.1) (λ c. expression_at room >>= λ n. expression_at room >>= λ a. give (set_register spot b.0.0 c n a)) y u1.2 in
     let l2 = expression_ok room u1.0.1 u2.0 u2.1 in
-    let u3 = then_ok (expression_at room u2.0.1) (λ n. expression_at room >>= λ a. give (set_register line b.0.0 u2.0.0 n a)) y u2.2 in
+    let u3 = then_ok (expression_at room u2.0.1) (λ n. expression_at room >>= λ a. give (set_register spot b.0.0 u2.0.0 n a)) y u2.2 in
     let l3 = expression_ok room u2.0.1 u3.0 u3.1 in
-    let u4 = then_ok (expression_at room u3.0.1) (λ a. give (set_register line b.0.0 u2.0.0 u3.0.0 a)) y u3.2 in
+    let u4 = then_ok (expression_at room u3.0.1) (λ a. give (set_register spot b.0.0 u2.0.0 u3.0.0 a)) y u3.2 in
     let l4 = expression_ok room u3.0.1 u4.0 u4.1 in
     let to_1 : Moves b.0.1 u1.0.1 = one_moves b.0.1 (kind.Number branch.0) u1.0.1 branch.1 in
     let to_2 : Moves b.0.1 u2.0.1 = then_moves b.0.1 u1.0.1 u2.0.1 to_1 l2.moves in
     let to_3 : Moves b.0.1 u3.0.1 = then_moves b.0.1 u2.0.1 u3.0.1 to_2 l3.moves in
     let to_4 : Moves b.0.1 u4.0.1 = then_moves b.0.1 u3.0.1 u4.0.1 to_3 l4.moves in
-    let x : Statement = set_register line b.0.0 u2.0.0 u3.0.0 u4.0.0 in
+    let x : Statement = set_register spot b.0.0 u2.0.0 u3.0.0 u4.0.0 in
     let t : State = u4.0.1 in
     let registers : t.registers ≡ b.0.1.registers = ap (λ (w : State). w.registers) to_4.same in
     let scope_b : scope_of b.0.1 ≡ scope_of s = ap scope_of r.same in
@@ -145,22 +146,22 @@ setting_is room s k line y next e =
       deep = three_deep _ _ _ room l2.deep l3.deep l4.deep;
     })
 
-pub assignment_is : (room : ℕ) (s : State) (line : ℕ) (y : Statement × State) → assignment room line s ≡ Ok y → Acts room s y.0 y.1
+pub assignment_is : (room : ℕ) (s : State) (spot : Spot) (y : Statement × State) → assignment room spot s ≡ Ok y → Acts room s y.0 y.1
 unfolding assignment
-assignment_is room s line y e =
-    let v = then_ok (variable_here s) (λ place. begin >> (expect_sign sign.Equals >> (expression_at room >>= λ value. give (assign line place value)))) y e in
+assignment_is room s spot y e =
+    let v = then_ok (variable_here s) (λ place. begin >> (expect_sign sign.Equals >> (expression_at room >>= λ value. give (assign spot place value)))) y e in
     let here = variable_here_ok s v.0 v.1 in
-    let rest : Reader Statement = expect_sign sign.Equals >> (expression_at room >>= λ value. give (assign line v.0.0 value)) in
+    let rest : Reader Statement = expect_sign sign.Equals >> (expression_at room >>= λ value. give (assign spot v.0.0 value)) in
     let from_s : (begin >> rest) s ≡ Ok y = subst (λ (u : State). (begin >> rest) u ≡ Ok y) here.left v.2 in
     let a = then_ok (begin s) (λ _. rest) y from_s in
     let begins = begin_ok s a.0 a.1 in
     let at : rest (begun s) ≡ Ok y = subst (λ (u : State). rest u ≡ Ok y) begins.1 a.2 in
-    let b = then_ok (expect_sign sign.Equals (begun s)) (λ _. expression_at room >>= λ value. give (assign line v.0.0 value)) y at in
+    let b = then_ok (expect_sign sign.Equals (begun s)) (λ _. expression_at room >>= λ value. give (assign spot v.0.0 value)) y at in
     let to_b : Moves (begun s) b.0.1 = expect_sign_ok sign.Equals (begun s) b.0 b.1 in
-    let c = then_ok (expression_at room b.0.1) (λ value. give (assign line v.0.0 value)) y b.2 in
+    let c = then_ok (expression_at room b.0.1) (λ value. give (assign spot v.0.0 value)) y b.2 in
     let read = expression_ok room b.0.1 c.0 c.1 in
-    subst (λ (p : Statement × State). Acts room s p.0 p.1) (ok_is (assign line v.0.0 c.0.0, c.0.1) y c.2)
-    (acts room s (assign line v.0.0 c.0.0) (kind.Name here.name) c.0.1 here.next begins.0 (then_moves (begun s) b.0.1 c.0.1 to_b read.moves)
+    subst (λ (p : Statement × State). Acts room s p.0 p.1) (ok_is (assign spot v.0.0 c.0.0, c.0.1) y c.2)
+    (acts room s (assign spot v.0.0 c.0.0) (kind.Name here.name) c.0.1 here.next begins.0 (then_moves (begun s) b.0.1 c.0.1 to_b read.moves)
     (λ h.
     let value_fits : expression_fits (scope_of s) c.0.0 ≡ true = subst (λ (scope : Scope). expression_fits scope c.0.0 ≡ true) (same_scope (begun s) b.0.1 to_b) (read.fits (to_b.fit ((moved s).fit h))) in
     ap (λ (holds : Bool). unless_broken holds (length s.registers)) (both _ _ (lt-ltb v.0.0 (length s.variables) here.within) value_fits))

@@ -13,6 +13,7 @@ use Rattle.camac_text_cursor.proofs.Moves.{AllFit, Moves, after_less, moved}
 use Rattle.camac_text_cursor.proofs.Uses.{scope_of}
 use Rattle.camac_text_cursor.proofs.Registers.{Limits, limits_of, RegistersFit}
 use Rattle.camac_text_statements.proofs.Acts.{begun, Acts}
+use Rattle.camac_lang.specs.declared.spot.Spot.{Spot}
 
 -- statements are read, where so many braces may be open, their own too
 pub record Body (room : ℕ) (s : State) (xs : List Statement) (s' : State) : Type 0 where
@@ -78,16 +79,16 @@ holds_block room s k x xs u next below rule one deep b =
     }
 
 -- after a condition, a block
-pub holds_one : (room : ℕ) (s : State) (k : TokenKind) (line : ℕ) (c : Condition) (xs : List Statement) (u : State) → kind_of s.rest ≡ Some k → s.statements < 4096 → (AllFit s.rest → condition_fits (scope_of s) c ≡ true) → most part_depth c ≤ room → Body room (begun s) xs u → Acts room s (choose line c (block_of xs)) u
-holds_one room s k line c xs u next below rule deep b =
+pub holds_one : (room : ℕ) (s : State) (k : TokenKind) (spot : Spot) (c : Condition) (xs : List Statement) (u : State) → kind_of s.rest ≡ Some k → s.statements < 4096 → (AllFit s.rest → condition_fits (scope_of s) c ≡ true) → most part_depth c ≤ room → Body room (begun s) xs u → Acts room s (choose spot c (block_of xs)) u
+holds_one room s k spot c xs u next below rule deep b =
     let inner : inner_depth s.callables (block_of xs) < room = b.deep in
-    holds_block room s k (choose line c (block_of xs)) xs u next below
+    holds_block room s k (choose spot c (block_of xs)) xs u next below
     (λ h. ap (λ (holds : Bool). option_and_then (λ (n : ℕ). after_block (scope_of s) n (block_of xs)) (unless_broken holds (length s.registers))) (rule h))
     refl (omega arith) b
 
 -- and another one after `else`
-pub holds_two : (room : ℕ) (s : State) (k : TokenKind) (line : ℕ) (c : Condition) (xs : List Statement) (u : State) (ys : List Statement) (t : State) → kind_of s.rest ≡ Some k → s.statements < 4096 → (AllFit s.rest → condition_fits (scope_of s) c ≡ true) → most part_depth c ≤ room → Body room (begun s) xs u → Body room u ys t → Acts room s (choose_else line c (block_of xs) (block_of ys)) t
-holds_two room s k line c xs u ys t next below rule deep a b =
+pub holds_two : (room : ℕ) (s : State) (k : TokenKind) (spot : Spot) (c : Condition) (xs : List Statement) (u : State) (ys : List Statement) (t : State) → kind_of s.rest ≡ Some k → s.statements < 4096 → (AllFit s.rest → condition_fits (scope_of s) c ≡ true) → most part_depth c ≤ room → Body room (begun s) xs u → Body room u ys t → Acts room s (choose_else spot c (block_of xs) (block_of ys)) t
+holds_two room s k spot c xs u ys t next below rule deep a b =
     let count : (suc s.statements + statements (block_of xs)) + statements (block_of ys) ≡ s.statements + suc (statements (block_of xs) + statements (block_of ys)) = omega arith in
     let less : length (after_first s.rest) < length s.rest = after_less s.rest k next in
     let shorter_u : length u.rest ≤ length (after_first s.rest) = a.shorter in

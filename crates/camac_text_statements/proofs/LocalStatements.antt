@@ -11,7 +11,7 @@ use Rattle.camac_tokens.specs.declared.token.Sign.TheVariants as sign
 use Rattle.camac_tokens.specs.declared.token.TokenKind.{TokenKind}
 use Rattle.camac_tokens.specs.declared.token.TokenKind.TheVariants as kind
 use Rattle.camac_text_cursor.specs.declared.choice.Choice.TheVariants as choice
-use Rattle.camac_text_cursor.specs.Reading.{line_here, State, Reader, fail, ◌>>=◌, ◌>>◌, give, peek, advance, check, kind_of, line_of, many}
+use Rattle.camac_text_cursor.specs.Reading.{spot_here, State, Reader, fail, ◌>>=◌, ◌>>◌, give, peek, advance, check, kind_of, spot_of, many}
 use Rattle.camac_text_cursor.specs.Readers.{begin, is_sign, is_each, expect, expect_sign, any_number, branch_number, function_number, set_name, used_register, used_variable}
 use Rattle.camac_text_phrases.specs.Expressions.{expression_at}
 use Rattle.camac_text_statements.specs.Statements.{assignment, register_setting, move_by, move_at, single_action, put_action, else_by, if_statement, single_number, for_ends, each_ends, ends_by, for_statement, while_statement, lock_statement, statement_by, statement_with, is_no_end, block_at}
@@ -28,33 +28,34 @@ use Rattle.camac_lang.specs.declared.word.CrateCall.TheVariants as crate_word
 use Rattle.camac_lang.specs.declared.word.LamCall.TheVariants as lam_word
 use Rattle.camac_text_cursor.specs.declared.choice.Choice.{Choice}
 use Rattle.camac_text_cursor.specs.Expected.{suits}
-use Rattle.camac_text_cursor.proofs.Places.{missed_all, admits, admits_one, IsLocal, Begins, IsHere, local_then, begins_then, begins_ask, begins_peek, begins_line}
+use Rattle.camac_text_cursor.proofs.Places.{missed_all, admits, admits_one, IsLocal, Begins, IsHere, local_then, begins_then, begins_ask, begins_peek, begins_spot}
 use Rattle.camac_text_cursor.proofs.Primitives.{local_give, local_fail, begins_fail, begins_advance, begins_check, begins_missed, here_admitted, refusal, local_match, local_wanting, local_test}
 use Rattle.camac_text_cursor.proofs.Local.{begins_begin, local_expect, local_any_number, local_expect_sign, local_branch, local_function, local_set_name, local_used_register, local_used_variable, begins_variable_here, local_closed}
 use Rattle.camac_text_phrases.proofs.LocalExpressions.{local_expression}
 use Rattle.camac_text_statements.proofs.LocalCalls.{begins_crate, begins_crate_switch, begins_lam_action, begins_lam_switch}
+use Rattle.camac_lang.specs.declared.spot.Spot.{Spot}
 
 -- what begins a statement
 abbrev statements : List Choice
 statements = choice.Name ∷ choice.Statement ∷ []
 
-begins_assignment : (room line : ℕ) (s : State) (x : Text) → kind_of s.rest ≡ Some (kind.Name x) → Begins (assignment room line) s
+begins_assignment : (room : ℕ) (spot : Spot) (s : State) (x : Text) → kind_of s.rest ≡ Some (kind.Name x) → Begins (assignment room spot) s
 unfolding assignment
-begins_assignment room line s x at =
-    begins_variable_here (λ v. begin >> (expect_sign sign.Equals >> (expression_at room >>= λ e. give (assign line v e)))) s x at (λ v.
-    begins_then begin (λ _. expect_sign sign.Equals >> (expression_at room >>= λ e. give (assign line v e))) s (begins_begin s (kind.Name x, at)) (λ _ u.
-    local_then (expect_sign sign.Equals) (λ _. expression_at room >>= λ e. give (assign line v e)) u (local_expect_sign sign.Equals u) (λ _ u.
-    local_then (expression_at room) (λ e. give (assign line v e)) u (local_expression room u) (λ e u. local_give (assign line v e) u))))
+begins_assignment room spot s x at =
+    begins_variable_here (λ v. begin >> (expect_sign sign.Equals >> (expression_at room >>= λ e. give (assign spot v e)))) s x at (λ v.
+    begins_then begin (λ _. expect_sign sign.Equals >> (expression_at room >>= λ e. give (assign spot v e))) s (begins_begin s (kind.Name x, at)) (λ _ u.
+    local_then (expect_sign sign.Equals) (λ _. expression_at room >>= λ e. give (assign spot v e)) u (local_expect_sign sign.Equals u) (λ _ u.
+    local_then (expression_at room) (λ e. give (assign spot v e)) u (local_expression room u) (λ e u. local_give (assign spot v e) u))))
 
-pub begins_setting : (room line : ℕ) (s : State) → IsHere s → Begins (register_setting room line) s
+pub begins_setting : (room : ℕ) (spot : Spot) (s : State) → IsHere s → Begins (register_setting room spot) s
 unfolding register_setting
-begins_setting room line s here =
-    begins_then begin (λ _. set_name >>= λ r. branch_number >> (expression_at room >>= λ c. expression_at room >>= λ n. expression_at room >>= λ a. give (set_register line r c n a))) s (begins_begin s here) (λ _ u.
-    local_then set_name (λ r. branch_number >> (expression_at room >>= λ c. expression_at room >>= λ n. expression_at room >>= λ a. give (set_register line r c n a))) u (local_set_name u) (λ r u.
-    local_then branch_number (λ _. expression_at room >>= λ c. expression_at room >>= λ n. expression_at room >>= λ a. give (set_register line r c n a)) u (local_branch u) (λ _ u.
-    local_then (expression_at room) (λ c. expression_at room >>= λ n. expression_at room >>= λ a. give (set_register line r c n a)) u (local_expression room u) (λ c u.
-    local_then (expression_at room) (λ n. expression_at room >>= λ a. give (set_register line r c n a)) u (local_expression room u) (λ n u.
-    local_then (expression_at room) (λ a. give (set_register line r c n a)) u (local_expression room u) (λ a u. local_give (set_register line r c n a) u))))))
+begins_setting room spot s here =
+    begins_then begin (λ _. set_name >>= λ r. branch_number >> (expression_at room >>= λ c. expression_at room >>= λ n. expression_at room >>= λ a. give (set_register spot r c n a))) s (begins_begin s here) (λ _ u.
+    local_then set_name (λ r. branch_number >> (expression_at room >>= λ c. expression_at room >>= λ n. expression_at room >>= λ a. give (set_register spot r c n a))) u (local_set_name u) (λ r u.
+    local_then branch_number (λ _. expression_at room >>= λ c. expression_at room >>= λ n. expression_at room >>= λ a. give (set_register spot r c n a)) u (local_branch u) (λ _ u.
+    local_then (expression_at room) (λ c. expression_at room >>= λ n. expression_at room >>= λ a. give (set_register spot r c n a)) u (local_expression room u) (λ c u.
+    local_then (expression_at room) (λ n. expression_at room >>= λ a. give (set_register spot r c n a)) u (local_expression room u) (λ n u.
+    local_then (expression_at room) (λ a. give (set_register spot r c n a)) u (local_expression room u) (λ a u. local_give (set_register spot r c n a) u))))))
 
 begins_move_by : (room : ℕ) (k : Option TokenKind) (s : State) → IsHere s → suits choice.Arrow k ≡ true → Begins (move_by room k) s
 begins_move_by room (Some (kind.Sign sign.Into)) s here is =
@@ -77,156 +78,156 @@ local_move room s =
     (λ u is. begins_peek (move_by room) u (begins_move_by room (kind_of u.rest) u (here_admitted (choice.Arrow ∷ []) u is) (sym (admits_one choice.Arrow (kind_of u.rest)) ∙ is)))
     (λ u free. no_move_by room (kind_of u.rest) u (sym (admits_one choice.Arrow (kind_of u.rest)) ∙ free)) (local_give no_data)
 
-pub begins_single : (size : WordSize) (room line : ℕ) (s : State) → IsHere s → Begins (single_action size room line) s
+pub begins_single : (size : WordSize) (room : ℕ) (spot : Spot) (s : State) → IsHere s → Begins (single_action size room spot) s
 unfolding single_action
-begins_single size room line s here =
-    begins_then begin (λ _. function_number >>= λ f. used_register >>= λ r. move_at room >>= λ m. give (single line size f r m)) s (begins_begin s here) (λ _ u.
-    local_then function_number (λ f. used_register >>= λ r. move_at room >>= λ m. give (single line size f r m)) u (local_function u) (λ f u.
-    local_then used_register (λ r. move_at room >>= λ m. give (single line size f r m)) u (local_used_register u) (λ r u.
-    local_then (move_at room) (λ m. give (single line size f r m)) u (local_move room u) (λ m u. local_give (single line size f r m) u))))
+begins_single size room spot s here =
+    begins_then begin (λ _. function_number >>= λ f. used_register >>= λ r. move_at room >>= λ m. give (single spot size f r m)) s (begins_begin s here) (λ _ u.
+    local_then function_number (λ f. used_register >>= λ r. move_at room >>= λ m. give (single spot size f r m)) u (local_function u) (λ f u.
+    local_then used_register (λ r. move_at room >>= λ m. give (single spot size f r m)) u (local_used_register u) (λ r u.
+    local_then (move_at room) (λ m. give (single spot size f r m)) u (local_move room u) (λ m u. local_give (single spot size f r m) u))))
 
-pub begins_put : (room line : ℕ) (s : State) → IsHere s → Begins (put_action room line) s
+pub begins_put : (room : ℕ) (spot : Spot) (s : State) → IsHere s → Begins (put_action room spot) s
 unfolding put_action
-begins_put room line s here =
-    begins_then begin (λ _. expression_at room >>= λ value. give (put line value)) s (begins_begin s here) (λ _ u.
-    local_then (expression_at room) (λ value. give (put line value)) u (local_expression room u) (λ value v. local_give (put line value) v))
+begins_put room spot s here =
+    begins_then begin (λ _. expression_at room >>= λ value. give (put spot value)) s (begins_begin s here) (λ _ u.
+    local_then (expression_at room) (λ value. give (put spot value)) u (local_expression room u) (λ value v. local_give (put spot value) v))
 
 -- ---- all statements
 
 module _ (room : ℕ) (block : Reader (List Statement)) (block_is : (s : State) (y : List Statement × State) → block s ≡ Ok y → Body room s y.0 y.1) (block_local : (s : State) → IsLocal block s) where
-  begins_else_by : (line : ℕ) (c : Condition) (xs : List Statement) (k : Option TokenKind) (s : State) → IsHere s → suits (choice.Word word.Else) k ≡ true → Begins (else_by block line c xs k) s
-  begins_else_by line c xs (Some (kind.Keyword word.Else)) s here is =
-      begins_then advance (λ _. block >>= λ ys. give (choose_else line c (block_of xs) (block_of ys))) s (begins_advance s here) (λ _ u.
-      local_then block (λ ys. give (choose_else line c (block_of xs) (block_of ys))) u (block_local u) (λ ys v. local_give (choose_else line c (block_of xs) (block_of ys)) v))
-  begins_else_by line c xs _ s here is = absurd cc
+  begins_else_by : (spot : Spot) (c : Condition) (xs : List Statement) (k : Option TokenKind) (s : State) → IsHere s → suits (choice.Word word.Else) k ≡ true → Begins (else_by block spot c xs k) s
+  begins_else_by spot c xs (Some (kind.Keyword word.Else)) s here is =
+      begins_then advance (λ _. block >>= λ ys. give (choose_else spot c (block_of xs) (block_of ys))) s (begins_advance s here) (λ _ u.
+      local_then block (λ ys. give (choose_else spot c (block_of xs) (block_of ys))) u (block_local u) (λ ys v. local_give (choose_else spot c (block_of xs) (block_of ys)) v))
+  begins_else_by spot c xs _ s here is = absurd cc
 
-  no_else_by : (line : ℕ) (c : Condition) (xs : List Statement) (k : Option TokenKind) (s : State) → suits (choice.Word word.Else) k ≡ false → else_by block line c xs k s ≡ give (choose line c (block_of xs)) (missed_all (choice.Word word.Else ∷ []) s)
-  no_else_by line c xs (Some (kind.Keyword word.Else)) s free = absurd cc
-  no_else_by line c xs _ s free = refl
+  no_else_by : (spot : Spot) (c : Condition) (xs : List Statement) (k : Option TokenKind) (s : State) → suits (choice.Word word.Else) k ≡ false → else_by block spot c xs k s ≡ give (choose spot c (block_of xs)) (missed_all (choice.Word word.Else ∷ []) s)
+  no_else_by spot c xs (Some (kind.Keyword word.Else)) s free = absurd cc
+  no_else_by spot c xs _ s free = refl
 
-  local_else : (line : ℕ) (c : Condition) (xs : List Statement) (s : State) → IsLocal (peek >>= λ k. else_by block line c xs k) s
-  local_else line c xs s =
-      local_match (choice.Word word.Else ∷ []) (peek >>= λ k. else_by block line c xs k) (give (choose line c (block_of xs))) s
-      (λ u is. begins_peek (λ k. else_by block line c xs k) u (begins_else_by line c xs (kind_of u.rest) u (here_admitted (choice.Word word.Else ∷ []) u is) (sym (admits_one (choice.Word word.Else) (kind_of u.rest)) ∙ is)))
-      (λ u free. no_else_by line c xs (kind_of u.rest) u (sym (admits_one (choice.Word word.Else) (kind_of u.rest)) ∙ free)) (local_give (choose line c (block_of xs)))
+  local_else : (spot : Spot) (c : Condition) (xs : List Statement) (s : State) → IsLocal (peek >>= λ k. else_by block spot c xs k) s
+  local_else spot c xs s =
+      local_match (choice.Word word.Else ∷ []) (peek >>= λ k. else_by block spot c xs k) (give (choose spot c (block_of xs))) s
+      (λ u is. begins_peek (λ k. else_by block spot c xs k) u (begins_else_by spot c xs (kind_of u.rest) u (here_admitted (choice.Word word.Else ∷ []) u is) (sym (admits_one (choice.Word word.Else) (kind_of u.rest)) ∙ is)))
+      (λ u free. no_else_by spot c xs (kind_of u.rest) u (sym (admits_one (choice.Word word.Else) (kind_of u.rest)) ∙ free)) (local_give (choose spot c (block_of xs)))
 
-  pub begins_choice : (line : ℕ) (s : State) → IsHere s → Begins (if_statement room block line) s
+  pub begins_choice : (spot : Spot) (s : State) → IsHere s → Begins (if_statement room block spot) s
   unfolding if_statement
-  begins_choice line s here =
-      begins_then begin (λ _. condition_at room >>= λ c. block >>= λ xs. peek >>= λ k. else_by block line c xs k) s (begins_begin s here) (λ _ u.
-      local_then (condition_at room) (λ c. block >>= λ xs. peek >>= λ k. else_by block line c xs k) u (local_condition room u) (λ c u.
-      local_then block (λ xs. peek >>= λ k. else_by block line c xs k) u (block_local u) (λ xs v.
-      local_else line c xs v)))
+  begins_choice spot s here =
+      begins_then begin (λ _. condition_at room >>= λ c. block >>= λ xs. peek >>= λ k. else_by block spot c xs k) s (begins_begin s here) (λ _ u.
+      local_then (condition_at room) (λ c. block >>= λ xs. peek >>= λ k. else_by block spot c xs k) u (local_condition room u) (λ c u.
+      local_then block (λ xs. peek >>= λ k. else_by block spot c xs k) u (block_local u) (λ xs v.
+      local_else spot c xs v)))
 
-  local_for_ends : (line v : ℕ) (a b : Expression) (s : State) → IsLocal (for_ends block line v a b) s
-  local_for_ends line v a b s =
-      local_then (keeps_at (of_loop.Counter v)) (λ ks. block >>= λ xs. give (for_ line v a b ks (block_of xs))) s (local_keeps (of_loop.Counter v) s) (λ ks u.
-      local_then block (λ xs. give (for_ line v a b ks (block_of xs))) u (block_local u) (λ xs u. local_give (for_ line v a b ks (block_of xs)) u))
+  local_for_ends : (spot : Spot) (v : ℕ) (a b : Expression) (s : State) → IsLocal (for_ends block spot v a b) s
+  local_for_ends spot v a b s =
+      local_then (keeps_at (of_loop.Counter v)) (λ ks. block >>= λ xs. give (for_ spot v a b ks (block_of xs))) s (local_keeps (of_loop.Counter v) s) (λ ks u.
+      local_then block (λ xs. give (for_ spot v a b ks (block_of xs))) u (block_local u) (λ xs u. local_give (for_ spot v a b ks (block_of xs)) u))
 
-  begins_each : (line v a b : ℕ) (s : State) → IsHere s → Begins (each_ends block line v a b) s
-  begins_each line v a b s here =
-      begins_then advance (λ _. block >>= λ xs. give (for_each line v a b (block_of xs))) s (begins_advance s here) (λ _ u.
-      local_then block (λ xs. give (for_each line v a b (block_of xs))) u (block_local u) (λ xs u. local_give (for_each line v a b (block_of xs)) u))
+  begins_each : (spot : Spot) (v a b : ℕ) (s : State) → IsHere s → Begins (each_ends block spot v a b) s
+  begins_each spot v a b s here =
+      begins_then advance (λ _. block >>= λ xs. give (for_each spot v a b (block_of xs))) s (begins_advance s here) (λ _ u.
+      local_then block (λ xs. give (for_each spot v a b (block_of xs))) u (block_local u) (λ xs u. local_give (for_each spot v a b (block_of xs)) u))
 
-  local_ends : (line v : ℕ) (a b : Expression) (o p : Option ℕ) (s : State) → IsLocal (ends_by block line v a b o p) s
-  local_ends line v a b (Some n) (Some m) s =
-      local_test choice.Each is_each (λ at. refl) (each_ends block line v n m) (for_ends block line v a b) s
-      (λ u is. begins_each line v n m u (here_admitted (choice.Each ∷ []) u (admits_one choice.Each (kind_of u.rest) ∙ is))) (λ u. local_for_ends line v a b u)
-  local_ends line v a b _ _ s = local_for_ends line v a b s
+  local_ends : (spot : Spot) (v : ℕ) (a b : Expression) (o p : Option ℕ) (s : State) → IsLocal (ends_by block spot v a b o p) s
+  local_ends spot v a b (Some n) (Some m) s =
+      local_test choice.Each is_each (λ at. refl) (each_ends block spot v n m) (for_ends block spot v a b) s
+      (λ u is. begins_each spot v n m u (here_admitted (choice.Each ∷ []) u (admits_one choice.Each (kind_of u.rest) ∙ is))) (λ u. local_for_ends spot v a b u)
+  local_ends spot v a b _ _ s = local_for_ends spot v a b s
 
-  pub begins_for_statement : (line : ℕ) (s : State) → IsHere s → Begins (for_statement room block line) s
+  pub begins_for_statement : (spot : Spot) (s : State) → IsHere s → Begins (for_statement room block spot) s
   unfolding for_statement
-  begins_for_statement line s here =
-      begins_then begin (λ _. used_variable >>= λ v. expect_sign sign.Equals >> (expression_at room >>= λ a. expect word.To >> (expression_at room >>= λ b. ends_by block line v a b (single_number a) (single_number b)))) s (begins_begin s here) (λ _ u.
-      local_then used_variable (λ v. expect_sign sign.Equals >> (expression_at room >>= λ a. expect word.To >> (expression_at room >>= λ b. ends_by block line v a b (single_number a) (single_number b)))) u (local_used_variable u) (λ v u.
-      local_then (expect_sign sign.Equals) (λ _. expression_at room >>= λ a. expect word.To >> (expression_at room >>= λ b. ends_by block line v a b (single_number a) (single_number b))) u (local_expect_sign sign.Equals u) (λ _ u.
-      local_then (expression_at room) (λ a. expect word.To >> (expression_at room >>= λ b. ends_by block line v a b (single_number a) (single_number b))) u (local_expression room u) (λ a u.
-      local_then (expect word.To) (λ _. expression_at room >>= λ b. ends_by block line v a b (single_number a) (single_number b)) u (local_expect word.To u) (λ _ u.
-      local_then (expression_at room) (λ b. ends_by block line v a b (single_number a) (single_number b)) u (local_expression room u) (λ b u.
-      local_ends line v a b (single_number a) (single_number b) u))))))
+  begins_for_statement spot s here =
+      begins_then begin (λ _. used_variable >>= λ v. expect_sign sign.Equals >> (expression_at room >>= λ a. expect word.To >> (expression_at room >>= λ b. ends_by block spot v a b (single_number a) (single_number b)))) s (begins_begin s here) (λ _ u.
+      local_then used_variable (λ v. expect_sign sign.Equals >> (expression_at room >>= λ a. expect word.To >> (expression_at room >>= λ b. ends_by block spot v a b (single_number a) (single_number b)))) u (local_used_variable u) (λ v u.
+      local_then (expect_sign sign.Equals) (λ _. expression_at room >>= λ a. expect word.To >> (expression_at room >>= λ b. ends_by block spot v a b (single_number a) (single_number b))) u (local_expect_sign sign.Equals u) (λ _ u.
+      local_then (expression_at room) (λ a. expect word.To >> (expression_at room >>= λ b. ends_by block spot v a b (single_number a) (single_number b))) u (local_expression room u) (λ a u.
+      local_then (expect word.To) (λ _. expression_at room >>= λ b. ends_by block spot v a b (single_number a) (single_number b)) u (local_expect word.To u) (λ _ u.
+      local_then (expression_at room) (λ b. ends_by block spot v a b (single_number a) (single_number b)) u (local_expression room u) (λ b u.
+      local_ends spot v a b (single_number a) (single_number b) u))))))
 
-  pub begins_while_statement : (line : ℕ) (s : State) → IsHere s → Begins (while_statement room block line) s
+  pub begins_while_statement : (spot : Spot) (s : State) → IsHere s → Begins (while_statement room block spot) s
   unfolding while_statement
-  begins_while_statement line s here =
-      begins_then begin (λ _. condition_at room >>= λ c. expect word.Turns >> (any_number >>= λ n. expect word.By >> (used_variable >>= λ v. keeps_at (of_loop.Measure v) >>= λ ks. block >>= λ xs. give (while_ line c n v ks (block_of xs))))) s (begins_begin s here) (λ _ u.
-      local_then (condition_at room) (λ c. expect word.Turns >> (any_number >>= λ n. expect word.By >> (used_variable >>= λ v. keeps_at (of_loop.Measure v) >>= λ ks. block >>= λ xs. give (while_ line c n v ks (block_of xs))))) u (local_condition room u) (λ c u.
-      local_then (expect word.Turns) (λ _. any_number >>= λ n. expect word.By >> (used_variable >>= λ v. keeps_at (of_loop.Measure v) >>= λ ks. block >>= λ xs. give (while_ line c n v ks (block_of xs)))) u (local_expect word.Turns u) (λ _ u.
-      local_then any_number (λ n. expect word.By >> (used_variable >>= λ v. keeps_at (of_loop.Measure v) >>= λ ks. block >>= λ xs. give (while_ line c n v ks (block_of xs)))) u (local_any_number u) (λ n u.
-      local_then (expect word.By) (λ _. used_variable >>= λ v. keeps_at (of_loop.Measure v) >>= λ ks. block >>= λ xs. give (while_ line c n v ks (block_of xs))) u (local_expect word.By u) (λ _ u.
-      local_then used_variable (λ v. keeps_at (of_loop.Measure v) >>= λ ks. block >>= λ xs. give (while_ line c n v ks (block_of xs))) u (local_used_variable u) (λ v u.
-      local_then (keeps_at (of_loop.Measure v)) (λ ks. block >>= λ xs. give (while_ line c n v ks (block_of xs))) u (local_keeps (of_loop.Measure v) u) (λ ks u.
-      local_then block (λ xs. give (while_ line c n v ks (block_of xs))) u (block_local u) (λ xs u. local_give (while_ line c n v ks (block_of xs)) u))))))))
+  begins_while_statement spot s here =
+      begins_then begin (λ _. condition_at room >>= λ c. expect word.Turns >> (any_number >>= λ n. expect word.By >> (used_variable >>= λ v. keeps_at (of_loop.Measure v) >>= λ ks. block >>= λ xs. give (while_ spot c n v ks (block_of xs))))) s (begins_begin s here) (λ _ u.
+      local_then (condition_at room) (λ c. expect word.Turns >> (any_number >>= λ n. expect word.By >> (used_variable >>= λ v. keeps_at (of_loop.Measure v) >>= λ ks. block >>= λ xs. give (while_ spot c n v ks (block_of xs))))) u (local_condition room u) (λ c u.
+      local_then (expect word.Turns) (λ _. any_number >>= λ n. expect word.By >> (used_variable >>= λ v. keeps_at (of_loop.Measure v) >>= λ ks. block >>= λ xs. give (while_ spot c n v ks (block_of xs)))) u (local_expect word.Turns u) (λ _ u.
+      local_then any_number (λ n. expect word.By >> (used_variable >>= λ v. keeps_at (of_loop.Measure v) >>= λ ks. block >>= λ xs. give (while_ spot c n v ks (block_of xs)))) u (local_any_number u) (λ n u.
+      local_then (expect word.By) (λ _. used_variable >>= λ v. keeps_at (of_loop.Measure v) >>= λ ks. block >>= λ xs. give (while_ spot c n v ks (block_of xs))) u (local_expect word.By u) (λ _ u.
+      local_then used_variable (λ v. keeps_at (of_loop.Measure v) >>= λ ks. block >>= λ xs. give (while_ spot c n v ks (block_of xs))) u (local_used_variable u) (λ v u.
+      local_then (keeps_at (of_loop.Measure v)) (λ ks. block >>= λ xs. give (while_ spot c n v ks (block_of xs))) u (local_keeps (of_loop.Measure v) u) (λ ks u.
+      local_then block (λ xs. give (while_ spot c n v ks (block_of xs))) u (block_local u) (λ xs u. local_give (while_ spot c n v ks (block_of xs)) u))))))))
 
-  begins_locking : (line : ℕ) (s : State) → IsHere s → Begins (lock_statement room block line) s
+  begins_locking : (spot : Spot) (s : State) → IsHere s → Begins (lock_statement room block spot) s
   unfolding lock_statement
-  begins_locking line s here =
-      begins_ask (λ w. w.in_procedure) (λ w ts n. refl) (λ b. check (not b) told.LockInProcedure >> (begin >> (expression_at room >>= λ e. block >>= λ xs. give (locked line e (block_of xs))))) s
-      (begins_check (not s.in_procedure) told.LockInProcedure (begin >> (expression_at room >>= λ e. block >>= λ xs. give (locked line e (block_of xs)))) s refl tt (λ _.
-      begins_then begin (λ _. expression_at room >>= λ e. block >>= λ xs. give (locked line e (block_of xs))) s (begins_begin s here) (λ _ u.
-      local_then (expression_at room) (λ e. block >>= λ xs. give (locked line e (block_of xs))) u (local_expression room u) (λ e u.
-      local_then block (λ xs. give (locked line e (block_of xs))) u (block_local u) (λ xs u. local_give (locked line e (block_of xs)) u)))))
+  begins_locking spot s here =
+      begins_ask (λ w. w.in_procedure) (λ w ts n. refl) (λ b. check (not b) told.LockInProcedure >> (begin >> (expression_at room >>= λ e. block >>= λ xs. give (locked spot e (block_of xs))))) s
+      (begins_check (not s.in_procedure) told.LockInProcedure (begin >> (expression_at room >>= λ e. block >>= λ xs. give (locked spot e (block_of xs)))) s refl tt (λ _.
+      begins_then begin (λ _. expression_at room >>= λ e. block >>= λ xs. give (locked spot e (block_of xs))) s (begins_begin s here) (λ _ u.
+      local_then (expression_at room) (λ e. block >>= λ xs. give (locked spot e (block_of xs))) u (local_expression room u) (λ e u.
+      local_then block (λ xs. give (locked spot e (block_of xs))) u (block_local u) (λ xs u. local_give (locked spot e (block_of xs)) u)))))
 
-  begins_statement_by : (line : ℕ) (k : Option TokenKind) (s : State) → IsHere s → kind_of s.rest ≡ k → admits statements k ≡ true → Begins (statement_by room block line k) s
-  begins_statement_by line (Some (kind.Name x)) s here at is = begins_missed (choice.Statement ∷ []) (assignment room line) s (begins_assignment room line (missed_all (choice.Statement ∷ []) s) x at)
-  begins_statement_by line (Some (kind.Keyword word.Cdreg)) s here at is = begins_setting room line s here
-  begins_statement_by line (Some (kind.Keyword word.Cfsa)) s here at is = begins_single Full room line s here
-  begins_statement_by line (Some (kind.Keyword word.Cssa)) s here at is = begins_single Short room line s here
-  begins_statement_by line (Some (kind.Keyword word.Put)) s here at is = begins_put room line s here
-  begins_statement_by line (Some (kind.Keyword word.If)) s here at is = begins_choice line s here
-  begins_statement_by line (Some (kind.Keyword word.For)) s here at is = begins_for_statement line s here
-  begins_statement_by line (Some (kind.Keyword word.While)) s here at is = begins_while_statement line s here
-  begins_statement_by line (Some (kind.Keyword word.Lock)) s here at is = begins_locking line s here
-  begins_statement_by line (Some (kind.Keyword word.Cfmad)) s here at is = begins_scan room line s here
-  begins_statement_by line (Some (kind.Keyword word.Cfubc)) s here at is = begins_stop room line s here
-  begins_statement_by line (Some (kind.Keyword word.Cfubr)) s here at is = begins_repeat room line s here
-  begins_statement_by line (Some (kind.Keyword word.Call)) s here at is = begins_call room line s here
-  begins_statement_by line (Some (kind.Keyword word.Cccz)) s here at is = begins_crate crate_word.Initialise room line s here
-  begins_statement_by line (Some (kind.Keyword word.Cccc)) s here at is = begins_crate crate_word.Clear room line s here
-  begins_statement_by line (Some (kind.Keyword word.Ctci)) s here at is = begins_crate crate_word.TestInhibit room line s here
-  begins_statement_by line (Some (kind.Keyword word.Ctcd)) s here at is = begins_crate crate_word.TestDemandOutput room line s here
-  begins_statement_by line (Some (kind.Keyword word.Ctgl)) s here at is = begins_crate crate_word.TestDemand room line s here
-  begins_statement_by line (Some (kind.Keyword word.Ccci)) s here at is = begins_crate_switch crate_word.InhibitOn crate_word.InhibitOff room line s here
-  begins_statement_by line (Some (kind.Keyword word.Cccd)) s here at is = begins_crate_switch crate_word.DemandOn crate_word.DemandOff room line s here
-  begins_statement_by line (Some (kind.Keyword word.Cclm)) s here at is = begins_lam_switch line s here
-  begins_statement_by line (Some (kind.Keyword word.Cclc)) s here at is = begins_lam_action lam_word.Clear line s here
-  begins_statement_by line (Some (kind.Keyword word.Ctlm)) s here at is = begins_lam_action lam_word.Test line s here
-  begins_statement_by line _ s here at is = absurd cc
+  begins_statement_by : (spot : Spot) (k : Option TokenKind) (s : State) → IsHere s → kind_of s.rest ≡ k → admits statements k ≡ true → Begins (statement_by room block spot k) s
+  begins_statement_by spot (Some (kind.Name x)) s here at is = begins_missed (choice.Statement ∷ []) (assignment room spot) s (begins_assignment room spot (missed_all (choice.Statement ∷ []) s) x at)
+  begins_statement_by spot (Some (kind.Keyword word.Cdreg)) s here at is = begins_setting room spot s here
+  begins_statement_by spot (Some (kind.Keyword word.Cfsa)) s here at is = begins_single Full room spot s here
+  begins_statement_by spot (Some (kind.Keyword word.Cssa)) s here at is = begins_single Short room spot s here
+  begins_statement_by spot (Some (kind.Keyword word.Put)) s here at is = begins_put room spot s here
+  begins_statement_by spot (Some (kind.Keyword word.If)) s here at is = begins_choice spot s here
+  begins_statement_by spot (Some (kind.Keyword word.For)) s here at is = begins_for_statement spot s here
+  begins_statement_by spot (Some (kind.Keyword word.While)) s here at is = begins_while_statement spot s here
+  begins_statement_by spot (Some (kind.Keyword word.Lock)) s here at is = begins_locking spot s here
+  begins_statement_by spot (Some (kind.Keyword word.Cfmad)) s here at is = begins_scan room spot s here
+  begins_statement_by spot (Some (kind.Keyword word.Cfubc)) s here at is = begins_stop room spot s here
+  begins_statement_by spot (Some (kind.Keyword word.Cfubr)) s here at is = begins_repeat room spot s here
+  begins_statement_by spot (Some (kind.Keyword word.Call)) s here at is = begins_call room spot s here
+  begins_statement_by spot (Some (kind.Keyword word.Cccz)) s here at is = begins_crate crate_word.Initialise room spot s here
+  begins_statement_by spot (Some (kind.Keyword word.Cccc)) s here at is = begins_crate crate_word.Clear room spot s here
+  begins_statement_by spot (Some (kind.Keyword word.Ctci)) s here at is = begins_crate crate_word.TestInhibit room spot s here
+  begins_statement_by spot (Some (kind.Keyword word.Ctcd)) s here at is = begins_crate crate_word.TestDemandOutput room spot s here
+  begins_statement_by spot (Some (kind.Keyword word.Ctgl)) s here at is = begins_crate crate_word.TestDemand room spot s here
+  begins_statement_by spot (Some (kind.Keyword word.Ccci)) s here at is = begins_crate_switch crate_word.InhibitOn crate_word.InhibitOff room spot s here
+  begins_statement_by spot (Some (kind.Keyword word.Cccd)) s here at is = begins_crate_switch crate_word.DemandOn crate_word.DemandOff room spot s here
+  begins_statement_by spot (Some (kind.Keyword word.Cclm)) s here at is = begins_lam_switch spot s here
+  begins_statement_by spot (Some (kind.Keyword word.Cclc)) s here at is = begins_lam_action lam_word.Clear spot s here
+  begins_statement_by spot (Some (kind.Keyword word.Ctlm)) s here at is = begins_lam_action lam_word.Test spot s here
+  begins_statement_by spot _ s here at is = absurd cc
 
-  no_statement_by : (line : ℕ) (k : Option TokenKind) (s : State) → admits statements k ≡ false → statement_by room block line k s ≡ (let f : Reader Statement = refusal statements None in f s)
-  no_statement_by line (Some (kind.Name x)) s free = absurd cc
-  no_statement_by line (Some (kind.Keyword word.Cdreg)) s free = absurd cc
-  no_statement_by line (Some (kind.Keyword word.Cfsa)) s free = absurd cc
-  no_statement_by line (Some (kind.Keyword word.Cssa)) s free = absurd cc
-  no_statement_by line (Some (kind.Keyword word.Put)) s free = absurd cc
-  no_statement_by line (Some (kind.Keyword word.If)) s free = absurd cc
-  no_statement_by line (Some (kind.Keyword word.For)) s free = absurd cc
-  no_statement_by line (Some (kind.Keyword word.While)) s free = absurd cc
-  no_statement_by line (Some (kind.Keyword word.Lock)) s free = absurd cc
-  no_statement_by line (Some (kind.Keyword word.Cfmad)) s free = absurd cc
-  no_statement_by line (Some (kind.Keyword word.Cfubc)) s free = absurd cc
-  no_statement_by line (Some (kind.Keyword word.Cfubr)) s free = absurd cc
-  no_statement_by line (Some (kind.Keyword word.Call)) s free = absurd cc
-  no_statement_by line (Some (kind.Keyword word.Cccz)) s free = absurd cc
-  no_statement_by line (Some (kind.Keyword word.Cccc)) s free = absurd cc
-  no_statement_by line (Some (kind.Keyword word.Ctci)) s free = absurd cc
-  no_statement_by line (Some (kind.Keyword word.Ctcd)) s free = absurd cc
-  no_statement_by line (Some (kind.Keyword word.Ctgl)) s free = absurd cc
-  no_statement_by line (Some (kind.Keyword word.Ccci)) s free = absurd cc
-  no_statement_by line (Some (kind.Keyword word.Cccd)) s free = absurd cc
-  no_statement_by line (Some (kind.Keyword word.Cclm)) s free = absurd cc
-  no_statement_by line (Some (kind.Keyword word.Cclc)) s free = absurd cc
-  no_statement_by line (Some (kind.Keyword word.Ctlm)) s free = absurd cc
-  no_statement_by line _ s free = refl
+  no_statement_by : (spot : Spot) (k : Option TokenKind) (s : State) → admits statements k ≡ false → statement_by room block spot k s ≡ (let f : Reader Statement = refusal statements None in f s)
+  no_statement_by spot (Some (kind.Name x)) s free = absurd cc
+  no_statement_by spot (Some (kind.Keyword word.Cdreg)) s free = absurd cc
+  no_statement_by spot (Some (kind.Keyword word.Cfsa)) s free = absurd cc
+  no_statement_by spot (Some (kind.Keyword word.Cssa)) s free = absurd cc
+  no_statement_by spot (Some (kind.Keyword word.Put)) s free = absurd cc
+  no_statement_by spot (Some (kind.Keyword word.If)) s free = absurd cc
+  no_statement_by spot (Some (kind.Keyword word.For)) s free = absurd cc
+  no_statement_by spot (Some (kind.Keyword word.While)) s free = absurd cc
+  no_statement_by spot (Some (kind.Keyword word.Lock)) s free = absurd cc
+  no_statement_by spot (Some (kind.Keyword word.Cfmad)) s free = absurd cc
+  no_statement_by spot (Some (kind.Keyword word.Cfubc)) s free = absurd cc
+  no_statement_by spot (Some (kind.Keyword word.Cfubr)) s free = absurd cc
+  no_statement_by spot (Some (kind.Keyword word.Call)) s free = absurd cc
+  no_statement_by spot (Some (kind.Keyword word.Cccz)) s free = absurd cc
+  no_statement_by spot (Some (kind.Keyword word.Cccc)) s free = absurd cc
+  no_statement_by spot (Some (kind.Keyword word.Ctci)) s free = absurd cc
+  no_statement_by spot (Some (kind.Keyword word.Ctcd)) s free = absurd cc
+  no_statement_by spot (Some (kind.Keyword word.Ctgl)) s free = absurd cc
+  no_statement_by spot (Some (kind.Keyword word.Ccci)) s free = absurd cc
+  no_statement_by spot (Some (kind.Keyword word.Cccd)) s free = absurd cc
+  no_statement_by spot (Some (kind.Keyword word.Cclm)) s free = absurd cc
+  no_statement_by spot (Some (kind.Keyword word.Cclc)) s free = absurd cc
+  no_statement_by spot (Some (kind.Keyword word.Ctlm)) s free = absurd cc
+  no_statement_by spot _ s free = refl
 
   -- a statement, where it was looked for the end of the block
   abbrev statement_here : Reader Statement
-  statement_here = line_here >>= λ line. peek >>= λ k. statement_by room block line k
+  statement_here = spot_here >>= λ spot. peek >>= λ k. statement_by room block spot k
 
   local_statement : (s : State) → IsLocal statement_here s
   local_statement s =
       local_wanting statements statement_here s
-      (λ u is. begins_line (λ line. peek >>= λ k. statement_by room block line k) u (begins_peek (λ k. statement_by room block (line_of u.rest u.end_line) k) u (begins_statement_by (line_of u.rest u.end_line) (kind_of u.rest) u (here_admitted statements u is) refl is)))
-      (λ u free. no_statement_by (line_of u.rest u.end_line) (kind_of u.rest) u free)
+      (λ u is. begins_spot (λ spot. peek >>= λ k. statement_by room block spot k) u (begins_peek (λ k. statement_by room block (spot_of u.rest u.end_line) k) u (begins_statement_by (spot_of u.rest u.end_line) (kind_of u.rest) u (here_admitted statements u is) refl is)))
+      (λ u free. no_statement_by (spot_of u.rest u.end_line) (kind_of u.rest) u free)
 
   local_statements : (s : State) → IsLocal (many is_no_end (statement_with room block) >>= λ body. expect_sign sign.RightBrace >> give body) s
   unfolding many statement_with

@@ -17,6 +17,7 @@ use Rattle.camac_text_cursor.proofs.Primitives.{local_give, begins_advance, here
 use Rattle.camac_text_cursor.proofs.Local.{begins_begin, local_expect, local_function, local_used_register, local_used_variable, local_used_table, local_procedure_here, begins_called}
 use Rattle.camac_text_phrases.proofs.LocalExpressions.{local_expression}
 use Rattle.camac_text_phrases.proofs.LocalArguments.{local_arguments}
+use Rattle.camac_lang.specs.declared.spot.Spot.{Spot}
 
 local_bound : (w : Keyword) (room : ℕ) (s : State) → IsLocal (last_bound w room) s
 unfolding last_bound
@@ -45,41 +46,41 @@ local_table s =
 
 -- ---- transfers
 
-pub begins_scan : (room line : ℕ) (s : State) → IsHere s → Begins (scan_statement room line) s
+pub begins_scan : (room : ℕ) (spot : Spot) (s : State) → IsHere s → Begins (scan_statement room spot) s
 unfolding scan_statement
-begins_scan room line s here =
-    begins_then begin (λ _. function_number >>= λ f. used_register >>= λ r. used_register >>= λ q. last_bound word.Max room >>= λ end. give (address_scan line f r q end.0 end.1)) s (begins_begin s here) (λ _ u.
-    local_then function_number (λ f. used_register >>= λ r. used_register >>= λ q. last_bound word.Max room >>= λ end. give (address_scan line f r q end.0 end.1)) u (local_function u) (λ f u.
-    local_then used_register (λ r. used_register >>= λ q. last_bound word.Max room >>= λ end. give (address_scan line f r q end.0 end.1)) u (local_used_register u) (λ r u.
-    local_then used_register (λ q. last_bound word.Max room >>= λ end. give (address_scan line f r q end.0 end.1)) u (local_used_register u) (λ q u.
-    local_then (last_bound word.Max room) (λ end. give (address_scan line f r q end.0 end.1)) u (local_bound word.Max room u) (λ end u. local_give (address_scan line f r q end.0 end.1) u)))))
+begins_scan room spot s here =
+    begins_then begin (λ _. function_number >>= λ f. used_register >>= λ r. used_register >>= λ q. last_bound word.Max room >>= λ end. give (address_scan spot f r q end.0 end.1)) s (begins_begin s here) (λ _ u.
+    local_then function_number (λ f. used_register >>= λ r. used_register >>= λ q. last_bound word.Max room >>= λ end. give (address_scan spot f r q end.0 end.1)) u (local_function u) (λ f u.
+    local_then used_register (λ r. used_register >>= λ q. last_bound word.Max room >>= λ end. give (address_scan spot f r q end.0 end.1)) u (local_used_register u) (λ r u.
+    local_then used_register (λ q. last_bound word.Max room >>= λ end. give (address_scan spot f r q end.0 end.1)) u (local_used_register u) (λ q u.
+    local_then (last_bound word.Max room) (λ end. give (address_scan spot f r q end.0 end.1)) u (local_bound word.Max room u) (λ end u. local_give (address_scan spot f r q end.0 end.1) u)))))
 
-pub begins_stop : (room line : ℕ) (s : State) → IsHere s → Begins (q_stop_statement room line) s
+pub begins_stop : (room : ℕ) (spot : Spot) (s : State) → IsHere s → Begins (q_stop_statement room spot) s
 unfolding q_stop_statement
-begins_stop room line s here =
-    begins_then begin (λ _. function_number >>= λ f. used_register >>= λ r. table_at >>= λ g. last_bound word.Max room >>= λ end. give (q_stop line f r g end.0 end.1)) s (begins_begin s here) (λ _ u.
-    local_then function_number (λ f. used_register >>= λ r. table_at >>= λ g. last_bound word.Max room >>= λ end. give (q_stop line f r g end.0 end.1)) u (local_function u) (λ f u.
-    local_then used_register (λ r. table_at >>= λ g. last_bound word.Max room >>= λ end. give (q_stop line f r g end.0 end.1)) u (local_used_register u) (λ r u.
-    local_then table_at (λ g. last_bound word.Max room >>= λ end. give (q_stop line f r g end.0 end.1)) u (local_table u) (λ g u.
-    local_then (last_bound word.Max room) (λ end. give (q_stop line f r g end.0 end.1)) u (local_bound word.Max room u) (λ end u. local_give (q_stop line f r g end.0 end.1) u)))))
+begins_stop room spot s here =
+    begins_then begin (λ _. function_number >>= λ f. used_register >>= λ r. table_at >>= λ g. last_bound word.Max room >>= λ end. give (q_stop spot f r g end.0 end.1)) s (begins_begin s here) (λ _ u.
+    local_then function_number (λ f. used_register >>= λ r. table_at >>= λ g. last_bound word.Max room >>= λ end. give (q_stop spot f r g end.0 end.1)) u (local_function u) (λ f u.
+    local_then used_register (λ r. table_at >>= λ g. last_bound word.Max room >>= λ end. give (q_stop spot f r g end.0 end.1)) u (local_used_register u) (λ r u.
+    local_then table_at (λ g. last_bound word.Max room >>= λ end. give (q_stop spot f r g end.0 end.1)) u (local_table u) (λ g u.
+    local_then (last_bound word.Max room) (λ end. give (q_stop spot f r g end.0 end.1)) u (local_bound word.Max room u) (λ end u. local_give (q_stop spot f r g end.0 end.1) u)))))
 
-pub begins_repeat : (room line : ℕ) (s : State) → IsHere s → Begins (q_repeat_statement room line) s
+pub begins_repeat : (room : ℕ) (spot : Spot) (s : State) → IsHere s → Begins (q_repeat_statement room spot) s
 unfolding q_repeat_statement
-begins_repeat room line s here =
-    begins_then begin (λ _. function_number >>= λ f. used_register >>= λ r. table_at >>= λ g. expect word.Max >> (expression_at room >>= λ m. last_bound word.Limit room >>= λ end. give (q_repeat line f r g m end.0 end.1))) s (begins_begin s here) (λ _ u.
-    local_then function_number (λ f. used_register >>= λ r. table_at >>= λ g. expect word.Max >> (expression_at room >>= λ m. last_bound word.Limit room >>= λ end. give (q_repeat line f r g m end.0 end.1))) u (local_function u) (λ f u.
-    local_then used_register (λ r. table_at >>= λ g. expect word.Max >> (expression_at room >>= λ m. last_bound word.Limit room >>= λ end. give (q_repeat line f r g m end.0 end.1))) u (local_used_register u) (λ r u.
-    local_then table_at (λ g. expect word.Max >> (expression_at room >>= λ m. last_bound word.Limit room >>= λ end. give (q_repeat line f r g m end.0 end.1))) u (local_table u) (λ g u.
-    local_then (expect word.Max) (λ _. expression_at room >>= λ m. last_bound word.Limit room >>= λ end. give (q_repeat line f r g m end.0 end.1)) u (local_expect word.Max u) (λ _ u.
-    local_then (expression_at room) (λ m. last_bound word.Limit room >>= λ end. give (q_repeat line f r g m end.0 end.1)) u (local_expression room u) (λ m u.
-    local_then (last_bound word.Limit room) (λ end. give (q_repeat line f r g m end.0 end.1)) u (local_bound word.Limit room u) (λ end u. local_give (q_repeat line f r g m end.0 end.1) u)))))))
+begins_repeat room spot s here =
+    begins_then begin (λ _. function_number >>= λ f. used_register >>= λ r. table_at >>= λ g. expect word.Max >> (expression_at room >>= λ m. last_bound word.Limit room >>= λ end. give (q_repeat spot f r g m end.0 end.1))) s (begins_begin s here) (λ _ u.
+    local_then function_number (λ f. used_register >>= λ r. table_at >>= λ g. expect word.Max >> (expression_at room >>= λ m. last_bound word.Limit room >>= λ end. give (q_repeat spot f r g m end.0 end.1))) u (local_function u) (λ f u.
+    local_then used_register (λ r. table_at >>= λ g. expect word.Max >> (expression_at room >>= λ m. last_bound word.Limit room >>= λ end. give (q_repeat spot f r g m end.0 end.1))) u (local_used_register u) (λ r u.
+    local_then table_at (λ g. expect word.Max >> (expression_at room >>= λ m. last_bound word.Limit room >>= λ end. give (q_repeat spot f r g m end.0 end.1))) u (local_table u) (λ g u.
+    local_then (expect word.Max) (λ _. expression_at room >>= λ m. last_bound word.Limit room >>= λ end. give (q_repeat spot f r g m end.0 end.1)) u (local_expect word.Max u) (λ _ u.
+    local_then (expression_at room) (λ m. last_bound word.Limit room >>= λ end. give (q_repeat spot f r g m end.0 end.1)) u (local_expression room u) (λ m u.
+    local_then (last_bound word.Limit room) (λ end. give (q_repeat spot f r g m end.0 end.1)) u (local_bound word.Limit room u) (λ end u. local_give (q_repeat spot f r g m end.0 end.1) u)))))))
 
 -- ---- calls
 
-pub begins_call : (room line : ℕ) (s : State) → IsHere s → Begins (call_statement room line) s
+pub begins_call : (room : ℕ) (spot : Spot) (s : State) → IsHere s → Begins (call_statement room spot) s
 unfolding call_statement
-begins_call room line s here =
-    begins_then begin (λ _. procedure_here >>= λ p. called room p >>= λ n. arguments_at room n >>= λ es. give (call line p es)) s (begins_begin s here) (λ _ u.
-    local_procedure_here (λ p. called room p >>= λ n. arguments_at room n >>= λ es. give (call line p es)) u (λ p x v at.
-    begins_then (called room p) (λ n. arguments_at room n >>= λ es. give (call line p es)) v (begins_called room p x v at) (λ n w.
-    local_then (arguments_at room n) (λ es. give (call line p es)) w (local_arguments room n w) (λ es z. local_give (call line p es) z))))
+begins_call room spot s here =
+    begins_then begin (λ _. procedure_here >>= λ p. called room p >>= λ n. arguments_at room n >>= λ es. give (call spot p es)) s (begins_begin s here) (λ _ u.
+    local_procedure_here (λ p. called room p >>= λ n. arguments_at room n >>= λ es. give (call spot p es)) u (λ p x v at.
+    begins_then (called room p) (λ n. arguments_at room n >>= λ es. give (call spot p es)) v (begins_called room p x v at) (λ n w.
+    local_then (arguments_at room n) (λ es. give (call spot p es)) w (local_arguments room n w) (λ es z. local_give (call spot p es) z))))

@@ -26,6 +26,7 @@ use Rattle.camac_text_phrases.proofs.BracketsRead.{expression_ok}
 use Rattle.camac_text_phrases.proofs.ArgumentsRead.{arguments_ok}
 use Rattle.camac_text_statements.proofs.Acts.{begun, begin_ok, Acts, acts}
 use Rattle.camac_text_statements.proofs.CallsRead.{crate_call_is}
+use Rattle.camac_lang.specs.declared.spot.Spot.{Spot}
 
 -- ---- what is after some tokens, seen from before them
 
@@ -94,26 +95,26 @@ table_before s t g m fits = subst (λ (c : Scope). table_fits c g ≡ true) (sam
 
 -- ---- transfers
 
-scan_is : (room : ℕ) (s : State) (k : TokenKind) (line : ℕ) (y : Statement × State) → kind_of s.rest ≡ Some k → scan_statement room line s ≡ Ok y → Acts room s y.0 y.1
+scan_is : (room : ℕ) (s : State) (k : TokenKind) (spot : Spot) (y : Statement × State) → kind_of s.rest ≡ Some k → scan_statement room spot s ≡ Ok y → Acts room s y.0 y.1
 unfolding scan_statement
-scan_is room s k line y next e =
-    let rest : Reader Statement = function_number >>= λ f. used_register >>= λ r. used_register >>= λ q. last_bound word.Max room >>= λ end. give (address_scan line f r q end.0 end.1) in
+scan_is room s k spot y next e =
+    let rest : Reader Statement = function_number >>= λ f. used_register >>= λ r. used_register >>= λ q. last_bound word.Max room >>= λ end. give (address_scan spot f r q end.0 end.1) in
     let z = then_ok (begin s) (λ _. rest) y e in
     let begins = begin_ok s z.0 z.1 in
     let b : State = begun s in
     let at : rest b ≡ Ok y = subst (λ (u : State). rest u ≡ Ok y) begins.1 z.2 in
-    let a1 = then_ok (function_number b) (λ f. used_register >>= λ r. used_register >>= λ q. last_bound word.Max room >>= λ end. give (address_scan line f r q end.0 end.1)) y at in
+    let a1 = then_ok (function_number b) (λ f. used_register >>= λ r. used_register >>= λ q. last_bound word.Max room >>= λ end. give (address_scan spot f r q end.0 end.1)) y at in
     let f = function_ok b a1.0 a1.1 in
     let to_1 : Moves b a1.0.1 = one_moves b (kind.Number a1.0.0) a1.0.1 f.one in
-    let a2 = then_ok (used_register a1.0.1) (λ r. used_register >>= λ q. last_bound word.Max room >>= λ end. give (address_scan line a1.0.0 r q end.0 end.1)) y a1.2 in
+    let a2 = then_ok (used_register a1.0.1) (λ r. used_register >>= λ q. last_bound word.Max room >>= λ end. give (address_scan spot a1.0.0 r q end.0 end.1)) y a1.2 in
     let first = used_register_ok a1.0.1 a2.0 a2.1 in
     let to_2 : Moves b a2.0.1 = then_moves b a1.0.1 a2.0.1 to_1 first.1 in
-    let a3 = then_ok (used_register a2.0.1) (λ q. last_bound word.Max room >>= λ end. give (address_scan line a1.0.0 a2.0.0 q end.0 end.1)) y a2.2 in
+    let a3 = then_ok (used_register a2.0.1) (λ q. last_bound word.Max room >>= λ end. give (address_scan spot a1.0.0 a2.0.0 q end.0 end.1)) y a2.2 in
     let last = used_register_ok a2.0.1 a3.0 a3.1 in
     let to_3 : Moves b a3.0.1 = then_moves b a2.0.1 a3.0.1 to_2 last.1 in
-    let a4 = then_ok (last_bound word.Max room a3.0.1) (λ end. give (address_scan line a1.0.0 a2.0.0 a3.0.0 end.0 end.1)) y a3.2 in
+    let a4 = then_ok (last_bound word.Max room a3.0.1) (λ end. give (address_scan spot a1.0.0 a2.0.0 a3.0.0 end.0 end.1)) y a3.2 in
     let end = bound_ok word.Max room a3.0.1 a4.0 a4.1 in
-    let x : Statement = address_scan line a1.0.0 a2.0.0 a3.0.0 a4.0.0.0 a4.0.0.1 in
+    let x : Statement = address_scan spot a1.0.0 a2.0.0 a3.0.0 a4.0.0.0 a4.0.0.1 in
     subst (λ (p : Statement × State). Acts room s p.0 p.1) (ok_is (x, a4.0.1) y a4.2)
     (acts room s x k a4.0.1 next begins.0 (then_moves b a3.0.1 a4.0.1 to_3 end.moves)
     (λ h. ap (λ (holds : Bool). unless_broken holds (length s.registers))
@@ -124,26 +125,26 @@ scan_is room s k line y next e =
     (subst (λ (u : State). nat_lt a4.0.0.1 (length u.variables) ≡ true) to_3.same end.within))))))
     end.deep refl)
 
-stop_is : (room : ℕ) (s : State) (k : TokenKind) (line : ℕ) (y : Statement × State) → kind_of s.rest ≡ Some k → q_stop_statement room line s ≡ Ok y → Acts room s y.0 y.1
+stop_is : (room : ℕ) (s : State) (k : TokenKind) (spot : Spot) (y : Statement × State) → kind_of s.rest ≡ Some k → q_stop_statement room spot s ≡ Ok y → Acts room s y.0 y.1
 unfolding q_stop_statement
-stop_is room s k line y next e =
-    let rest : Reader Statement = function_number >>= λ f. used_register >>= λ r. table_at >>= λ g. last_bound word.Max room >>= λ end. give (q_stop line f r g end.0 end.1) in
+stop_is room s k spot y next e =
+    let rest : Reader Statement = function_number >>= λ f. used_register >>= λ r. table_at >>= λ g. last_bound word.Max room >>= λ end. give (q_stop spot f r g end.0 end.1) in
     let z = then_ok (begin s) (λ _. rest) y e in
     let begins = begin_ok s z.0 z.1 in
     let b : State = begun s in
     let at : rest b ≡ Ok y = subst (λ (u : State). rest u ≡ Ok y) begins.1 z.2 in
-    let a1 = then_ok (function_number b) (λ f. used_register >>= λ r. table_at >>= λ g. last_bound word.Max room >>= λ end. give (q_stop line f r g end.0 end.1)) y at in
+    let a1 = then_ok (function_number b) (λ f. used_register >>= λ r. table_at >>= λ g. last_bound word.Max room >>= λ end. give (q_stop spot f r g end.0 end.1)) y at in
     let f = function_ok b a1.0 a1.1 in
     let to_1 : Moves b a1.0.1 = one_moves b (kind.Number a1.0.0) a1.0.1 f.one in
-    let a2 = then_ok (used_register a1.0.1) (λ r. table_at >>= λ g. last_bound word.Max room >>= λ end. give (q_stop line a1.0.0 r g end.0 end.1)) y a1.2 in
+    let a2 = then_ok (used_register a1.0.1) (λ r. table_at >>= λ g. last_bound word.Max room >>= λ end. give (q_stop spot a1.0.0 r g end.0 end.1)) y a1.2 in
     let register = used_register_ok a1.0.1 a2.0 a2.1 in
     let to_2 : Moves b a2.0.1 = then_moves b a1.0.1 a2.0.1 to_1 register.1 in
-    let a3 = then_ok (table_at a2.0.1) (λ g. last_bound word.Max room >>= λ end. give (q_stop line a1.0.0 a2.0.0 g end.0 end.1)) y a2.2 in
+    let a3 = then_ok (table_at a2.0.1) (λ g. last_bound word.Max room >>= λ end. give (q_stop spot a1.0.0 a2.0.0 g end.0 end.1)) y a2.2 in
     let table = table_ok a2.0.1 a3.0 a3.1 in
     let to_3 : Moves b a3.0.1 = then_moves b a2.0.1 a3.0.1 to_2 table.moves in
-    let a4 = then_ok (last_bound word.Max room a3.0.1) (λ end. give (q_stop line a1.0.0 a2.0.0 a3.0.0 end.0 end.1)) y a3.2 in
+    let a4 = then_ok (last_bound word.Max room a3.0.1) (λ end. give (q_stop spot a1.0.0 a2.0.0 a3.0.0 end.0 end.1)) y a3.2 in
     let end = bound_ok word.Max room a3.0.1 a4.0 a4.1 in
-    let x : Statement = q_stop line a1.0.0 a2.0.0 a3.0.0 a4.0.0.0 a4.0.0.1 in
+    let x : Statement = q_stop spot a1.0.0 a2.0.0 a3.0.0 a4.0.0.0 a4.0.0.1 in
     subst (λ (p : Statement × State). Acts room s p.0 p.1) (ok_is (x, a4.0.1) y a4.2)
     (acts room s x k a4.0.1 next begins.0 (then_moves b a3.0.1 a4.0.1 to_3 end.moves)
     (λ h. ap (λ (holds : Bool). unless_broken holds (length s.registers))
@@ -154,31 +155,31 @@ stop_is room s k line y next e =
     (subst (λ (u : State). nat_lt a4.0.0.1 (length u.variables) ≡ true) to_3.same end.within))))))
     end.deep refl)
 
-repeat_is : (room : ℕ) (s : State) (k : TokenKind) (line : ℕ) (y : Statement × State) → kind_of s.rest ≡ Some k → q_repeat_statement room line s ≡ Ok y → Acts room s y.0 y.1
+repeat_is : (room : ℕ) (s : State) (k : TokenKind) (spot : Spot) (y : Statement × State) → kind_of s.rest ≡ Some k → q_repeat_statement room spot s ≡ Ok y → Acts room s y.0 y.1
 unfolding q_repeat_statement
-repeat_is room s k line y next e =
-    let rest : Reader Statement = function_number >>= λ f. used_register >>= λ r. table_at >>= λ g. expect word.Max >> (expression_at room >>= λ m. last_bound word.Limit room >>= λ end. give (q_repeat line f r g m end.0 end.1)) in
+repeat_is room s k spot y next e =
+    let rest : Reader Statement = function_number >>= λ f. used_register >>= λ r. table_at >>= λ g. expect word.Max >> (expression_at room >>= λ m. last_bound word.Limit room >>= λ end. give (q_repeat spot f r g m end.0 end.1)) in
     let z = then_ok (begin s) (λ _. rest) y e in
     let begins = begin_ok s z.0 z.1 in
     let b : State = begun s in
     let at : rest b ≡ Ok y = subst (λ (u : State). rest u ≡ Ok y) begins.1 z.2 in
-    let a1 = then_ok (function_number b) (λ f. used_register >>= λ r. table_at >>= λ g. expect word.Max >> (expression_at room >>= λ m. last_bound word.Limit room >>= λ end. give (q_repeat line f r g m end.0 end.1))) y at in
+    let a1 = then_ok (function_number b) (λ f. used_register >>= λ r. table_at >>= λ g. expect word.Max >> (expression_at room >>= λ m. last_bound word.Limit room >>= λ end. give (q_repeat spot f r g m end.0 end.1))) y at in
     let f = function_ok b a1.0 a1.1 in
     let to_1 : Moves b a1.0.1 = one_moves b (kind.Number a1.0.0) a1.0.1 f.one in
-    let a2 = then_ok (used_register a1.0.1) (λ r. table_at >>= λ g. expect word.Max >> (expression_at room >>= λ m. last_bound word.Limit room >>= λ end. give (q_repeat line a1.0.0 r g m end.0 end.1))) y a1.2 in
+    let a2 = then_ok (used_register a1.0.1) (λ r. table_at >>= λ g. expect word.Max >> (expression_at room >>= λ m. last_bound word.Limit room >>= λ end. give (q_repeat spot a1.0.0 r g m end.0 end.1))) y a1.2 in
     let register = used_register_ok a1.0.1 a2.0 a2.1 in
     let to_2 : Moves b a2.0.1 = then_moves b a1.0.1 a2.0.1 to_1 register.1 in
-    let a3 = then_ok (table_at a2.0.1) (λ g. expect word.Max >> (expression_at room >>= λ m. last_bound word.Limit room >>= λ end. give (q_repeat line a1.0.0 a2.0.0 g m end.0 end.1))) y a2.2 in
+    let a3 = then_ok (table_at a2.0.1) (λ g. expect word.Max >> (expression_at room >>= λ m. last_bound word.Limit room >>= λ end. give (q_repeat spot a1.0.0 a2.0.0 g m end.0 end.1))) y a2.2 in
     let table = table_ok a2.0.1 a3.0 a3.1 in
     let to_3 : Moves b a3.0.1 = then_moves b a2.0.1 a3.0.1 to_2 table.moves in
-    let a4 = then_ok (expect word.Max a3.0.1) (λ _. expression_at room >>= λ m. last_bound word.Limit room >>= λ end. give (q_repeat line a1.0.0 a2.0.0 a3.0.0 m end.0 end.1)) y a3.2 in
+    let a4 = then_ok (expect word.Max a3.0.1) (λ _. expression_at room >>= λ m. last_bound word.Limit room >>= λ end. give (q_repeat spot a1.0.0 a2.0.0 a3.0.0 m end.0 end.1)) y a3.2 in
     let to_4 : Moves b a4.0.1 = then_moves b a3.0.1 a4.0.1 to_3 (expect_ok word.Max a3.0.1 a4.0 a4.1) in
-    let a5 = then_ok (expression_at room a4.0.1) (λ m. last_bound word.Limit room >>= λ end. give (q_repeat line a1.0.0 a2.0.0 a3.0.0 m end.0 end.1)) y a4.2 in
+    let a5 = then_ok (expression_at room a4.0.1) (λ m. last_bound word.Limit room >>= λ end. give (q_repeat spot a1.0.0 a2.0.0 a3.0.0 m end.0 end.1)) y a4.2 in
     let most_words = expression_ok room a4.0.1 a5.0 a5.1 in
     let to_5 : Moves b a5.0.1 = then_moves b a4.0.1 a5.0.1 to_4 most_words.moves in
-    let a6 = then_ok (last_bound word.Limit room a5.0.1) (λ end. give (q_repeat line a1.0.0 a2.0.0 a3.0.0 a5.0.0 end.0 end.1)) y a5.2 in
+    let a6 = then_ok (last_bound word.Limit room a5.0.1) (λ end. give (q_repeat spot a1.0.0 a2.0.0 a3.0.0 a5.0.0 end.0 end.1)) y a5.2 in
     let end = bound_ok word.Limit room a5.0.1 a6.0 a6.1 in
-    let x : Statement = q_repeat line a1.0.0 a2.0.0 a3.0.0 a5.0.0 a6.0.0.0 a6.0.0.1 in
+    let x : Statement = q_repeat spot a1.0.0 a2.0.0 a3.0.0 a5.0.0 a6.0.0.0 a6.0.0.1 in
     subst (λ (p : Statement × State). Acts room s p.0 p.1) (ok_is (x, a6.0.1) y a6.2)
     (acts room s x k a6.0.1 next begins.0 (then_moves b a5.0.1 a6.0.1 to_5 end.moves)
     (λ h. ap (λ (holds : Bool). unless_broken holds (length s.registers))
@@ -209,22 +210,22 @@ wants_so_many None q n wanted at wants counted = absurd cc
 deep_enough : (found : Option Callable) (q : Callable) (arguments room : ℕ) → found ≡ Some q → q.depth ≤ room → arguments ≤ room → max arguments (depth_of found) ≤ room
 deep_enough found q arguments room at deep inner = let same : depth_of found ≡ q.depth = ap depth_of at in omega arith
 
-call_is : (room : ℕ) (s : State) (k : TokenKind) (line : ℕ) (y : Statement × State) → kind_of s.rest ≡ Some k → call_statement room line s ≡ Ok y → Acts room s y.0 y.1
+call_is : (room : ℕ) (s : State) (k : TokenKind) (spot : Spot) (y : Statement × State) → kind_of s.rest ≡ Some k → call_statement room spot s ≡ Ok y → Acts room s y.0 y.1
 unfolding call_statement
-call_is room s k line y next e =
-    let rest : Reader Statement = procedure_here >>= λ p. called room p >>= λ n. arguments_at room n >>= λ es. give (call line p es) in
+call_is room s k spot y next e =
+    let rest : Reader Statement = procedure_here >>= λ p. called room p >>= λ n. arguments_at room n >>= λ es. give (call spot p es) in
     let z = then_ok (begin s) (λ _. rest) y e in
     let begins = begin_ok s z.0 z.1 in
     let b : State = begun s in
     let at : rest b ≡ Ok y = subst (λ (u : State). rest u ≡ Ok y) begins.1 z.2 in
-    let a1 = then_ok (procedure_here b) (λ p. called room p >>= λ n. arguments_at room n >>= λ es. give (call line p es)) y at in
+    let a1 = then_ok (procedure_here b) (λ p. called room p >>= λ n. arguments_at room n >>= λ es. give (call spot p es)) y at in
     let here = procedure_here_ok b a1.0 a1.1 in
-    let from_b : (called room a1.0.0 >>= λ n. arguments_at room n >>= λ es. give (call line a1.0.0 es)) b ≡ Ok y = subst (λ (u : State). (called room a1.0.0 >>= λ n. arguments_at room n >>= λ es. give (call line a1.0.0 es)) u ≡ Ok y) here.left a1.2 in
-    let a2 = then_ok (called room a1.0.0 b) (λ n. arguments_at room n >>= λ es. give (call line a1.0.0 es)) y from_b in
+    let from_b : (called room a1.0.0 >>= λ n. arguments_at room n >>= λ es. give (call spot a1.0.0 es)) b ≡ Ok y = subst (λ (u : State). (called room a1.0.0 >>= λ n. arguments_at room n >>= λ es. give (call spot a1.0.0 es)) u ≡ Ok y) here.left a1.2 in
+    let a2 = then_ok (called room a1.0.0 b) (λ n. arguments_at room n >>= λ es. give (call spot a1.0.0 es)) y from_b in
     let can = called_ok room a1.0.0 b a2.0 a2.1 in
-    let a3 = then_ok (arguments_at room a2.0.0 a2.0.1) (λ es. give (call line a1.0.0 es)) y a2.2 in
+    let a3 = then_ok (arguments_at room a2.0.0 a2.0.1) (λ es. give (call spot a1.0.0 es)) y a2.2 in
     let read = arguments_ok room a2.0.0 a2.0.1 a3.0 a3.1 in
-    let x : Statement = call line a1.0.0 a3.0.0 in
+    let x : Statement = call spot a1.0.0 a3.0.0 in
     subst (λ (p : Statement × State). Acts room s p.0 p.1) (ok_is (x, a3.0.1) y a3.2)
     (acts room s x k a3.0.1 next begins.0 (then_moves b a2.0.1 a3.0.1 can.moves read.moves)
     (λ h. ap (λ (holds : Bool). unless_broken holds (length s.registers))
@@ -232,9 +233,9 @@ call_is room s k line y next e =
     (subst (λ (c : Scope). each (expression_fits c) a3.0.0 ≡ true) (same_scope b a2.0.1 can.moves) (read.fit (can.moves.fit ((moved s).fit h))))))
     (deep_enough (slice_get s.callables a1.0.0) can.callable (suc (most expression_depth a3.0.0)) room can.found can.deep read.deep) refl)
 
-pub transfer_is : (room : ℕ) (s : State) (line : ℕ) (k : Option TokenKind) (y : Statement × State) → kind_of s.rest ≡ k → transfer_by room line k s ≡ Ok y → Acts room s y.0 y.1
-transfer_is room s line (Some (kind.Keyword word.Cfmad)) y next e = scan_is room s (kind.Keyword word.Cfmad) line y next e
-transfer_is room s line (Some (kind.Keyword word.Cfubc)) y next e = stop_is room s (kind.Keyword word.Cfubc) line y next e
-transfer_is room s line (Some (kind.Keyword word.Cfubr)) y next e = repeat_is room s (kind.Keyword word.Cfubr) line y next e
-transfer_is room s line (Some (kind.Keyword word.Call)) y next e = call_is room s (kind.Keyword word.Call) line y next e
-transfer_is room s line k y next e = crate_call_is room s line k y next e
+pub transfer_is : (room : ℕ) (s : State) (spot : Spot) (k : Option TokenKind) (y : Statement × State) → kind_of s.rest ≡ k → transfer_by room spot k s ≡ Ok y → Acts room s y.0 y.1
+transfer_is room s spot (Some (kind.Keyword word.Cfmad)) y next e = scan_is room s (kind.Keyword word.Cfmad) spot y next e
+transfer_is room s spot (Some (kind.Keyword word.Cfubc)) y next e = stop_is room s (kind.Keyword word.Cfubc) spot y next e
+transfer_is room s spot (Some (kind.Keyword word.Cfubr)) y next e = repeat_is room s (kind.Keyword word.Cfubr) spot y next e
+transfer_is room s spot (Some (kind.Keyword word.Call)) y next e = call_is room s (kind.Keyword word.Call) spot y next e
+transfer_is room s spot k y next e = crate_call_is room s spot k y next e

@@ -10,6 +10,7 @@ use Rattle.camac_text_cursor.specs.Reading.{Reader, ◌>>=◌, ◌>>◌, give, p
 use Rattle.camac_text_cursor.specs.Readers.{begin, expect, function_number, used_register, used_variable, used_table, procedure_here, called}
 use Rattle.camac_text_phrases.specs.Expressions.{expression_at}
 use Rattle.camac_text_phrases.specs.Arguments.{arguments_at}
+use Rattle.camac_lang.specs.declared.spot.Spot.{Spot}
 
 -- the last bound of a transfer after its word, and the tally
 unfoldable pub last_bound : Keyword → ℕ → Reader (Expression × ℕ)
@@ -32,28 +33,28 @@ unfoldable pub table_at : Reader (Option ℕ)
 table_at = peek >>= table_by
 
 -- `cfmad`
-unfoldable pub scan_statement : ℕ → ℕ → Reader Statement
-scan_statement room line = do
+unfoldable pub scan_statement : ℕ → Spot → Reader Statement
+scan_statement room spot = do
   begin
   function ← function_number
   first ← used_register
   last ← used_register
   end ← last_bound word.Max room
-  give (address_scan line function first last end.0 end.1)
+  give (address_scan spot function first last end.0 end.1)
 
 -- `cfubc`
-unfoldable pub q_stop_statement : ℕ → ℕ → Reader Statement
-q_stop_statement room line = do
+unfoldable pub q_stop_statement : ℕ → Spot → Reader Statement
+q_stop_statement room spot = do
   begin
   function ← function_number
   register ← used_register
   table ← table_at
   end ← last_bound word.Max room
-  give (q_stop line function register table end.0 end.1)
+  give (q_stop spot function register table end.0 end.1)
 
 -- `cfubr`
-unfoldable pub q_repeat_statement : ℕ → ℕ → Reader Statement
-q_repeat_statement room line = do
+unfoldable pub q_repeat_statement : ℕ → Spot → Reader Statement
+q_repeat_statement room spot = do
   begin
   function ← function_number
   register ← used_register
@@ -61,13 +62,13 @@ q_repeat_statement room line = do
   expect word.Max
   most ← expression_at room
   end ← last_bound word.Limit room
-  give (q_repeat line function register table most end.0 end.1)
+  give (q_repeat spot function register table most end.0 end.1)
 
 -- `call`
-unfoldable pub call_statement : ℕ → ℕ → Reader Statement
-call_statement room line = do
+unfoldable pub call_statement : ℕ → Spot → Reader Statement
+call_statement room spot = do
   begin
   place ← procedure_here
   wanted ← called room place
   arguments ← arguments_at room wanted
-  give (call line place arguments)
+  give (call spot place arguments)

@@ -7,7 +7,9 @@ ghost use Rattle.camac_text_statements.specs.Adding.{Adds};
 ghost use Rattle.camac_text_statements.specs.Statements.{assignment, register_setting, move_at, single_action, put_action};
 ghost use Rattle.camac_text_cursor.specs.Parser.{state, Gives};
 
-use camac_lang::{Assignment, Move, PutAction, RegisterSetting, SingleAction, Stmt, WordSize};
+use camac_lang::{
+    Assignment, Move, PutAction, RegisterSetting, SingleAction, Spot, Stmt, WordSize,
+};
 use camac_text_cursor::{Choice, Parser};
 use camac_text_phrases::expression;
 use camac_tokens::{Sign, TextFault, TokenKind};
@@ -16,17 +18,17 @@ use camac_tokens::{Sign, TextFault, TokenKind};
 pub fn assignment(
     parser: &mut Parser<'_>,
     room: u32,
-    line: u32,
+    spot: Spot,
     body: &mut Vec<Stmt>,
 ) -> Result<(), TextFault>
-    ensures { Adds body.old.items body.new.items result parser.new (assignment room line (state parser.old)) }
+    ensures { Adds body.old.items body.new.items result parser.new (assignment room spot (state parser.old)) }
 {
     let variable = parser.variable_here()?;
     parser.begin()?;
     parser.expect_sign(Sign::Equals)?;
     let value = expression(parser, room)?;
     body.push(Stmt::Assign(Assignment {
-        line,
+        spot,
         variable,
         value,
     }))?;
@@ -37,10 +39,10 @@ pub fn assignment(
 pub fn register_setting(
     parser: &mut Parser<'_>,
     room: u32,
-    line: u32,
+    spot: Spot,
     body: &mut Vec<Stmt>,
 ) -> Result<(), TextFault>
-    ensures { Adds body.old.items body.new.items result parser.new (register_setting room line (state parser.old)) }
+    ensures { Adds body.old.items body.new.items result parser.new (register_setting room spot (state parser.old)) }
 {
     parser.begin()?;
     let register = parser.set_name()?;
@@ -49,7 +51,7 @@ pub fn register_setting(
     let station = expression(parser, room)?;
     let sub_address = expression(parser, room)?;
     body.push(Stmt::SetRegister(RegisterSetting {
-        line,
+        spot,
         register,
         crate_no,
         station,
@@ -63,17 +65,17 @@ pub fn single_action(
     parser: &mut Parser<'_>,
     size: WordSize,
     room: u32,
-    line: u32,
+    spot: Spot,
     body: &mut Vec<Stmt>,
 ) -> Result<(), TextFault>
-    ensures { Adds body.old.items body.new.items result parser.new (single_action size room line (state parser.old)) }
+    ensures { Adds body.old.items body.new.items result parser.new (single_action size room spot (state parser.old)) }
 {
     parser.begin()?;
     let function = parser.function_number()?;
     let register = parser.used_register()?;
     let data = data_move(parser, room)?;
     body.push(Stmt::Single(SingleAction {
-        line,
+        spot,
         size,
         function,
         register,
@@ -109,13 +111,13 @@ fn data_move(parser: &mut Parser<'_>, room: u32) -> Result<Move, TextFault>
 pub fn put_action(
     parser: &mut Parser<'_>,
     room: u32,
-    line: u32,
+    spot: Spot,
     body: &mut Vec<Stmt>,
 ) -> Result<(), TextFault>
-    ensures { Adds body.old.items body.new.items result parser.new (put_action room line (state parser.old)) }
+    ensures { Adds body.old.items body.new.items result parser.new (put_action room spot (state parser.old)) }
 {
     parser.begin()?;
     let value = expression(parser, room)?;
-    body.push(Stmt::Put(PutAction { line, value }))?;
+    body.push(Stmt::Put(PutAction { spot, value }))?;
     Ok(())
 }

@@ -5,7 +5,7 @@ ghost use Rattle.camac_lang.specs.View.{statement_of};
 ghost use Rattle.camac_text_statements.specs.Statements.{switch, crate_action, crate_switch, lam_action, lam_switch};
 ghost use Rattle.camac_text_cursor.specs.Parser.{state, Gives};
 
-use camac_lang::{CrateAction, CrateCall, LamAction, LamCall, Stmt};
+use camac_lang::{CrateAction, CrateCall, LamAction, LamCall, Spot, Stmt};
 use camac_text_cursor::{Choice, Parser};
 use camac_text_phrases::expression;
 use camac_tokens::{Keyword, TextFault, TokenKind};
@@ -15,14 +15,14 @@ pub fn crate_action(
     parser: &mut Parser<'_>,
     call: CrateCall,
     room: u32,
-    line: u32,
+    spot: Spot,
 ) -> Result<Stmt, TextFault>
-    ensures { Gives statement_of result parser.new (crate_action call room line (state parser.old)) }
+    ensures { Gives statement_of result parser.new (crate_action call room spot (state parser.old)) }
 {
     parser.begin()?;
     let crate_no = expression(parser, room)?;
     Ok(Stmt::CrateCall(CrateAction {
-        line,
+        spot,
         call,
         crate_no,
     }))
@@ -35,32 +35,32 @@ pub fn crate_switch(
     on: CrateCall,
     off: CrateCall,
     room: u32,
-    line: u32,
+    spot: Spot,
 ) -> Result<Stmt, TextFault>
-    ensures { Gives statement_of result parser.new (crate_switch on off room line (state parser.old)) }
+    ensures { Gives statement_of result parser.new (crate_switch on off room spot (state parser.old)) }
 {
     parser.begin()?;
     let crate_no = expression(parser, room)?;
     let call = if switch(parser)? { on } else { off };
     Ok(Stmt::CrateCall(CrateAction {
-        line,
+        spot,
         call,
         crate_no,
     }))
 }
 
 #[tactic(auto, unfolding(crate::specs::Statements::lam_action))]
-pub fn lam_action(parser: &mut Parser<'_>, call: LamCall, line: u32) -> Result<Stmt, TextFault>
-    ensures { Gives statement_of result parser.new (lam_action call line (state parser.old)) }
+pub fn lam_action(parser: &mut Parser<'_>, call: LamCall, spot: Spot) -> Result<Stmt, TextFault>
+    ensures { Gives statement_of result parser.new (lam_action call spot (state parser.old)) }
 {
     parser.begin()?;
     let lam = parser.used_lam()?;
-    Ok(Stmt::LamCall(LamAction { line, call, lam }))
+    Ok(Stmt::LamCall(LamAction { spot, call, lam }))
 }
 
 #[tactic(auto, unfolding(crate::specs::Statements::lam_switch))]
-pub fn lam_switch(parser: &mut Parser<'_>, line: u32) -> Result<Stmt, TextFault>
-    ensures { Gives statement_of result parser.new (lam_switch line (state parser.old)) }
+pub fn lam_switch(parser: &mut Parser<'_>, spot: Spot) -> Result<Stmt, TextFault>
+    ensures { Gives statement_of result parser.new (lam_switch spot (state parser.old)) }
 {
     parser.begin()?;
     let lam = parser.used_lam()?;
@@ -69,7 +69,7 @@ pub fn lam_switch(parser: &mut Parser<'_>, line: u32) -> Result<Stmt, TextFault>
     } else {
         LamCall::Disable
     };
-    Ok(Stmt::LamCall(LamAction { line, call, lam }))
+    Ok(Stmt::LamCall(LamAction { spot, call, lam }))
 }
 
 /// Whether `on` stands next, and not `off`.

@@ -6,7 +6,7 @@ ghost use Rattle.camac_text_statements.specs.Statements.{if_statement, for_state
 ghost use Rattle.camac_text_cursor.specs.Parser.{state, Gives};
 
 use crate::statements::block;
-use camac_lang::{Expr, ForHead, Form, Stmt, WhileHead};
+use camac_lang::{Expr, ForHead, Form, Spot, Stmt, WhileHead};
 use camac_text_cursor::{Choice, Parser};
 use camac_text_phrases::{Own, condition, expression, keeps};
 use camac_tokens::{Keyword, Sign, TextCase, TextFault, TokenKind};
@@ -14,8 +14,8 @@ use camac_tokens::{Keyword, Sign, TextCase, TextFault, TokenKind};
 /// `if`
 #[cycle(statement)]
 #[tactic(auto, unfolding(crate::specs::Statements::if_statement))]
-pub fn if_statement(parser: &mut Parser<'_>, room: u32, line: u32) -> Result<Stmt, TextFault>
-    ensures { Gives statement_of result parser.new (if_statement room (block_at room) line (state parser.old)) }
+pub fn if_statement(parser: &mut Parser<'_>, room: u32, spot: Spot) -> Result<Stmt, TextFault>
+    ensures { Gives statement_of result parser.new (if_statement room (block_at room) spot (state parser.old)) }
 {
     parser.begin()?;
     let test = condition(parser, room)?;
@@ -25,7 +25,7 @@ pub fn if_statement(parser: &mut Parser<'_>, room: u32, line: u32) -> Result<Stm
             parser.advance();
             let otherwise = block(parser, room)?;
             Ok(Stmt::IfElse {
-                line,
+                spot,
                 test,
                 then,
                 otherwise,
@@ -33,7 +33,7 @@ pub fn if_statement(parser: &mut Parser<'_>, room: u32, line: u32) -> Result<Stm
         }
         _ => {
             parser.miss(Choice::Word(Keyword::Else));
-            Ok(Stmt::If { line, test, then })
+            Ok(Stmt::If { spot, test, then })
         }
     }
 }
@@ -41,8 +41,8 @@ pub fn if_statement(parser: &mut Parser<'_>, room: u32, line: u32) -> Result<Stm
 /// `for`
 #[cycle(statement)]
 #[tactic(auto, unfolding(crate::specs::Statements::for_statement))]
-pub fn for_statement(parser: &mut Parser<'_>, room: u32, line: u32) -> Result<Stmt, TextFault>
-    ensures { Gives statement_of result parser.new (for_statement room (block_at room) line (state parser.old)) }
+pub fn for_statement(parser: &mut Parser<'_>, room: u32, spot: Spot) -> Result<Stmt, TextFault>
+    ensures { Gives statement_of result parser.new (for_statement room (block_at room) spot (state parser.old)) }
 {
     parser.begin()?;
     let variable = parser.used_variable()?;
@@ -55,7 +55,7 @@ pub fn for_statement(parser: &mut Parser<'_>, room: u32, line: u32) -> Result<St
             parser.advance();
             let body = block(parser, room)?;
             return Ok(Stmt::ForEach {
-                line,
+                spot,
                 variable,
                 first,
                 last,
@@ -67,7 +67,7 @@ pub fn for_statement(parser: &mut Parser<'_>, room: u32, line: u32) -> Result<St
     let keeps = keeps(parser, Own::Counter(variable))?;
     let body = block(parser, room)?;
     let head = ForHead {
-        line,
+        spot,
         variable,
         from,
         to,
@@ -89,8 +89,8 @@ fn single_number(expression: &Expr) -> Option<u32>
 /// `while`
 #[cycle(statement)]
 #[tactic(auto, unfolding(crate::specs::Statements::while_statement))]
-pub fn while_statement(parser: &mut Parser<'_>, room: u32, line: u32) -> Result<Stmt, TextFault>
-    ensures { Gives statement_of result parser.new (while_statement room (block_at room) line (state parser.old)) }
+pub fn while_statement(parser: &mut Parser<'_>, room: u32, spot: Spot) -> Result<Stmt, TextFault>
+    ensures { Gives statement_of result parser.new (while_statement room (block_at room) spot (state parser.old)) }
 {
     parser.begin()?;
     let test = condition(parser, room)?;
@@ -101,7 +101,7 @@ pub fn while_statement(parser: &mut Parser<'_>, room: u32, line: u32) -> Result<
     let keeps = keeps(parser, Own::Measure(measure))?;
     let body = block(parser, room)?;
     let head = WhileHead {
-        line,
+        spot,
         test,
         turns,
         measure,
@@ -113,8 +113,8 @@ pub fn while_statement(parser: &mut Parser<'_>, room: u32, line: u32) -> Result<
 /// `lock`, which stands in no procedure
 #[cycle(statement)]
 #[tactic(auto, unfolding(crate::specs::Statements::lock_statement))]
-pub fn lock_statement(parser: &mut Parser<'_>, room: u32, line: u32) -> Result<Stmt, TextFault>
-    ensures { Gives statement_of result parser.new (lock_statement room (block_at room) line (state parser.old)) }
+pub fn lock_statement(parser: &mut Parser<'_>, room: u32, spot: Spot) -> Result<Stmt, TextFault>
+    ensures { Gives statement_of result parser.new (lock_statement room (block_at room) spot (state parser.old)) }
 {
     if parser.in_procedure() {
         return Err(parser.fault(TextCase::LockInProcedure));
@@ -123,7 +123,7 @@ pub fn lock_statement(parser: &mut Parser<'_>, room: u32, line: u32) -> Result<S
     let crate_no = expression(parser, room)?;
     let body = block(parser, room)?;
     Ok(Stmt::Lock {
-        line,
+        spot,
         crate_no,
         body,
     })

@@ -4,7 +4,7 @@ ghost use Rattle.std.specs.Prelude.{◌≡◌, Some, true, false, map, suc};
 ghost use Rattle.camac_lang.specs.View.{statement_of};
 ghost use Rattle.camac_text_cursor.specs.Choice.{takes};
 ghost use Rattle.camac_text_cursor.specs.declared.choice.Choice.TheVariants as choice;
-ghost use Rattle.camac_text_cursor.specs.Reading.{kind_of, left_of, line_of, many, missed};
+ghost use Rattle.camac_text_cursor.specs.Reading.{kind_of, spot_of, many, missed};
 ghost use Rattle.camac_tokens.specs.declared.fault.TextCase.TheVariants.{Unexpected};
 ghost use Rattle.camac_tokens.specs.declared.token.TokenKind.TheVariants as kind;
 ghost use Rattle.camac_text_statements.specs.Statements.{is_frequent, nested_by, statement_by, statement_with, is_no_end, block_at};
@@ -15,7 +15,7 @@ use crate::actions::{assignment, put_action, register_setting, single_action};
 use crate::calls::{crate_action, crate_switch, lam_action, lam_switch};
 use crate::nesting::{for_statement, if_statement, lock_statement, while_statement};
 use crate::transfers::{call, q_repeat, q_stop, scan};
-use camac_lang::{CrateCall, LamCall, Stmt, WordSize};
+use camac_lang::{CrateCall, LamCall, Spot, Stmt, WordSize};
 use camac_text_cursor::{Choice, Parser};
 use camac_tokens::{Keyword, Limit, Sign, TextCase, TextFault, TokenKind};
 
@@ -72,15 +72,15 @@ fn statement(parser: &mut Parser<'_>, room: u32, body: &mut Vec<Stmt>) -> Result
     ensures { Adds body.old.items body.new.items result parser.new (statement_with room (block_at room) (state parser.old)) }
 {
     parser.miss(Choice::Mark(Sign::RightBrace));
-    let line = parser.line_here();
+    let spot = parser.spot_here();
     match parser.peek() {
         Some(TokenKind::Name(_)) => {
             parser.miss(Choice::Statement);
-            assignment(parser, room, line, body)
+            assignment(parser, room, spot, body)
         }
         Some(TokenKind::Keyword(word)) => {
             let word = *word;
-            keyword_statement(parser, word, room, line, body)
+            keyword_statement(parser, word, room, spot, body)
         }
         _ => Err(no_statement(parser)),
     }
@@ -90,7 +90,7 @@ fn statement(parser: &mut Parser<'_>, room: u32, body: &mut Vec<Stmt>) -> Result
 fn no_statement(parser: &mut Parser<'_>) -> TextFault
     requires statement { takes choice.Statement (kind_of (state parser.old).rest) ≡ false }
     requires name { takes choice.Name (kind_of (state parser.old).rest) ≡ false }
-    ensures fault { result ≡ TextFault.Broken Unexpected (line_of (state parser.old).rest (state parser.old).end_line) (left_of (state parser.old).rest) }
+    ensures fault { result ≡ TextFault.Broken Unexpected (spot_of (state parser.old).rest (state parser.old).end_line) }
     ensures missed { state parser.new ≡ missed choice.Name (missed choice.Statement (state parser.old)) }
 {
     parser.miss(Choice::Statement);
@@ -103,18 +103,18 @@ fn keyword_statement(
     parser: &mut Parser<'_>,
     word: Keyword,
     room: u32,
-    line: u32,
+    spot: Spot,
     body: &mut Vec<Stmt>,
 ) -> Result<(), TextFault>
     requires { kind_of (state parser.old).rest ≡ Some (kind.Keyword word) }
-    ensures { Adds body.old.items body.new.items result parser.new (statement_by room (block_at room) line (Some (kind.Keyword word)) (state parser.old)) }
+    ensures { Adds body.old.items body.new.items result parser.new (statement_by room (block_at room) spot (Some (kind.Keyword word)) (state parser.old)) }
 {
     match word {
-        Keyword::Cdreg => register_setting(parser, room, line, body),
-        Keyword::Cfsa => single_action(parser, WordSize::Full, room, line, body),
-        Keyword::Cssa => single_action(parser, WordSize::Short, room, line, body),
-        Keyword::Put => put_action(parser, room, line, body),
-        _ => rare_statement(parser, word, room, line, body),
+        Keyword::Cdreg => register_setting(parser, room, spot, body),
+        Keyword::Cfsa => single_action(parser, WordSize::Full, room, spot, body),
+        Keyword::Cssa => single_action(parser, WordSize::Short, room, spot, body),
+        Keyword::Put => put_action(parser, room, spot, body),
+        _ => rare_statement(parser, word, room, spot, body),
     }
 }
 
@@ -125,14 +125,14 @@ fn rare_statement(
     parser: &mut Parser<'_>,
     word: Keyword,
     room: u32,
-    line: u32,
+    spot: Spot,
     body: &mut Vec<Stmt>,
 ) -> Result<(), TextFault>
     requires next { kind_of (state parser.old).rest ≡ Some (kind.Keyword word) }
     requires rare { is_frequent word ≡ false }
-    ensures { Adds body.old.items body.new.items result parser.new (nested_by room (block_at room) line (Some (kind.Keyword word)) (state parser.old)) }
+    ensures { Adds body.old.items body.new.items result parser.new (nested_by room (block_at room) spot (Some (kind.Keyword word)) (state parser.old)) }
 {
-    let statement = other_statement(parser, word, room, line)?;
+    let statement = other_statement(parser, word, room, spot)?;
     body.push(statement)?;
     Ok(())
 }
@@ -143,43 +143,43 @@ fn other_statement(
     parser: &mut Parser<'_>,
     word: Keyword,
     room: u32,
-    line: u32,
+    spot: Spot,
 ) -> Result<Stmt, TextFault>
     requires next { kind_of (state parser.old).rest ≡ Some (kind.Keyword word) }
     requires rare { is_frequent word ≡ false }
-    ensures { Gives statement_of result parser.new (nested_by room (block_at room) line (Some (kind.Keyword word)) (state parser.old)) }
+    ensures { Gives statement_of result parser.new (nested_by room (block_at room) spot (Some (kind.Keyword word)) (state parser.old)) }
 {
     match word {
-        Keyword::If => if_statement(parser, room, line),
-        Keyword::For => for_statement(parser, room, line),
-        Keyword::While => while_statement(parser, room, line),
-        Keyword::Lock => lock_statement(parser, room, line),
-        Keyword::Cfmad => scan(parser, room, line),
-        Keyword::Cfubc => q_stop(parser, room, line),
-        Keyword::Cfubr => q_repeat(parser, room, line),
-        Keyword::Call => call(parser, room, line),
-        Keyword::Cccz => crate_action(parser, CrateCall::Initialise, room, line),
-        Keyword::Cccc => crate_action(parser, CrateCall::Clear, room, line),
-        Keyword::Ctci => crate_action(parser, CrateCall::TestInhibit, room, line),
-        Keyword::Ctcd => crate_action(parser, CrateCall::TestDemandOutput, room, line),
-        Keyword::Ctgl => crate_action(parser, CrateCall::TestDemand, room, line),
+        Keyword::If => if_statement(parser, room, spot),
+        Keyword::For => for_statement(parser, room, spot),
+        Keyword::While => while_statement(parser, room, spot),
+        Keyword::Lock => lock_statement(parser, room, spot),
+        Keyword::Cfmad => scan(parser, room, spot),
+        Keyword::Cfubc => q_stop(parser, room, spot),
+        Keyword::Cfubr => q_repeat(parser, room, spot),
+        Keyword::Call => call(parser, room, spot),
+        Keyword::Cccz => crate_action(parser, CrateCall::Initialise, room, spot),
+        Keyword::Cccc => crate_action(parser, CrateCall::Clear, room, spot),
+        Keyword::Ctci => crate_action(parser, CrateCall::TestInhibit, room, spot),
+        Keyword::Ctcd => crate_action(parser, CrateCall::TestDemandOutput, room, spot),
+        Keyword::Ctgl => crate_action(parser, CrateCall::TestDemand, room, spot),
         Keyword::Ccci => crate_switch(
             parser,
             CrateCall::InhibitOn,
             CrateCall::InhibitOff,
             room,
-            line,
+            spot,
         ),
         Keyword::Cccd => crate_switch(
             parser,
             CrateCall::DemandOn,
             CrateCall::DemandOff,
             room,
-            line,
+            spot,
         ),
-        Keyword::Cclm => lam_switch(parser, line),
-        Keyword::Cclc => lam_action(parser, LamCall::Clear, line),
-        Keyword::Ctlm => lam_action(parser, LamCall::Test, line),
+        Keyword::Cclm => lam_switch(parser, spot),
+        Keyword::Cclc => lam_action(parser, LamCall::Clear, spot),
+        Keyword::Ctlm => lam_action(parser, LamCall::Test, spot),
         _ => Err(no_statement(parser)),
     }
 }

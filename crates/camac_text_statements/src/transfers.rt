@@ -5,15 +5,15 @@ ghost use Rattle.camac_lang.specs.View.{expression_of, statement_of};
 ghost use Rattle.camac_text_cursor.specs.Parser.{state, Gives};
 ghost use Rattle.camac_text_statements.specs.Transfers.{last_bound, table_at, scan_statement, q_stop_statement, q_repeat_statement, call_statement};
 
-use camac_lang::{AddressScan, BlockTransfer, Expr, ProcedureCall, Stmt};
+use camac_lang::{AddressScan, BlockTransfer, Expr, ProcedureCall, Spot, Stmt};
 use camac_text_cursor::{Choice, Parser};
 use camac_text_phrases::{arguments, expression};
 use camac_tokens::{Keyword, TextFault, TokenKind};
 
 /// `cfmad`
 #[tactic(auto, unfolding(crate::specs::Transfers::scan_statement))]
-pub fn scan(parser: &mut Parser<'_>, room: u32, line: u32) -> Result<Stmt, TextFault>
-    ensures { Gives statement_of result parser.new (scan_statement room line (state parser.old)) }
+pub fn scan(parser: &mut Parser<'_>, room: u32, spot: Spot) -> Result<Stmt, TextFault>
+    ensures { Gives statement_of result parser.new (scan_statement room spot (state parser.old)) }
 {
     parser.begin()?;
     let function = parser.function_number()?;
@@ -21,7 +21,7 @@ pub fn scan(parser: &mut Parser<'_>, room: u32, line: u32) -> Result<Stmt, TextF
     let last = parser.used_register()?;
     let (max, tally) = last_bound(parser, Keyword::Max, room)?;
     Ok(Stmt::Scan(AddressScan {
-        line,
+        spot,
         function,
         first,
         last,
@@ -32,8 +32,8 @@ pub fn scan(parser: &mut Parser<'_>, room: u32, line: u32) -> Result<Stmt, TextF
 
 /// `cfubc`
 #[tactic(auto, unfolding(crate::specs::Transfers::q_stop_statement))]
-pub fn q_stop(parser: &mut Parser<'_>, room: u32, line: u32) -> Result<Stmt, TextFault>
-    ensures { Gives statement_of result parser.new (q_stop_statement room line (state parser.old)) }
+pub fn q_stop(parser: &mut Parser<'_>, room: u32, spot: Spot) -> Result<Stmt, TextFault>
+    ensures { Gives statement_of result parser.new (q_stop_statement room spot (state parser.old)) }
 {
     parser.begin()?;
     let function = parser.function_number()?;
@@ -41,7 +41,7 @@ pub fn q_stop(parser: &mut Parser<'_>, room: u32, line: u32) -> Result<Stmt, Tex
     let table = table(parser)?;
     let (max, tally) = last_bound(parser, Keyword::Max, room)?;
     let transfer = BlockTransfer {
-        line,
+        spot,
         function,
         register,
         table,
@@ -53,8 +53,8 @@ pub fn q_stop(parser: &mut Parser<'_>, room: u32, line: u32) -> Result<Stmt, Tex
 
 /// `cfubr`
 #[tactic(auto, unfolding(crate::specs::Transfers::q_repeat_statement))]
-pub fn q_repeat(parser: &mut Parser<'_>, room: u32, line: u32) -> Result<Stmt, TextFault>
-    ensures { Gives statement_of result parser.new (q_repeat_statement room line (state parser.old)) }
+pub fn q_repeat(parser: &mut Parser<'_>, room: u32, spot: Spot) -> Result<Stmt, TextFault>
+    ensures { Gives statement_of result parser.new (q_repeat_statement room spot (state parser.old)) }
 {
     parser.begin()?;
     let function = parser.function_number()?;
@@ -64,7 +64,7 @@ pub fn q_repeat(parser: &mut Parser<'_>, room: u32, line: u32) -> Result<Stmt, T
     let max = expression(parser, room)?;
     let (limit, tally) = last_bound(parser, Keyword::Limit, room)?;
     let transfer = BlockTransfer {
-        line,
+        spot,
         function,
         register,
         table,
@@ -110,15 +110,15 @@ fn last_bound(
 
 /// `call`
 #[tactic(auto, unfolding(crate::specs::Transfers::call_statement))]
-pub fn call(parser: &mut Parser<'_>, room: u32, line: u32) -> Result<Stmt, TextFault>
-    ensures { Gives statement_of result parser.new (call_statement room line (state parser.old)) }
+pub fn call(parser: &mut Parser<'_>, room: u32, spot: Spot) -> Result<Stmt, TextFault>
+    ensures { Gives statement_of result parser.new (call_statement room spot (state parser.old)) }
 {
     parser.begin()?;
     let procedure = parser.procedure_here()?;
     let wanted = parser.called(room, procedure)?;
     let arguments = arguments(parser, room, wanted)?;
     Ok(Stmt::Call(ProcedureCall {
-        line,
+        spot,
         procedure,
         arguments,
     }))

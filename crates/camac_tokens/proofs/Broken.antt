@@ -4,6 +4,7 @@ use Rattle.std.specs.Prelude.{take_while}
 use Rattle.std.specs.Char.{is_ascii_digit, is_ascii_alphabetic}
 use Rattle.std.proofs.lemmas.Bool.{ltb-true, ltb-false}
 use Rattle.std.proofs.lemmas.List.{take-append-drop}
+use Rattle.camac_lang.specs.declared.spot.Spot.{Spot}
 use Rattle.camac_tokens.specs.declared.token.Keyword.{Keyword}
 use Rattle.camac_tokens.specs.declared.token.Sign.{Sign}
 use Rattle.camac_tokens.specs.declared.token.Token.{Token}
@@ -16,7 +17,7 @@ use Rattle.camac_tokens.specs.declared.fault.Limit.TheVariants.{NameBytes}
 use Rattle.camac_tokens.specs.declared.fault.TextCase.TheVariants as told
 use Rattle.camac_tokens.specs.Fault.{Fault}
 use Rattle.camac_tokens.specs.Words.{keyword}
-use Rattle.camac_tokens.specs.Scanning.{is_name_byte, is_blank, decimal_value, keyword_or, pair_at, single_at, pair_or_single, start_of, wrong, line_number, line_after, tokens_by, tokens_from, tokens_of}
+use Rattle.camac_tokens.specs.Scanning.{is_name_byte, is_blank, decimal_value, keyword_or, pair_at, single_at, pair_or_single, start_of, wrong, spot_at, line_after, tokens_by, tokens_from, tokens_of}
 use Rattle.camac_tokens.proofs.Scans.{size, added, line_feeds, feeds-cons, take_run, name_begins, sized_start, with_all, start_step, wrong_is}
 use Rattle.camac_tokens.specs.Cut.{begins, IsRun, IsWord, Piece, IsPiece, joined}
 use Rattle.camac_tokens.specs.Broken.{StandBefore, HasOtherByte, Breaks, TokenFaultsStand}
@@ -115,8 +116,7 @@ record BrokenFrom (line : ℕ) (text : List ℕ) (f : Fault) : Type 0 where
   stand : StandBefore rest pieces
   nothing : (k : Option TokenKind) (bytes after : List ℕ) → rest ≡ bytes ++ after → IsPiece k bytes after → ⊥
   why : Breaks f.case rest
-  at_line : f.line ≡ line_number (line + line_feeds (joined pieces))
-  at_left : f.left ≡ length rest
+  place : f.spot ≡ spot_at (line + line_feeds (joined pieces)) (length rest)
 
 fault_is : (e f : Fault) → (let r : Result (List Token) Fault = Err e in r) ≡ Err f → e ≡ f
 fault_is e f h = cc
@@ -128,8 +128,8 @@ all_err us (Err d) f e = e
 broken_here : (b line : ℕ) (bs : List ℕ) (f : Fault) (r : TextCase) → wrong (start_of b (b ∷ bs)) ≡ Some r → tokens_from 0 line (b ∷ bs) ≡ Err f → BrokenFrom line (b ∷ bs) f
 unfolding tokens_from
 broken_here b line bs f r bad e =
-    let here : tokens_from 0 line (b ∷ bs) ≡ Err (record { case = r; line = line_number line; left = length (b ∷ bs) }) = ap (λ (g : Start). tokens_by g line (length (b ∷ bs)) (λ n. tokens_from n (line_after line b) bs)) (wrong_is (start_of b (b ∷ bs)) r bad) in
-    let same : (let d : Fault = record { case = r; line = line_number line; left = length (b ∷ bs) } in d) ≡ f = fault_is _ f (sym here ∙ e) in
+    let here : tokens_from 0 line (b ∷ bs) ≡ Err (record { case = r; spot = spot_at line (length (b ∷ bs)) }) = ap (λ (g : Start). tokens_by g (spot_at line (length (b ∷ bs))) (λ n. tokens_from n (line_after line b) bs)) (wrong_is (start_of b (b ∷ bs)) r bad) in
+    let same : (let d : Fault = record { case = r; spot = spot_at line (length (b ∷ bs)) } in d) ≡ f = fault_is _ f (sym here ∙ e) in
     record {
       pieces = [];
       rest = b ∷ bs;
@@ -137,8 +137,7 @@ broken_here b line bs f r bad e =
       stand = tt;
       nothing = nothing_stands b bs r bad;
       why = subst (λ (d : Fault). Breaks d.case (b ∷ bs)) same (breaks_wrong (start_of b (b ∷ bs)) r (b ∷ bs) bad (start_breaks b bs));
-      at_line = sym (ap (λ (d : Fault). d.line) same) ∙ ap line_number (omega arith);
-      at_left = sym (ap (λ (d : Fault). d.left) same);
+      place = sym (ap (λ (d : Fault). d.spot) same) ∙ ap (λ (l : ℕ). spot_at l (length (b ∷ bs))) (omega arith);
     }
 
 broken_later : (f : Start) (line : ℕ) (text : List ℕ) (d : Fault) → wrong f ≡ None → Stands f text
@@ -152,8 +151,7 @@ broken_later f line text d good stands rest =
       stand = (subst (λ (w : List ℕ). IsPiece (kind_at f) (take (size f) text) w) rest.parts (piece_of f text good stands), rest.stand);
       nothing = rest.nothing;
       why = rest.why;
-      at_line = rest.at_line ∙ ap line_number (omega (arith, feeds));
-      at_left = rest.at_left;
+      place = rest.place ∙ ap (λ (l : ℕ). spot_at l (length rest.rest)) (omega (arith, feeds));
     }
 
 wrong_or : (o : Option TextCase) → ((r : TextCase) × (o ≡ Some r)) ⊎ (o ≡ None)
@@ -170,7 +168,7 @@ broken_from (suc n) line (b ∷ bs) f few e =
       | inl bad ↦ broken_here b line bs f bad.0 bad.1 e
       | inr good ↦
           let sized = sized_start b bs good in
-          let later = all_err (added g (line_number line) (length (b ∷ bs))) (tokens_from 0 (line + line_feeds (take (size g) (b ∷ bs))) (drop (size g) (b ∷ bs))) f (sym (start_step g b line bs good sized.0) ∙ e) in
+          let later = all_err (added g (spot_at line (length (b ∷ bs)))) (tokens_from 0 (line + line_feeds (take (size g) (b ∷ bs))) (drop (size g) (b ∷ bs))) f (sym (start_step g b line bs good sized.0) ∙ e) in
           broken_later g line (b ∷ bs) f good (start_stands b bs) (broken_from n (line + line_feeds (take (size g) (b ∷ bs))) (drop (size g) (b ∷ bs)) f (shorter (size g) b bs n sized.0 few) later)
     ]
   where
@@ -214,14 +212,14 @@ no_bytes (b ∷ bs) rest e is = absurd cc
 
 fault_at : (line : ℕ) (rest : List ℕ) (r : TextCase) → Breaks r rest
     → ((k : Option TokenKind) (bytes after : List ℕ) → rest ≡ bytes ++ after → IsPiece k bytes after → ⊥)
-    → tokens_from 0 line rest ≡ Err (record { case = r; line = line_number line; left = length rest })
+    → tokens_from 0 line rest ≡ Err (record { case = r; spot = spot_at line (length rest) })
 unfolding tokens_from
 fault_at line [] told.Byte why nothing = let some = why.some in absurd (omega (arith, some))
 fault_at line [] (told.Number most) why nothing = absurd (no_bytes why.1.bytes why.1.rest why.1.parts why.1.digits)
 fault_at line [] (told.Limit NameBytes) why nothing = absurd (no_bytes why.bytes why.rest why.parts why.word)
 fault_at line [] _ why nothing = absurd why
 fault_at line (b ∷ bs) r why nothing =
-    ap (λ (g : Start). tokens_by g line (length (b ∷ bs)) (λ n. tokens_from n (line_after line b) bs)) (wrong_here (start_of b (b ∷ bs)) (b ∷ bs) r why (start_stands b bs) (start_breaks b bs) nothing)
+    ap (λ (g : Start). tokens_by g (spot_at line (length (b ∷ bs))) (λ n. tokens_from n (line_after line b) bs)) (wrong_here (start_of b (b ∷ bs)) (b ∷ bs) r why (start_stands b bs) (start_breaks b bs) nothing)
 
 fault_after : (line : ℕ) (ps : List Piece) (rest : List ℕ) (f : Fault) → StandBefore rest ps → tokens_from 0 (line + line_feeds (joined ps)) rest ≡ Err f
     → tokens_from 0 line (joined ps ++ rest) ≡ Err f
@@ -240,9 +238,8 @@ unfolding tokens_of
 token_faults_stand text f = (
   λ e.
       let b = broken_from (length text) 1 text f (omega arith) e in
-      record { pieces = b.pieces; rest = b.rest; parts = b.parts; stand = b.stand; nothing = b.nothing; why = b.why; line = b.at_line; left = b.at_left },
+      record { pieces = b.pieces; rest = b.rest; parts = b.parts; stand = b.stand; nothing = b.nothing; why = b.why; place = b.place },
   λ b.
       ap (tokens_from 0 1) b.parts
-      ∙ fault_after 1 b.pieces b.rest f b.stand (fault_at (1 + line_feeds (joined b.pieces)) b.rest f.case b.why b.nothing ∙ ap (λ (l : ℕ). let r : Result (List Token) Fault = Err (record { case = f.case; line = l; left = length b.rest }) in r) (sym b.line)
-      ∙ ap (λ (n : ℕ). let r : Result (List Token) Fault = Err (record { case = f.case; line = f.line; left = n }) in r) (sym b.left)),
+      ∙ fault_after 1 b.pieces b.rest f b.stand (fault_at (1 + line_feeds (joined b.pieces)) b.rest f.case b.why b.nothing ∙ ap (λ (p : Spot). let r : Result (List Token) Fault = Err (record { case = f.case; spot = p }) in r) (sym b.place)),
 )

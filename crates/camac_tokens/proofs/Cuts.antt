@@ -6,6 +6,7 @@ use Rattle.std.specs.Char.{is_ascii_digit, is_ascii_alphabetic}
 use Rattle.std.proofs.lemmas.Bool.{ltb-true, eqb-true}
 use Rattle.std.proofs.lemmas.List.{take-append-drop}
 use Rattle.std.proofs.lemmas.List.Sums.{take_while-cons}
+use Rattle.camac_lang.specs.declared.spot.Spot.{Spot}
 use Rattle.camac_tokens.specs.declared.token.Keyword.{Keyword}
 use Rattle.camac_tokens.specs.declared.token.Sign.{Sign}
 use Rattle.camac_tokens.specs.declared.token.Token.{Token}
@@ -18,7 +19,7 @@ use Rattle.camac_tokens.specs.declared.fault.TextCase.TheVariants as told
 use Rattle.camac_tokens.specs.declared.fault.TextFault.{TextFault}
 use Rattle.camac_tokens.specs.Fault.{Fault, AnswersList}
 use Rattle.camac_tokens.specs.Words.{keyword}
-use Rattle.camac_tokens.specs.Scanning.{is_name_byte, is_blank, is_no_line_feed, decimal_value, keyword_or, pair_at, single_at, pair_or_single, start_of, wrong, line_number, line_after, tokens_by, tokens_from, tokens_of}
+use Rattle.camac_tokens.specs.Scanning.{is_name_byte, is_blank, is_no_line_feed, decimal_value, keyword_or, pair_at, single_at, pair_or_single, start_of, wrong, spot_at, line_after, tokens_by, tokens_from, tokens_of}
 use Rattle.camac_tokens.proofs.Scans.{size, added, line_feeds, take_run, name_begins, sized_start, with_all, start_step}
 use Rattle.camac_tokens.specs.Cut.{begins, IsRun, IsWord, IsName, IsKeyword, IsNumber, IsGap, Piece, IsPiece, joined, token_at, tokens_in, ArePieces, IsCut}
 
@@ -127,25 +128,25 @@ piece_of (start.Gap n) text good h = h
 piece_of (start.Found k n) text good h = h
 piece_of (start.Wrong case) text good h = absurd cc
 
-added_is : (f : Start) (line left : ℕ) → wrong f ≡ None → added f (line_number line) left ≡ token_at (kind_at f) line left
+added_is : (f : Start) (spot : Spot) → wrong f ≡ None → added f spot ≡ token_at (kind_at f) spot
 unfolding kind_at
-added_is (start.Gap n) line left good = refl
-added_is (start.Found k n) line left good = refl
-added_is (start.Wrong case) line left good = absurd cc
+added_is (start.Gap n) spot good = refl
+added_is (start.Found k n) spot good = refl
+added_is (start.Wrong case) spot good = absurd cc
 
-good_start : (f : Start) (line left : ℕ) (more : ℕ → Result (List Token) Fault) (ts : List Token) → tokens_by f line left more ≡ Ok ts → wrong f ≡ None
-good_start (start.Gap n) line left more ts e = refl
-good_start (start.Found k n) line left more ts e = refl
-good_start (start.Wrong case) line left more ts e = absurd cc
+good_start : (f : Start) (spot : Spot) (more : ℕ → Result (List Token) Fault) (ts : List Token) → tokens_by f spot more ≡ Ok ts → wrong f ≡ None
+good_start (start.Gap n) spot more ts e = refl
+good_start (start.Found k n) spot more ts e = refl
+good_start (start.Wrong case) spot more ts e = absurd cc
 
-cut_step : (f : Start) (line : ℕ) (text : List ℕ) (ts us : List Token) → wrong f ≡ None → Stands f text → ts ≡ added f (line_number line) (length text) ++ us → CutFrom (line + line_feeds (take (size f) text)) (drop (size f) text) us → CutFrom line text ts
+cut_step : (f : Start) (line : ℕ) (text : List ℕ) (ts us : List Token) → wrong f ≡ None → Stands f text → ts ≡ added f (spot_at line (length text)) ++ us → CutFrom (line + line_feeds (take (size f) text)) (drop (size f) text) us → CutFrom line text ts
 cut_step f line text ts us good stands tokens rest =
     let whole : text ≡ take (size f) text ++ joined rest.pieces = sym (take-append-drop (size f) text) ∙ ap (λ (w : List ℕ). take (size f) text ++ w) rest.parts in record {
       pieces = record { bytes = take (size f) text; kind = kind_at f } ∷ rest.pieces;
       parts = whole;
       stand = (subst (λ (w : List ℕ). IsPiece (kind_at f) (take (size f) text) w) rest.parts (piece_of f text good stands), rest.stand);
-      tokens_are = tokens ∙ ap (λ (w : List Token). w ++ us) (added_is f line (length text) good) ∙ ap (λ (w : List Token). token_at (kind_at f) line (length text) ++ w) rest.tokens_are
-          ∙ ap (λ (w : List ℕ). token_at (kind_at f) line (length w) ++ tokens_in (line + line_feeds (take (size f) text)) rest.pieces) whole;
+      tokens_are = tokens ∙ ap (λ (w : List Token). w ++ us) (added_is f (spot_at line (length text)) good) ∙ ap (λ (w : List Token). token_at (kind_at f) (spot_at line (length text)) ++ w) rest.tokens_are
+          ∙ ap (λ (w : List ℕ). token_at (kind_at f) (spot_at line (length w)) ++ tokens_in (line + line_feeds (take (size f) text)) rest.pieces) whole;
     }
 
 cut_from : (n line : ℕ) (text : List ℕ) (ts : List Token) → length text ≤ n → tokens_from 0 line text ≡ Ok ts → CutFrom line text ts
@@ -154,9 +155,9 @@ cut_from n line [] ts few e = record { pieces = []; parts = refl; stand = tt; to
 cut_from zero line (b ∷ bs) ts few e = absurd (omega arith)
 cut_from (suc n) line (b ∷ bs) ts few e =
     let f : Start = start_of b (b ∷ bs) in
-    let good : wrong f ≡ None = good_start f line (length (b ∷ bs)) (λ skip. tokens_from skip (line_after line b) bs) ts e in
+    let good : wrong f ≡ None = good_start f (spot_at line (length (b ∷ bs))) (λ skip. tokens_from skip (line_after line b) bs) ts e in
     let sized = sized_start b bs good in
-    let m = all_ok (added f (line_number line) (length (b ∷ bs))) (tokens_from 0 (line + line_feeds (take (size f) (b ∷ bs))) (drop (size f) (b ∷ bs))) ts (sym (start_step f b line bs good sized.0) ∙ e) in
+    let m = all_ok (added f (spot_at line (length (b ∷ bs)))) (tokens_from 0 (line + line_feeds (take (size f) (b ∷ bs))) (drop (size f) (b ∷ bs))) ts (sym (start_step f b line bs good sized.0) ∙ e) in
     cut_step f line (b ∷ bs) ts m.0 good (start_stands b bs) m.2 (cut_from n (line + line_feeds (take (size f) (b ∷ bs))) (drop (size f) (b ∷ bs)) m.0 (shorter (size f) b bs n sized.0 few) m.1) where
       shorter : (k b : ℕ) (bs : List ℕ) (n : ℕ) → 0 < k → length (b ∷ bs) ≤ suc n → length (drop k (b ∷ bs)) ≤ n
       shorter k b bs n some few = grind (arith, length-drop {A = ℕ})

@@ -4,6 +4,7 @@ use Rattle.std.specs.Prelude.{take_while, slice_index}
 use Rattle.std.specs.Char.{is_ascii_digit, is_ascii_alphabetic}
 use Rattle.std.proofs.lemmas.Bool.{and_parts, eqb-true, le-ltb, lt-ltb}
 use Rattle.std.proofs.lemmas.List.Sums.{take_while-cons, sum_by-cons}
+use Rattle.camac_lang.specs.declared.spot.Spot.{Spot}
 use Rattle.camac_tokens.specs.declared.token.Token.{Token}
 use Rattle.camac_tokens.specs.declared.token.Keyword.{Keyword}
 use Rattle.camac_tokens.specs.declared.token.Sign.{Sign}
@@ -14,7 +15,7 @@ use Rattle.camac_tokens.specs.declared.fault.Limit.TheVariants.{NameBytes}
 use Rattle.camac_tokens.specs.declared.fault.TextCase.{TextCase}
 use Rattle.camac_tokens.specs.declared.fault.TextCase.TheVariants as told
 use Rattle.camac_tokens.specs.Fault.{Fault}
-use Rattle.camac_tokens.specs.Scanning.{is_name_byte, is_blank, is_no_line_feed, keyword_or, number_or_fault, pair_at, single_at, pair_or_single, start_of, wrong, decimal_value, tokens_from, tokens_by, with_first, line_after, line_number}
+use Rattle.camac_tokens.specs.Scanning.{is_name_byte, is_blank, is_no_line_feed, keyword_or, number_or_fault, pair_at, single_at, pair_or_single, start_of, wrong, decimal_value, tokens_from, tokens_by, with_first, line_after, spot_at}
 use Rattle.camac_tokens.specs.Words.{keyword}
 
 -- the bytes that a start takes, and the token that it adds
@@ -23,9 +24,9 @@ size (start.Gap n) = n
 size (start.Found k n) = n
 size (start.Wrong case) = 0
 
-abbrev pub added : Start → ℕ → ℕ → List Token
-added (start.Found k n) line left = record { kind = k; line = line; left = left } ∷ []
-added _ line left = []
+abbrev pub added : Start → Spot → List Token
+added (start.Found k n) spot = record { kind = k; spot = spot } ∷ []
+added _ spot = []
 
 -- ---- the bytes at the start that pass a test
 
@@ -315,12 +316,12 @@ none_all (Ok ts) = refl
 none_all (Err e) = refl
 
 -- one step over what stands at the start
-pub start_step : (f : Start) (b line : ℕ) (bs : List ℕ) → wrong f ≡ None → 0 < size f → tokens_by f line (length (b ∷ bs)) (λ n. tokens_from n (line_after line b) bs) ≡ with_all (added f (line_number line) (length (b ∷ bs))) (tokens_from 0 (line + line_feeds (take (size f) (b ∷ bs))) (drop (size f) (b ∷ bs)))
+pub start_step : (f : Start) (b line : ℕ) (bs : List ℕ) → wrong f ≡ None → 0 < size f → tokens_by f (spot_at line (length (b ∷ bs))) (λ n. tokens_from n (line_after line b) bs) ≡ with_all (added f (spot_at line (length (b ∷ bs)))) (tokens_from 0 (line + line_feeds (take (size f) (b ∷ bs))) (drop (size f) (b ∷ bs)))
 unfolding tokens_from
 start_step (start.Gap zero) b line bs good some = absurd (omega arith)
 start_step (start.Gap (suc n)) b line bs good some = ap (λ (k : ℕ). tokens_from k (line_after line b) bs) (omega arith) ∙ skip_tokens (suc n) line (b ∷ bs) ∙ none_all _
 start_step (start.Found k zero) b line bs good some = absurd (omega arith)
-start_step (start.Found k (suc n)) b line bs good some = ap (λ (m : ℕ). with_first (record { kind = k; line = line_number line; left = length (b ∷ bs) }) (tokens_from m (line_after line b) bs)) (omega arith) ∙ ap (with_first (record { kind = k; line = line_number line; left = length (b ∷ bs) })) (skip_tokens (suc n) line (b ∷ bs)) ∙ first_all _ _
+start_step (start.Found k (suc n)) b line bs good some = ap (λ (m : ℕ). with_first (record { kind = k; spot = spot_at line (length (b ∷ bs)) }) (tokens_from m (line_after line b) bs)) (omega arith) ∙ ap (with_first (record { kind = k; spot = spot_at line (length (b ∷ bs)) })) (skip_tokens (suc n) line (b ∷ bs)) ∙ first_all _ _
 start_step (start.Wrong case) b line bs good some = absurd cc
 
 pub wrong_is : (f : Start) (case : TextCase) → wrong f ≡ Some case → f ≡ start.Wrong case

@@ -3,13 +3,14 @@ use Rattle.std.proofs.Common.{◌≡◌, ℕ, zero, suc, ◌+◌, ◌-◌, ◌�
 use Rattle.std.specs.Prelude.{take_while, slice_index}
 use Rattle.std.proofs.lemmas.List.{append-nil}
 use Rattle.std.proofs.lemmas.Bool.{eqb-true, ne_eqb}
+use Rattle.camac_lang.specs.declared.spot.Spot.{Spot}
 use Rattle.camac_tokens.specs.declared.token.Token.{Token}
 use Rattle.camac_tokens.specs.declared.token.TokenKind.{TokenKind}
 use Rattle.camac_tokens.specs.Start.{Start}
 use Rattle.camac_tokens.specs.Start as start
 use Rattle.camac_tokens.specs.declared.fault.TextCase.{TextCase}
 use Rattle.camac_tokens.specs.Fault.{Fault}
-use Rattle.camac_tokens.specs.Scanning.{is_blank, is_no_line_feed, start_of, wrong, with_first, tokens_by, tokens_from, line_after, line_number, tokens_of, last_line}
+use Rattle.camac_tokens.specs.Scanning.{is_blank, is_no_line_feed, start_of, wrong, with_first, tokens_by, tokens_from, line_after, line_number, spot_at, tokens_of, last_line}
 use Rattle.camac_tokens.proofs.Scans.{size, line_feeds, feeds-cons, lines_step, take_run, run_some, skip, with_all, none_all, start_step, sized_start, wrong_is}
 use Rattle.camac_tokens.specs.Left.{before_by, tokens_before, end_by, end_from, Ahead, ahead_from, ahead_of, with_next, IsStop, IsPastGaps, BeginsNoGap, IsPut}
 use Rattle.camac_tokens.proofs.OneLine.{run_feeds, OnOneLine, start_on_one_line, feeds_behind}
@@ -33,7 +34,7 @@ blank_is b bs is = on (is_blank b) _ _ is
 
 blank_past : (b line : ℕ) (bs : List ℕ) → is_blank b ≡ true → tokens_from 0 (line_after line b) bs ≡ tokens_from 0 line (b ∷ bs)
 unfolding tokens_from
-blank_past b line bs is = sym (ap (λ (f : Start). tokens_by f line (length (b ∷ bs)) (λ skip. tokens_from skip (line_after line b) bs)) (blank_is b bs is))
+blank_past b line bs is = sym (ap (λ (f : Start). tokens_by f (spot_at line (length (b ∷ bs))) (λ skip. tokens_from skip (line_after line b) bs)) (blank_is b bs is))
 
 no_feed : (b : ℕ) → is_no_line_feed b ≡ true → eqb b 10 ≡ false
 no_feed b e = off_not (eqb b 10) e where
@@ -58,7 +59,7 @@ comment_past b line bs is =
     let feeds : line_feeds (take (length (take_while is_no_line_feed (b ∷ bs))) (b ∷ bs)) ≡ 0 = comment_feeds b bs in
     let same : line + line_feeds (take (length (take_while is_no_line_feed (b ∷ bs))) (b ∷ bs)) ≡ line = omega (arith, feeds) in
     sym (
-    ap (λ (f : Start). tokens_by f line (length (b ∷ bs)) (λ skip. tokens_from skip (line_after line b) bs)) (comment_is b bs is)
+    ap (λ (f : Start). tokens_by f (spot_at line (length (b ∷ bs))) (λ skip. tokens_from skip (line_after line b) bs)) (comment_is b bs is)
     ∙ start_step (start.Gap n) b line bs refl (comment_some b bs is)
     ∙ sym (none_all _)
     ∙ ap (λ (l : ℕ). tokens_from 0 l (drop (length (take_while is_no_line_feed (b ∷ bs))) (b ∷ bs))) same
@@ -66,9 +67,9 @@ comment_past b line bs is =
 
 -- ---- the tokens before the first token fault
 
-before_step : (b line : ℕ) (bs : List ℕ) (f : Start) → start_of b (b ∷ bs) ≡ f → tokens_before 0 line (b ∷ bs) ≡ before_by f line (length (b ∷ bs)) (λ n. tokens_before n (line_after line b) bs)
+before_step : (b line : ℕ) (bs : List ℕ) (f : Start) → start_of b (b ∷ bs) ≡ f → tokens_before 0 line (b ∷ bs) ≡ before_by f (spot_at line (length (b ∷ bs))) (λ n. tokens_before n (line_after line b) bs)
 unfolding tokens_before
-before_step b line bs f is = ap (λ (g : Start). before_by g line (length (b ∷ bs)) (λ n. tokens_before n (line_after line b) bs)) is
+before_step b line bs f is = ap (λ (g : Start). before_by g (spot_at line (length (b ∷ bs))) (λ n. tokens_before n (line_after line b) bs)) is
 
 -- those after what stands at the start, which takes n bytes and no line feed
 before_behind : (n b line : ℕ) (bs : List ℕ) → 0 < n → line_feeds (take n (b ∷ bs)) ≡ 0 → tokens_before (n - 1) (line_after line b) bs ≡ tokens_before 0 line (drop n (b ∷ bs))
@@ -88,19 +89,19 @@ comment_before b line bs is =
     sym (before_step b line bs (start.Gap n) (comment_is b bs is) ∙ before_behind n b line bs (comment_some b bs is) (comment_feeds b bs))
 
 -- without a fault they are all
-by_all : (f : Start) (line left : ℕ) (more : ℕ → Result (List Token) Fault) (before : ℕ → List Token) → ((n : ℕ) (us : List Token) → more n ≡ Ok us → before n ≡ us)
-    → (ts : List Token) → tokens_by f line left more ≡ Ok ts → before_by f line left before ≡ ts
-by_all (start.Gap n) line left more before same ts e = same (n - 1) ts e
-by_all (start.Found k n) line left more before same ts e = first_of (more (n - 1)) refl e where
-  first_of : (r : Result (List Token) Fault) → more (n - 1) ≡ r → with_first (record { kind = k; line = line_number line; left = left }) r ≡ Ok ts → record { kind = k; line = line_number line; left = left } ∷ before (n - 1) ≡ ts
-  first_of (Ok us) at h = ap (λ (w : List Token). record { kind = k; line = line_number line; left = left } ∷ w) (same (n - 1) us at) ∙ (let both : _ ≡ ts = cc in both)
+by_all : (f : Start) (spot : Spot) (more : ℕ → Result (List Token) Fault) (before : ℕ → List Token) → ((n : ℕ) (us : List Token) → more n ≡ Ok us → before n ≡ us)
+    → (ts : List Token) → tokens_by f spot more ≡ Ok ts → before_by f spot before ≡ ts
+by_all (start.Gap n) spot more before same ts e = same (n - 1) ts e
+by_all (start.Found k n) spot more before same ts e = first_of (more (n - 1)) refl e where
+  first_of : (r : Result (List Token) Fault) → more (n - 1) ≡ r → with_first (record { kind = k; spot = spot }) r ≡ Ok ts → record { kind = k; spot = spot } ∷ before (n - 1) ≡ ts
+  first_of (Ok us) at h = ap (λ (w : List Token). record { kind = k; spot = spot } ∷ w) (same (n - 1) us at) ∙ (let both : _ ≡ ts = cc in both)
   first_of (Err d) at h = absurd cc
-by_all (start.Wrong case) line left more before same ts e = absurd cc
+by_all (start.Wrong case) spot more before same ts e = absurd cc
 
 pub all_before : (n line : ℕ) (bs : List ℕ) (ts : List Token) → tokens_from n line bs ≡ Ok ts → tokens_before n line bs ≡ ts
 unfolding tokens_from tokens_before
 all_before n line [] ts e = cc
-all_before zero line (b ∷ bs) ts e = by_all (start_of b (b ∷ bs)) line (length (b ∷ bs)) (λ n. tokens_from n (line_after line b) bs) (λ n. tokens_before n (line_after line b) bs) (λ n us h. all_before n (line_after line b) bs us h) ts e
+all_before zero line (b ∷ bs) ts e = by_all (start_of b (b ∷ bs)) (spot_at line (length (b ∷ bs))) (λ n. tokens_from n (line_after line b) bs) (λ n. tokens_before n (line_after line b) bs) (λ n us h. all_before n (line_after line b) bs us h) ts e
 all_before (suc n) line (b ∷ bs) ts e = all_before n (line_after line b) bs ts e
 
 pub whole_ahead : (text : List ℕ) (ts : List Token) → tokens_of text ≡ Ok ts → ahead_of text ≡ record { tokens = ts; end = Ok (last_line text) }
@@ -199,9 +200,9 @@ line_feed_is_past line (a ∷ b ∷ bs) some is above = rw is (
 
 -- ---- one token
 
-token_step : (b line : ℕ) (bs : List ℕ) (f : Start) → start_of b (b ∷ bs) ≡ f → tokens_from 0 line (b ∷ bs) ≡ tokens_by f line (length (b ∷ bs)) (λ skip. tokens_from skip (line_after line b) bs)
+token_step : (b line : ℕ) (bs : List ℕ) (f : Start) → start_of b (b ∷ bs) ≡ f → tokens_from 0 line (b ∷ bs) ≡ tokens_by f (spot_at line (length (b ∷ bs))) (λ skip. tokens_from skip (line_after line b) bs)
 unfolding tokens_from
-token_step b line bs f is = ap (λ (g : Start). tokens_by g line (length (b ∷ bs)) (λ skip. tokens_from skip (line_after line b) bs)) is
+token_step b line bs f is = ap (λ (g : Start). tokens_by g (spot_at line (length (b ∷ bs))) (λ skip. tokens_from skip (line_after line b) bs)) is
 
 found_some : (b : ℕ) (bs : List ℕ) (k : TokenKind) (n : ℕ) → start_of b (b ∷ bs) ≡ start.Found k n → (0 < n) × (n ≤ length (b ∷ bs))
 found_some b bs k n is =
@@ -212,12 +213,12 @@ pub found_size : (rest : List ℕ) (k : TokenKind) (n : ℕ) → 0 < length rest
 found_size [] k n some is = absurd (omega arith)
 found_size (b ∷ bs) k n some is = found_some b bs k n is
 
-token_goes : (line : ℕ) (rest : List ℕ) (k : TokenKind) (n : ℕ) → 0 < length rest → start_of (slice_index rest 0) rest ≡ start.Found k n → tokens_from 0 line rest ≡ with_all (record { kind = k; line = line_number line; left = length rest } ∷ []) (tokens_from 0 line (drop n rest))
+token_goes : (line : ℕ) (rest : List ℕ) (k : TokenKind) (n : ℕ) → 0 < length rest → start_of (slice_index rest 0) rest ≡ start.Found k n → tokens_from 0 line rest ≡ with_all (record { kind = k; spot = spot_at line (length rest) } ∷ []) (tokens_from 0 line (drop n rest))
 token_goes line [] k n some is = absurd (omega arith)
 token_goes line (b ∷ bs) k n some is =
     token_step b line bs (start.Found k n) is
     ∙ start_step (start.Found k n) b line bs refl (found_some b bs k n is).0
-    ∙ ap (λ (l : ℕ). with_all (record { kind = k; line = line_number line; left = length (b ∷ bs) } ∷ []) (tokens_from 0 l (drop n (b ∷ bs)))) (same_line line _ (subst (λ (f : Start). OnOneLine f (b ∷ bs)) is (start_on_one_line b bs)))
+    ∙ ap (λ (l : ℕ). with_all (record { kind = k; spot = spot_at line (length (b ∷ bs)) } ∷ []) (tokens_from 0 l (drop n (b ∷ bs)))) (same_line line _ (subst (λ (f : Start). OnOneLine f (b ∷ bs)) is (start_on_one_line b bs)))
 
 end_same : (us : List Token) (r : Result (List Token) Fault) (line : ℕ) → end_by (with_all us r) line ≡ end_by r line
 end_same us (Ok ts) line = refl
@@ -225,10 +226,10 @@ end_same us (Err e) line = refl
 
 -- what is ahead where a token stands: the token, and what is ahead behind it
 pub token_ahead : (line : ℕ) (rest : List ℕ) (k : TokenKind) (n : ℕ) → 0 < length rest → start_of (slice_index rest 0) rest ≡ start.Found k n
-    → with_next (Some (record { kind = k; line = line_number line; left = length rest })) line (drop n rest) ≡ ahead_from line rest
+    → with_next (Some (record { kind = k; spot = spot_at line (length rest) })) line (drop n rest) ≡ ahead_from line rest
 token_ahead line [] k n some is = absurd (omega arith)
 token_ahead line (b ∷ bs) k n some is =
-    let t : Token = record { kind = k; line = line_number line; left = length (b ∷ bs) } in
+    let t : Token = record { kind = k; spot = spot_at line (length (b ∷ bs)) } in
     let none : line_feeds (take n (b ∷ bs)) ≡ 0 = subst (λ (f : Start). OnOneLine f (b ∷ bs)) is (start_on_one_line b bs) in
     let tokens : tokens_before 0 line (b ∷ bs) ≡ t ∷ tokens_before 0 line (drop n (b ∷ bs)) = before_step b line bs (start.Found k n) is ∙ ap (λ (ts : List Token). t ∷ ts) (before_behind n b line bs (found_some b bs k n is).0 none) in
     let same : end_from line (b ∷ bs) ≡ end_from line (drop n (b ∷ bs)) =
@@ -268,8 +269,7 @@ put_left at rest None n some begins put = subst (λ (m : ℕ). PutLeft at rest N
 put_left at rest (Some t) n some begins put = record {
   fits = (found_size rest t.kind n some put.0).1;
   ahead =
-      ap (λ (l : ℕ). with_next (Some (record { kind = t.kind; line = l; left = t.left })) at (drop n rest)) put.1
-      ∙ ap (λ (m : ℕ). with_next (Some (record { kind = t.kind; line = line_number at; left = m })) at (drop n rest)) put.2
+      ap (λ (p : Spot). with_next (Some (record { kind = t.kind; spot = p })) at (drop n rest)) put.1
       ∙ token_ahead at rest t.kind n some put.0;
   stop = tt;
 }
@@ -280,7 +280,7 @@ end_here line [] e = ap (λ (l : ℕ). let r : Result ℕ Fault = Ok (line_numbe
 end_here line (b ∷ bs) e = absurd (omega arith)
 
 pub fault_here : (line : ℕ) (rest : List ℕ) (case : TextCase) → 0 < length rest → wrong (start_of (slice_index rest 0) rest) ≡ Some case
-    → end_from line rest ≡ Err (record { case = case; line = line_number line; left = length rest })
+    → end_from line rest ≡ Err (record { case = case; spot = spot_at line (length rest) })
 fault_here line [] case some bad = absurd (omega arith)
 fault_here line (b ∷ bs) case some bad = ap (λ (r : Result (List Token) Fault). end_by r (line_number (line_feeds (b ∷ bs) + line))) (token_step b line bs (start.Wrong case) (wrong_is (start_of b (b ∷ bs)) case bad))
 

@@ -9,6 +9,7 @@ use Rattle.std.proofs.lemmas.Bool.{lt-ltb, le-ltb, eqb-true}
 use Rattle.std.proofs.lemmas.Bool.Decides.{nat_tests}
 use Rattle.std.proofs.lemmas.List.Sums.{take_while-cons}
 use Rattle.std.proofs.lemmas.Slice.Eq.{bytes_eq-Decides}
+use Rattle.camac_lang.specs.declared.spot.Spot.{Spot}
 use Rattle.camac_tokens.specs.declared.token.Keyword.{Keyword}
 use Rattle.camac_tokens.specs.declared.token.Sign.{Sign}
 use Rattle.camac_tokens.specs.declared.token.Sign.TheVariants as sign
@@ -21,7 +22,7 @@ use Rattle.camac_tokens.specs.declared.fault.TextFault.{TextFault}
 use Rattle.camac_tokens.specs.declared.fault.TextFault.TheVariants as fault
 use Rattle.camac_tokens.specs.Fault.{Fault, AnswersList}
 use Rattle.camac_tokens.specs.Words.{Spelling, spelled_in, keyword, pair_signs, single_signs}
-use Rattle.camac_tokens.specs.Scanning.{is_name_byte, is_blank, is_no_line_feed, decimal_value, keyword_or, number_or_fault, pair_at, pair_or_single, start_of, wrong, line_number, tokens_from, tokens_of}
+use Rattle.camac_tokens.specs.Scanning.{is_name_byte, is_blank, is_no_line_feed, decimal_value, keyword_or, number_or_fault, pair_at, pair_or_single, start_of, wrong, spot_at, tokens_from, tokens_of}
 use Rattle.camac_tokens.proofs.Scans.{size, added, line_feeds, with_all, start_step}
 use Rattle.camac_tokens.specs.Cut.{begins, IsRun, IsWord, IsName, IsKeyword, IsNumber, IsSign, IsGap, Piece, IsPiece, joined, token_at, tokens_in, ArePieces, IsCut, HasTokens}
 
@@ -240,12 +241,12 @@ size_for : (k : Option TokenKind) (n : ℕ) → size (start_for k n) ≡ n
 size_for None n = refl
 size_for (Some k) n = refl
 
-added_for : (k : Option TokenKind) (n line left : ℕ) → added (start_for k n) (line_number line) left ≡ token_at k line left
-added_for None n line left = refl
-added_for (Some k) n line left = refl
+added_for : (k : Option TokenKind) (n : ℕ) (spot : Spot) → added (start_for k n) spot ≡ token_at k spot
+added_for None n spot = refl
+added_for (Some k) n spot = refl
 
 -- one step over a piece
-pub piece_step : (k : Option TokenKind) (line : ℕ) (bytes rest : List ℕ) → Starts k bytes rest → tokens_from 0 line (bytes ++ rest) ≡ with_all (token_at k line (length (bytes ++ rest))) (tokens_from 0 (line + line_feeds bytes) rest)
+pub piece_step : (k : Option TokenKind) (line : ℕ) (bytes rest : List ℕ) → Starts k bytes rest → tokens_from 0 line (bytes ++ rest) ≡ with_all (token_at k (spot_at line (length (bytes ++ rest)))) (tokens_from 0 (line + line_feeds bytes) rest)
 unfolding tokens_from
 piece_step k line [] rest f = absurd (omega (arith, f.some))
 piece_step k line (b ∷ bs) rest f =
@@ -255,17 +256,17 @@ piece_step k line (b ∷ bs) rest f =
     let sized : size g ≡ n = ap size f.start ∙ size_for k n in
     let some : 0 < size g = omega (arith, sized) in
     start_step g b line (bs ++ rest) good some
-    ∙ ap (λ (us : List Token). with_all us (tokens_from 0 (line + line_feeds (take (size g) ((b ∷ bs) ++ rest))) (drop (size g) ((b ∷ bs) ++ rest)))) (ap (λ (h : Start). added h (line_number line) (length ((b ∷ bs) ++ rest))) f.start ∙ added_for k n line (length ((b ∷ bs) ++ rest)))
-    ∙ ap (λ (m : ℕ). with_all (token_at k line (length ((b ∷ bs) ++ rest))) (tokens_from 0 (line + line_feeds (take m ((b ∷ bs) ++ rest))) (drop m ((b ∷ bs) ++ rest)))) sized
-    ∙ ap (λ (w : List ℕ). with_all (token_at k line (length ((b ∷ bs) ++ rest))) (tokens_from 0 (line + line_feeds w) (drop n ((b ∷ bs) ++ rest)))) (take-append_seam (b ∷ bs) rest)
-    ∙ ap (λ (w : List ℕ). with_all (token_at k line (length ((b ∷ bs) ++ rest))) (tokens_from 0 (line + line_feeds (b ∷ bs)) w)) (drop-append_seam (b ∷ bs) rest)
+    ∙ ap (λ (us : List Token). with_all us (tokens_from 0 (line + line_feeds (take (size g) ((b ∷ bs) ++ rest))) (drop (size g) ((b ∷ bs) ++ rest)))) (ap (λ (h : Start). added h (spot_at line (length ((b ∷ bs) ++ rest)))) f.start ∙ added_for k n (spot_at line (length ((b ∷ bs) ++ rest))))
+    ∙ ap (λ (m : ℕ). with_all (token_at k (spot_at line (length ((b ∷ bs) ++ rest)))) (tokens_from 0 (line + line_feeds (take m ((b ∷ bs) ++ rest))) (drop m ((b ∷ bs) ++ rest)))) sized
+    ∙ ap (λ (w : List ℕ). with_all (token_at k (spot_at line (length ((b ∷ bs) ++ rest)))) (tokens_from 0 (line + line_feeds w) (drop n ((b ∷ bs) ++ rest)))) (take-append_seam (b ∷ bs) rest)
+    ∙ ap (λ (w : List ℕ). with_all (token_at k (spot_at line (length ((b ∷ bs) ++ rest)))) (tokens_from 0 (line + line_feeds (b ∷ bs)) w)) (drop-append_seam (b ∷ bs) rest)
 
 pieces_read : (line : ℕ) (ps : List Piece) → ArePieces ps → tokens_from 0 line (joined ps) ≡ Ok (tokens_in line ps)
 unfolding tokens_from
 pieces_read line [] stand = refl
 pieces_read line (p ∷ ps) stand =
     piece_step p.kind line p.bytes (joined ps) (piece_starts p.kind p.bytes (joined ps) stand.0)
-    ∙ ap (with_all (token_at p.kind line (length (p.bytes ++ joined ps)))) (pieces_read (line + line_feeds p.bytes) ps stand.1)
+    ∙ ap (with_all (token_at p.kind (spot_at line (length (p.bytes ++ joined ps))))) (pieces_read (line + line_feeds p.bytes) ps stand.1)
 
 pub cut_tokens : (text : List ℕ) (ts : List Token) → IsCut text ts → tokens_of text ≡ Ok ts
 unfolding tokens_of
@@ -279,4 +280,4 @@ made_one us ts r p q = list_is us ts (sym p ∙ q) where
 pub answer_only : (text : List ℕ) (r : Result (Vec Token Global) TextFault) → AnswersList r (tokens_of text) → (ts : List Token) → IsCut text ts → HasTokens r ts
 answer_only text (Ok v) made ts c = made_one v.items ts (tokens_of text) made (cut_tokens text ts c)
 answer_only text (Err fault.OutOfMemory) made ts c = tt
-answer_only text (Err (fault.Broken case line left)) made ts c = let found : tokens_of text ≡ Ok ts = cut_tokens text ts c in let both = sym made ∙ found in absurd cc
+answer_only text (Err (fault.Broken case spot)) made ts c = let found : tokens_of text ≡ Ok ts = cut_tokens text ts c in let both = sym made ∙ found in absurd cc

@@ -7,7 +7,7 @@ use Rattle.camac_tokens.specs.declared.fault.TextCase.{TextCase}
 use Rattle.camac_tokens.specs.declared.fault.TextCase.TheVariants as told
 use Rattle.camac_tokens.specs.Fault.{Fault}
 use Rattle.camac_tokens.specs.Words.{keyword}
-use Rattle.camac_tokens.specs.Scanning.{decimal_value, line_number, tokens_of}
+use Rattle.camac_tokens.specs.Scanning.{decimal_value, spot_at, tokens_of}
 use Rattle.camac_tokens.specs.Cut.{begins, IsRun, IsWord, Piece, IsPiece, joined}
 
 -- pieces that stand before these bytes
@@ -54,8 +54,7 @@ pub record IsBrokenAt (text : List ℕ) (f : Fault) : Type 0 where
   pub stand : StandBefore rest pieces
   pub nothing : (kind : Option TokenKind) (bytes after : List ℕ) → rest ≡ bytes ++ after → IsPiece kind bytes after → ⊥
   pub why : Breaks f.case rest
-  pub line : f.line ≡ line_number (1 + count_by (λ b. b == 10) (joined pieces))
-  pub left : f.left ≡ length rest
+  pub place : f.spot ≡ spot_at (1 + count_by (λ b. b == 10) (joined pieces)) (length rest)
 
 -- a text has this token fault exactly where it is broken so
 abbrev pub TokenFaultsStand : Type 0

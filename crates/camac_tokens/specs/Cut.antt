@@ -3,6 +3,7 @@ use Rattle.std.specs.Prelude.{◌≡◌, ℕ, ◌+◌, ◌≤◌, ◌<◌, Bool,
 use Rattle.std.specs.Global.{Vec}
 use Rattle.std.specs.List.{list_all}
 use Rattle.std.specs.Char.{is_ascii_digit, is_ascii_alphabetic}
+use Rattle.camac_lang.specs.declared.spot.Spot.{Spot}
 use Rattle.camac_tokens.specs.declared.token.Keyword.{Keyword}
 use Rattle.camac_tokens.specs.declared.token.Sign.{Sign}
 use Rattle.camac_tokens.specs.declared.token.Token.{Token}
@@ -10,7 +11,7 @@ use Rattle.camac_tokens.specs.declared.token.TokenKind.{TokenKind}
 use Rattle.camac_tokens.specs.declared.token.TokenKind.TheVariants as kind
 use Rattle.camac_tokens.specs.declared.fault.TextFault.{TextFault}
 use Rattle.camac_tokens.specs.declared.fault.TextFault.TheVariants as fault
-use Rattle.camac_tokens.specs.Scanning.{is_name_byte, is_blank, is_no_line_feed, decimal_value, line_number, pair_at}
+use Rattle.camac_tokens.specs.Scanning.{is_name_byte, is_blank, is_no_line_feed, decimal_value, spot_at, pair_at}
 use Rattle.camac_tokens.specs.Words.{spelled_in, keyword, pair_signs, single_signs}
 
 -- the first byte passes a test
@@ -72,14 +73,14 @@ abbrev pub joined : List Piece → List ℕ
 joined [] = []
 joined (p ∷ ps) = p.bytes ++ joined ps
 
-abbrev pub token_at : Option TokenKind → ℕ → ℕ → List Token
-token_at None line left = []
-token_at (Some k) line left = record { kind = k; line = line_number line; left = left } ∷ []
+abbrev pub token_at : Option TokenKind → Spot → List Token
+token_at None spot = []
+token_at (Some k) spot = record { kind = k; spot = spot } ∷ []
 
 -- the tokens of pieces that begin on a line: that of a token is 1 plus the line feeds before it, and from its first byte on stand its bytes and all behind it
 abbrev pub tokens_in : ℕ → List Piece → List Token
 tokens_in line [] = []
-tokens_in line (p ∷ ps) = token_at p.kind line (length (joined (p ∷ ps))) ++ tokens_in (line + count_by (λ b. b == 10) p.bytes) ps
+tokens_in line (p ∷ ps) = token_at p.kind (spot_at line (length (joined (p ∷ ps)))) ++ tokens_in (line + count_by (λ b. b == 10) p.bytes) ps
 
 abbrev pub ArePieces : List Piece → Type 0
 ArePieces [] = Unit {0}
@@ -96,4 +97,4 @@ pub record IsCut (text : List ℕ) (tokens : List Token) : Type 0 where
 abbrev pub HasTokens : Result (Vec Token) TextFault → List Token → Type 0
 HasTokens (Ok v) tokens = v.items ≡ tokens
 HasTokens (Err fault.OutOfMemory) tokens = Unit {0}
-HasTokens (Err (fault.Broken case line left)) tokens = ⊥
+HasTokens (Err (fault.Broken case spot)) tokens = ⊥

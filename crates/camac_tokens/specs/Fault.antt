@@ -1,20 +1,20 @@
 -- A fault of a text, beside the refusals of memory.
-use Rattle.std.specs.Prelude.{◌≡◌, ℕ, Result, Ok, Err, List}
+use Rattle.std.specs.Prelude.{◌≡◌, Result, Ok, Err, List}
 use Rattle.std.specs.Global.{Vec}
+use Rattle.camac_lang.specs.declared.spot.Spot.{Spot}
 use Rattle.camac_tokens.specs.declared.fault.TextCase.{TextCase}
 use Rattle.camac_tokens.specs.declared.fault.TextFault.{TextFault}
 use Rattle.camac_tokens.specs.declared.fault.TextFault.TheVariants as fault
 
--- how a rule is broken, the line of the token that shows it, and how many bytes stand from its first byte on
+-- how a rule is broken, and where the token stands that shows it
 pub record Fault : Type 0 where
   pub case : TextCase
-  pub line : ℕ
-  pub left : ℕ
+  pub spot : Spot
 
 -- an error of the program: this fault, or memory that was refused
 abbrev pub Fails : {A : Type 0} → TextFault → Result A Fault → Type 0
 Fails fault.OutOfMemory read = Unit {0}
-Fails (fault.Broken case line left) read = read ≡ Err (record { case = case; line = line; left = left })
+Fails (fault.Broken case spot) read = read ≡ Err (record { case = case; spot = spot })
 
 -- The program answered the value that is read, or its fault, unless memory was refused.
 abbrev pub Answers : {A : Type 0} → Result A TextFault → Result A Fault → Type 0

@@ -1,5 +1,6 @@
 -- What is left of the tokens of a text.
 use Rattle.std.specs.Prelude.{◌≡◌, ℕ, zero, suc, ◌+◌, ◌-◌, ◌≤◌, ◌<◌, false, ◌==◌, List, [], ◌∷◌, length, count_by, slice_index, Option, Some, None, Result, Ok, Err}
+use Rattle.camac_lang.specs.declared.spot.Spot.{Spot}
 use Rattle.camac_tokens.specs.declared.token.Token.{Token}
 use Rattle.camac_tokens.specs.Start.{Start}
 use Rattle.camac_tokens.specs.Start as start
@@ -7,18 +8,18 @@ use Rattle.camac_tokens.specs.declared.fault.TextCase.{TextCase}
 use Rattle.camac_tokens.specs.declared.fault.TextFault.{TextFault}
 use Rattle.camac_tokens.specs.declared.fault.TextFault.TheVariants as fault
 use Rattle.camac_tokens.specs.Fault.{Fault}
-use Rattle.camac_tokens.specs.Scanning.{is_blank, start_of, wrong, line_number, line_after, tokens_from, tokens_of, last_line}
+use Rattle.camac_tokens.specs.Scanning.{is_blank, start_of, wrong, line_number, spot_at, line_after, tokens_from, tokens_of, last_line}
 
--- of what stands where so many bytes are left
-abbrev pub before_by : Start → ℕ → ℕ → (ℕ → List Token) → List Token
-before_by (start.Gap n) line left more = more (n - 1)
-before_by (start.Found k n) line left more = record { kind = k; line = line_number line; left = left } ∷ more (n - 1)
-before_by (start.Wrong case) line left more = []
+-- of what stands at a spot
+abbrev pub before_by : Start → Spot → (ℕ → List Token) → List Token
+before_by (start.Gap n) spot more = more (n - 1)
+before_by (start.Found k n) spot more = record { kind = k; spot = spot } ∷ more (n - 1)
+before_by (start.Wrong case) spot more = []
 
 -- The tokens before the first token fault, after so many bytes that belong to the one before, from a line on.
 unfoldable pub tokens_before : ℕ → ℕ → List ℕ → List Token
 tokens_before skip line [] = []
-tokens_before zero line (b ∷ bs) = before_by (start_of b (b ∷ bs)) line (length (b ∷ bs)) (λ skip. tokens_before skip (line_after line b) bs)
+tokens_before zero line (b ∷ bs) = before_by (start_of b (b ∷ bs)) (spot_at line (length (b ∷ bs))) (λ skip. tokens_before skip (line_after line b) bs)
 tokens_before (suc skip) line (b ∷ bs) = tokens_before skip (line_after line b) bs
 
 -- what ends them: the line of the text's end, or that fault
@@ -50,7 +51,7 @@ with_next (Some t) line bytes = record { tokens = t ∷ tokens_before 0 line byt
 abbrev pub EndIs : Result ℕ TextFault → Result ℕ Fault → Type 0
 EndIs (Ok line) end = end ≡ Ok line
 EndIs (Err fault.OutOfMemory) end = ⊥
-EndIs (Err (fault.Broken case line left)) end = end ≡ Err (record { case = case; line = line; left = left })
+EndIs (Err (fault.Broken case spot)) end = end ≡ Err (record { case = case; spot = spot })
 
 -- bytes that begin with neither a blank nor a comment
 abbrev pub BeginsNoGap : List ℕ → Type 0
@@ -78,5 +79,5 @@ eight_spaces = 32 ∷ 32 ∷ 32 ∷ 32 ∷ 32 ∷ 32 ∷ 32 ∷ 32 ∷ []
 
 -- the token at the start, of n bytes, is put in its place, with the line of its bytes and how many are left; or none, where something is wrong there
 abbrev pub IsPut : ℕ → Option Token → ℕ → ℕ → Start → Type 0
-IsPut n (Some t) line left f = (f ≡ start.Found t.kind n) × (t.line ≡ line) × (t.left ≡ left)
+IsPut n (Some t) line left f = (f ≡ start.Found t.kind n) × (t.spot ≡ record { line = line; left = left })
 IsPut n None line left f = (n ≡ 0) × ((case : TextCase) × (wrong f ≡ Some case))

@@ -1,6 +1,7 @@
 -- The one list of tokens of a text: at each place the longest.
 use Rattle.std.specs.Prelude.{ℕ, zero, suc, ◌+◌, ◌-◌, ◌*◌, min, Bool, not, ◌||◌, ◌==◌, nat_lt, if◌then◌else◌, List, [], ◌∷◌, length, fold, count_by, take_while, Option, Some, None, Result, Ok, Err}
 use Rattle.std.specs.Char.{is_ascii_digit, is_ascii_alphabetic}
+use Rattle.camac_lang.specs.declared.spot.Spot.{Spot}
 use Rattle.camac_tokens.specs.declared.token.Keyword.{Keyword}
 use Rattle.camac_tokens.specs.declared.token.Sign.{Sign}
 use Rattle.camac_tokens.specs.declared.token.Token.{Token}
@@ -74,6 +75,10 @@ wrong _ = None
 abbrev pub line_number : ℕ → ℕ
 line_number line = min line 4294967295
 
+-- where bytes stand that begin on a line, with so many left
+abbrev pub spot_at : ℕ → ℕ → Spot
+spot_at line left = record { line = line_number line; left = left }
+
 abbrev pub line_after : ℕ → ℕ → ℕ
 line_after line b = if b == 10 then line + 1 else line
 
@@ -81,16 +86,16 @@ abbrev pub with_first : Token → Result (List Token) Fault → Result (List Tok
 with_first t (Ok ts) = Ok (t ∷ ts)
 with_first t (Err e) = Err e
 
--- of what stands where so many bytes are left
-abbrev pub tokens_by : Start → ℕ → ℕ → (ℕ → Result (List Token) Fault) → Result (List Token) Fault
-tokens_by (start.Gap n) line left more = more (n - 1)
-tokens_by (start.Found k n) line left more = with_first (record { kind = k; line = line_number line; left = left }) (more (n - 1))
-tokens_by (start.Wrong case) line left more = Err (record { case = case; line = line_number line; left = left })
+-- of what stands at a spot
+abbrev pub tokens_by : Start → Spot → (ℕ → Result (List Token) Fault) → Result (List Token) Fault
+tokens_by (start.Gap n) spot more = more (n - 1)
+tokens_by (start.Found k n) spot more = with_first (record { kind = k; spot = spot }) (more (n - 1))
+tokens_by (start.Wrong case) spot more = Err (record { case = case; spot = spot })
 
 -- The tokens after so many bytes that belong to the one before, from a line on.
 unfoldable pub tokens_from : ℕ → ℕ → List ℕ → Result (List Token) Fault
 tokens_from skip line [] = Ok []
-tokens_from zero line (b ∷ bs) = tokens_by (start_of b (b ∷ bs)) line (length (b ∷ bs)) (λ skip. tokens_from skip (line_after line b) bs)
+tokens_from zero line (b ∷ bs) = tokens_by (start_of b (b ∷ bs)) (spot_at line (length (b ∷ bs))) (λ skip. tokens_from skip (line_after line b) bs)
 tokens_from (suc skip) line (b ∷ bs) = tokens_from skip (line_after line b) bs
 
 -- the one list of tokens of a text, or its first token fault

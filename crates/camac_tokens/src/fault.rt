@@ -4,6 +4,7 @@ ghost use Rattle.std.specs.Prelude.{◌≡◌};
 ghost use Rattle.camac_tokens.specs.declared.fault.TextFault.TheVariants.{OutOfMemory};
 ghost use Rattle.camac_tokens.specs.Rules.{rule_of};
 
+use camac_lang::Spot;
 use std::alloc::{AllocError, AllocFailed};
 use thiserror::Error;
 
@@ -138,13 +139,9 @@ pub enum TextFault {
     /// S8: a growth of memory was refused.
     #[error("out of memory")]
     OutOfMemory,
-    /// How the text breaks a rule, the line of the token that shows it, from 1, and how many bytes of the text stand from its first byte on.
-    #[error("line {line}: {case:?}")]
-    Broken {
-        case: TextCase,
-        line: u32,
-        left: usize,
-    },
+    /// How the text breaks a rule, and where the token stands that shows it.
+    #[error("line {}: {case:?}", .spot.line)]
+    Broken { case: TextCase, spot: Spot },
 }
 
 impl From<AllocError> for TextFault {

@@ -11,7 +11,7 @@ use crate::fault::{Limit, TextCase};
 use crate::scanner::{digits_text, name_text, number, pair_at, single_at};
 use crate::token::{Token, TokenKind};
 use crate::words::keyword;
-use camac_lang::{Name, limits};
+use camac_lang::{Name, Spot, limits};
 
 /// Puts the token at the start, the longest, in its place, and answers its number of bytes: 0, and no token, where a token fault stands.
 #[tactic(auto, unfolding(crate::specs::Scanning::start_of))]
@@ -41,7 +41,8 @@ fn put_word(next: &mut Option<Token>, text: &[u8], line: u32) -> usize
     let size = word.len();
     if let Some(keyword) = keyword(word) {
         let kind = TokenKind::Keyword(keyword);
-        *next = Some(Token { kind, line, left });
+        let spot = Spot { line, left };
+        *next = Some(Token { kind, spot });
         return size;
     }
     // A name is copied with what stands behind it. Where the text ends before, that takes another way: apart, so that all others come straight to their place.
@@ -65,7 +66,8 @@ fn put_name(next: &mut Option<Token>, text: &[u8], size: usize, line: u32) -> us
     }
     let kind = TokenKind::Name(Name::at_start(text, size));
     let left = text.len();
-    *next = Some(Token { kind, line, left });
+    let spot = Spot { line, left };
+    *next = Some(Token { kind, spot });
     size
 }
 
@@ -90,7 +92,8 @@ fn put_number(next: &mut Option<Token>, text: &[u8], line: u32) -> usize
         [digit, after, ..] if !after.is_ascii_digit() => {
             let kind = TokenKind::Number(u32::from(*digit - b'0'));
             let left = text.len();
-            *next = Some(Token { kind, line, left });
+            let spot = Spot { line, left };
+            *next = Some(Token { kind, spot });
             1
         }
         _ => put_long_number(next, text, line),
@@ -100,12 +103,15 @@ fn put_number(next: &mut Option<Token>, text: &[u8], line: u32) -> usize
 fn put_long_number(next: &mut Option<Token>, text: &[u8], line: u32) -> usize
     ensures { IsPut result next.new line (length text.now) (number_or_fault (take_while is_ascii_digit text.now)) }
 {
-    let left = text.len();
+    let spot = Spot {
+        line,
+        left: text.len(),
+    };
     let digits = digits_text(text);
     match number(digits) {
         Some(number) => {
             let kind = TokenKind::Number(number);
-            *next = Some(Token { kind, line, left });
+            *next = Some(Token { kind, spot });
             digits.len()
         }
         None => {
@@ -119,17 +125,20 @@ fn put_long_number(next: &mut Option<Token>, text: &[u8], line: u32) -> usize
 fn put_sign(next: &mut Option<Token>, text: &[u8], line: u32) -> usize
     ensures { IsPut result next.new line (length text.now) (pair_or_single (pair_at text.now) (single_at text.now)) }
 {
-    let left = text.len();
+    let spot = Spot {
+        line,
+        left: text.len(),
+    };
     match pair_at(text) {
         Some(sign) => {
             let kind = TokenKind::Sign(sign);
-            *next = Some(Token { kind, line, left });
+            *next = Some(Token { kind, spot });
             2
         }
         None => match single_at(text) {
             Some(sign) => {
                 let kind = TokenKind::Sign(sign);
-                *next = Some(Token { kind, line, left });
+                *next = Some(Token { kind, spot });
                 1
             }
             None => {

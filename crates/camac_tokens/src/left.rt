@@ -10,6 +10,7 @@ use crate::fault::TextFault;
 use crate::first::{fault_at, put_token};
 use crate::scanner::{comment_len, is_blank, line_number};
 use crate::token::Token;
+use camac_lang::Spot;
 use std::marker::Model;
 
 /// What is left of the tokens of a text (own): those before its first token fault, and what ends them, the line of the text's end or that fault.
@@ -77,8 +78,10 @@ impl<'a> TokensLeft<'a> {
         }
         Err(TextFault::Broken {
             case: fault_at(self.rest),
-            line,
-            left: self.rest.len(),
+            spot: Spot {
+                line,
+                left: self.rest.len(),
+            },
         })
     }
 }

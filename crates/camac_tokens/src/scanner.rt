@@ -35,13 +35,8 @@ fn scan(alloc: Global, text: &[u8]) -> Result<Vec<Token>, TextFault>
     let mut tokens = Vec::new(alloc);
     while let Some(token) = left.first() {
         let kind = token.kind.duplicate();
-        let line = token.line;
-        let bytes_left = token.left;
-        tokens.push(Token {
-            kind,
-            line,
-            left: bytes_left,
-        })?;
+        let spot = token.spot;
+        tokens.push(Token { kind, spot })?;
         left.advance();
     }
     left.end()?;

@@ -2,7 +2,7 @@
 
 ghost use Rattle.std.specs.Prelude.{◌≡◌};
 
-use camac_lang::Name;
+use camac_lang::{Name, Spot};
 
 /// A word that the language keeps for itself.
 #[derive(Clone, Copy, Debug, PartialEq, Eq)]
@@ -124,11 +124,10 @@ impl TokenKind {
     }
 }
 
-/// A token, its line, from 1, and how many bytes of the text stand from its first byte on. A line past 4294967295 has
+/// A token, and where it stands: its line, and how many bytes of the text stand from its first byte on. A line past 4294967295 has
 /// that number, so that no call needs a condition on the length of its text.
 #[derive(Drop)]
 pub struct Token {
     pub kind: TokenKind,
-    pub line: u32,
-    pub left: usize,
+    pub spot: Spot,
 }

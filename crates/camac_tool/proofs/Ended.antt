@@ -74,6 +74,7 @@ module _ (Judges : Judged → Type 0) (IsLong : Type 0) (s : Settings) (o p : Op
 pub none_replied : (q : Question) (o : Option (List ℕ)) → Replies q o o (Err Memory)
 none_replied (question.Plan a plan) o = Keeps-refl o
 none_replied (question.Script a plan script) o = Keeps-refl o
+none_replied (question.Known line column turns plan script) o = Keeps-refl o
 none_replied (question.Response plan script every within) o = Keeps-refl o
 none_replied (question.Events file) o = Keeps-refl o
 
@@ -98,6 +99,9 @@ started contents g g' w same inner empty =
 module _ (q : Question) (o o' given got : Option (List ℕ)) (held : List ℕ) (same : o' ≡ o) (kept : Keeps given (append_known got held)) where
   pub not_flushed : (done : Result Done ToolFault) → Replies q o' given done → HandsOn (Replies q) o got (Err Write)
   not_flushed done replies = (given, inr (refl, (done, subst (λ (x : Option (List ℕ)). Replies q x given done) same replies)), (held, kept))
+
+  pub flushed : held ≡ [] → (done : Done) → Replies q o' given (Ok done) → HandsOn (Replies q) o got (Ok done)
+  flushed empty done replies = (given, subst (λ (x : Option (List ℕ)). Replies q x given (Ok done)) same replies, subst (Keeps given) (ap (append_known got) empty ∙ nothing_held got) kept)
 
   pub faulted : (fault : ToolFault) → Replies q o' given (Err fault) → HandsOn (Replies q) o got (Err fault)
   faulted fault replies = (given, inl (subst (λ (x : Option (List ℕ)). Replies q x given (Err fault)) same replies), (held, kept))

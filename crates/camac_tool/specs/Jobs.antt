@@ -77,6 +77,7 @@ ExplainsRule code o p r = (rule : Rule) × IsRuleOf code (Some rule) × Tells (T
 abbrev pub Replies : Question → (o p : Option (List ℕ)) → Result Done ToolFault → Type 0
 Replies (question.Plan a plan) = Tells (PlanTells a)
 Replies (question.Script a plan script) = Tells (ScriptTells a)
+Replies (question.Known line column turns plan script) = Tells (ScriptTells (ask.ExplainAt line column turns.items))
 Replies (question.Response plan script every within) = Responds (map (λ w. w.now) every.items) (map (λ w. w.now) within.items)
 Replies (question.Events file) = Tells EventsTell
 
@@ -121,7 +122,7 @@ DoesJob (job.ExplainRule code) = ExplainsRule code.now
 DoesJob (job.Check plan script) = HandsOn (Tells (ScriptTells ask.Check))
 DoesJob (job.Explain plan script) = HandsOn (Tells (ScriptTells ask.Explain))
 DoesJob (job.ExplainBounds plan script) = HandsOn (Tells (ScriptTells ask.ExplainBounds))
-DoesJob (job.ExplainAt line column plan script) = HandsOn (Tells (ScriptTells (ask.ExplainAt line column)))
+DoesJob (job.ExplainAt line column turns plan script) = HandsOn (Tells (ScriptTells (ask.ExplainAt line column turns.items)))
 DoesJob (job.Bounds plan script) = HandsOn (Tells (ScriptTells ask.Bounds))
 DoesJob (job.Costs plan script) = HandsOn (Tells (ScriptTells ask.Costs))
 DoesJob (job.Response plan script every within) = HandsOn (Responds (map (λ w. w.now) every.items) (map (λ w. w.now) within.items))

@@ -15,8 +15,8 @@ mod streams;
 mod target;
 
 pub use camac_engines::{
-    Ask, Outcome, PlanAsk, PlanSource, Responded, ToolFault, answer, answer_plan, engine_bounds,
-    engine_check, engine_events, engine_plan, engine_response, sample_plan, status,
+    Ask, Outcome, PlanAsk, PlanSource, Responded, ToolFault, Turns, answer, answer_plan,
+    engine_bounds, engine_check, engine_events, engine_plan, engine_response, sample_plan, status,
 };
 pub use camac_tool_words::{Job, JobFault, read_words};
 pub use devices::run_on_devices;

@@ -20,8 +20,8 @@ use crate::places::hold_places;
 use crate::running::engine_drive;
 use crate::target::{Earlier, NewFile, keep_apart, settle};
 use camac_engines::{
-    Ask, Outcome, PlanAsk, PlanSource, Responded, ToolFault, answer, answer_plan, engine_events,
-    engine_explain_rule, engine_response, status,
+    Ask, Outcome, PlanAsk, PlanSource, Responded, ToolFault, Turns, answer, answer_plan,
+    engine_events, engine_explain_rule, engine_response, status,
 };
 use camac_explain::Rule;
 use camac_response::{Misuse, read_settings};
@@ -91,7 +91,9 @@ pub enum Done<'a> {
 #[derive(Drop)]
 pub enum Question<'a> {
     Plan(PlanAsk, &'a str),
-    Script(Ask, &'a str, &'a str),
+    Script(Ask<'a>, &'a str, &'a str),
+    /// What is known at a line and a column, in turns.
+    Known(u32, u32, Vec<u32>, &'a str, &'a str),
     Response(&'a str, &'a str, Vec<&'a str>, Vec<&'a str>),
     Events(&'a str),
 }
@@ -122,8 +124,8 @@ impl<'r, 'f, 'a, R: Runtime + AllocGlobal> Tool<'r, 'f, 'a, R> {
             Job::Check(plan, script) => self.ask(Ask::Check, plan, script, out),
             Job::Explain(plan, script) => self.ask(Ask::Explain, plan, script, out),
             Job::ExplainBounds(plan, script) => self.ask(Ask::ExplainBounds, plan, script, out),
-            Job::ExplainAt(line, column, plan, script) => {
-                self.ask(Ask::ExplainAt { line, column }, plan, script, out)
+            Job::ExplainAt(line, column, turns, plan, script) => {
+                self.gather(Question::Known(line, column, turns, plan, script), out)
             }
             Job::Bounds(plan, script) => self.ask(Ask::Bounds, plan, script, out),
             Job::Costs(plan, script) => self.ask(Ask::Costs, plan, script, out),
@@ -138,12 +140,12 @@ impl<'r, 'f, 'a, R: Runtime + AllocGlobal> Tool<'r, 'f, 'a, R> {
 
     fn ask<W: Write + Drop>(
         &self,
-        ask: Ask,
+        ask: Ask<'a>,
         plan: &'a str,
         script: &'a str,
         out: W,
     ) -> (Result<Done<'a>, ToolFault>, W)
-        ensures { HandsOn (Tells (ScriptTells ask)) (W.contents out) (W.contents result.1) result.0 }
+        ensures { HandsOn (Tells (ScriptTells ask.entry)) (W.contents out) (W.contents result.1) result.0 }
     {
         self.gather(Question::Script(ask, plan, script), out)
     }
@@ -181,6 +183,15 @@ impl<'r, 'f, 'a, R: Runtime + AllocGlobal> Tool<'r, 'f, 'a, R> {
         match question {
             Question::Plan(ask, plan) => self.ask_plan(ask, plan, out),
             Question::Script(ask, plan, script) => self.ask_script(ask, plan, script, out),
+            Question::Known(line, column, turns, plan, script) => {
+                let turns = Turns::of(&turns);
+                let ask = Ask::ExplainAt {
+                    line,
+                    column,
+                    turns,
+                };
+                self.ask_script(ask, plan, script, out)
+            }
             Question::Response(plan, script, every, within) => {
                 self.respond(plan, script, &every, &within, out)
             }
@@ -203,12 +214,12 @@ impl<'r, 'f, 'a, R: Runtime + AllocGlobal> Tool<'r, 'f, 'a, R> {
 
     fn ask_script<W: Write>(
         &self,
-        ask: Ask,
+        ask: Ask<'_>,
         plan: &'a str,
         script: &'a str,
         out: &mut Watched<W>,
     ) -> Result<Done<'a>, ToolFault>
-        ensures { Tells (ScriptTells ask) (W.contents (inner_of out.old)) (W.contents (inner_of out.new)) result }
+        ensures { Tells (ScriptTells ask.entry) (W.contents (inner_of out.old)) (W.contents (inner_of out.new)) result }
     {
         let mut plan = source_of(self.plan_input(plan)?);
         let mut script = Watched::new(open(self.rt, self.failure, script)?);

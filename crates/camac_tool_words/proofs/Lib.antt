@@ -1,2 +1,3 @@
 pub mod Faults
 mod Commands
+mod Numbers

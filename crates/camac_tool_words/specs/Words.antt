@@ -47,7 +47,7 @@ check_app = script_app (codes "check")
 
 abbrev pub explain_app : App
 explain_app =
-    with_rule (with_rule (with_rule (with_rule (new_app (codes "explain")) (named_rule (codes "PLAN"))) (optional_rule (codes "SCRIPT"))) (place_rule (codes "at"))) (option_rule (codes "bounds"))
+    with_rule (with_rule (with_rule (with_rule (with_rule (new_app (codes "explain")) (named_rule (codes "PLAN"))) (optional_rule (codes "SCRIPT"))) (place_rule (codes "at"))) (setting_rule (codes "turn"))) (option_rule (codes "bounds"))
 
 abbrev pub bounds_app : App
 bounds_app = script_app (codes "bounds")
@@ -83,7 +83,7 @@ name_of (Commands plan) = codes "plan"
 name_of (Check plan script) = codes "check"
 name_of (Explain plan script) = codes "explain"
 name_of (ExplainBounds plan script) = codes "explain"
-name_of (ExplainAt line column plan script) = codes "explain"
+name_of (ExplainAt line column turns plan script) = codes "explain"
 name_of (ExplainPlan plan) = codes "explain"
 name_of (ExplainRule code) = codes "explain"
 name_of (Bounds plan script) = codes "bounds"
@@ -100,7 +100,7 @@ ids_of (Commands plan) = codes "PLAN" ∷ []
 ids_of (Check plan script) = codes "PLAN" ∷ codes "SCRIPT" ∷ []
 ids_of (Explain plan script) = codes "PLAN" ∷ codes "SCRIPT" ∷ []
 ids_of (ExplainBounds plan script) = codes "PLAN" ∷ codes "SCRIPT" ∷ []
-ids_of (ExplainAt line column plan script) = codes "PLAN" ∷ codes "SCRIPT" ∷ []
+ids_of (ExplainAt line column turns plan script) = codes "PLAN" ∷ codes "SCRIPT" ∷ []
 ids_of (ExplainPlan plan) = codes "PLAN" ∷ []
 ids_of (ExplainRule code) = codes "PLAN" ∷ []
 ids_of (Bounds plan script) = codes "PLAN" ∷ codes "SCRIPT" ∷ []
@@ -116,7 +116,7 @@ words_of (Commands plan) = plan.now ∷ []
 words_of (Check plan script) = plan.now ∷ script.now ∷ []
 words_of (Explain plan script) = plan.now ∷ script.now ∷ []
 words_of (ExplainBounds plan script) = plan.now ∷ script.now ∷ []
-words_of (ExplainAt line column plan script) = plan.now ∷ script.now ∷ []
+words_of (ExplainAt line column turns plan script) = plan.now ∷ script.now ∷ []
 words_of (ExplainPlan plan) = plan.now ∷ []
 words_of (ExplainRule code) = code.now ∷ []
 words_of (Bounds plan script) = plan.now ∷ script.now ∷ []
@@ -133,7 +133,7 @@ inputs_of (Commands plan) = plan.now ∷ []
 inputs_of (Check plan script) = plan.now ∷ script.now ∷ []
 inputs_of (Explain plan script) = plan.now ∷ script.now ∷ []
 inputs_of (ExplainBounds plan script) = plan.now ∷ script.now ∷ []
-inputs_of (ExplainAt line column plan script) = plan.now ∷ script.now ∷ []
+inputs_of (ExplainAt line column turns plan script) = plan.now ∷ script.now ∷ []
 inputs_of (ExplainPlan plan) = plan.now ∷ []
 inputs_of (ExplainRule code) = []
 inputs_of (Bounds plan script) = plan.now ∷ script.now ∷ []
@@ -156,12 +156,22 @@ has_code_form [] = false
 has_code_form (c ∷ []) = false
 has_code_form (c ∷ d ∷ cs) = ((nat_le 65 c && nat_le c 90) && is_digit d) && are_digits cs
 
--- decimal digits alone, and the number from 1 on that they write
-pub record IsCount (digits : Text) (n : ℕ) : Type 0 where
+-- decimal digits alone, and the number that they write
+pub record IsNumber (digits : Text) (n : ℕ) : Type 0 where
   pub numeral : IsNumeral 10 digits
   pub value : n ≡ digits_value 10 digits
-  pub least : 1 ≤ n
   pub most : n < 2 ^ 32
+
+-- from 1 on
+pub record IsCount (digits : Text) (n : ℕ) : Type 0 where
+  pub number : IsNumber digits n
+  pub least : 1 ≤ n
+
+-- each of these words writes the number of its place
+abbrev pub AreNumbers : List Text → List ℕ → Type 0
+AreNumbers [] [] = Unit {0}
+AreNumbers (word ∷ words) (n ∷ ns) = IsNumber word n × AreNumbers words ns
+AreNumbers words ns = ⊥
 
 -- on the two sides of the first colon
 abbrev pub is_colon : ℕ → Bool
@@ -183,17 +193,22 @@ is_on id rows = is_true (first_of id rows)
 abbrev pub values_of : Text → List Row → List Text
 values_of id rows = unwrap_or (all_of id rows) []
 
--- what tells jobs of one subcommand apart: the option of `plan`; whether `explain` is given a place or asked of bounds, else whether it is given
--- a script, else whether its word may be a code; and what stands after the options of `response`
+-- `explain` is given no place, and no turn
+abbrev pub IsOfWhole : List Row → Type 0
+IsOfWhole rows = (first_of (codes "at") rows ≡ None) × (first_of (codes "turn") rows ≡ None)
+
+-- what tells jobs of one subcommand apart: the option of `plan`; whether `explain` is given a place, with turns, or asked of bounds, else whether it
+-- is given a script, else whether its word may be a code; and what stands after the options of `response`
 abbrev pub HasForm : Job → List Row → Type 0
 HasForm (Plan plan) rows = is_on (codes "commands") rows ≡ false
 HasForm (Commands plan) rows = is_on (codes "commands") rows ≡ true
-HasForm (Explain plan script) rows = (first_of (codes "at") rows ≡ None) × (is_on (codes "bounds") rows ≡ false)
-HasForm (ExplainBounds plan script) rows = (first_of (codes "at") rows ≡ None) × (is_on (codes "bounds") rows ≡ true)
-HasForm (ExplainAt line column plan script) rows =
-    (is_on (codes "bounds") rows ≡ false) × (word : Text) × (first_of (codes "at") rows ≡ Some word) × IsPlace word line column
-HasForm (ExplainPlan plan) rows = (first_of (codes "at") rows ≡ None) × (is_on (codes "bounds") rows ≡ false) × (first_of (codes "SCRIPT") rows ≡ None) × (has_code_form plan.now ≡ false)
-HasForm (ExplainRule code) rows = (first_of (codes "at") rows ≡ None) × (is_on (codes "bounds") rows ≡ false) × (first_of (codes "SCRIPT") rows ≡ None) × (has_code_form code.now ≡ true)
+HasForm (Explain plan script) rows = IsOfWhole rows × (is_on (codes "bounds") rows ≡ false)
+HasForm (ExplainBounds plan script) rows = IsOfWhole rows × (is_on (codes "bounds") rows ≡ true)
+HasForm (ExplainAt line column turns plan script) rows =
+    (is_on (codes "bounds") rows ≡ false) × AreNumbers (values_of (codes "turn") rows) turns.items
+    × (word : Text) × (first_of (codes "at") rows ≡ Some word) × IsPlace word line column
+HasForm (ExplainPlan plan) rows = IsOfWhole rows × (is_on (codes "bounds") rows ≡ false) × (first_of (codes "SCRIPT") rows ≡ None) × (has_code_form plan.now ≡ false)
+HasForm (ExplainRule code) rows = IsOfWhole rows × (is_on (codes "bounds") rows ≡ false) × (first_of (codes "SCRIPT") rows ≡ None) × (has_code_form code.now ≡ true)
 HasForm (Response plan script every within) rows =
     (map (λ w. w.now) every.items ≡ values_of (codes "every") rows) × (map (λ w. w.now) within.items ≡ values_of (codes "within") rows)
 HasForm _ rows = Unit {0}

@@ -74,15 +74,15 @@ fn option<'a>(alloc: Global, name: &'a str, help: &'a str) -> Arg<'a>
         .help(help)
 }
 
-// An option with a value for a service, which may stand several times, and what help says of it.
-fn setting<'a>(alloc: Global, name: &'a str, help: &'a str) -> Arg<'a>
+// An option with a value, which may stand several times, what the value is shown as, and what help says of it.
+fn setting<'a>(alloc: Global, name: &'a str, shown: &'a str, help: &'a str) -> Arg<'a>
     ensures rule { rule_of result ≡ setting_rule name.entry.now }
     ensures local { result.global ≡ false }
 {
     Arg::new(alloc, name)
         .long(name)
         .action(ArgAction::Append)
-        .value_name("SERVICE=CYCLES")
+        .value_name(shown)
         .help(help)
 }
 
@@ -150,6 +150,7 @@ fn explain_command<'a>(alloc: Global) -> Result<Command<'a>, AllocError>
     .arg(named_word(alloc, "PLAN", "PLAN|CODE", texts::PLAN_OR_CODE))?
     .arg(optional_word(alloc, "SCRIPT", texts::SCRIPT))?
     .arg(place_option(alloc, "at", texts::AT))?
+    .arg(setting(alloc, "turn", "N", texts::TURN))?
     .arg(option(alloc, "bounds", texts::EXPLAIN_BOUNDS))
 }
 
@@ -177,8 +178,8 @@ fn response_command<'a>(alloc: Global) -> Result<Command<'a>, AllocError>
         texts::RESPONSE_COMMAND,
         texts::AFTER_RESPONSE,
     )?
-    .arg(setting(alloc, "every", texts::EVERY))?
-    .arg(setting(alloc, "within", texts::WITHIN))
+    .arg(setting(alloc, "every", "SERVICE=CYCLES", texts::EVERY))?
+    .arg(setting(alloc, "within", "SERVICE=CYCLES", texts::WITHIN))
 }
 
 /// The usage fault of a word after an option of `response` that is no SERVICE=CYCLES.

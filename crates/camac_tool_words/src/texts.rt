@@ -39,6 +39,8 @@ pub const COMMANDS: &str = "Lists the commands of each type, too";
 
 pub const AT: &str = "Prints what is known before the statement there";
 
+pub const TURN: &str = "The turn of the 'each' around it that is meant";
+
 pub const EXPLAIN_BOUNDS: &str = "Explains what bounds refuses";
 
 pub const SCRIPT: &str = "A script: a file, or @in, standard input";
@@ -115,11 +117,15 @@ code, so give a plan with such a name as ./E12.
 With --at it prints what the checker knows before the statement at that place:
 'reached', then a line for each variable with its range, for each register that is
 set with its crates, stations and sub-addresses, and for each locked crate; or
-'not reached' (status 0). If no statement is there, it says so (status 1).
+'not reached' (status 0). If no statement is there, it says so (status 1). In a
+'for' with 'each' that is what holds in all turns; with --turn N what is known in
+the turn in which its variable is N. For nested loops --turn can stand several
+times, the outermost loop first.
 
 Examples:
   camac explain E12
   camac explain --at 6:3 plan.toml readout.script
+  camac explain --at 6:3 --turn 2 plan.toml readout.script
   camac explain --bounds plan.toml readout.script
   camac explain plan.toml
   camac explain plan.toml readout.script

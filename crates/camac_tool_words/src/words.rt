@@ -1,10 +1,10 @@
 // What the words after the program's name ask for.
 
-ghost use Rattle.std.specs.Prelude.{◌≡◌, ◌≤◌, ◌↔◌, ℕ, IfNone, IfSome, IsTrue, option_map, map, string_bytes, codes, Some, IfOk, IfErr};
+ghost use Rattle.std.specs.Prelude.{◌≡◌, ◌≤◌, ◌↔◌, ℕ, List, IfNone, IfSome, IsTrue, false, option_map, map, string_bytes, codes, None, Some, IfOk, IfErr};
 ghost use Rattle.std.specs.Str.{bytes_eq};
 ghost use Rattle.clap.specs.Words.{first_of, found_of, rows_of, subcommand_of, subcommand_rows_of};
 ghost use Rattle.camac_tool_words.specs.declared.words.JobFault.TheVariants.{Usage};
-ghost use Rattle.camac_tool_words.specs.Words.{camac_app, IsCount, IsPlace, are_digits, has_code_form, is_digit, is_on, IsJob, IsFaultOf, IsOfMemory, NamesJob, input_count_of, values_of};
+ghost use Rattle.camac_tool_words.specs.Words.{camac_app, AreNumbers, IsCount, IsNumber, IsPlace, are_digits, has_code_form, is_digit, is_on, IsJob, IsFaultOf, IsOfMemory, NamesJob, input_count_of, values_of};
 
 use crate::command::camac_command;
 use clap::error::ErrorKind;
@@ -21,8 +21,8 @@ pub enum Job<'a> {
     Explain(&'a str, &'a str),
     /// Why the least headings of a script on a plan are refused.
     ExplainBounds(&'a str, &'a str),
-    /// A line and a column, from 1, a plan and a script.
-    ExplainAt(u32, u32, &'a str, &'a str),
+    /// A line and a column, from 1, the numbers after `--turn`, a plan and a script.
+    ExplainAt(u32, u32, Vec<u32>, &'a str, &'a str),
     ExplainPlan(&'a str),
     /// A word that has the form of a code.
     ExplainRule(&'a str),
@@ -73,7 +73,7 @@ pub fn read_words<'a>(alloc: Global, words: &'a [String]) -> Result<Job<'a>, Job
         // Of `explain` alone: the other words are required.
         let error = command.error(
             ErrorKind::ValueValidation,
-            "'--at <LINE:COLUMN>' needs two numbers from 1, a plan and a script; '--bounds' needs a plan and a script",
+            "'--at <LINE:COLUMN>' needs two numbers from 1, a plan and a script; '--turn <N>' needs a number and '--at'; '--bounds' needs a plan and a script",
         )?;
         return Err(JobFault::Usage(error));
     };
@@ -139,17 +139,43 @@ fn check_job<'a>(found: &ArgMatches<'a>) -> Option<Job<'a>>
     Some(Job::Check(value_of(found, "PLAN")?, value_of(found, "SCRIPT")?))
 }
 
-fn explain_job<'a>(found: &ArgMatches<'a>) -> Option<Job<'a>>
+fn explain_job<'a>(alloc: Global, found: &ArgMatches<'a>) -> Result<Option<Job<'a>>, AllocError>
+    ensures { IfOk result (NamesJob (Some (codes "explain", rows_of (found_of found.now)))) }
+{
+    let Some(place) = value_of(found, "at") else {
+        return Ok(whole_job(found));
+    };
+    if is_on(found, "bounds") {
+        return Ok(None);
+    }
+    let turns = values_of(alloc, found, "turn")?;
+    match numbers_in(alloc, &turns)? {
+        Some(turns) => Ok(place_job(found, place, turns)),
+        None => Ok(None),
+    }
+}
+
+// That of `explain` at a place.
+fn place_job<'a>(found: &ArgMatches<'a>, place: &str, turns: Vec<u32>) -> Option<Job<'a>>
+    requires bounds { is_on (codes "bounds") (rows_of (found_of found.now)) ≡ false }
+    requires place { first_of (codes "at") (rows_of (found_of found.now)) ≡ Some place.now }
+    requires turns { AreNumbers (values_of (codes "turn") (rows_of (found_of found.now))) turns.items }
     ensures { NamesJob (Some (codes "explain", rows_of (found_of found.now))) result }
 {
+    let (line, column) = place_in(place)?;
     let plan = value_of(found, "PLAN")?;
-    if let Some(place) = value_of(found, "at") {
-        if is_on(found, "bounds") {
-            return None;
-        }
-        let (line, column) = place_in(place)?;
-        return Some(Job::ExplainAt(line, column, plan, value_of(found, "SCRIPT")?));
+    Some(Job::ExplainAt(line, column, turns, plan, value_of(found, "SCRIPT")?))
+}
+
+// That of `explain` without a place.
+fn whole_job<'a>(found: &ArgMatches<'a>) -> Option<Job<'a>>
+    requires { first_of (codes "at") (rows_of (found_of found.now)) ≡ None }
+    ensures { NamesJob (Some (codes "explain", rows_of (found_of found.now))) result }
+{
+    if let Some(_) = value_of(found, "turn") {
+        return None;
     }
+    let plan = value_of(found, "PLAN")?;
     if is_on(found, "bounds") {
         return Some(Job::ExplainBounds(plan, value_of(found, "SCRIPT")?));
     }
@@ -183,14 +209,37 @@ fn count_in(digits: &str) -> Option<u32>
     ensures some { IfSome result (λ n. IsCount digits.now n) }
     ensures none { IfNone result ((n : ℕ) → IsCount digits.now n → ⊥) }
 {
-    if digits.starts_with('+') {
-        return None;
-    }
-    let count = digits.parse::<u32>().ok()?;
+    let count = number_in(digits)?;
     if count == 0 {
         return None;
     }
     Some(count)
+}
+
+// The number of decimal digits without a sign.
+fn number_in(digits: &str) -> Option<u32>
+    ensures some { IfSome result (λ n. IsNumber digits.now n) }
+    ensures none { IfNone result ((n : ℕ) → IsNumber digits.now n → ⊥) }
+{
+    if digits.starts_with('+') {
+        return None;
+    }
+    digits.parse::<u32>().ok()
+}
+
+// The numbers that words write, if each of them writes one.
+fn numbers_in(alloc: Global, words: &[&str]) -> Result<Option<Vec<u32>>, AllocError>
+    ensures some { IfOk result (λ o. IfSome o (λ v. AreNumbers (map (λ w. w.now) words.now) v.items)) }
+    ensures none { IfOk result (λ o. IfNone o ((ns : List ℕ) → AreNumbers (map (λ w. w.now) words.now) ns → ⊥)) }
+{
+    let mut numbers = Vec::new(alloc);
+    'words: for word in words {
+        let Some(number) = number_in(word) else {
+            return Ok(None);
+        };
+        numbers.push(number)?;
+    }
+    Ok(Some(numbers))
 }
 
 // Whether a word is a capital letter and digits after it.
@@ -285,20 +334,22 @@ fn job_in<'a>(
     if is_word(name, "response") {
         return response_job(alloc, found);
     }
+    if is_word(name, "explain") {
+        return explain_job(alloc, found);
+    }
     Ok(plain_job(name, found))
 }
 
 // That of a subcommand whose words each have one value.
 fn plain_job<'a>(name: &str, found: &ArgMatches<'a>) -> Option<Job<'a>>
-    requires { name.now ≡ codes "response" → ⊥ }
+    requires response { name.now ≡ codes "response" → ⊥ }
+    requires explain { name.now ≡ codes "explain" → ⊥ }
     ensures { NamesJob (Some (name.now, rows_of (found_of found.now))) result }
 {
     if is_word(name, "plan") {
         plan_job(found)
     } else if is_word(name, "check") {
         check_job(found)
-    } else if is_word(name, "explain") {
-        explain_job(found)
     } else if is_word(name, "bounds") {
         bounds_job(found)
     } else if is_word(name, "costs") {
@@ -339,7 +390,7 @@ fn input_count(job: &Job<'_>) -> usize
         Job::Check(plan, script)
         | Job::Explain(plan, script)
         | Job::ExplainBounds(plan, script)
-        | Job::ExplainAt(_, _, plan, script)
+        | Job::ExplainAt(_, _, _, plan, script)
         | Job::Bounds(plan, script)
         | Job::Costs(plan, script)
         | Job::Response(plan, script, _, _) => is_in(plan) + is_in(script),

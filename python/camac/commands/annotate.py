@@ -1,13 +1,20 @@
 """annotate: lists a run with each answer line beside its operation."""
 import argparse
-from typing import Any
+import itertools
+import tempfile
+from typing import Any, Iterator, Mapping, Optional, Tuple
 
-from camac.annotate import FIRST_LINE, annotate
-from camac.commands.options import add_overwrite
-from camac.commands.running import DONE, REFUSED
-from camac.drive import STATUS
+from camac.commands.running import DONE, REFUSED, add_every, add_overwrite, read_every
+from camac.contradictions import Contradictions, plan_of
+from camac.drive import STATUS, File, Refused
 from camac.output import anything, made_like, output
-from camac.values import RunEnd
+from camac.printed import parse_listing
+from camac.program import lines_of
+from camac.subcommands import response
+from camac.values import Demand, Item, RunEnd, Unlock
+
+ANSWER = 19
+NUMBER = "{:>7}  "
 
 
 def add_to(commands: Any) -> None:
@@ -15,14 +22,51 @@ def add_to(commands: Any) -> None:
     for name in ("plan", "script", "answers"):
         it.add_argument(name, metavar=name.upper())
     it.add_argument("-o", "--out", metavar="TEXT", help="the file to write; else standard output")
+    add_every(it)
     add_overwrite(it)
-    it.set_defaults(do=make_annotated)
+    it.set_defaults(do=make_annotated, read=read)
+
+
+def read(args: argparse.Namespace, its: argparse.ArgumentParser) -> None:
+    args.every = read_every(args.every, its)
 
 
 def make_annotated(args: argparse.Namespace) -> int:
     status = DONE
-    with output(args.out, anything if args.overwrite else made_like(FIRST_LINE)) as out:
-        for line, it in annotate(args.plan, args.script, args.answers):
+    # What begins an annotated line that has an answer is the mark of such a file.
+    with output(args.out, anything if args.overwrite else made_like(NUMBER.format(1))) as out:
+        for line, it in annotate(args.plan, args.script, args.answers, every=args.every):
             status = REFUSED if isinstance(it, RunEnd) and STATUS[it.how] else status
             out.write(line + "\n")
     return status
+
+
+def annotate(
+    plan: File, script: File, answers: File, program: Optional[File] = None, every: Optional[Mapping[str, int]] = None
+) -> Iterator[Tuple[str, Optional[Item]]]:
+    """Plays a script against answers, and yields a line for each operation, with the operation: the number of its answer line, that line, and what the
+    program lists. Cycles and locks are further right than the demands, whose services are counted. An answer that ended the run is beside
+    the last line. The number of answer lines that were not used follows it, and what contradicts the plan, and the rates in `every`.
+
+    Raises OSError if a file cannot be read, and Refused, UsageFault and ProgramFault as `camac.run`."""
+    seen = Contradictions(response(plan, script, every, program) if every else ())
+    with open(answers, "rb") as file, tempfile.NamedTemporaryFile(suffix=".events") as events:
+        numbers, services = itertools.count(1), 0
+        lines, again = itertools.tee(lines_of("run", "--", plan, script, answers, events.name, program=program))
+        for line, it in zip(lines, parse_listing(again)):
+            if isinstance(it, RunEnd) and it.is_refused_script():
+                raise Refused(line)
+            if isinstance(it, Demand) and it.service:
+                services += 1
+                line += f"   (service {services})"
+            begin, right = f"{'':>7}  {'no answer' if isinstance(it, Unlock) else '':<{ANSWER}}", "" if isinstance(it, (Demand, RunEnd)) else "  "
+            if not isinstance(it, Unlock) and (not isinstance(it, RunEnd) or STATUS[it.how]):
+                answer = file.readline()
+                seen.take(it, answer)
+                begin = f"{NUMBER.format(next(numbers))}{answer.decode('utf-8', 'replace').rstrip():<{ANSWER}}"
+            yield f"{begin}  {right}{line}", it
+        left = sum(1 for _ in file)
+        if left:
+            count = "1 answer line was" if left == 1 else f"{left} answer lines were"
+            yield f"{'':>7}  {count} not used; the next is line {next(numbers)}", None
+    yield from ((f"{'':>7}  {it.text()}", None) for it in seen.found(plan_of(plan, program)) or ())

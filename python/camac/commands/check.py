@@ -1,18 +1,16 @@
 """check: judges scripts, and warns of probable mistakes. `camac-check` is this module alone, without what draws and reports."""
 import argparse
 import sys
-from typing import Any, List, Optional
+from typing import Any, List
 
 from camac import judge
 from camac.commands.running import STATUS, main, refuse_pipes
-from camac.drive import File
 from camac.output import say
 from camac.program import quickest, version
 
 
 def add_to(commands: Any) -> None:
-    raw = argparse.RawDescriptionHelpFormatter
-    _fill(commands.add_parser("check", prog="camac-check", help="Judges scripts, and warns of probable mistakes", epilog=STATUS, formatter_class=raw))
+    _fill(commands.add_parser("check", prog="camac-check", help="Judges scripts, and warns of probable mistakes", epilog=STATUS))
 
 
 def _fill(it: argparse.ArgumentParser) -> None:
@@ -39,19 +37,17 @@ class _Version(argparse.Action):
 def do(args: argparse.Namespace) -> int:
     program = quickest()
     judged = judge.judge(args.plan, args.scripts, program, args.write, args.keeps)
-    say(_text(judged, args.format, program))
+    if args.format == "sarif":
+        from camac.sarif import sarif
+
+        text = sarif(judged, version(program))
+    else:
+        text = judge.text_of(judged, args.format)
+    say(text)
     note = judge.note(program)
     if note and args.format not in ("json", "sarif"):
         print(f"camac: {note}", file=sys.stderr)
     return judge.status(judged, args.strict)
-
-
-def _text(judged: List[judge.Judged], form: str, program: Optional[File]) -> str:
-    if form != "sarif":
-        return judge.text_of(judged, form)
-    from camac.sarif import sarif
-
-    return sarif(judged, version(program))
 
 
 def parse(words: List[str]) -> argparse.Namespace:

@@ -1,14 +1,17 @@
-"""csv: makes a table of a listing."""
+"""csv: makes a table of a listing, of comma-separated values (RFC 4180, with LF): for spreadsheets and for programs that read it."""
 import argparse
+import csv
 import errno
 import os
 import sys
-from typing import Any, TextIO
+from typing import Any, Dict, Iterable, Iterator, List, TextIO
 
-from camac import tables
-from camac.commands.options import add_overwrite
-from camac.commands.running import DONE
+from camac.commands.running import DONE, add_overwrite
 from camac.output import anything, made_like, output
+from camac.printed import parse_listing
+from camac.values import Cycle, Demand, Item, Move, RunEnd
+
+LISTING = "number,operation,service,pattern,crate,station,sub_address,function,move,word,x,q,wait"
 
 
 def add_to(commands: Any) -> None:
@@ -21,14 +24,32 @@ def add_to(commands: Any) -> None:
 
 
 def make_csv(args: argparse.Namespace) -> int:
-    with output(args.out, anything if args.overwrite else made_like(",".join(tables.LISTING))) as out:
-        with open_listing(args.file) as listing:
-            tables.write_listing(listing, out)
+    is_standard = args.file == "-"
+    with output(args.out, anything if args.overwrite else made_like(LISTING)) as out:
+        if is_standard and sys.stdin is None:
+            raise OSError(errno.EBADF, os.strerror(errno.EBADF), "standard input")
+        with open(0 if is_standard else args.file, encoding="utf-8", errors="replace", newline="\n", closefd=not is_standard) as listing:
+            write_listing(listing, out)
     return DONE
 
 
-def open_listing(name: str) -> TextIO:
-    is_standard = name == "-"
-    if is_standard and sys.stdin is None:
-        raise OSError(errno.EBADF, os.strerror(errno.EBADF), "standard input")
-    return open(0 if is_standard else name, encoding="utf-8", errors="replace", newline="\n", closefd=not is_standard)
+def write_listing(lines: Iterable[str], out: TextIO) -> None:
+    """Writes a line for each operation of a listing, given by its lines, and none for its last line. Numbers are decimal; what an operation
+    does not have is empty.
+
+    Raises ValueError at a line that is none of a listing, and OSError if it cannot be written."""
+    writer = csv.writer(out, lineterminator="\n")
+    writer.writerow(LISTING.split(","))
+    writer.writerows(_rows(parse_listing(lines)))
+
+
+def _rows(items: Iterator[Item]) -> Iterator[List[object]]:
+    service = None
+    for number, it in enumerate((it for it in items if not isinstance(it, RunEnd)), 1):
+        its: Dict[str, object] = it._asdict()
+        if isinstance(it, Demand):
+            service = it.service
+        elif isinstance(it, Cycle):
+            its.update(it.command._asdict(), move=it.move.value, word=None if it.move is Move.NONE else it.word)
+        its.update(number=number, operation=type(it).__name__.lower(), service=service)
+        yield [its.get(name) for name in LISTING.split(",")]

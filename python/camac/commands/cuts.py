@@ -1,12 +1,8 @@
 """Options of draw and report: what the words of events are, and what is cut out of their spectra."""
 import argparse
-import re
-from typing import Tuple
 
-from camac.columns import Naming
-from camac.events import GREATEST_WORD
+from camac.columns import Naming, read_cut
 from camac.histograms import Pairs, Spectrum
-from camac.regions import LEAST as LEAST_REGION
 
 
 def add_words(to: argparse.ArgumentParser) -> None:
@@ -22,27 +18,13 @@ def add_words(to: argparse.ArgumentParser) -> None:
     to.add_argument("--bins", type=int, metavar="BINS", help=f"the most bins of a spectrum (128), and on either side of a pair ({Pairs.USUAL}; {Pairs.MOST} at most)")
 
 
-def add_view(to: argparse.ArgumentParser) -> None:
-    to.add_argument("--range", metavar="LOW..HIGH", help="draws these numbers of the named words alone")
-
-
-def read_range(text: str, its: argparse.ArgumentParser, option: str, least: int = 1) -> Tuple[int, int]:
-    """Reads LOW..HIGH; ends with status 2 if it is none, or has fewer numbers."""
-    found = re.fullmatch(r"([0-9]{1,8})\.\.([0-9]{1,8})", text)
-    low, last = map(int, found.groups()) if found else (1, 0)
-    if last - low + 1 < least or last > GREATEST_WORD:
-        its.error(f"{option} takes LOW..HIGH, {least} numbers or more from 0 to {GREATEST_WORD:,}, not {text!r}")
-    return low, last
-
-
 def read_cuts(args: argparse.Namespace, its: argparse.ArgumentParser) -> None:
     """Reads the values of --gate, --region, --range and --bins; ends with status 2 if they are not understood."""
-    args.gate = tuple((name, *read_range(text, its, "--gate")) for name, text in args.gate)
-    args.region = tuple((name, *read_range(text, its, "--region", LEAST_REGION)) for name, text in args.region)
+    args.gate, args.region = (tuple(read_cut(" ".join(it), f"--{what}") for it in getattr(args, what)) for what in ("gate", "region"))
     if args.bins is not None and not 1 <= args.bins <= Spectrum.CHANNELS:
         its.error(f"--bins is 1 to {Spectrum.CHANNELS:,}, not {args.bins}")
     if args.command == "draw":
-        args.range = args.range and read_range(args.range, its, "--range")
+        args.range = args.range and read_cut(f"--range {args.range}", "this")[1:]
 
 
 def naming(args: argparse.Namespace) -> Naming:

@@ -5,14 +5,13 @@ from typing import Any, Callable, Dict, List, Mapping, Optional, Sequence, Tuple
 
 from camac import pictures
 from camac.columns import Naming, gather
-from camac.commands.cuts import add_view, add_words, naming, read_cuts
-from camac.commands.options import add_every, add_overwrite, read_every
-from camac.commands.running import DONE, FAULT, LOST
+from camac.commands.cuts import add_words, naming, read_cuts
+from camac.commands.running import DONE, FAULT, LOST, add_every, add_overwrite, read_every
 from camac.drive import ProgramFault
 from camac.fits import refuse
 from camac.output import anything, is_one_of, made_like, refuse_loss, write_made
 from camac.pictures import Canvas, spectra
-from camac.pictures.regions import draw_regions, names_title
+from camac.pictures.regions import draw_regions
 from camac.program import knows_command
 from camac.runs import Inputs, Run
 from camac.subcommands import check, costs, plan, response
@@ -32,8 +31,8 @@ PLAN may be @sample, the built-in plan. The first bytes tell an event file from 
 
 class Source:
     """The files of a picture, and what the program and a run say of them, each read once. A script or a run that is not given is an empty
-    one. `every` are the rates of modules, if it is drawn how late services can be; `naming` names the words of events, and `scale`
-    how counts are drawn."""
+    one; `shown` is the run, if it is given. `every` are the rates of modules, if it is drawn how late services can be; `naming` names the words of
+    events, and `scale` how counts are drawn."""
 
     def __init__(
         self,
@@ -50,24 +49,14 @@ class Source:
         if every is not None:
             _need("response")
             self.responses = response(files[0], files[1], every)
-        self.has_run = len(files) > 2
-        self.run = Run(has_listing=False)
-        if self.has_run:
-            self.run = gather(Inputs(*files), self.plan, self.services, None, self.responses, naming)
+        self.shown = gather(Inputs(*files), self.plan, self.services, None, self.responses, naming) if len(files) > 2 else None
+        self.run = self.shown or Run(has_listing=False)
 
 
 def _need(command: str) -> None:
     """Raises ProgramFault if the program does not have a subcommand."""
     if not knows_command(command):
         raise ProgramFault(f"this program has no `{command}`", FAULT)
-
-
-def _draw_plan(of: Source) -> Dict[str, Canvas]:
-    return {"": pictures.draw_plan(of.plan, of.services if len(of.files) > 1 else None, of.run if of.has_run else None)}
-
-
-def _draw_bounds(of: Source) -> Dict[str, Canvas]:
-    return {"": pictures.draw_bounds(of.services, of.run if of.has_run else None)}
 
 
 def _draw_costs(of: Source) -> Dict[str, Canvas]:
@@ -82,29 +71,14 @@ def _draw_costs(of: Source) -> Dict[str, Canvas]:
     return drawn
 
 
-def _draw_response(of: Source) -> Dict[str, Canvas]:
-    return {"": pictures.draw_response(of.responses, of.run if of.has_run else None)}
-
-
-def _draw_run(of: Source) -> Dict[str, Canvas]:
-    return {"": pictures.draw_run(of.run, of.services)}
-
-
 def _draw_words(of: Source) -> Dict[str, Canvas]:
     canvas, run = Canvas("Histograms of a run: cycles and words of its events, and the words of each channel"), of.run
-    stacked = [("Cycles and words of an event", pictures.event_groups(run, of.services, of.scale))]
-    if run.has_listing:
-        groups = pictures.command_groups(run, of.plan, of.scale)
-        stacked.append(("By channel: the words that modules gave with Q = 1, and the words that were sent", groups))
-    channels = run.list_channels()
-    if channels:
-        stacked.append((names_title(run.asked), pictures.channel_groups(channels, of.scale, of.view, run.over)))
-    for title, groups in stacked:
+    for title, groups in spectra.groups_of(run, of.plan, of.services, of.scale, of.view):
         canvas.stack(title, pictures.draw_groups(title, groups))
     if run.asked.regions:
-        canvas.stack("Regions", draw_regions(run))
-    if run.asked.pair and run.pairs:
-        canvas.stack("Two numbers of an event", pictures.draw_pairs(*run.asked.pair, run.pairs))
+        canvas.stack("Regions", draw_regions(run.channels))
+    if run.asked.pair:
+        canvas.stack("Two numbers of an event", pictures.draw_pairs(run.channels))
     for service in of.services:
         canvas.stack(f"Words of {service.name} by their place in the event", pictures.draw_places(run, service))
     return {"": canvas}
@@ -112,11 +86,11 @@ def _draw_words(of: Source) -> Dict[str, Canvas]:
 
 # By picture the function that draws it, and how many files it takes at least and at most.
 PICTURES: Dict[str, Tuple[Callable[[Source], Dict[str, Canvas]], int, int]] = {
-    "plan": (_draw_plan, 1, 3),
-    "bounds": (_draw_bounds, 2, 3),
-    "response": (_draw_response, 2, 3),
+    "plan": (lambda of: {"": pictures.draw_plan(of.plan, of.services if len(of.files) > 1 else None, of.shown)}, 1, 3),
+    "bounds": (lambda of: {"": pictures.draw_bounds(of.services, of.shown)}, 2, 3),
+    "response": (lambda of: {"": pictures.draw_response(of.responses, of.shown)}, 2, 3),
     "costs": (_draw_costs, 2, 3),
-    "run": (_draw_run, 3, 3),
+    "run": (lambda of: {"": pictures.draw_run(of.run, of.services)}, 3, 3),
     "words": (_draw_words, 3, 3),
 }
 
@@ -142,13 +116,13 @@ def draw(args: argparse.Namespace) -> int:
 
 
 def add_to(commands: Any) -> None:
-    it = commands.add_parser("draw", help="Draws a picture", epilog=DRAW, formatter_class=argparse.RawDescriptionHelpFormatter)
+    it = commands.add_parser("draw", help="Draws a picture", epilog=DRAW)
     it.add_argument("picture", choices=PICTURES, metavar="PICTURE", help="plan, bounds, response, costs, run or words")
     it.add_argument("files", nargs="+", metavar="FILE", help="the files that the picture is of, see below")
     it.add_argument("-o", "--out", required=True, metavar="SVG", help="the file to write")
     add_every(it)
     add_words(it)
-    add_view(it)
+    it.add_argument("--range", metavar="LOW..HIGH", help="draws these numbers of the named words alone")
     it.add_argument("--log", action="store_true", help="counts on a logarithmic axis")
     add_overwrite(it)
     it.set_defaults(do=draw, read=read)

@@ -15,7 +15,7 @@ failed."""
 
 
 def add_to(commands: Any) -> None:
-    it = commands.add_parser("export", help="Writes the events of a file as columns with names", epilog=ABOUT, formatter_class=argparse.RawDescriptionHelpFormatter)
+    it = commands.add_parser("export", help="Writes the events of a file as columns with names", epilog=ABOUT)
     it.add_argument("file", metavar="EVENTS", help="an event file")
     it.add_argument("-o", "--out", required=True, metavar="FILE", help="the file to write; its ending is .h5, .npz or .csv")
     it.add_argument("--plan", metavar="PLAN", help="the plan of the run, with --script")

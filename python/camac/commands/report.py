@@ -4,8 +4,7 @@ import contextlib
 from typing import Any
 
 from camac.commands.cuts import add_words, naming, read_cuts
-from camac.commands.options import add_every, add_overwrite, read_every
-from camac.commands.running import STATUS
+from camac.commands.running import STATUS, add_every, add_overwrite, read_every
 from camac.drive import Refused
 from camac.output import anything, refuse_loss, write_made
 from camac.record import refuse_foreign, write_played
@@ -14,7 +13,7 @@ from camac.runs import Inputs
 
 
 def add_to(commands: Any) -> None:
-    it = commands.add_parser("report", prog="camac-report", help="Makes one page of all that is known of a run", epilog=STATUS, formatter_class=argparse.RawDescriptionHelpFormatter)
+    it = commands.add_parser("report", prog="camac-report", help="Makes one page of all that is known of a run", epilog=STATUS)
     it.add_argument("plan", metavar="PLAN", help="a plan: a TOML file, or @sample, the built-in plan")
     it.add_argument("script", metavar="SCRIPT", help="a script")
     it.add_argument("source", metavar="ANSWERS|EVENTS", help="the answers of the run, or its event file")

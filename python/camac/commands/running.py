@@ -1,11 +1,12 @@
-"""How a command runs, from its words to its status."""
+"""How a command runs, from its words to its status; and options of several commands."""
 import argparse
 import contextlib
 import io
 import os
+import re
 import signal
 import sys
-from typing import Callable, List, Optional, Sequence
+from typing import Any, Callable, Dict, List, Optional, Sequence
 
 from camac.drive import DriveFault, Refused, UsageFault, one_line
 from camac.events import EventFileFault
@@ -16,6 +17,7 @@ DONE, REFUSED, USAGE, FAULT = 0, 1, 2, 3
 STATUS = """\
 Status: 0 done; 1 refused, a wait that was not permitted, or numbers that differ; 2 usage; 3 a file or the program failed."""
 LOST = "{} is an input: it would be lost"
+GREATEST_EVERY = 4_294_967_295
 # Reads the words of a command line, and ends with status 2 if they are not understood.
 Parse = Callable[[List[str]], argparse.Namespace]
 
@@ -71,3 +73,31 @@ def _run(parse: Parse, words: List[str]) -> int:
     except (Refused, EventFileFault) as refusal:
         say(f"{refusal}\n")
         return REFUSED
+
+
+def add_every(to: argparse.ArgumentParser) -> None:
+    text = "the module of a service raises its look-at-me at least this many cycles after the time before; once for each service"
+    to.add_argument("--every", action="append", default=[], metavar="SERVICE=CYCLES", help=text)
+
+
+def read_every(words: Sequence[str], its: argparse.ArgumentParser) -> Dict[str, int]:
+    """Reads the values of --every; ends with status 2 if they are not understood."""
+    form = f"SERVICE=CYCLES with 1 to {GREATEST_EVERY:,} cycles"
+    return read_pairs("--every", words, its, form, lambda it: re.fullmatch("[0-9]{1,10}", it) and 1 <= int(it) <= GREATEST_EVERY and int(it))
+
+
+def read_pairs(option: str, words: Sequence[str], its: argparse.ArgumentParser, form: str, read: Callable[[str], Any]) -> Dict[str, Any]:
+    """Reads the values NAME=VALUE of an option; ends with status 2 if a name is there twice, or `read` gives nothing for a value."""
+    found: Dict[str, Any] = {}
+    for word in words:
+        name, _, value = word.partition("=")
+        if not name or not read(value):
+            its.error(f"{option} is {form}, not {word!r}")
+        if name in found:
+            its.error(f"{option} {name} is there twice")
+        found[name] = read(value)
+    return found
+
+
+def add_overwrite(to: argparse.ArgumentParser) -> None:
+    to.add_argument("--overwrite", action="store_true", help="replaces a file that another command made")

@@ -1,15 +1,16 @@
 """simulate: what is lost at a rate of triggers, and how long look-at-mes wait."""
 import argparse
-from typing import Any, Dict, Iterator, List, Mapping, Optional, Sequence
+import contextlib
+from typing import Any, Iterator, Mapping, Optional
 
-from camac.commands.options import add_every, add_overwrite, read_every
+from camac.commands.running import add_every, add_overwrite, read_every, read_pairs
 from camac.drive import UsageFault
 from camac.drivers import run_python
 from camac.mock import Module, Place
 from camac.output import say, write_made
 from camac.pictures import draw_rates
 from camac.pictures.svg import share
-from camac.simulate import GREATEST_RATE, LEAST_RATE, PATIENCE, Setting, Simulated, Simulation, curve, simulate
+from camac.simulate import GREATEST_RATE, LEAST_RATE, PATIENCE, Setting, Simulation, curve, simulate
 from camac.values import Ending
 
 LEAST_CYCLE, GREATEST_CYCLE, GREATEST_SERVICES = 0.1, 1e6, 10_000_000
@@ -31,8 +32,7 @@ Status: 0 done; 1 plan or script is refused; 2 usage; 3 a file or the program fa
 
 
 def add_to(commands: Any) -> None:
-    raw = argparse.RawDescriptionHelpFormatter
-    it = commands.add_parser("simulate", help="Prints what is lost at a rate, and how long look-at-mes wait", epilog=ABOUT, formatter_class=raw)
+    it = commands.add_parser("simulate", help="Prints what is lost at a rate, and how long look-at-mes wait", epilog=ABOUT)
     it.add_argument("plan", metavar="PLAN", help="a plan: a TOML file, or @sample, the built-in plan")
     it.add_argument("script", metavar="SCRIPT", help="a script")
     text = f"this many triggers a second call for a service, {LEAST_RATE:g} to {GREATEST_RATE:,.0f}; once for each service that is called"
@@ -57,7 +57,9 @@ def do(args: argparse.Namespace) -> int:
         its.error(f"--cycle-us is {LEAST_CYCLE:g} to {GREATEST_CYCLE:,.0f}")
     if not 1 <= args.services <= GREATEST_SERVICES:
         its.error(f"--services is 1 to {GREATEST_SERVICES:,}")
-    setting = Setting(_read_rates(args.rate, its), args.cycle_us / 1e6, args.regular, read_every(args.every, its), args.services, args.seed, args.worst)
+    form = f"SERVICE=RATE with {LEAST_RATE:g} to {GREATEST_RATE:,.0f} a second"
+    rates = read_pairs("--rate", args.rate, its, form, _read_rate)
+    setting = Setting(rates, args.cycle_us / 1e6, args.regular, read_every(args.every, its), args.services, args.seed, args.worst)
     made = simulate(args.plan, args.script, setting, _modules(args.modules), args.events)
     say("".join(f"{line}\n" for line in _lines(made, setting)))
     if args.out:
@@ -67,20 +69,11 @@ def do(args: argparse.Namespace) -> int:
     return 0
 
 
-def _read_rates(words: Sequence[str], its: argparse.ArgumentParser) -> Dict[str, float]:
-    rates: Dict[str, float] = {}
-    for word in words:
-        name, _, text = word.partition("=")
-        try:
-            rate = float(text)
-        except ValueError:
-            rate = 0.0
-        if not name or not LEAST_RATE <= rate <= GREATEST_RATE:
-            its.error(f"--rate is SERVICE=RATE with {LEAST_RATE:g} to {GREATEST_RATE:,.0f} a second, not {word!r}")
-        if name in rates:
-            its.error(f"--rate {name} is there twice")
-        rates[name] = rate
-    return rates
+def _read_rate(text: str) -> Optional[float]:
+    """The triggers a second; None if they are none."""
+    with contextlib.suppress(ValueError):
+        return float(text) if LEAST_RATE <= float(text) <= GREATEST_RATE else None
+    return None
 
 
 def _modules(file: Optional[str]) -> Optional[Mapping[Place, Module]]:
@@ -98,21 +91,15 @@ def _lines(made: Simulation, setting: Setting) -> Iterator[str]:
         yield f"service {it.name} gl {it.gl} rate {it.rate:g} came {it.came} lost {it.lost} live {it.live():.4f} reckoned {it.reckoned(setting.cycle):.4f}"
         quantiles = ", ".join(f"{label} {it.quantile(part):.1f}" for part, label in SHARES)
         yield f"  cycles from look-at-me to end: {quantiles}; at most {'-' if it.end is None else it.end}"
-        yield from (f"  {line}" for line in _notes(it))
+        if it.later():
+            yield f"  {it.later()} ended later: the triggers do not keep the rates that the last number assumes (--every)"
+        if it.again:
+            yield f"  {it.again} more services were called for a look-at-me that was answered before: this service leaves it up (cclc {it.name} clears it)"
+        if it.waiting is not None and (not it.waits or it.waiting > (it.end or 0)):
+            yield f"  one look-at-me was not answered: at the end it had waited {it.waiting:.1f} cycles"
     yield f"{made.end.events} services in {made.seconds:.6g} s, {share(made.busy, 1)} of it in services"
     yield f"assumed: {'each service takes its bound; ' if setting.is_worst else ''}{ASSUMED}"
     if made.end.how is not Ending.ENDED:
         yield made.end.line
     elif (made.end.events or 0) < setting.services:
         yield f"no look-at-me was seen in {PATIENCE:,} triggers: is it enabled, is inhibit off, and the demand output on?"
-
-
-def _notes(it: Simulated) -> List[str]:
-    notes = []
-    if it.later():
-        notes.append(f"{it.later()} ended later: the triggers do not keep the rates that the last number assumes (--every)")
-    if it.again:
-        notes.append(f"{it.again} more services were called for a look-at-me that was answered before: this service leaves it up (cclc {it.name} clears it)")
-    if it.waiting is not None and (not it.waits or it.waiting > (it.end or 0)):
-        notes.append(f"one look-at-me was not answered: at the end it had waited {it.waiting:.1f} cycles")
-    return notes

@@ -1,24 +1,24 @@
 """survey: asks the crates what they accept, and compares that with the plan."""
 import argparse
 import hashlib
+import itertools
 import os
 import re
 import sys
-from typing import Any, Iterable, List, Optional, Tuple
+from typing import Any, Iterable, Iterator, List, Optional, Sequence, Tuple
 
 from camac import drivers
 from camac.drive import Branch, ProgramFault
-from camac.commands.options import add_overwrite
-from camac.commands.running import DONE, FAULT, REFUSED
-from camac.functions import writes
+from camac.commands.running import DONE, FAULT, REFUSED, add_overwrite
+from camac.functions import name, reads, writes
 from camac.output import anything, nothing, output, refuse_loss, say
-from camac.surveys import FUNCTIONS, survey
+from camac.surveys import FUNCTIONS, TESTS, Found, Row, Survey, survey
 from camac.surveys.asking import Asked, declared_plan
-from camac.surveys.driver_test import Kept, test_driver
+from camac.surveys.driver_test import RULES, Finding, Kept, test_driver
 from camac.surveys.summary import refuse_foreign, summary
-from camac.surveys.texts import ends, findings, table, told_before
 from camac.surveys.wiring import wires
 from camac.texts import plan_text
+from camac.values import Plan
 
 ABOUT = """\
 All that is sent is in scripts that the checker has accepted, and nothing of it writes to a module: F8 and F27 to A0 to A15 of each station with a
@@ -26,11 +26,14 @@ module, F0 and F1 where the plan declares them. --only and --also choose among F
 where it is declared.
 
 Status: 0 plan and crates agree; 1 something differs, or the plan is refused; 2 usage; 3 a file or the program failed."""
+# The columns of a terminal.
+COLUMNS = 80
+HEAD = f"  {'command':<23}{'X':>3}{'Q':>3}  {'bits seen':<11}the plan"
+READ = "A read may take a word out of a memory, or count an address on."
 
 
 def add_to(commands: Any) -> None:
-    raw = argparse.RawDescriptionHelpFormatter
-    it = commands.add_parser("survey", prog="camac-survey", help="Asks the crates what they accept, and compares that with the plan", epilog=ABOUT, formatter_class=raw)
+    it = commands.add_parser("survey", prog="camac-survey", help="Asks the crates what they accept, and compares that with the plan", epilog=ABOUT)
     it.add_argument("plan", metavar="PLAN", help="a plan: a TOML file, or @sample, the built-in plan")
     it.add_argument("--driver", required=True, metavar="DRIVER", help=drivers.FORMS)
     it.add_argument("--only", metavar="FUNCTIONS", help="sends these functions alone, as F8,F27")
@@ -49,18 +52,20 @@ def do(args: argparse.Namespace) -> int:
     functions, register = _functions(args), _register(args)
     plan = declared_plan(args.plan, None)
     if args.keep:
-        _make(args.keep)
+        os.makedirs(args.keep, exist_ok=True)
+        if os.listdir(args.keep):
+            raise ProgramFault(f"{args.keep} is not empty", FAULT)
     rule = anything if args.overwrite else refuse_foreign
     if args.out:
         refuse_loss(args.out, rule)
     branch = drivers.driver(args.driver, args.plan)
     if register:
         return _test(args, branch, register)
-    _print(told_before(plan, functions, args.empty))
+    _print(_told_before(plan, functions, args.empty))
     its = survey(args.plan, branch, functions=functions, has_empty=args.empty, tell=_tell)
     if args.wiring:
         its = its._replace(wires=tuple(wires(args.plan, branch, _agrees)))
-    _print([*table(its), *ends(its)])
+    _print([*_table(its), *_ends(its)])
     _keep(args.keep, its.scripts())
     if args.out:
         sha256 = hashlib.sha256(plan_text(args.plan)).hexdigest()
@@ -71,7 +76,7 @@ def do(args: argparse.Namespace) -> int:
 
 def _test(args: argparse.Namespace, branch: Branch, register: Tuple[int, int, int]) -> int:
     found, asked = test_driver(args.plan, branch, register)
-    _print(findings(found))
+    _print(_lines_of(found))
     _keep(args.keep, asked)
     return REFUSED if any(it.kept is Kept.BREAKS for it in found) else DONE
 
@@ -120,12 +125,6 @@ def _read(args: argparse.Namespace, text: Optional[str]) -> Optional[List[int]]:
     return numbers
 
 
-def _make(folder: str) -> None:
-    os.makedirs(folder, exist_ok=True)
-    if os.listdir(folder):
-        raise ProgramFault(f"{folder} is not empty", FAULT)
-
-
 def _keep(folder: Optional[str], asked: Iterable[Asked]) -> None:
     """Writes scripts and their answers into a folder, if one is named."""
     if folder is None:
@@ -134,3 +133,65 @@ def _keep(folder: Optional[str], asked: Iterable[Asked]) -> None:
         for end, text in (("toml", it.script.plan), ("script", it.script.text), ("answers", it.answers())):
             with output(os.path.join(folder, f"{it.script.name}.{end}"), nothing) as out:
                 out.write(text)
+
+
+def _wrapped(text: str, indent: str = "  ", more: int = 4) -> List[str]:
+    """A sentence in lines of 80 columns; all but the first begin with so many more blanks."""
+    import textwrap
+
+    return textwrap.wrap(text, COLUMNS, initial_indent=indent, subsequent_indent=" " * more, break_long_words=False, break_on_hyphens=False)
+
+
+def _told_before(plan: Plan, functions: Sequence[int], has_empty: bool) -> List[str]:
+    """What is going to be sent, and what that may do to modules."""
+    stations = sum(len(it.stations) for it in plan.crates)
+    tests, others = [it for it in TESTS if it in functions], sorted({*functions} - {*TESTS})
+    where = "all 23 stations of each crate" if has_empty else f"the {stations} stations with a module"
+    lines = [f"sends {_named(tests)} to A0 to A15 of {where}"] if tests else []
+    lines += [f"sends {_named(others)} where the plan declares it"] if others else []
+    return [row for it in lines + ([READ] if any(map(reads, others)) else []) for row in _wrapped(it, "", 2)]
+
+
+def _lines_of(its: Sequence[Finding]) -> Iterator[str]:
+    """What a test of a driver found, by the rules of docs/LIVE.md."""
+    for rule, found in itertools.groupby(sorted(its, key=lambda it: RULES.index(it.rule)), key=lambda it: it.rule):
+        yield rule
+        for it in found:
+            yield from _wrapped(f"{it.kept.value:<11}{it.text}", "  ", 13)
+
+
+def _named(functions: Iterable[int]) -> str:
+    return ", ".join(f"F{it} ({name(it)})" for it in functions)
+
+
+def _row(it: Row) -> str:
+    is_probe = it.declared is not None and it.declared.is_probe
+    bits = f"{it.bits} of {it.declared.width}" if it.declared and it.x and reads(it.function) and not is_probe else "-"
+    command = f"F{it.function:<3}{it.sub_addresses()}" + (", probe" if is_probe else "")
+    return f"  {command:<23}{it.x:>3}{it.q:>3}  {bits:<11}{it.found.value}"
+
+
+def _table(its: Survey) -> Iterator[str]:
+    """The answers by station. Commands that are neither declared nor accepted are left out."""
+    crate = 0
+    for (at, station), rows in its.stations():
+        shown = [it for it in rows if it.found is not Found.NOTHING]
+        if at != crate:
+            crate = at
+            yield f"crate {crate}"
+            yield HEAD
+        if shown or rows[0].type:
+            yield f" station {station}, {rows[0].type or 'which the plan leaves empty'}"
+        yield from map(_row, shown)
+    for it in its.wires:
+        yield from _wrapped(it.line(), "", 2) if it.is_raised else ()
+
+
+def _ends(its: Survey) -> Iterator[str]:
+    """What differs, what was not tried, and the sums."""
+    for title, lines in (("differs", its.differences()), ("not tried", its.not_tried())):
+        if lines:
+            yield title
+            yield from (row for line in lines for row in _wrapped(line))
+    agree, more, differ = (its.count(it) for it in (Found.AGREES, Found.MORE, Found.DIFFERS))
+    yield f"surveyed at {its.at}: sent {its.sent():,}, agree {agree:,}, differ {differ:,}, not declared {more:,}"

@@ -13,26 +13,28 @@ The page has events and their rate, live and dead time as the record has them me
 words, cycles with X = 0 and the last events. Of a folder it lists the runs, each with a page. It is there for browsers of this computer alone, until
 Ctrl-C. Nothing is written.
 
-An alarm is silence=SECONDS (no event for so long), x0=CYCLES (more with X = 0 in 10 s), rate=EVENTS or rate:SERVICE=EVENTS (fewer a second).
+An alarm is silence=SECONDS (no event for so long), x0=CYCLES (more with X = 0 in 10 s), plan=TIMES (what the record has that the plan does not
+describe came more often), rate=EVENTS or rate:SERVICE=EVENTS (fewer a second).
 
 Status: 1 plan or script is refused; 2 usage; 3 a file or the program failed, or the port is in use."""
 
 
 def add_to(commands: Any) -> None:
-    it = commands.add_parser("watch", help="Shows a live run in a browser", epilog=ABOUT, formatter_class=argparse.RawDescriptionHelpFormatter)
+    it = commands.add_parser("watch", help="Shows a live run in a browser", epilog=ABOUT)
     it.add_argument("events", metavar="EVENTS|FOLDER", help="an event file, which may grow, and need not be there yet; or a folder with records of runs")
     it.add_argument("--port", type=int, default=8080, metavar="PORT", help="the port on 127.0.0.1 (8080); 0 is any that is free")
     it.add_argument("--plan", metavar="PLAN", help="the plan of the run, with --script")
     it.add_argument("--script", metavar="SCRIPT", help="its script")
     it.add_argument("--words", metavar="TOML", help="what the words of events are")
     it.add_argument("--record", metavar="JSON", help="the record of the run, which has plan and script; it need not be there yet")
+    it.add_argument("--over", metavar="EVENTS", help="draws the spectra of another run of this script as lines over these, as draw words does")
     it.add_argument("--alarm", action="append", default=[], metavar="ALARM", help="what the page tells in red, and by a sound if you like; as often as you like")
     it.set_defaults(do=do, its=it, out=None)
 
 
 def do(args: argparse.Namespace) -> int:
     # The server of the standard library is long to import, and no other command needs it.
-    from camac.alarms import read_alarm
+    from camac.follow import read_alarm
     from camac.run_list import RunList
     from camac.watch import Server, Watch
 
@@ -49,9 +51,9 @@ def do(args: argparse.Namespace) -> int:
     if os.path.isdir(args.events):
         if args.plan or args.record:
             args.its.error("a folder has its records; --plan, --script and --record are of an event file")
-        watch = RunList(args.events, args.words, lambda given: Watch(given, alarms))
+        watch = RunList(args.events, args.words, lambda given: Watch(given, alarms, args.over))
     else:
-        watch = Watch(Given(args.events, args.plan, args.script, args.words, args.record), alarms)
+        watch = Watch(Given(args.events, args.plan, args.script, args.words, args.record), alarms, args.over)
     stop = threading.Event()
     with Server(watch, args.port) as server:
         say(f"{server.address()}\n")

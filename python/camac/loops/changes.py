@@ -6,7 +6,7 @@ from typing import NamedTuple, Optional
 
 from camac.edits import Edit
 from camac.loops.trials import Stopped
-from camac.tree import Assign, Expression, If, Name, Number, Operation, Part, Plain, Statement, While, expressions_of, names_in, parts_of
+from camac.tree import Assign, Expression, If, Name, Number, Operation, Part, Plain, Statement, While, names_in, parts_of
 
 MOST, WORD = 4_294_967_295, 16_777_216
 NOT_BELOW, FALLS = "0 if it would be below 0", "true unless it would fall below 0"
@@ -71,7 +71,7 @@ class Changes:
         if put and isinstance(it, Plain) and not isinstance(it.values[0], Number):
             return self.words(it, it.values[0])
         if sides and sides[1] == "-":
-            its = [one for value in expressions_of(it) for one in parts_of(value) if isinstance(one, Operation) and one.sign == "-"]
+            its = [one for value in it.expressions for one in parts_of(value) if isinstance(one, Operation) and one.sign == "-"]
             left, right = int(sides[2]), int(sides[3])
             return self.fall(it, its[0], right if left + right <= MOST else 0) if its else None
         return self.guard(it, min(int(sides[2]), int(sides[3]))) if sides and sides[1] == "+" and isinstance(it, Assign) and grows(it) else None

@@ -3,7 +3,7 @@ be: the checker judges what it finds."""
 import bisect
 import re
 from collections import Counter
-from typing import AbstractSet, Callable, Dict, List, Optional, Set, Union
+from typing import AbstractSet, Callable, Container, Dict, Iterable, List, Optional, Set, Tuple, Union
 
 from camac.drive import File, Refused
 from camac.edits import edited
@@ -11,13 +11,12 @@ from camac.headings import least_headings
 from camac.loops.changes import MOST, MOST_STEP, WORD, Changes, Kind, grows
 from camac.loops.proposals import Cause, Found, Proposal, Proposals, Remaining
 from camac.loops.trials import BOUNDS, CHECK, Stopped, Trials
-from camac.loops.turns import is_each, turn_by_turn
 from camac.output import read_original
 from camac.printed import read_headings
 from camac.program import verdict
 from camac.reader import read_script
 from camac.texts import GREATEST_TEXT
-from camac.tree import Assign, Body, Loop, Number, Range, Statement, all_in, expressions_of, parts_of
+from camac.tree import Assign, Body, For, Loop, Number, Range, Statement, all_in, blocks_of, parts_of
 
 # The most calls of the checker; the last ones are for headings.
 MOST_CALLS, LAST_CALLS = 200, 8
@@ -28,6 +27,8 @@ NOTHING, ANY = (0, 0), (0, MOST)
 FEW = 3
 # Numbers that many a range ends with, besides those of the script.
 USUAL = (0, 255, 4095, 65_535, WORD - 1, MOST)
+# The most turns of a loop, and the most that all `each` of a body judge.
+MOST_TURNS, MOST_JUDGED = 65_535, 65_536
 OUT = re.compile(r"(?:Before the loop|After a turn) `(\w+)` may be (\d+)(?: to (\d+))?,")
 
 
@@ -176,7 +177,7 @@ class _Search:
         loop, name = cause
         steps = {0, WORD - 1, MOST}
         if not self.guarded[name]:
-            its = [one.value for it in all_in(self.body_of(loop).statements) for value in expressions_of(it) for one in parts_of(value) if isinstance(one, Number)]
+            its = [one.value for it in all_in(self.body_of(loop).statements) for value in it.expressions for one in parts_of(value) if isinstance(one, Number)]
             steps.update(USUAL, (near for it in its for near in (it - 1, it, it + 1) if 0 <= near <= MOST))
         ends = sorted(steps)
         low = new[0] if new[0] == old[0] else ends[bisect.bisect_right(ends, new[0]) - 1]
@@ -189,7 +190,7 @@ class _Search:
             return False
         place = about.end if isinstance(about, Body) else about.start
         loops = [it for it in all_in(self.body_of(about).statements) if isinstance(it, Loop) and it.start <= place]
-        causes = {(it, name) for it in loops if not is_each(it) and it not in self.found.each for name in sorted(it.written)}
+        causes = {(it, name) for it in loops if not (isinstance(it, For) and (it.is_each or it in self.found.each)) for name in sorted(it.written)}
         new = causes - self.given.keys() - self.found.kept.keys() - self.lost
         self.found.kept.update((it, NOTHING) for it in sorted(new, key=lambda it: (it[0].start, it[1])))
         return bool(new)
@@ -228,3 +229,31 @@ class _Search:
             answer = self.trials.judged(BOUNDS, found.edits())
             its = least_headings(self.text, read_headings(answer.text))
             self.headings += [Proposal(Kind.HEADING, it.line, it.heading, it.edits) for it in its]
+
+
+def _judged(statements: Iterable[Statement], chosen: Container[Statement]) -> Tuple[int, int]:
+    """What is judged where a block is judged once, and how much of that in an `each`: a turn counts one, and each statement in it."""
+    judged = in_each = 0
+    for it in statements:
+        its = [_judged(block, chosen) for block in blocks_of(it)]
+        inside, deeper = sum(one for one, _ in its), sum(one for _, one in its)
+        if isinstance(it, For) and (it.is_each or it in chosen):
+            inside = deeper = (it.turns or 0) * (1 + inside)
+        judged, in_each = judged + 1 + inside, in_each + deeper
+    return judged, in_each
+
+
+def turn_by_turn(body: Body) -> List[For]:
+    """The loops of a body that may all be judged turn by turn and are not: `for` loops between two numbers that keep nothing. Where that is too much,
+    those that judge most are left out."""
+    its = [it for it in all_in(body.statements) if isinstance(it, For) and it.turns and it.turns <= MOST_TURNS and not it.keeps and not it.is_each]
+    chosen = set(its)
+    its.sort(key=lambda it: _judged([it], chosen)[1])
+    least, most = 0, len(its)
+    while least < most:
+        count = (least + most + 1) // 2
+        if _judged(body.statements, set(its[:count]))[1] <= MOST_JUDGED:
+            least = count
+        else:
+            most = count - 1
+    return its[:least]

@@ -49,7 +49,11 @@ def _of_refusal(judged: Judged, it: Placed) -> Iterator[Fix]:
     if number:
         yield number
     if it.code in OF_HEADINGS:
-        yield from _headings(judged, it.code)
+        verdict = judged.ask("bounds")
+        written = least_headings(judged.text.data, read_headings(verdict.text)) if verdict.accepted else []
+        edits = tuple(edit for one in written for edit in one.edits)
+        if edits:
+            yield Fix("Write the least headings that are accepted (camac bounds)", edits, it.code)
     if it.code in OF_LOOPS and len(judged.text.data) <= QUICK:
         yield from kept(judged)
 
@@ -69,21 +73,10 @@ def _number(judged: Judged, it: Placed) -> Optional[Fix]:
     return Fix(f"Write {number} after `{word}`", (Edit(old.start, old.end, str(number)),), it.code)
 
 
-def _headings(judged: Judged, code: str) -> Iterator[Fix]:
-    verdict = judged.ask("bounds")
-    written = least_headings(judged.text.data, read_headings(verdict.text)) if verdict.accepted else []
-    edits = tuple(edit for it in written for edit in it.edits)
-    if edits:
-        yield Fix("Write the least headings that are accepted (camac bounds)", edits, code)
-
-
 def kept(judged: Judged) -> List[Fix]:
     """What loops need, `each` first, as `camac-check --keeps` proposes it. This may take long."""
-    if "kept" not in judged.kept:
-        found = propose(judged.judge.file, judged.text.data, judged.judge.program)
-        edits = tuple(edit for it in found.proposals for edit in it.edits)
-        what = "; ".join(it.text for it in found.proposals[:3]) + (" .." if len(found.proposals) > 3 else "")
-        rest = "" if found.remaining is None else f" ({found.remaining.code} remains)"
-        judged.kept["kept"] = [Fix(f"Write what helps the loops{rest}: {what}", edits, "keep")] if edits else []
-    its: List[Fix] = judged.kept["kept"]
-    return its
+    found = judged.once("kept", lambda: propose(judged.judge.file, judged.text.data, judged.judge.program))
+    edits = tuple(edit for it in found.proposals for edit in it.edits)
+    what = "; ".join(it.text for it in found.proposals[:3]) + (" .." if len(found.proposals) > 3 else "")
+    rest = "" if found.remaining is None else f" ({found.remaining.code} remains)"
+    return [Fix(f"Write what helps the loops{rest}: {what}", edits, "keep")] if edits else []

@@ -4,13 +4,12 @@ from typing import Any, Callable, Dict, FrozenSet, Iterator, List, NamedTuple, S
 
 from camac import functions
 from camac.drive import Refused
-from camac.layout import DECLARATIONS, STATEMENTS
+from camac.language import DECLARATIONS, EACH, OF_FUNCTIONS, STATEMENTS, WORDS, Kind
 from camac.lsp.hover import declared_at, function_text
 from camac.lsp.known import addresses
 from camac.lsp.workspace import Judged
-from camac.names import WORDS, Kind
 from camac.printed import NOT_DECLARED, is_refused, read_expected
-from camac.tokens import EACH, tokens_of
+from camac.tokens import tokens_of
 from camac.values import Address, Declaration
 
 # Kinds of items, as the protocol numbers them.
@@ -52,16 +51,10 @@ def expected(ask: Callable[[bytes], str], before: bytes) -> Expected:
     return Expected({"a statement", "an expression"} if is_inside else {"a declaration"}, {"}", "else"} if is_inside else set())
 
 
-def kind_of_name(ask: Callable[[bytes], str], before: bytes) -> Set[Kind]:
-    """What a name behind a text has to be; nothing if it is a new one."""
-    found = NOT_DECLARED.find(ask(before + b" " + NO_NAME.encode()))
-    return {it for it in Kind if found and it.value == found["kind"]} | ({Kind.PARAMETER} if found and found["kind"] == "variable" else set())
-
-
 def complete(judged: Judged, place: int) -> List[Item]:
     """What may be at a place in bytes, in the place of the word that is begun there."""
     before = judged.text.data[:place]
-    if before[before.rfind(b"\n") + 1 :].lstrip().startswith(b"#") or b"#" in before[before.rfind(b"\n") + 1 :]:
+    if b"#" in before[before.rfind(b"\n") + 1 :]:
         return []
     start = place - len(TYPED.search(before)[0])  # type: ignore[index]
     before = before[:start]
@@ -85,7 +78,9 @@ def _names(judged: Judged, ask: Callable[[bytes], str], its: Expected, before: b
     if its.groups & {"a statement", "an expression", "a condition"}:
         kinds = {Kind.VARIABLE, Kind.PARAMETER}
     elif "a name" in its.groups:
-        kinds = kind_of_name(ask, before)
+        # A name that is not declared is refused by what it has to be; nothing if it is a new one.
+        found = NOT_DECLARED.find(ask(before + b" " + NO_NAME.encode()))
+        kinds = {it for it in Kind if found and it.value == found["kind"]} | ({Kind.PARAMETER} if found and found["kind"] == "variable" else set())
     for name, kind in judged.names.seen_at(start).items():
         if kind in kinds:
             yield {"label": name, "kind": ITEM_OF[kind], "detail": kind.value, "sortText": f"1{name}"}
@@ -99,7 +94,7 @@ def _numbers(judged: Judged, before: bytes, start: int) -> Iterator[Item]:
     """Functions, and parts of an address, as the plan has them."""
     line = before[max(before.rfind(b"\n"), before.rfind(b"{"), before.rfind(b"}")) + 1 :]
     words = [it.text for it in tokens_of(line)]
-    at = max((place for place, it in enumerate(words) if it in ("cdreg", "cdlam", "cfsa", "cssa", "cfmad", "cfubc", "cfubr")), default=None)
+    at = max((place for place, it in enumerate(words) if it in ("cdreg", "cdlam") or it in OF_FUNCTIONS), default=None)
     if at is None:
         return
     words = words[at:]

@@ -12,11 +12,6 @@ Range = Dict[str, Position]
 END = re.compile("\r\n|\n|\r")
 
 
-def utf16(text: str) -> int:
-    """How many units of UTF-16 a text has."""
-    return len(text) if text.isascii() else len(text) + sum(it > "\uffff" for it in text)
-
-
 def _after(text: str, units: int) -> int:
     """How many signs of a text so many units of UTF-16 are: a unit within a pair counts as the pair's begin."""
     if text.isascii():
@@ -92,7 +87,7 @@ class Text:
             place -= 1  # a byte within a sign
         number = bisect.bisect_right(self.byte_starts, place) - 1
         before = self.data[self.byte_starts[number] : place].decode("utf-8", "surrogatepass")
-        return {"line": number, "character": utf16(before)}
+        return {"line": number, "character": len(before) + sum(it > "\uffff" for it in before)}
 
     def range(self, start: int, end: int) -> Range:
         return {"start": self.position(start), "end": self.position(end)}

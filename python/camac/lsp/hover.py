@@ -3,15 +3,15 @@ import re
 from typing import Iterator, List, NamedTuple, Optional
 
 from camac import functions
+from camac.language import OF_FUNCTIONS, Kind
 from camac.lsp.known import addresses, range_at, row_of, statement_tokens
 from camac.lsp.workspace import Choice, Judged
-from camac.names import Kind, Mention
+from camac.names import Mention
 from camac.printed import line_of_body
 from camac.tokens import Token
-from camac.values import Address, BodyKind, Cost, Declaration, ModuleType, Plan, Range, Row
+from camac.values import Address, BodyKind, Cost, Declaration, ModuleType, Plan, Row, range_text
 
 GREATEST = 4_294_967_295
-OF_FUNCTIONS = ("cfsa", "cssa", "cfmad", "cfubc", "cfubr")
 
 
 class HoverText(NamedTuple):
@@ -47,7 +47,9 @@ def _of_name(judged: Judged, mention: Mention, choice: Choice) -> Iterator[str]:
     elif its.kind is Kind.PROCEDURE:
         yield from _of_body(judged, BodyKind.PROCEDURE, its.name)
     elif its.kind is Kind.REGISTER:
-        yield from _of_register(judged, mention)
+        yield f"register `{its.name}`"
+        for line, address in addresses(judged, mention):
+            yield f"line {line}: {address_text(judged.plan, address)}"
     elif its.kind is Kind.TABLE:
         yield f"table `{its.name}`"
     else:
@@ -58,21 +60,13 @@ def _of_variable(judged: Judged, mention: Mention) -> str:
     kind, name = mention.symbol.kind.value, mention.symbol.name
     its = range_at(judged, mention)
     if its:
-        return f"{kind} `{name}`: {_shown(its)} before this statement"
-    declared = _declared(judged, mention) if mention.symbol.kind is Kind.PARAMETER else (0, GREATEST)
-    return f"{kind} `{name}`: {_shown(declared)}" if declared else f"{kind} `{name}`"
-
-
-def _declared(judged: Judged, mention: Mention) -> Optional[Range]:
-    """The range of a parameter in the heading."""
+        return f"{kind} `{name}`: {range_text(its)} before this statement"
+    if mention.symbol.kind is not Kind.PARAMETER:
+        return f"{kind} `{name}`: 0..{GREATEST}"
+    # The range of a parameter is in the heading.
     block = judged.names.blocks[mention.symbol.body]
-    found = re.search(rb"\b%b\s+in\s+(\d{1,10})\s*\.\.\s*(\d{1,10})" % mention.symbol.name.encode(), judged.text.data[block.start : block.brace])
-    return (int(found[1]), int(found[2])) if found else None
-
-
-def _shown(its: Range) -> str:
-    low, high = its
-    return str(low) if low == high else f"{low}..{high}"
+    found = re.search(rb"\b%b\s+in\s+(\d{1,10})\s*\.\.\s*(\d{1,10})" % name.encode(), judged.text.data[block.start : block.brace])
+    return f"{kind} `{name}`: {range_text((int(found[1]), int(found[2])))}" if found else f"{kind} `{name}`"
 
 
 def _of_lam(judged: Judged, mention: Mention) -> Iterator[str]:
@@ -120,16 +114,10 @@ def _counted(number: int, word: str) -> str:
     return f"{number} {word}" + ("" if number == 1 else "s")
 
 
-def _of_register(judged: Judged, mention: Mention) -> Iterator[str]:
-    yield f"register `{mention.symbol.name}`"
-    for line, address in addresses(judged, mention):
-        yield f"line {line}: {address_text(judged.plan, address)}"
-
-
 def address_text(plan: Plan, its: Address) -> str:
     names = sorted({it.name for it in types_at(plan, its)})
     what = f": {', '.join(names)}" if names else ""
-    return f"crate {_shown(its.crate)}, station {_shown(its.station)}, sub-address {_shown(its.sub_address)}{what}"
+    return f"crate {range_text(its.crate)}, station {range_text(its.station)}, sub-address {range_text(its.sub_address)}{what}"
 
 
 def types_at(plan: Plan, its: Address) -> List[ModuleType]:

@@ -1,17 +1,20 @@
 """What is known at a place of a script: the statement there, its row of `camac costs`, the range of a variable, and what a register may address."""
 import bisect
 import itertools
-from typing import Dict, List, Optional, Tuple
+from typing import List, Optional, Tuple
 
+from camac.language import DECLARATIONS
 from camac.layout import begins
 from camac.lsp.workspace import Judged
-from camac.names import Block, Mention
+from camac.names import Mention
 from camac.printed import read_known, rows_of_line
 from camac.tokens import Token, tokens_of
 from camac.values import Address, Range, Row, range_of
 
 # The lines around a place in which the statement is looked for, and the cycles of a register that are shown.
 AROUND = 8
+# What begins a line of the layout, and no row.
+WITHOUT_ROW = DECLARATIONS | {"table", "{", "}"}
 
 
 def statement_tokens(judged: Judged, place: int) -> List[Token]:
@@ -19,22 +22,18 @@ def statement_tokens(judged: Judged, place: int) -> List[Token]:
     block = judged.names.block_at(place)
     if block is None or place <= block.brace:
         return []
-    its = _tokens_around(judged.text.data, block, place)
+    data, begin, end = judged.text.data, place, place
+    for _ in range(AROUND):
+        begin = max(block.brace + 1, data.rfind(b"\n", block.brace, begin))
+        end = data.find(b"\n", end + 1, block.end)
+        end = block.end if end < 0 else end
+    its = [it._replace(start=it.start + begin, end=it.end + begin) for it in tokens_of(data[begin:end])]
     firsts = [at for at, is_first in enumerate(begins([it.text for it in its])) if is_first]
     number = bisect.bisect_right([its[at].start for at in firsts], place) - 1
     if number < 0 or its[firsts[number]].text in "{}":
         return []
     found = its[firsts[number] : firsts[number + 1] if number + 1 < len(firsts) else len(its)]
     return found if place <= found[-1].end else []
-
-
-def _tokens_around(data: bytes, block: Block, place: int) -> List[Token]:
-    begin, end = place, place
-    for _ in range(AROUND):
-        begin = max(block.brace + 1, data.rfind(b"\n", block.brace, begin))
-        end = data.find(b"\n", end + 1, block.end)
-        end = block.end if end < 0 else end
-    return [it._replace(start=it.start + begin, end=it.end + begin) for it in tokens_of(data[begin:end])]
 
 
 def row_of(judged: Judged, first: Token) -> Optional[Row]:
@@ -46,32 +45,23 @@ def row_of(judged: Judged, first: Token) -> Optional[Row]:
     tokens = tokens_of(text.line_of(line))
     before = first.start - text.line_starts[line - 1]
     # A row stands for each statement that begins on the line, and for each `else`.
-    places = [it.start for it, is_first in zip(tokens, begins([it.text for it in tokens])) if _has_row(it.text, is_first)]
+    firsts = zip(tokens, begins([it.text for it in tokens]))
+    places = [it.start for it, is_first in firsts if it.text == "else" or is_first and it.text not in WITHOUT_ROW]
     rows = rows_of_line(verdict.text, line)
     number = bisect.bisect_left(places, before)
     return rows[number] if number < len(rows) else None
 
 
-def _has_row(word: str, is_first: bool) -> bool:
-    return word == "else" or is_first and word not in ("{", "}", "service", "proc", "cdlam", "var", "table")
-
-
 def range_at(judged: Judged, mention: Mention) -> Optional[Range]:
     """The range of a variable before the statement that names it, as the checker knows it; None where it does not come to the statement."""
     its = statement_tokens(judged, mention.start)
-    words = _known(judged, its[0]).get(mention.symbol.name, []) if its else []
+    if not its:
+        return None
+    start, line = its[0].start, judged.text.line_at(its[0].start)
+    at = line, start - judged.text.line_starts[line - 1] + 1
+    verdict = judged.once(("known", start), lambda: judged.judge.ask("explain", judged.text.data, at))
+    words = read_known(verdict.text).get(mention.symbol.name, []) if verdict.accepted else []
     return range_of(words[0]) if len(words) == 1 else None
-
-
-def _known(judged: Judged, first: Token) -> Dict[str, List[str]]:
-    """The words of `camac explain --at` behind each name, at a statement that is given by its first token; nothing where it is not reached."""
-    key = "known", first.start
-    if key not in judged.kept:
-        line = judged.text.line_at(first.start)
-        verdict = judged.judge.ask("explain", judged.text.data, (line, first.start - judged.text.line_starts[line - 1] + 1))
-        judged.kept[key] = read_known(verdict.text) if verdict.accepted else {}
-    its: Dict[str, List[str]] = judged.kept[key]
-    return its
 
 
 def addresses(judged: Judged, mention: Mention) -> List[Tuple[int, Address]]:
@@ -82,13 +72,8 @@ def addresses(judged: Judged, mention: Mention) -> List[Tuple[int, Address]]:
         used = itertools.islice((it for it in judged.names.of(mention.symbol) if not it.declares), AROUND)
         rows = [row_of(judged, tokens[0]) for tokens in (statement_tokens(judged, it.start) for it in used) if tokens]
     found = [(row.line, address) for row in rows if row for address in row.addresses()]
-    return found or [(line, address) for line, address in written_addresses(judged, mention)]
-
-
-def written_addresses(judged: Judged, mention: Mention) -> List[Tuple[int, Address]]:
-    """The addresses that are in numbers after `cdreg` of a register."""
-    found = []
-    for it in judged.names.of(mention.symbol):
+    # Else what is in numbers after `cdreg` of the register.
+    for it in judged.names.of(mention.symbol) if not found else ():
         words = [token.text for token in statement_tokens(judged, it.start)] if it.declares else []
         if len(words) == 6 and all(word.isdigit() for word in words[2:]):
             crate, station, sub = map(int, words[3:])

@@ -60,22 +60,12 @@ def _read_headers(stream: BinaryIO) -> int:
             raise Ended
         if line.strip():
             if line.lower().startswith(HEADER):
-                size = _read_size(line[len(HEADER) :])
+                word = line[len(HEADER) :].strip()
+                if not word.isdigit() or len(word) > 12 or int(word) > MOST_BYTES:
+                    raise Garbled("no length of a message")
+                size = int(word)
         elif size is not None:
             return size
-
-
-def _read_size(value: bytes) -> int:
-    word = value.strip()
-    if not word.isdigit() or len(word) > 12 or int(word) > MOST_BYTES:
-        raise Garbled("no length of a message")
-    return int(word)
-
-
-def write_message(stream: BinaryIO, message: Message) -> None:
-    data = json.dumps({"jsonrpc": "2.0", **message}).encode()
-    stream.write(b"Content-Length: %d\r\n\r\n%b" % (len(data), data))
-    stream.flush()
 
 
 class Connection:
@@ -149,7 +139,9 @@ class Connection:
         return self.arrived.empty()
 
     def send(self, message: Message) -> None:
-        write_message(self.target, message)
+        data = json.dumps({"jsonrpc": "2.0", **message}).encode()
+        self.target.write(b"Content-Length: %d\r\n\r\n%b" % (len(data), data))
+        self.target.flush()
 
     def notify(self, method: str, **params: Any) -> None:
         self.send({"method": method, "params": params})

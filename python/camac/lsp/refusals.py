@@ -1,16 +1,19 @@
-"""Why a script is refused: each refusal with its place. The checker names the first one and its line. Here it is asked again with the tokens of that
-line each on a line of its own, and then without the statements of the body that it is in."""
+"""Why a script is refused: each refusal with its place. The checker tells where the first one begins, and what it knew. Here it is asked again
+without the statements of the body that it is in."""
 import re
 from typing import Iterator, List, NamedTuple, Optional, Tuple
 
 from camac.layout import begins
 from camac.lsp.workspace import Judged
-from camac.printed import read_explanation
-from camac.tokens import PIECE, is_token, tokens_of
+from camac.printed import CUT, read_explanation
+from camac.tokens import tokens_of
+from camac.values import Explanation
 
 # The most refusals that are shown.
 MOST = 10
 SIGN = re.compile(rb"[\x00-\xff][\x80-\xbf]*")
+# The most bytes of a line that are shown.
+SHOWN = 120
 # What takes the place of each byte of statements that are left out.
 BLANK = bytes(it if it == ord("\n") else ord(" ") for it in range(256))
 BODY = re.compile(rb"#[^\n]*|\b(service|proc)\b|([{}])")
@@ -45,40 +48,43 @@ def _refusals(judged: Judged) -> Iterator[Placed]:
         found = read_explanation(verdict.text)
         if found is None:
             return
-        code, line, rule = found.refusal
+        code, line, rule, _ = found.refusal
         if line is None:
             return
-        start, end = _place(judged, data, code, line)
+        start, end = _place(judged, code, line, _column_of(judged, found))
         yield Placed(code, line, start, end, rule, found.sentence, found.advice)
         if code[0] == "L":
-            yield from (Placed(it.code, it.line, *_place(judged, data, it.code, it.line), it.rule, "", ()) for it in found.also[: MOST - 1] if it.line)
-        rest = _without_body(data, start) if code[0] == "E" else None
+            yield from (Placed(it.code, it.line, *_place(judged, it.code, it.line, it.column), it.rule, "", ()) for it in found.also[: MOST - 1] if it.line)
+        rest = _without_body(data, start) if code[0] == "E" and found.also else None
         if rest is None:
             return
         data, verdict = rest, judged.judge.ask("explain", rest)
 
 
-def _place(judged: Judged, data: bytes, code: str, line: int) -> Tuple[int, int]:
-    """The place of what is refused on a line."""
+def _column_of(judged: Judged, found: Explanation) -> Optional[int]:
+    """Where the mark stands, in bytes from 1: before it are ASCII signs alone. Of a long line a part is shown."""
+    if found.column is not None or len(found.lines) < 2:
+        return found.column
+    shown, mark = (it.partition("| ")[2][len(CUT) :] for it in found.lines[:2])
+    before = judged.text.line_of(found.refusal.line or 1).find(shown[:SHOWN].encode())
+    return before + len(mark) if before >= 0 else None
+
+
+def _place(judged: Judged, code: str, line: int, column: Optional[int]) -> Tuple[int, int]:
+    """The place of what is refused on a line, where it begins at this column."""
     its = judged.text.line_of(line)
-    at = judged.text.line_starts[min(line, len(judged.text.line_starts)) - 1]
+    at, start = judged.text.line_starts[min(line, len(judged.text.line_starts)) - 1], (column or 1) - 1
     if code == "S1":
-        bad = next((it for it in PIECE.finditer(its.partition(b"#")[0].decode("latin-1")) if not is_token(it[0])), None)
         # A sign may have several bytes.
-        return (at + bad.start(), at + bad.start() + len(SIGN.match(its, bad.start())[0])) if bad else (at, at + len(its))  # type: ignore[index]
-    tokens = tokens_of(its)
+        return at + start, at + start + len(SIGN.match(its, start)[0])  # type: ignore[index]
+    before = tokens_of(its)
+    # The end of the script is shown at its last token.
+    tokens = [it for it in before if it.start >= start] or before[-1:]
     if not tokens:
         return at + len(its), at + len(its)
-    alone = b"\n".join(it.text.encode() for it in tokens)
-    again = read_explanation(judged.judge.ask("explain", data[:at] + alone + data[at + len(its) :]).text)
-    number = (again.refusal.line or line) - line if again and again.refusal.code == code else 0
-    if not 0 <= number < len(tokens):
-        number = 0
-    if code[0] == "S":
-        return at + tokens[number].start, at + tokens[number].end
     # A statement goes on to the next one, or to the end of the line.
-    after = (place for place, it in enumerate(begins([it.text for it in tokens])) if it and place > number)
-    return at + tokens[number].start, at + tokens[next(after, len(tokens)) - 1].end
+    after = (place for place, it in enumerate(begins([it.text for it in tokens])) if place and (it or code[0] == "S"))
+    return at + tokens[0].start, at + tokens[next(after, len(tokens)) - 1].end
 
 
 def _without_body(data: bytes, place: int) -> Optional[bytes]:

@@ -17,7 +17,7 @@ from camac.lsp.protocol import (
 )
 from camac.lsp.refusals import refusals
 from camac.lsp.workspace import Choice, Document, Judged, Workspace, is_plan_text
-from camac.names import Mention, Names
+from camac.names import Mention
 from camac.warn import Warned
 
 # The seconds without a message before warnings are looked for, and between two looks at the plans on the disk.
@@ -66,8 +66,7 @@ class Server:
 
     def __init__(self, source: BinaryIO, target: BinaryIO) -> None:
         self.client = Connection(source, target)
-        self.workspace = Workspace()
-        self.workspace.on_choice = self.tell_choice
+        self.workspace = Workspace(self.tell_choice)
         self.late = Late(self.client.put)
         self.state = "new"
         # By URI: the last version whose warnings are known, with these; when they are to be looked for; and the scripts whose plan cannot be read.
@@ -81,8 +80,9 @@ class Server:
         self.requests: Dict[str, Callable[[Params], Any]] = {
             "initialize": self.initialize, "shutdown": self.shutdown,
             "textDocument/hover": self.on_hover, "textDocument/completion": self.on_completion,
-            "textDocument/definition": self.on_definition, "textDocument/references": self.on_references,
-            "textDocument/documentHighlight": self.on_highlight, "textDocument/prepareRename": self.on_prepare_rename,
+            "textDocument/definition": lambda params: self.locations(params, lambda it: it.declares),
+            "textDocument/references": self.on_references, "textDocument/prepareRename": self.on_prepare_rename,
+            "textDocument/documentHighlight": lambda params: [{"range": it["range"]} for it in self.locations(params)],
             "textDocument/rename": self.on_rename, "textDocument/documentSymbol": self.on_symbols,
             "textDocument/foldingRange": self.on_folds, "textDocument/formatting": self.on_formatting,
             "textDocument/codeAction": self.on_actions, "workspace/executeCommand": self.on_command,
@@ -271,18 +271,15 @@ class Server:
     def look_at_plans(self) -> None:
         """Publishes anew what is said of scripts whose plan is another one than before."""
         self.looked = time.monotonic()
-        for its in list(self.workspace.documents.values()):
-            before = its.judged
-            if not its.is_plan and (not self.is_judged(its) or its.judged is not before):
+        for its in [it for it in self.workspace.documents.values() if not it.is_plan]:
+            before, is_faulty = its.judged, False
+            try:
+                self.workspace.judged(its)
+            except Exception:
+                is_faulty = True
+            if is_faulty != (its.uri in self.faulty) or its.judged is not before:
                 self.refresh(its)
         self.publish_stale()
-
-    def is_judged(self, its: Document) -> bool:
-        try:
-            self.workspace.judged(its)
-        except Exception:
-            return its.uri in self.faulty
-        return its.uri not in self.faulty
 
     def publish_late(self, own: Message) -> None:
         """Publishes a script's warnings, if it is still their version."""
@@ -298,54 +295,48 @@ class Server:
 
     # Requests
 
-    def place(self, params: Params, text: Text) -> int:
-        return text.place(params["position"])
-
     def on_hover(self, params: Params) -> Any:
         its = self.document(params)
         if its.is_plan:
             return None
         judged = self.workspace.judged(its)
-        text = hover(judged, self.place(params, judged.text), its.choice or Choice("", ""))
+        text = hover(judged, judged.text.place(params["position"]), its.choice or Choice("", ""))
         if text is None:
             return None
         return {"contents": {"kind": "markdown", "value": text.text}, "range": judged.text.range(text.start, text.end)}
 
     def on_completion(self, params: Params) -> Any:
         judged = self.script(params)
-        return complete(judged, self.place(params, judged.text)) if judged else []
+        return complete(judged, judged.text.place(params["position"])) if judged else []
 
-    def mention(self, params: Params) -> Optional[Mention]:
+    def named(self, params: Params) -> Optional[Tuple[Judged, Mention]]:
+        """The script that a request is about, and the name at its position; None if there is none."""
         judged = self.script(params)
-        return judged.names.at(self.place(params, judged.text)) if judged else None
+        mention = judged.names.at(judged.text.place(params["position"])) if judged else None
+        return (judged, mention) if judged and mention else None
 
-    def locations(self, params: Params, is_fit: Callable[[Names, Mention], bool]) -> List[Any]:
+    def locations(self, params: Params, is_fit: Callable[[Mention], bool] = lambda _: True) -> List[Any]:
         """The places of the name at a position that fit."""
-        judged, mention = self.script(params), self.mention(params)
-        if judged is None or mention is None:
+        its = self.named(params)
+        if its is None:
             return []
-        found = [it for it in judged.names.of(mention.symbol) if is_fit(judged.names, it)]
+        judged, mention = its
+        found = [it for it in judged.names.of(mention.symbol) if is_fit(it)]
         return [{"uri": params["textDocument"]["uri"], "range": judged.text.range(it.start, it.end)} for it in found]
-
-    def on_definition(self, params: Params) -> Any:
-        return self.locations(params, lambda _, it: it.declares)
 
     def on_references(self, params: Params) -> Any:
         with_declarations = (params.get("context") or {}).get("includeDeclaration", True)
-        return self.locations(params, lambda _, it: with_declarations or not it.declares)
-
-    def on_highlight(self, params: Params) -> Any:
-        return [{"range": it["range"]} for it in self.locations(params, lambda _, it: True)]
+        return self.locations(params, lambda it: with_declarations or not it.declares)
 
     def on_prepare_rename(self, params: Params) -> Any:
-        judged, mention = self.script(params), self.mention(params)
-        return judged.text.range(mention.start, mention.end) if judged and mention else None
+        its = self.named(params)
+        return its[0].text.range(its[1].start, its[1].end) if its else None
 
     def on_rename(self, params: Params) -> Any:
-        judged, mention = self.script(params), self.mention(params)
-        if judged is None or mention is None:
+        its = self.named(params)
+        if its is None:
             raise ResponseError(FAILED, "there is no name here")
-        return self.workspace_edit(params["textDocument"]["uri"], judged, symbols.renamed(judged, mention, params["newName"]))
+        return self.workspace_edit(params["textDocument"]["uri"], its[0], symbols.renamed(*its, params["newName"]))
 
     def workspace_edit(self, uri: str, judged: Judged, edits: Sequence[Edit]) -> Any:
         return {"changes": {uri: judged.text.edits(edits)}}

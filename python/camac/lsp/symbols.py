@@ -3,10 +3,11 @@ import re
 from typing import Any, Dict, Iterator, List, Tuple
 
 from camac.edits import Edit, edited
+from camac.language import Kind
 from camac.lsp.documents import Text
 from camac.lsp.protocol import FAILED, ResponseError
 from camac.lsp.workspace import Judged
-from camac.names import SCRIPT, Kind, Mention, fault_of_new_name
+from camac.names import SCRIPT, Mention, fault_of_new_name
 from camac.printed import without_name
 from camac.toml_places import Table, read_places, tables
 
@@ -19,16 +20,16 @@ Item = Dict[str, Any]
 
 def symbols_of_script(judged: Judged) -> List[Item]:
     text, names = judged.text, judged.names
-    found = [_item(text, it.name, FUNCTION if not it.is_service else EVENT, it.start, it.end, it.start, it.brace) for it in names.blocks]
-    for block, item in zip(names.blocks, found):
-        item["detail"] = "service" if block.is_service else "proc"
-        item["children"] = []
+    found: List[Item] = []
+    for block in names.blocks:
+        kind, word = (EVENT, "service") if block.is_service else (FUNCTION, "proc")
+        found.append({**_item(text, block.name, kind, block.start, block.end, block.start, block.brace, word), "children": []})
     seen = set()
     for it in names.mentions:
-        kind = NUMBER_OF.get(it.symbol.kind)
-        if it.declares and kind and it.symbol not in seen:
+        number = NUMBER_OF.get(it.symbol.kind)
+        if it.declares and number and it.symbol not in seen:
             seen.add(it.symbol)
-            item = _item(text, it.symbol.name, kind, it.start, it.end, it.start, it.end, it.symbol.kind.value)
+            item = _item(text, it.symbol.name, number, it.start, it.end, it.start, it.end, it.symbol.kind.value)
             (found if it.symbol.body == SCRIPT else found[it.symbol.body]["children"]).append(item)
     return sorted(found, key=lambda it: (it["range"]["start"]["line"], it["range"]["start"]["character"]))
 

@@ -6,7 +6,7 @@ import pathlib
 import re
 import tempfile
 from functools import cached_property
-from typing import Any, Callable, Dict, List, NamedTuple, Optional, Tuple
+from typing import Any, Callable, Dict, List, NamedTuple, Optional, Tuple, TypeVar
 from urllib.parse import unquote, urlsplit
 
 from camac.library import Verdict
@@ -14,11 +14,11 @@ from camac.lsp.documents import Text
 from camac.names import Names
 from camac.printed import read_plan
 from camac.program import explain_plan, output_of, quickest, verdict
-from camac.regular import read_regular
-from camac.texts import GREATEST_TEXT, SAMPLE, plan_text
+from camac.texts import GREATEST_TEXT, SAMPLE, plan_text, read_regular
 from camac.toml_places import with_commands
 from camac.values import Plan
 
+T = TypeVar("T")
 # The first line of a script may name its plan.
 NAMED = re.compile(r"#\s*plan:\s*(\S+)", re.I)
 PLAN_LIKE = re.compile(rb"^\s*\[\[\s*(?:type|crate)\b|^\s*(?:type|crate)\s*=|^#:schema\s.*plan\.schema\.json", re.M)
@@ -33,12 +33,6 @@ class Choice(NamedTuple):
 
     def text(self) -> str:
         return f"{os.path.basename(self.file)} ({self.why})"
-
-
-def path_of(uri: str) -> Optional[pathlib.Path]:
-    """The file of a URI; None if it is none of a file."""
-    its = urlsplit(uri)
-    return pathlib.Path(unquote(its.path)) if its.scheme == "file" else None
 
 
 def is_plan_text(data: bytes) -> bool:
@@ -56,18 +50,14 @@ def choose(first_line: str, path: Optional[pathlib.Path]) -> Choice:
     if named:
         its = [path.parent / named[1], path.parent / named[1].rstrip(".,;")]
         return Choice(str(next((it for it in its if it.is_file()), its[0])), "the first line names it")
-    plans = _plans_beside(path)
+    plans: List[pathlib.Path] = []
+    # A name with a NUL is none of a file.
+    with contextlib.suppress(OSError, ValueError):
+        plans = [it for it in sorted(path.parent.glob("*.toml")) if _is_plan(str(it), it.stat().st_mtime_ns)]
     usual = [it for it in plans if it.name == USUAL]
     if len(plans) == 1 or usual:
         return Choice(str((usual or plans)[0]), "the plan beside the script" if len(plans) == 1 else "of the plans beside the script")
     return Choice(SAMPLE, f"{len(plans)} plans are beside the script, and its first line names none" if plans else "no plan is beside the script")
-
-
-def _plans_beside(path: pathlib.Path) -> List[pathlib.Path]:
-    # A name with a NUL is none of a file.
-    with contextlib.suppress(OSError, ValueError):
-        return [it for it in sorted(path.parent.glob("*.toml")) if _is_plan(str(it), it.stat().st_mtime_ns)]
-    return []
 
 
 @functools.lru_cache(maxsize=1000)
@@ -113,13 +103,17 @@ class Judged:
 
     def __init__(self, judge: Judge, text: Text) -> None:
         self.judge, self.text = judge, text
-        self.verdicts: Dict[str, Verdict] = {}
         self.kept: Dict[Any, Any] = {}
 
+    def once(self, key: object, find: Callable[[], T]) -> T:
+        """What is found, which is kept by its key."""
+        if key not in self.kept:
+            self.kept[key] = find()
+        found: T = self.kept[key]
+        return found
+
     def ask(self, command: str) -> Verdict:
-        if command not in self.verdicts:
-            self.verdicts[command] = self.judge.ask(command, self.text.data)
-        return self.verdicts[command]
+        return self.once(("ask", command), lambda: self.judge.ask(command, self.text.data))
 
     @cached_property
     def names(self) -> Names:
@@ -131,23 +125,24 @@ class Judged:
 
 
 class Document:
-    """An open text. Of a script `choice` is its plan, and `judged` what is said of it."""
+    """An open text, and its path if it is that of a file. Of a script `choice` is its plan, and `judged` what is said of it."""
 
     def __init__(self, uri: str, is_plan: bool, version: Optional[int], text: Text) -> None:
         self.uri, self.is_plan, self.version, self.text = uri, is_plan, version, text
-        self.path = path_of(uri)
+        its = urlsplit(uri)
+        self.path = pathlib.Path(unquote(its.path)) if its.scheme == "file" else None
         self.choice: Optional[Choice] = None
         self.judged: Optional[Judged] = None
 
 
 class Workspace:
-    """The open documents by their URIs, and the plans that they are judged on."""
+    """The open documents by their URIs, and the plans that they are judged on. `on_choice` is told of each plan that is chosen."""
 
-    def __init__(self) -> None:
+    def __init__(self, on_choice: Callable[[Document, Choice], None]) -> None:
         self.documents: Dict[str, Document] = {}
         self.room = tempfile.TemporaryDirectory(prefix="camac-lsp-")
         self.judges: Dict[bytes, Judge] = {}
-        self.on_choice: Callable[[Document, Choice], None] = lambda document, choice: None
+        self.on_choice = on_choice
 
     def judged(self, document: Document) -> Judged:
         """What is said of a script as it is, on its plan as that is: in the editor, if it is open, else on the disk. Raises OSError if its plan

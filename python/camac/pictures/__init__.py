@@ -6,8 +6,7 @@ from camac.pictures.costs import draw_calls as draw_calls, draw_costs as draw_co
 from camac.pictures.plan import draw_plan as draw_plan
 from camac.pictures.rates import draw_rates as draw_rates
 from camac.pictures.response import draw_response as draw_response
-from camac.pictures.pairs import draw_pairs as draw_pairs
-from camac.pictures.places import draw_places as draw_places
+from camac.pictures.maps import draw_pairs as draw_pairs, draw_places as draw_places
 from camac.pictures.spectra import channel_groups as channel_groups, command_groups as command_groups, draw_groups as draw_groups, event_groups as event_groups
 from camac.pictures.strips import draw_strip as draw_strip
 from camac.pictures.svg import Canvas as Canvas

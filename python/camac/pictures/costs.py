@@ -148,7 +148,8 @@ def _draw_node(canvas: Canvas, corner: Tuple[float, float], node: Node, scale: S
     wide = node.cycles * scale.cycle
     own = node.row.share.cycles * scale.cycle if node.has_block else 0.0
     gap = 1 if wide > 3 else 0
-    text = statement_text(node.row, source)
+    # The line on which the statement begins, without its comment.
+    text = source[node.row.line - 1].split("#")[0].strip() if node.row.line <= len(source) else node.row.word
     tip = _node_tip(node, text, body) if wide >= MARK else None
     if node.has_block:
         if own:
@@ -170,11 +171,6 @@ def _draw_node(canvas: Canvas, corner: Tuple[float, float], node: Node, scale: S
         shown = str(node.row.line) if room < min(8, len(label)) else cut(label, room)
         if len(shown) <= room:
             canvas.text(x + own + 4, top + 14, shown, "mono s11" if node.has_block else "mono s11 on", NO_POINTER)
-
-
-def statement_text(row: Row, source: Sequence[str]) -> str:
-    """The line on which a statement begins, without its comment."""
-    return source[row.line - 1].split("#")[0].strip() if row.line <= len(source) else row.word
 
 
 def _node_tip(node: Node, text: str, body: Body) -> str:

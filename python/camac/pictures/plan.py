@@ -25,14 +25,16 @@ class Scene(NamedTuple):
     services: Optional[Dict[int, Service]]
     cycles: Optional[Dict[Tuple[int, int], int]]
 
-    def has_service(self, gl: int) -> bool:
-        return gl in (self.services or {})
-
 
 def draw_plan(plan: Plan, services: Optional[Sequence[Service]] = None, run: Optional[Run] = None) -> Canvas:
     """Draws a row for each crate, and below it a line for each graded-L bit."""
     canvas = Canvas("The plan: crates, stations, module types, graded-L bits and waits")
-    cycles = _cycles(run) if run and run.has_listing else None
+    cycles: Optional[Dict[Tuple[int, int], int]] = None
+    if run and run.has_listing:
+        cycles = Counter()
+        for command, sent in run.commands.items():
+            # Those of a controller are at its first station.
+            cycles[command.crate, min(command.station, CONTROLLER)] += sent.count
     scene = Scene(plan, None if services is None else {it.gl: it for it in services}, cycles)
     y = 6
     if not plan.crates:
@@ -50,14 +52,6 @@ def draw_plan(plan: Plan, services: Optional[Sequence[Service]] = None, run: Opt
     canvas.text(LEFT, y + 11, text, "mute s11")
     canvas.grow(y + 18)
     return canvas
-
-
-def _cycles(run: Run) -> Dict[Tuple[int, int], int]:
-    """Cycles by crate and station; those of a controller under its first station."""
-    cycles: Dict[Tuple[int, int], int] = Counter()
-    for command, sent in run.commands.items():
-        cycles[command.crate, min(command.station, CONTROLLER)] += sent.count
-    return cycles
 
 
 def _draw_crate(canvas: Canvas, y: float, crate: Crate, scene: Scene) -> None:
@@ -103,7 +97,7 @@ def _draw_cycles(canvas: Canvas, corner: Tuple[float, float], place: Tuple[int, 
 
 def _draw_badge(canvas: Canvas, corner: Tuple[float, float], gl: int, scene: Scene, tip: Optional[str] = None) -> None:
     x, y = corner
-    served = scene.has_service(gl)
+    served = gl in (scene.services or {})
     canvas.rect((x, y, *BADGE), "ours" if served else "l-mute", tip, ' rx="3"')
     canvas.text(x + BADGE[0] / 2, y + 13, gl, "m s11 b on" if served else "m s11 b")
 

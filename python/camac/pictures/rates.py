@@ -2,7 +2,7 @@
 import math
 from typing import List, NamedTuple, Optional, Sequence, Tuple
 
-from camac.pictures.svg import NO_POINTER, Canvas, count, number, share, ticks
+from camac.pictures.svg import NO_POINTER, Canvas, count, share, ticks
 from camac.simulate import Simulated, Simulation
 
 LEFT, WIDE, HIGH, PANEL = 64, 330, 150, 480
@@ -51,7 +51,7 @@ class Plot:
         last = -99.0
         for it in sorted(lines, key=lambda it: -it.values[-1]):
             places = [(self.across(rate), self.up(value)) for rate, value in zip(self.rates, it.values)]
-            self.canvas.path("M" + "L".join(f"{number(x)} {number(y)}" for x, y in places), f"l-{it.kind}")
+            self.canvas.lines(places, f"l-{it.kind}")
             if "dash" not in it.kind:
                 for x, y in places:
                     self.canvas.rect((x - 1.5, y - 1.5, 3, 3), it.kind.split()[0])

@@ -89,7 +89,10 @@ def pieces_of(of: Response, responses: Sequence[Response]) -> List[Piece]:
     call, begins = _latest_call(of, first.cycles, lower)
     passed = (call - 1) * (of.every or 0)
     calls = [(it, it.calls(passed - 1) if passed else 0) for it in lower]
-    pieces = [_in_progress(first) if call == 1 else _left(of, call, [(first, 1), (of, call - 1), *calls])]
+    tip = f"{first.name} (GL {first.gl}) may be in progress: at most {count(first.cycles, 'cycle')}"
+    pieces = [Piece("slack", first.cycles, first.name, f"{first.cycles:,} ({first.name}, in progress)", tip)]
+    if call > 1:
+        pieces = [_left(of, call, [(first, 1), (of, call - 1), *calls])]
     for it, before in calls:
         times = it.calls(begins) - before
         tip = f"{it.name} (GL {it.gl}) goes first: {count(times, 'time')} at most {count(it.cycles, 'cycle')}"
@@ -98,11 +101,6 @@ def pieces_of(of: Response, responses: Sequence[Response]) -> List[Piece]:
     tip = f"{of.name} (GL {of.gl}) itself: at most {count(of.cycles, 'cycle')}"
     pieces.append(Piece("ours", of.cycles, of.name, f"{of.cycles:,} (its own)", tip))
     return [it for it in pieces if it.cycles]
-
-
-def _in_progress(first: Response) -> Piece:
-    tip = f"{first.name} (GL {first.gl}) may be in progress: at most {count(first.cycles, 'cycle')}"
-    return Piece("slack", first.cycles, first.name, f"{first.cycles:,} ({first.name}, in progress)", tip)
 
 
 def _left(of: Response, call: int, came: Sequence[Tuple[Response, int]]) -> Piece:

@@ -80,12 +80,10 @@ def event_groups(run: Run, services: Sequence[Service], scale: str = LINEAR) -> 
 def seen_groups(cycles: Mapping[int, Spectrum], words: Mapping[int, Spectrum], services: Sequence[Service], scale: str = LINEAR) -> List[Group]:
     """The panels of spectra of cycles and of words, by the bit of their service. Those of cycles have one axis, and so have those of words."""
     groups = []
-    if services and cycles:
-        shown = [Shown(it.name, ": cycles", cycles[it.gl], "ours", "events", it.cycles) for it in services]
-        groups.append(Group("Cycles of an event", [draw_panel(it, scale) for it in shown]))
-    if services and words:
-        shown = [Shown(it.name, ": words", words[it.gl], "control", "events", it.words) for it in services]
-        groups.append(Group("Words of an event", [draw_panel(it, scale) for it in shown]))
+    for what, spectra, kind in (("cycles", cycles, "ours"), ("words", words, "control")):
+        if services and spectra:
+            shown = [Shown(it.name, f": {what}", spectra[it.gl], kind, "events", getattr(it, what)) for it in services]
+            groups.append(Group(f"{what.capitalize()} of an event", [draw_panel(it, scale) for it in shown]))
     return groups
 
 
@@ -114,19 +112,14 @@ def command_groups(run: Run, plan: Plan, scale: str = LINEAR) -> List[Group]:
 
 def channel_groups(channels: Sequence[Channel], scale: str = LINEAR, view: View = View(), over: Optional[Over] = None) -> List[Group]:
     """For each column of event words its numbers, with those of another run as a line over them; or of a scaler a line over the run."""
-    shown = [of_channel(it, it.series) for it in channels]
-    if over is None:
-        return _grouped(shown, scale, view)
-    for at, it in enumerate(channels):
-        if it.column in over.channels:
-            shown[at] = shown[at]._replace(over=(over.channels[it.column].spectrum, over.factors.get(it.column.field.gl, 0.0)))
-    return _grouped(shown, scale, view, f"; the line: {over.name}, {over.why}")
+    return _grouped([of_channel(it, over, it.series) for it in channels], scale, view, f"; the line: {over.name}, {over.why}" if over else "")
 
 
-def of_channel(it: Channel, series: Optional[Series] = None) -> Shown:
-    """The spectrum of a channel, or a line in its place."""
+def of_channel(it: Channel, over: Optional[Over] = None, series: Optional[Series] = None) -> Shown:
+    """The spectrum of a channel, with that of another run, or a line in its place."""
     its = it.column.field
-    return Shown(it.column.name, "", it.spectrum, "ours", "words", meaning=(its.scale, its.offset, its.unit), series=series)
+    other = (over.channels[it.column].spectrum, over.factors.get(its.gl, 0.0)) if over and it.column in over.channels else None
+    return Shown(it.column.name, "", it.spectrum, "ours", "words", meaning=(its.scale, its.offset, its.unit), series=series, over=other)
 
 
 def _grouped(shown: Sequence[Shown], scale: str, view: View = View(), of_line: str = "") -> List[Group]:
@@ -144,12 +137,22 @@ def _grouped(shown: Sequence[Shown], scale: str, view: View = View(), of_line: s
     return made
 
 
+def groups_of(run: Run, plan: Plan, services: Sequence[Service], scale: str, view: View) -> List[Tuple[str, List[Group]]]:
+    """All spectra of a run: those of its events, of commands, and of named words, each with a title."""
+    found = [("Cycles and words of an event", event_groups(run, services, scale))]
+    if run.has_listing:
+        found.append(("By channel: the words that modules gave with Q = 1, and the words that were sent", command_groups(run, plan, scale)))
+    channels = run.list_channels()
+    if channels:
+        found.append((f"Event words by their names{run.asked.gated()}", channel_groups(channels, scale, view, run.over)))
+    return found
+
+
 def draw_groups(title: str, groups: Sequence[Group]) -> Canvas:
     """All panels of some groups in one picture."""
     canvas = Canvas(title)
     if not groups:
-        canvas.text(0, 18, "Nothing to show: no event, no word.", "mute")
-        canvas.grow(26)
+        canvas.say("Nothing to show: no event, no word.")
     y = 0.0
     for group in groups:
         canvas.text(0, y + 12, group.title, "mute s11")
@@ -291,10 +294,10 @@ def _draw_hit(canvas: Canvas, it: Shown, bins: Bins, can_zoom: bool) -> None:
     if (scale, offset) != (1, 0):
         data += f' data-scale="{scale}" data-offset="{offset}"'
     fine = it.spectrum.bins(bins.first, bins.first + _length(bins), FINE)
+    if it.over:
+        data += f' data-line="{" ".join(f"{one:.4g}" for one in _laid_over(it, bins))}"'
     if can_zoom and (fine.width < bins.width or it.over):
-        data += f' data-each="{fine.width}" data-fine="{_packed(fine.counts)}"'
-        if it.over:
-            data += f' data-line="{" ".join(f"{one:.4g}" for one in _laid_over(it, bins))}" data-over="{_packed(_laid_over(it, fine))}"'
+        data += f' data-each="{fine.width}" data-fine="{_packed(fine.counts)}"' + (f' data-over="{_packed(_laid_over(it, fine))}"' if it.over else "")
     canvas.hit((LEFT, TOP, _wide(canvas), HIGH), f"{tip} {unit}".rstrip(), data)
 
 
@@ -312,7 +315,7 @@ def _draw_line(canvas: Canvas, it: Shown, series: Series) -> None:
     each = HIGH / (top - low) if top > low else 0
     step = _wide(canvas) / columns
     places = [(LEFT + (at + 0.5) * step, FOOT - each * (value - low)) for at, value in means.items()]
-    canvas.path("M" + "L".join(f"{number(x)} {number(y)}" for x, y in places), f"l-{it.kind}")
+    canvas.lines(places, f"l-{it.kind}")
     if len(places) == 1:
         canvas.rect((places[0][0] - 1.5, places[0][1] - 1.5, 3, 3), it.kind)
     canvas.line((LEFT, FOOT + 0.5), (LEFT + _wide(canvas), FOOT + 0.5), "l-mute thin")

@@ -1,7 +1,7 @@
 """A service cycle by cycle: a cell for each dataway cycle, with waits, locks, Q and X."""
 from typing import Dict, Optional, Sequence, Tuple
 
-from camac.functions import reads, writes
+from camac.functions import CONTROLLERS, reads, writes
 from camac.pictures.svg import NO_POINTER, WIDTH, Canvas, count, number
 from camac.runs import Kept, Operation
 from camac.values import Cycle, Lock, Service, Unlock
@@ -10,14 +10,13 @@ CELL, WAIT = 17, 6
 ROW = 52
 # Above so many, waits are one cell with their number.
 MOST_WAIT_CELLS = 3
-CONTROLLER_STATIONS = (28, 30)
 LABEL_10 = 6.1
 KINDS = {"read": "reads", "write": "writes", "control": "moves no data", "controller": "the crate's controller"}
 
 
 def kind_of(it: Cycle) -> str:
     """The class of a cycle's cell."""
-    if it.command.station in CONTROLLER_STATIONS:
+    if it.command.station in CONTROLLERS:
         return "controller"
     function = it.command.function
     return "read" if reads(function) else "write" if writes(function) else "control"

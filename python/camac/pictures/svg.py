@@ -1,6 +1,7 @@
 """SVG as text: the colours of both themes, texts that may hold anything, and a canvas."""
+import math
 import re
-from typing import Callable, Dict, List, Optional, Sequence, Tuple, Union
+from typing import Callable, Dict, Iterable, List, Optional, Sequence, Tuple, Union
 
 WIDTH = 960
 # Of each name the colour in the light and in the dark theme. Text has a contrast of 4.5 or more (WCAG 2).
@@ -78,6 +79,12 @@ def ticks(most: float, wanted: int = 4) -> List[int]:
     return list(range(0, int(most) + 1, step))
 
 
+def level_of(entries: int, peak: int) -> int:
+    """The step of opacity of so many entries, of `peak` at most, by their logarithm."""
+    top = len(LEVELS) - 1
+    return top if peak == 1 else min(top, int((top + 0.99) * math.log(entries) / math.log(peak)))
+
+
 def variables(theme: int) -> str:
     return "".join(f"--{name}:{pair[theme]};" for name, pair in COLOURS.items())
 
@@ -106,12 +113,6 @@ def _form_rules() -> str:
 def page_style() -> str:
     """The style of the pictures in a page, by the page's variables."""
     return _colour_rules(lambda name: f"var(--{name})") + _form_rules()
-
-
-def picture_style() -> str:
-    """The style of a picture by itself, by plain colours, which every reader of SVG knows."""
-    light, dark = _colour_rules(lambda name: COLOURS[name][LIGHT]), _colour_rules(lambda name: COLOURS[name][DARK])
-    return f"{light}@media (prefers-color-scheme:dark){{{dark}}}{_form_rules()}"
 
 
 class Canvas:
@@ -147,12 +148,27 @@ class Canvas:
 
     def line(self, begin: Tuple[float, float], end: Tuple[float, float], kind: str) -> None:
         self.grow(max(begin[1], end[1]))
-        self.path(f"M{number(begin[0])} {number(begin[1])}L{number(end[0])} {number(end[1])}", kind)
+        self.lines((begin, end), kind)
+
+    def lines(self, places: Iterable[Tuple[float, float]], kind: str) -> None:
+        """A line from each place to the next one."""
+        self.path("M" + "L".join(f"{number(x)} {number(y)}" for x, y in places), kind)
 
     def path(self, way: Union[str, Sequence[str]], kind: str) -> None:
         """A path, or many of one kind as one path."""
         if way:
             self.parts.append(f'<path d="{"".join(way)}" class="{kind}"/>')
+
+    def shades(self, ways: Sequence[Tuple[int, str]], kind: str) -> None:
+        """Paths of one kind, each with its step of opacity: one path of a step."""
+        for level in range(len(LEVELS)):
+            self.path([way for at, way in ways if at == level], f"{kind} crisp k{level}")
+
+    def say(self, text: str, y: float = 18) -> "Canvas":
+        """A picture that has nothing but this to show."""
+        self.text(0, y, text, "mute")
+        self.grow(y + 8)
+        return self
 
     def legend(self, x: float, y: float, names: Sequence[Tuple[str, str]], step: Callable[[str], float]) -> float:
         """Small boxes with their words; returns where the next one would be."""
@@ -173,16 +189,19 @@ class Canvas:
         self.text(0, top + 16, title, "b s14")
         self.place(0, top + 28, other)
 
-    def _svg(self, attributes: str, before: str) -> str:
+    def _svg(self, attributes: str, before: str, role: str = "img") -> str:
         size = f'width="{number(self.width)}" height="{number(self.height)}" viewBox="0 0 {number(self.width)} {number(self.height)}"'
         title, parts = escape(self.title), "".join(self.parts)
-        return f'<svg{attributes} class="camac" role="img" aria-label="{title}" {size}><title>{title}</title>{before}{parts}</svg>'
+        return f'<svg{attributes} class="camac" role="{role}" aria-label="{title}" {size}><title>{title}</title>{before}{parts}</svg>'
 
     def picture(self) -> str:
-        """The picture as a file of its own."""
-        before = f'<style>{picture_style()}</style><rect width="100%" height="100%" class="ground"/>'
+        """The picture as a file of its own, with plain colours, which every reader of SVG knows."""
+        light, dark = _colour_rules(lambda name: COLOURS[name][LIGHT]), _colour_rules(lambda name: COLOURS[name][DARK])
+        style = f"{light}@media (prefers-color-scheme:dark){{{dark}}}{_form_rules()}"
+        before = f'<style>{style}</style><rect width="100%" height="100%" class="ground"/>'
         return self._svg(' xmlns="http://www.w3.org/2000/svg"', before) + "\n"
 
     def figure(self) -> str:
-        """The picture as a part of a page."""
-        return self._svg("", "")
+        """The picture as a part of a page. Where it has tips, keys reach them."""
+        has_tips = any("<title>" in it for it in self.parts)
+        return self._svg(' tabindex="0" aria-roledescription="picture"', "", "application") if has_tips else self._svg("", "")

@@ -1,5 +1,5 @@
 """The picture of a run: a panel for each service over the number of the service in the run, with cycles, bounds, Q = 0 and X = 0."""
-from typing import Dict, List, NamedTuple, Sequence, Tuple
+from typing import Dict, NamedTuple, Sequence, Tuple
 
 from camac.numbers import ends, total, whole
 from camac.pictures.svg import BOLD_12, LEVELS, WIDTH, Canvas, count, number, ticks
@@ -46,17 +46,15 @@ class Axis:
 
 
 class Panel(NamedTuple):
-    """The panel of a service: its columns, where its foot is, its height, the number of cycles at its top, and pixels for a cycle."""
+    """The panel of a service: its columns, where its foot is, the number of cycles at its top, pixels for a cycle, and whether the number of
+    the heading lies outside."""
 
     service: Service
     columns: Dict[int, Column]
     foot: float
-    high: int
     top: float
     scale: float
-
-    def is_far(self) -> bool:
-        return self.service.annotated_cycles > FAR * max(self.service.cycles, 1)
+    is_far: bool
 
     def at(self, cycles: float) -> float:
         return self.foot - cycles * self.scale
@@ -68,9 +66,7 @@ def draw_run(run: Run, services: Sequence[Service]) -> Canvas:
     total = len(run.gl)
     if not total or not run.has_cycles:
         text = "The event file is of version one, which has no cycles." if total else "No service came to its end in this run."
-        canvas.text(0, 18, text, "mute")
-        canvas.grow(26)
-        return canvas
+        return canvas.say(text)
     axis = Axis(total)
     if axis.per > 1:
         text = f"Each column: {axis.per} services, one after another; the bar is their mean, the short line above it their most."
@@ -108,9 +104,9 @@ def _draw_panel(
     run, axis = of
     most = max((it.most for it in columns.values()), default=0)
     high = HIGH if panels <= MOST_HIGH_PANELS else LOW
-    far = service.annotated_cycles > FAR * max(service.cycles, 1)
-    top = max(1.25 * service.cycles if far else service.annotated_cycles, most)
-    panel = Panel(service, columns, y + 20 + high, high, top, (high - 4) / max(top, 1))
+    is_far = service.annotated_cycles > FAR * max(service.cycles, 1)
+    top = max(1.25 * service.cycles if is_far else service.annotated_cycles, most)
+    panel = Panel(service, columns, y + 20 + high, top, (high - 4) / max(top, 1), is_far)
     its = columns.values()
     text = f"{count(sum(it.services for it in its), 'service')}, {count(sum(it.cycles for it in its), 'cycle')}"
     if run.has_listing:
@@ -154,15 +150,15 @@ def _draw_bars(canvas: Canvas, panel: Panel, axis: Axis) -> None:
 def _draw_bounds(canvas: Canvas, panel: Panel) -> None:
     """Draws the checker's bound and the number of the heading, with their labels on the right."""
     service, right = panel.service, LEFT + WIDE
-    upper = panel.at(panel.top if panel.is_far() else service.annotated_cycles)
+    upper = panel.at(panel.top if panel.is_far else service.annotated_cycles)
     lower = panel.at(service.cycles)
-    if not panel.is_far():
+    if not panel.is_far:
         canvas.line((LEFT, upper), (right, upper), "l-ink dash")
     if service.annotated_cycles == service.cycles:
         canvas.text(right + 6, upper + 4, f"bound {service.cycles:,}", "s11")
         return
     canvas.line((LEFT, lower), (right, lower), "l-ink thin")
-    if panel.is_far():
+    if panel.is_far:
         canvas.text(right + 6, upper + 4, "annotated, above:", "mute s10")
         canvas.text(right + 6, upper + 15, f"{service.annotated_cycles:,}", "s10")
         upper += 11
@@ -173,24 +169,20 @@ def _draw_bounds(canvas: Canvas, panel: Panel) -> None:
     canvas.text(right + 6, max(lower, upper + APART) + 4, f"at most {service.cycles:,}", kind)
 
 
-STRIP_WORDS = {"noq": "Q = 0", "nox": "X = 0"}
-
-
 def _draw_strip(canvas: Canvas, y: float, kind: str, cycles: Dict[int, int], of: Tuple[Panel, Axis]) -> None:
     """Draws a strip in six steps of opacity, by cycles a service in each column. X = 0 is never faint."""
     panel, axis = of
     total = sum(cycles.values())
-    canvas.text(LEFT - 6, y + 9, STRIP_WORDS[kind], "mute s10 r")
+    canvas.text(LEFT - 6, y + 9, "Q = 0" if kind == "noq" else "X = 0", "mute s10 r")
     canvas.text(LEFT + WIDE + 6, y + 9, count(total, "cycle"), "s10" if total else "mute s10")
     canvas.rect((LEFT, y, WIDE, 10), "face")
     rates = {at: it / panel.columns[at].services for at, it in cycles.items() if it}
-    levels: List[List[str]] = [[] for _ in LEVELS]
+    ways = []
     for at, rate in sorted(rates.items()):
         level = min(len(LEVELS) - 1, int((len(LEVELS) - 0.01) * rate / max(rates.values())))
         width = axis.width(at)
-        levels[max(level, 3) if kind == "nox" else level].append(f"M{axis.edge(at)} {number(y)}h{width}v10h-{width}z")
-    for level, parts in enumerate(levels):
-        canvas.path(parts, f"{kind} crisp k{level}")
+        ways.append((max(level, 3) if kind == "nox" else level, f"M{axis.edge(at)} {number(y)}h{width}v10h-{width}z"))
+    canvas.shades(ways, kind)
 
 
 def _column_tip(run: Run, axis: Axis, at: int, it: Column, service: Service) -> str:

@@ -1,14 +1,16 @@
 """The report: one page of HTML with all that is known of a run. It fetches nothing, and opens from a file."""
+import contextlib
 import hashlib
 from typing import List, Mapping, NamedTuple, Optional
 
 from camac.columns import Naming, gather
 from camac.drive import File, Refused
-from camac.program import knows_command
+from camac.program import knows_command, lines_of
 from camac.proof import told
 from camac.report import sections
-from camac.report.page import page
-from camac.report.refused import refused_page
+from camac.pictures import draw_plan
+from camac.pictures.svg import escape
+from camac.report.page import figure, header, page
 from camac.fits import Check
 from camac.runs import Inputs
 from camac.subcommands import check, costs, plan as read_plan, response
@@ -17,6 +19,8 @@ from camac.texts import plan_text, source_lines
 from camac.values import Body
 
 __all__ = ["Report", "report"]
+# The lines that are shown before and behind the place of a refusal.
+AROUND = 6
 
 
 class Report(NamedTuple):
@@ -45,12 +49,13 @@ def report(
         responses = response(inputs.plan, inputs.script, every, program) if knows_command("response", program) else None
         run = gather(inputs, plan, services, program, responses or (), naming)
     except Refused as refusal:
-        return Report(refused_page(inputs, str(refusal), program), 1)
+        return Report(_refused_page(inputs, str(refusal), program), 1)
     bodies = costs(inputs.plan, inputs.script, program) if knows_command("costs", program) else None
     if bodies is not None:
         run.checks.append(_shares_check(bodies))
     if survey is not None:
-        run.checks.append(_survey_check(survey, inputs.plan))
+        found, sha256 = read_summary(survey), hashlib.sha256(plan_text(inputs.plan)).hexdigest()
+        run.checks.append(Check(f"crates and plan: {'; '.join([found.line(sha256), *found.differences])}", found.is_good(sha256)))
     facts = sections.Facts(inputs, told(program), plan, services, source_lines(inputs.script), bodies, responses, run)
     parts = [
         sections.tiles(run),
@@ -68,12 +73,6 @@ def report(
     return Report(text, 0 if run.agrees() and run.is_good() else 1)
 
 
-def _survey_check(file: File, of_plan: File) -> Check:
-    """Whether the crates were found as the plan says."""
-    its, sha256 = read_summary(file), hashlib.sha256(plan_text(of_plan)).hexdigest()
-    return Check(f"crates and plan: {'; '.join([its.line(sha256), *its.differences])}", its.is_good(sha256))
-
-
 def _shares_check(bodies: List[Body]) -> Check:
     """Whether the shares of each body's statements add up to its bound."""
     differ = [
@@ -83,3 +82,24 @@ def _shares_check(bodies: List[Body]) -> Check:
     ]
     text = f"the shares of the lines add up to the bounds ({len(bodies)} bodies; cycles, words and steps)"
     return Check(text + (f", but for {', '.join(differ)}" if differ else ""), not differ)
+
+
+def _refused_page(inputs: Inputs, line: str, program: Optional[File] = None) -> str:
+    """The page where plan or script is refused; `line` is what the program says. It has what `camac explain` says, the lines around the place, and the
+    plan if it is good."""
+    explanation = "\n".join(lines_of("explain", "--", inputs.plan, inputs.script, program=program)) or line
+    parts = [
+        f'<p class="bad">{escape(line)}</p>',
+        f"<p>A script that is refused has no run. The program explains:</p><pre>{escape(explanation)}</pre>",
+    ]
+    at = Refused(line).line
+    if at:
+        source, lines = source_lines(inputs.script), []
+        for number in range(max(1, at - AROUND), min(len(source), at + AROUND) + 1):
+            text = f"{number:>6} {'&gt;' if number == at else ' '} {escape(source[number - 1])}\n"
+            lines.append(f'<b class="bad">{text}</b>' if number == at else text)
+        parts.append(f"<h2>The place</h2><pre>{''.join(lines)}</pre>")
+    with contextlib.suppress(Refused):
+        parts.append("<h2>The plan</h2>" + figure(draw_plan(read_plan(inputs.plan, program))))
+    title = f"{sections.base_name(inputs.script)}: refused"
+    return page(title, header(title), parts)

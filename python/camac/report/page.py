@@ -3,6 +3,7 @@ import base64
 import hashlib
 from typing import NamedTuple, Sequence
 
+from camac.pictures.regions import COLUMNS
 from camac.pictures.spectra import Group
 from camac.pictures.svg import DARK, LIGHT, MONO, SANS, Canvas, escape, page_style, variables
 
@@ -12,6 +13,7 @@ THEMES = (
     f":root[data-theme=light]{{color-scheme:light}}:root[data-theme=dark]{{{variables(DARK)}color-scheme:dark}}"
     f"@media print{{:root:root:root{{{variables(LIGHT)}color-scheme:light}}}}"
 )
+KEYS = "By keys: arrows read the picture that Tab is at, with Shift they mark a part; Enter is a click, or shows the part."
 STYLE = f"""
 *{{box-sizing:border-box}}
 body{{margin:0;background:var(--ground);color:var(--ink);font:15px/1.45 {SANS}}}
@@ -28,7 +30,7 @@ a{{color:var(--ours)}}
 .figure svg{{display:block;max-width:100%;height:auto}}
 .figure.full svg{{max-width:none}}
 @media screen and (max-width:720px){{.figure svg{{max-width:none;width:720px}}}}
-.panels svg{{display:inline-block;margin:0 12px 10px 0;vertical-align:top;max-width:100%}}
+.panels svg{{display:inline-block;margin:0 12px 10px 0;vertical-align:top;max-width:100%;touch-action:pan-y pinch-zoom}}
 svg .log,.logarithmic svg .lin{{display:none}}
 .logarithmic svg .log{{display:inline}}
 table{{border-collapse:collapse;font-size:13px;margin:8px 0}}
@@ -36,7 +38,8 @@ th,td{{padding:3px 5px;border-bottom:1px solid var(--grid);text-align:right;whit
 td.t,th.t{{text-align:left}}
 thead th{{position:sticky;top:0;background:var(--face)}}
 th button{{all:unset;cursor:pointer;font-weight:600}}
-th button:focus-visible{{outline:2px solid var(--ours)}}
+th button:focus-visible,svg:focus-visible{{outline:2px solid var(--ours)}}
+.figure svg:focus-visible{{outline-offset:-2px}}
 th[aria-sort=ascending] button:after{{content:' \\25B2'}}
 th[aria-sort=descending] button:after{{content:' \\25BC'}}
 .wrap{{max-height:420px;overflow:auto;border:1px solid var(--grid);margin:8px 0;width:fit-content;max-width:100%}}
@@ -52,7 +55,9 @@ code,pre{{font-family:{MONO};font-size:13px}}
 pre{{overflow-x:auto}}
 .checks td{{white-space:normal}}
 nav a{{margin-right:14px;display:inline-block}}
-#tip{{position:fixed;pointer-events:none;background:var(--ink);color:var(--ground);font-size:12px;padding:3px 7px;display:none;z-index:9}}
+#tip{{position:absolute;pointer-events:none;background:var(--ink);color:var(--ground);font-size:12px;padding:3px 7px;max-width:min(60ch,100%);white-space:pre-line;z-index:9}}
+#tip:empty{{padding:0}}
+.mark{{pointer-events:none}}
 .theme,.scale,.whole{{background:var(--face);color:var(--ink);border:1px solid var(--grid);padding:4px 10px;cursor:pointer}}
 .theme,.scale{{float:right;margin:22px 0 0 8px}}
 .whole{{position:fixed;right:16px;bottom:16px}}
@@ -62,7 +67,7 @@ rect[data-counts]{{cursor:crosshair}}
 @media print{{
 body{{font-size:11pt}}
 main,header{{padding:0}}
-.theme,.scale,.whole,.hint,nav{{display:none}}
+.theme,.scale,.whole,.hint,.mark,#tip,nav{{display:none}}
 thead th{{position:static}}
 h2,h3,h4,p,summary{{break-after:avoid}}
 .figure+p,.wrap+p{{break-before:avoid;break-after:auto}}
@@ -78,23 +83,63 @@ thead,tr,.tile{{break-inside:avoid}}
 pre{{white-space:pre-wrap}}
 }}
 """
-# What both pages have: the bin below the pointer, a picture in full size, counts on a logarithmic axis, and the theme.
+# What both pages have: what a place of a picture says, below the pointer or by arrow keys; a drag over a spectrum by mouse or finger, or by Shift and
+# arrow keys, of which `dragged` is told the part (after a click from and to are alike); a picture in full size, a logarithmic axis, and the theme.
 SCRIPT = """
 var commas=function(n){return String(n).replace(/\\B(?=(\\d{3})+$)/g,',')};
 var meaning=function(r){var scale=+(r.dataset.scale||1),offset=+(r.dataset.offset||0);
 return function(n){var v=+(n*scale+offset).toPrecision(6);return Number.isInteger(v)?commas(v):v}};
 var root=document.documentElement,tip=document.getElementById('tip');
 var below=function(e){return e.target.closest&&e.target.closest('rect[data-counts]')};
+var bins=function(r){return(r.dataset.counts||'0').split(' ')};
+var say=function(r,k,x,y){
+var d=r.dataset,width=+d.width,from=+d.first+k*width,means=meaning(r);
+var text=d.counts?(width>1?means(from)+' to '+means(from+width-1):means(from))+': '+commas(bins(r)[k])+(d.line?'; line '+d.line.split(' ')[k]:''):r.textContent;
+if(tip.textContent!==text)tip.textContent=text;
+tip.style.left=0;tip.style.left=scrollX+Math.max(Math.min(x+14,innerWidth-tip.offsetWidth-4),0)+'px';tip.style.top=scrollY+Math.min(y+14,innerHeight-tip.offsetHeight)+'px'};
 document.addEventListener('mousemove',function(e){
+var r=below(e),n=r&&bins(r).length;
+if(r)say(r,Math.min(Math.floor(part(r,e)*n),n-1),e.clientX,e.clientY);else tip.textContent=''});
+var make=function(kind,its,to){var made=document.createElementNS(to.namespaceURI,kind);for(var name in its)made.setAttribute(name,its[name]);return to.appendChild(made)};
+var box=function(r){return['x','y','width','height'].map(function(name){return+r.getAttribute(name)})};
+var part=function(r,e){var b=r.getBoundingClientRect();return Math.min(Math.max((e.clientX-b.left)/b.width,0),1)};
+var mark,cover=function(r,from,to){var b=box(r);if(mark)mark.remove();
+mark=make('rect',{class:'l-ink waits k1 mark',x:b[0]+b[2]*from,y:b[1],width:b[2]*(to-from),height:b[3]},r.parentNode)};
+var drag=null,dragged=function(){};
+document.addEventListener('pointerdown',function(e){
 var r=below(e);
-if(!r){tip.style.display='none';return}
-var counts=r.dataset.counts.split(' ').map(Number),first=+r.dataset.first,width=+r.dataset.width;
-var means=meaning(r),line=r.dataset.line;
-var b=r.getBoundingClientRect(),k=Math.floor((e.clientX-b.left)/b.width*counts.length);
-if(k<0||k>=counts.length){tip.style.display='none';return}
-var from=first+k*width,range=width>1?means(from)+' to '+means(from+width-1):means(from);
-tip.textContent=range+': '+commas(counts[k])+(line?'; line '+line.split(' ')[k]:'');tip.style.display='block';
-tip.style.left=Math.min(e.clientX+14,innerWidth-160)+'px';tip.style.top=e.clientY+14+'px'});
+if(!r||e.button||!e.isPrimary)return;
+if(e.pointerType!=='touch')e.preventDefault();
+drag={r:r,from:part(r,e)}});
+['pointermove','pointerup','pointercancel'].forEach(function(kind){document.addEventListener(kind,function(e){
+if(!drag||!e.isPrimary)return;
+var its=drag,to=part(its.r,e),low=Math.min(its.from,to),wide=Math.abs(to-its.from);
+cover(its.r,low,low+wide);
+if(kind==='pointermove')return;
+drag=null;mark.remove();
+if(kind==='pointerup')dragged(its.r,low,wide>.02?low+wide:low)})});
+var places=function(svg){var its=[];svg.querySelectorAll('rect>title').forEach(function(it){bins(it.parentNode).forEach(function(_,k){its.push([it.parentNode,k])})});return its};
+var reading={},steps={ArrowLeft:-1,ArrowRight:1,PageUp:-10,PageDown:10,Home:-1/0,End:1/0};
+var read=function(svg,step,grows){
+if(reading.svg!==svg)reading={svg:svg,at:0,from:0};
+var its=places(svg),keep=function(at){return Math.max(Math.min(at,its.length-1),0)};
+reading.at=keep(reading.at+step);reading.from=grows?keep(reading.from):reading.at;
+var r=its[reading.at][0],k=its[reading.at][1],from=its[reading.from],n=bins(r).length,other=from[0]===r?from[1]:k;
+reading.part=[r,(Math.min(k,other)+1e-6)/n,(Math.max(k,other)+1-1e-6)/n];
+cover.apply(null,reading.part);if(step)mark.scrollIntoView({block:'nearest',inline:'nearest'});
+var b=r.getBoundingClientRect();say(r,k,b.left+b.width*(k+.5)/n,b.top+b.height/2)};
+document.addEventListener('focusin',function(e){if(e.target.matches('svg:focus-visible'))read(e.target,0,true)});
+document.addEventListener('focusout',function(e){if(e.target===reading.svg){mark.remove();tip.textContent='';reading.svg=null}});
+document.addEventListener('keydown',function(e){
+var svg=e.target,its=reading.part;
+if(!svg.matches('svg')||reading.svg!==svg&&!/^Arrow/.test(e.key)||e.altKey||e.ctrlKey||e.metaKey)return;
+if(e.key in steps)read(svg,steps[e.key],e.shiftKey);
+else if(e.key==='Enter'){
+var one=reading.at===reading.from;
+if(its[0].dataset.counts)dragged(its[0],its[1],one?its[1]:its[2]);
+if(one)svg.dispatchEvent(new MouseEvent('click',{bubbles:true}));else read(svg,-1/0)}
+else return;
+e.preventDefault()});
 document.addEventListener('click',function(e){
 var it=e.target.closest&&e.target.closest('.figure');
 if(it)it.classList.toggle('full')});
@@ -106,14 +151,11 @@ root.dataset.theme=theme==='dark'?'light':'dark'};
 """
 # A drag over a spectrum draws the numbers below it alone, in bins as fine as they are; a double click or the button draws all again.
 ZOOM = """
-var whole=document.createElement('button'),drag=null;
+var whole=document.createElement('button');
 whole.className='whole';whole.textContent='whole axes';whole.hidden=true;document.body.append(whole);
 var unpacked=function(text){var its=[];text.split(' ').forEach(function(it){var n=+it;if(n<0)while(n++<0)its.push(0);else its.push(n)});return its};
 var summed=function(its,per){var out=[];its.forEach(function(n,k){var at=Math.floor(k/per);out[at]=(out[at]||0)+n});return out};
-var make=function(kind,its,to){var made=document.createElementNS(to.namespaceURI,kind);for(var name in its)made.setAttribute(name,its[name]);return to.appendChild(made)};
 var label=function(to,x,y,kind,text){make('text',{x:x,y:y,class:'mute s10 '+kind},to).textContent=text};
-var box=function(r){return['x','y','width','height'].map(function(name){return+r.getAttribute(name)})};
-var part=function(r,e){var b=r.getBoundingClientRect();return Math.min(Math.max((e.clientX-b.left)/b.width,0),1)};
 var draw=function(r,counts,over){
 var svg=r.ownerSVGElement,b=box(r),x=b[0],w=b[2],h=b[3],foot=b[1]+h,g=make('g',{class:'zoomed'},svg),peak=Math.max.apply(null,counts.concat(over.map(Math.ceil),1));
 svg.insertBefore(g,r);svg.classList.add('zoom');
@@ -140,15 +182,7 @@ draw(r,counts,over);whole.hidden=false};
 var reset=function(r){
 var svg=r.ownerSVGElement,g=svg.querySelector('.zoomed');
 if(g){g.remove();svg.classList.remove('zoom');['first','width','counts','line'].forEach(function(it){if(r.all[it]!==undefined)r.dataset[it]=r.all[it]})}};
-document.addEventListener('pointerdown',function(e){
-var r=below(e);
-if(!r||e.button||e.pointerType==='touch')return;
-e.preventDefault();drag={r:r,from:part(r,e),mark:make('rect',{class:'waits k1',y:box(r)[1],width:0,height:box(r)[3]},r.ownerSVGElement)}});
-['pointermove','pointerup'].forEach(function(kind){document.addEventListener(kind,function(e){
-if(!drag)return;
-var its=drag,b=box(its.r),to=part(its.r,e),low=Math.min(its.from,to),wide=Math.abs(to-its.from);
-its.mark.setAttribute('x',b[0]+b[2]*low);its.mark.setAttribute('width',b[2]*wide);
-if(kind==='pointerup'){drag=null;its.mark.remove();if(wide>.02)zoom(its.r,low,low+wide)}})});
+dragged=function(r,from,to){if(to>from)zoom(r,from,to)};
 document.addEventListener('dblclick',function(e){if(below(e))reset(below(e))});
 whole.onclick=function(){document.querySelectorAll('svg.zoom rect[data-counts]').forEach(reset);whole.hidden=true};
 """
@@ -192,6 +226,11 @@ def table(columns: Sequence[Column], rows: Sequence[Row], is_sorted: bool = True
     heads = "".join(f'<th scope="col"{_kind(it)}>{title}</th>' for it, title in zip(columns, titles))
     lines = ("<tr>" + "".join(_cell(column, cell) for column, cell in zip(columns, row)) + "</tr>" for row in rows)
     return f'<div class="wrap"><table class="sort"><thead><tr>{heads}</tr></thead><tbody>{"".join(lines)}</tbody></table></div>'
+
+
+def region_table(rows: Sequence[Row]) -> str:
+    """What was measured in regions."""
+    return table([Column("region", True), *(Column(title) for _, title in COLUMNS)], rows, False)
 
 
 def _kind(column: Column) -> str:
@@ -240,5 +279,5 @@ def page(title: str, head: str, parts: Sequence[str], script: str = SORT + ZOOM,
         f'<meta http-equiv="Content-Security-Policy" content="{policy}">'
         '<meta name="viewport" content="width=device-width,initial-scale=1">'
         f"<title>{escape(title)}</title><style>{THEMES}{STYLE}{page_style()}</style></head>\n"
-        f'<body>{head}<main>{"".join(parts)}</main><div id="tip"></div><script>{whole}</script></body></html>\n'
+        f'<body>{head}<main>{"".join(parts)}</main><div id="tip" aria-live="polite"></div><script>{whole}</script></body></html>\n'
     )

@@ -6,14 +6,12 @@ from typing import Dict, List, NamedTuple, Optional, Sequence, Tuple, Union
 from camac import functions
 from camac.drive import File
 from camac.values import Body, Ending, Plan, Response, Service
-from camac.pictures import (
-    channel_groups, command_groups, draw_bounds, draw_calls, draw_costs, draw_pairs, draw_places, draw_plan, draw_response, draw_run, draw_strip, event_groups,
-)
+from camac.pictures import draw_bounds, draw_calls, draw_costs, draw_pairs, draw_places, draw_plan, draw_response, draw_run, draw_strip
 from camac.pictures import regions
-from camac.pictures.spectra import BINS, ZOOMED, View
+from camac.pictures.spectra import BINS, ZOOMED, View, groups_of
 from camac.numbers import greatest, total
 from camac.pictures.svg import count, escape, share
-from camac.report.page import Cell, Column, Row, figure, folded, header, panels, table
+from camac.report.page import KEYS, Cell, Column, Row, figure, folded, header, panels, region_table, table
 from camac.runs import Inputs, Kept, Run, Why
 
 SECTIONS = (
@@ -115,10 +113,12 @@ def last_line(run: Run) -> str:
         meaning, is_good = "the event file has a wrong field there; the events before it are shown", False
     else:
         meaning, is_good = "read from an event file: nothing is known of waits, Q, addresses and locks", True
+    unknown = "" if run.contradictions is not None else '<p class="mute">What contradicts the plan is not in an event file: answers show it, and the record of a live run has it.</p>'
     out = f'<p>The run: <b class="{"good" if is_good else "bad"}">{escape(run.last_line())}</b> ({meaning}).</p>'
     if run.idle and not len(run.gl) and not run.kept:
         out += f'<p class="bad">{NO_DEMAND_WAS_SERVED}</p>'
-    return out + "".join(f'<p class="bad">{escape(it.text)}</p>' for it in run.checks if not it.agrees)
+    bad = [*(it.text for it in run.checks if not it.agrees), *(it.text() for it in run.contradictions or ())]
+    return out + unknown + "".join(f'<p class="bad">{escape(it)}</p>' for it in bad)
 
 
 def bounds(facts: Facts) -> str:
@@ -265,19 +265,13 @@ def _commands_table(facts: Facts) -> str:
 
 def histograms(facts: Facts) -> str:
     run = facts.run
-    out = ['<h2 id="histograms">Histograms</h2><p class="mute hint">Drag over a spectrum to see a part of it; double-click to see all again.</p>']
-    out += ["<h3>Cycles and words of an event</h3>", panels(event_groups(run, facts.services, ZOOMED))]
-    if run.has_listing:
-        out.append("<h3>By channel: the words that modules gave with Q = 1, and the words that were sent</h3>")
-        out.append(panels(command_groups(run, facts.plan, ZOOMED)))
-    channels = run.list_channels()
-    if channels:
-        out += [f"<h3>{escape(regions.names_title(run.asked))}</h3>", panels(channel_groups(channels, ZOOMED, View(most=run.asked.bins or BINS), run.over))]
+    out = ['<h2 id="histograms">Histograms</h2><p class="mute hint">Drag over a spectrum to see a part of it; double-click to see all again. ' + KEYS + "</p>"]
+    for title, groups in groups_of(run, facts.plan, facts.services, ZOOMED, View(most=run.asked.bins or BINS)):
+        out += [f"<h3>{escape(title)}</h3>", panels(groups)]
     if run.asked.regions:
-        titles = [Column("region", True), *(Column(title) for _, title in regions.COLUMNS)]
-        out += ["<h3>Regions</h3>", table(titles, regions.measured(run)), f'<p class="mute">{regions.FOOT}</p>']
-    if run.asked.pair and run.pairs:
-        out += ["<h3>Two numbers of an event</h3>", figure(draw_pairs(*run.asked.pair, run.pairs))]
+        out += ["<h3>Regions</h3>", region_table(regions.measured(run.channels)), f'<p class="mute">{regions.FOOT}</p>']
+    if run.asked.pair:
+        out += ["<h3>Two numbers of an event</h3>", figure(draw_pairs(run.channels))]
     out.append("<h3>By the place of the word in its event</h3>")
     out.append('<p class="mute">Where a script leaves words out, one place holds words of several channels.</p>')
     return "".join(out + [figure(draw_places(run, it)) for it in facts.services])

@@ -3,14 +3,14 @@ and none of it writes to a module."""
 import datetime
 import enum
 import itertools
-from typing import Callable, Iterator, List, NamedTuple, Optional, Sequence, Set, Tuple, Union
+from typing import Callable, Iterator, List, NamedTuple, Optional, Sequence, Tuple, Union
 
 from camac.drive import Answer, Branch, File
 from camac.drivers import driver
 from camac.functions import writes
-from camac.surveys.asking import Asked, Reach, Script, ask, declared_plan, ranges, service
+from camac.surveys.asking import Asked, Reach, Script, ask, declared_plan, service
 from camac.surveys.wiring import Wire
-from camac.values import Command, Crate, Declaration, Plan, Station
+from camac.values import Command, Crate, Declaration, Plan, Station, ranges
 
 __all__ = ["Found", "Row", "Survey", "survey"]
 
@@ -103,7 +103,8 @@ class Survey(NamedTuple):
 
     def not_tried(self) -> List[str]:
         """What was not asked, and why."""
-        declared = {it.function for kind in self._types() for it in self.plan.types[kind].declarations}
+        types = {at.type for crate in self.plan.crates for at in crate.stations}
+        declared = {it.function for kind in types for it in self.plan.types[kind].declarations}
         left = sorted(declared - {*self.functions})
         written, others = [it for it in left if writes(it)], [it for it in left if not writes(it)]
         lines = [f"{_names(written)}: a survey writes nothing"] if written else []
@@ -112,9 +113,6 @@ class Survey(NamedTuple):
         lines += [f"{empty} stations without a module in the plan: asked for by --empty"] if empty and not self.has_empty else []
         lines += [it.line() for it in self.wires if not it.is_raised]
         return lines + ([] if self.wires or not self.plan.demands() else ["the bits of graded-L: asked for by --wiring"])
-
-    def _types(self) -> List[str]:
-        return sorted({at.type for crate in self.plan.crates for at in crate.stations})
 
 
 def survey(
@@ -141,7 +139,7 @@ def survey(
     if not getattr(branch, "tells_x", True) and any(it >= 8 for it in functions):
         raise ValueError("this driver tells no X of functions that move no data: ask for F0 and F1 alone, or let it read to tell X (mcstd:LIBRARY,x)")
     its = declared_plan(plan, program)
-    at = now()
+    at = now("seconds")
     asked = []
     for number, crate in enumerate(its.crates, 1):
         for script in scripts(its, crate, functions, has_empty):
@@ -152,8 +150,9 @@ def survey(
     return Survey(at, its, tuple(functions), has_empty, tuple(asked), tuple(_rows(its, answers)))
 
 
-def now() -> str:
-    return datetime.datetime.now(datetime.timezone.utc).isoformat(timespec="seconds").replace("+00:00", "Z")
+def now(timespec: str = "milliseconds") -> str:
+    """The time, as records have it (UTC, ISO 8601)."""
+    return datetime.datetime.now(datetime.timezone.utc).isoformat(timespec=timespec).replace("+00:00", "Z")
 
 
 def _names(functions: Sequence[int]) -> str:
@@ -164,7 +163,7 @@ def reaches(plan: Plan, station: Station, functions: Sequence[int]) -> List[Reac
     """What is sent to a station with a module."""
     found = [Reach(station.number, it, 0, 15) for it in TESTS if it in functions]
     for function in sorted({*functions} - {*TESTS}):
-        there = [a for it in plan.types[station.type].declarations if it.function == function for a in range(it.first, it.last + 1)]
+        there = {a for f, a in plan.types[station.type].declared() if f == function}
         found += [Reach(station.number, function, *it) for it in ranges(there)]
     return found
 
@@ -213,8 +212,7 @@ def _rows(plan: Plan, answers: Sequence[Tuple[Command, Answer]]) -> Iterator[Row
 
 def _row(plan: Plan, command: Command, answer: Answer) -> Row:
     crate, station, a, f = command
-    kind = plan.type_at(crate, station)
-    declared = next((it for it in kind.declarations if it.function == f and it.first <= a <= it.last), None) if kind else None
+    kind, declared = plan.type_at(crate, station), plan.declaration(*command)
     found, why = _judge(kind is not None, declared, answer)
     return Row(crate, station, kind.name if kind else "", f, a, a, declared, answer.x, answer.q, answer.word.bit_length(), found, why)
 
@@ -242,17 +240,8 @@ def _differences(plan: Plan, rows: Sequence[Row]) -> Iterator[str]:
         return
     for it in differing:
         yield f"{place} F{it.function} {it.sub_addresses()}: {it.why}"
-    alike = _alike(plan, rows) if differing else []
-    if alike:
-        yield f"{place}: it accepts the tests of {' or '.join(alike)}"
-
-
-def _alike(plan: Plan, rows: Sequence[Row]) -> List[str]:
-    """The types of the plan that declare just the tests that a station accepts, unless its own is one of them."""
+    # The types of the plan that declare just the tests that the station accepts, unless its own is one of them.
     accepted = {(it.function, a) for it in rows if it.x and it.function in TESTS for a in range(it.first, it.last + 1)}
-    found = [name for name, kind in plan.types.items() if accepted and _tests(kind.declarations) == accepted]
-    return [] if rows[0].type in found else found
-
-
-def _tests(declarations: Sequence[Declaration]) -> Set[Tuple[int, int]]:
-    return {(it.function, a) for it in declarations if it.function in TESTS for a in range(it.first, it.last + 1)}
+    alike = [name for name, kind in plan.types.items() if accepted and {it for it in kind.declared() if it[0] in TESTS} == accepted]
+    if differing and alike and rows[0].type not in alike:
+        yield f"{place}: it accepts the tests of {' or '.join(alike)}"

@@ -3,7 +3,7 @@ import os
 import tempfile
 import time
 from dataclasses import dataclass
-from typing import Iterable, List, NamedTuple, Optional, Sequence, Tuple
+from typing import Iterable, List, NamedTuple, Optional, Tuple
 
 from camac.call import call
 from camac.drive import Answer, Branch, File, ProgramFault, add_note
@@ -114,7 +114,10 @@ def ask(script: Script, branch: Branch, program: Optional[File] = None, timeout:
     Raises what `camac.call` raises."""
     watched = _Watched(branch)
     with tempfile.TemporaryDirectory(prefix="camac-") as room:
-        plan, text = _write(room, script)
+        plan, text = os.path.join(room, "plan.toml"), os.path.join(room, "asked.script")
+        for name, its in ((plan, script.plan), (text, script.text)):
+            with open(name, "w", encoding="utf-8", newline="\n") as file:
+                file.write(its)
         try:
             end = call(plan, text, SERVICE, watched, program=program, timeout=timeout)
             fault = "" if end.how is Ending.ENDED else f"a wait of {end.wait} cycles, which the plan does not permit"
@@ -123,23 +126,3 @@ def ask(script: Script, branch: Branch, program: Optional[File] = None, timeout:
                 raise
             fault = f"{type(why).__name__}: {why}"
     return Asked(script, watched.operations, watched.seconds, fault)
-
-
-def _write(folder: str, script: Script) -> Tuple[str, str]:
-    """Writes plan and script into a folder, and returns their names."""
-    names = os.path.join(folder, "plan.toml"), os.path.join(folder, "asked.script")
-    for name, text in zip(names, (script.plan, script.text)):
-        with open(name, "w", encoding="utf-8", newline="\n") as file:
-            file.write(text)
-    return names
-
-
-def ranges(sub_addresses: Sequence[int]) -> List[Tuple[int, int]]:
-    """The numbers as ranges from a first to a last one."""
-    found: List[Tuple[int, int]] = []
-    for it in sorted(sub_addresses):
-        if found and found[-1][1] == it - 1:
-            found[-1] = (found[-1][0], it)
-        else:
-            found.append((it, it))
-    return found

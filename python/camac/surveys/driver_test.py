@@ -1,6 +1,6 @@
 """A test of a driver: whether it keeps what a driver has to keep (docs/LIVE.md), as far as one register and an empty station can tell."""
 import enum
-from typing import Callable, Dict, Iterator, List, NamedTuple, Optional, Sequence, Tuple
+from typing import Iterator, List, NamedTuple, Optional, Sequence, Tuple
 
 from camac.drive import Branch, File, UsageFault
 from camac.surveys import STATIONS
@@ -101,10 +101,22 @@ def _scripts(bench: _Bench) -> Iterator[Script]:
 
 
 def _findings(bench: _Bench, asked: Asked) -> Iterator[Finding]:
+    """What is found by a script, which is known by its name."""
+    name = asked.script.name
     if asked.fault:
-        yield Finding(OPERATION, Kept.BREAKS, f"the script `{asked.script.name}` did not come to its end: {asked.fault}")
+        yield Finding(OPERATION, Kept.BREAKS, f"the script `{name}` did not come to its end: {asked.fault}")
+    elif name == "walk":
+        yield from _walked(bench, asked)
+    elif name == "empty":
+        for command, answer in asked.cycles():
+            said = f"X = {answer.x:d}, Q = {answer.q:d} of F{command.function} at station {bench.empty}, which is empty"
+            yield Finding(ANSWER, Kept.BREAKS if answer.x or answer.q else Kept.KEEPS, said)
+    elif name == "time":
+        yield from _of_time(bench, asked)
+    elif name == "lock":
+        yield Finding(OPERATION, Kept.KEEPS, "the lockout was taken and released, and no cycle in it waited")
     else:
-        yield from READERS[asked.script.name](bench, asked)
+        yield from _of_controller(bench, asked)
 
 
 def _walked(bench: _Bench, asked: Asked) -> Iterator[Finding]:
@@ -123,12 +135,6 @@ def _walked(bench: _Bench, asked: Asked) -> Iterator[Finding]:
         yield Finding(OPERATION, Kept.KEEPS, f"{len(words)} words came back from the register: each of its {bench.width} bits alone, and all others")
 
 
-def _of_empty(bench: _Bench, asked: Asked) -> Iterator[Finding]:
-    for command, answer in asked.cycles():
-        said = f"X = {answer.x:d}, Q = {answer.q:d} of F{command.function} at station {bench.empty}, which is empty"
-        yield Finding(ANSWER, Kept.BREAKS if answer.x or answer.q else Kept.KEEPS, said)
-
-
 def _of_time(bench: _Bench, asked: Asked) -> Iterator[Finding]:
     waits, its = max(answer.wait for _, answer in asked.cycles()), sorted(asked.seconds)
     yield Finding(ANSWER, Kept.KEEPS, f"waits of at most {waits} cycles in {len(its):,}; the plan permits {bench.crate.waits}")
@@ -136,21 +142,11 @@ def _of_time(bench: _Bench, asked: Asked) -> Iterator[Finding]:
     yield Finding(TIME, Kept.TOLD, f"microseconds of a cycle: {said}")
 
 
-def _of_lock(_bench: _Bench, _asked: Asked) -> Iterator[Finding]:
-    yield Finding(OPERATION, Kept.KEEPS, "the lockout was taken and released, and no cycle in it waited")
-
-
 def _of_controller(bench: _Bench, asked: Asked) -> Iterator[Finding]:
     yield Finding(START, Kept.KEEPS, f"Z, C, inhibit and the demand output of crate {bench.crate.number} were made; inhibit is off, the demand output on")
     tests = [answer.q for command, answer in asked.cycles() if (command.sub_address, command.function) in CONTROLLER_TESTS]
     said = "as they are set" if tests == [1, 0, 0, 1] else ", ".join(f"{it:d}" for it in tests)
     yield Finding(START, Kept.TOLD, f"tests of inhibit and demand output answer {said} (not needed)")
-
-
-# By the name of a script, what is found by it.
-READERS: Dict[str, Callable[[_Bench, Asked], Iterator[Finding]]] = {
-    "walk": _walked, "empty": _of_empty, "time": _of_time, "lock": _of_lock, "controller": _of_controller,
-}
 
 
 def _not_tried(bench: _Bench) -> Iterator[Finding]:

@@ -84,8 +84,7 @@ class _Station:
 
     def __init__(self, plan: Plan, crate: Crate, station: Station, text: str) -> None:
         self.crate, self.station, self.text = crate, station, text
-        declared = [(it.function, a) for it in plan.types[station.type].declarations for a in range(it.first, it.last + 1)]
-        self.declared = frozenset(declared)
+        declared = self.declared = plan.types[station.type].declared()
         self.lam = max((a for f, a in declared if f == 8), key=lambda a: (26, a) in self.declared, default=None)
         self.execute = min((a for f, a in declared if f == 25), default=None)
 

@@ -13,7 +13,7 @@ JUDGES = {
     for it in (
         Judge("answers", "what plan, check, bounds, costs, run, drive and events answer, and the event file", answers.judge, CODES),
         Judge("at", "explain --at: what is known at a place", at.judge, ("reached", "locked", "not reached", "no statement", "refused")),
-        Judge("mark", "explain: the place of ^", mark.judge, ("L1", "E4", "no mark")),
+        Judge("mark", "explain: the place of ^", mark.judge, ("L1", "E4")),
         Judge("also", "explain: the further refusals", also.judge, ("also L", "also E")),
         Judge("expected", "explain: the words and signs that would fit in the place of the one found", expected.judge, ("set",)),
         Judge("keeps", "camac-check --keeps: each proposal", keeps.judge, ("each", "keep", "guard", "heading", "needed", "alone")),

@@ -5,13 +5,22 @@ import re
 
 from oracle.cases import make_inputs
 from oracle.comparing import Comparison
+from oracle.judges.mark import start_of
 from oracle.maker.scripts import make_troubled
 from oracle.reader.checker import Checker
 from oracle.reader.engines import REFUSED, plan_of, told
 from oracle.reader.grammar import read_script
 from oracle.reader.refusals import Refused
+from oracle.reader.tree import Script
 
-LINE = re.compile(r"^also (refused \w+ line \d+: .*)$", re.M)
+LINE = re.compile(r"^also (refused \w+ line \d+ column \d+: .*)$", re.M)
+
+
+def placed_line(refused: Refused, text: bytes, script: Script) -> str:
+    """The line of a refusal with its column, in bytes from 1."""
+    start = start_of(refused, script)
+    column = start - text.rfind(b"\n", 0, start)
+    return refused.line().replace(":", f" column {column}:", 1)
 
 
 def judge(it: Comparison) -> None:
@@ -25,7 +34,7 @@ def judge(it: Comparison) -> None:
     # A service of a LAM at no station has no bit for the same reason, which is told once.
     absent = [one.what for one in refusals if one.code == "L1"]
     same = [one.line for one in script.services() if script.lams[one.name] in absent]
-    wanted = [one.line() for one in refusals[1:] if one.code != "L2" or one.place not in same]
+    wanted = [placed_line(one, inputs.script, script) for one in refusals[1:] if one.code != "L2" or one.place not in same]
     answered = it.asked("explain", inputs)
     found = LINE.findall(answered.out.decode("latin-1")) if answered else None
     it.judged += bool(refusals)

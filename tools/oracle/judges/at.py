@@ -1,4 +1,4 @@
-"""What is known before the statement at a place: `explain --at`."""
+"""What is known before the statement at a place: `explain --at`, with or without `--turn`."""
 from __future__ import annotations
 
 from random import Random
@@ -9,7 +9,7 @@ from oracle.comparing import Comparison
 from oracle.reader.checker import Checker, Judged
 from oracle.reader.engines import GOOD, REFUSED, Inputs, Told, plan_of, told
 from oracle.reader.grammar import read_script
-from oracle.reader.loops import everything, test_judged
+from oracle.reader.loops import everything, test_judged, turns_of
 from oracle.reader.ranges import Known, State, join
 from oracle.reader.refusals import Refused
 from oracle.reader.shares import range_text
@@ -36,6 +36,14 @@ def make_place(random: Random, text: bytes, starts: Iterable[int]) -> Place:
     return Place(line, max(1, column + random.choice((0, 0, 0, -1, 1))))
 
 
+def make_turns(random: Random, loops: List[ForEach]) -> List[int]:
+    """Turns of some `each` loops, or numbers beside their turns."""
+    most = random.choice((0, 0, 1, 2, 3)) if loops else random.choice((0, 0, 0, 1))
+    its = [random.choice(loops) if loops else None for _ in range(most)]
+    numbers = [random.choice((it.first, it.first + 1, it.last, it.last + 1, it.first - 1, (it.first + it.last) // 2)) if it else 0 for it in its]
+    return [min(max(it, 0), 4_294_967_295) for it in numbers]
+
+
 def is_in(statement: Statement, block: List[Statement]) -> bool:
     return any(it is statement for it in everything(block))
 
@@ -47,6 +55,7 @@ class Script:
         self.text = inputs.script
         plan, tree = plan_of(inputs), read_script(inputs.script)
         self.tokens, self.starts = read_tokens(inputs.script)[:-1], tree.starts
+        self.loops = [it for it in tree.starts.values() if isinstance(it, ForEach)]
         self.checker = Checker(tree, plan)
         self.refusals = list(self.checker.refusals())
         if self.refusals and self.refusals[0].code[0] == "L":
@@ -62,7 +71,7 @@ class Script:
         """Where the last thing of this kind begins, at this byte or before it; -1 if there is none."""
         return max((it for it, what in self.starts.items() if it <= start and isinstance(what, kind)), default=-1)
 
-    def told(self, place: Place) -> Told:
+    def told(self, place: Place, turns: List[int]) -> Told:
         token = self.token_at(place)
         start = -1 if token is None or token.kind in BETWEEN else self.begun(token.start, object)
         statement = self.starts.get(start)
@@ -71,36 +80,49 @@ class Script:
         body = self.begun(start, Body)
         try:
             test_judged(self.starts[body])
-            known = self.known(self.checker.judged, self.starts[body].block, statement)
+            known = self.known(self.checker.judged, self.starts[body].block, statement, turns)
         except Refused as refused:
             return told([refused.line()], REFUSED, "refused")
         if known is None:
             return told(["not reached"], GOOD, "not reached")
         return told(["reached", *self.lines(known, body)], GOOD, "locked" if known.locked else "reached")
 
-    def known(self, judged: Judged, block: List[Statement], statement: Statement) -> State:
-        """What is known before a statement in a block that was judged. Raises the refusal of one before it."""
+    def known(self, judged: Judged, block: List[Statement], statement: Statement, turns: List[int]) -> State:
+        """What is known before a statement in a block that was judged, in these turns. Raises the refusal of one before it."""
         for it in block:
             if is_in(statement, [it]):
-                return self.inside(judged, it, statement)
+                return self.inside(judged, it, statement, turns)
             if id(it) in judged.stopped:
                 raise judged.stopped[id(it)]
         return None
 
-    def inside(self, judged: Judged, it: Statement, statement: Statement) -> State:
+    def inside(self, judged: Judged, it: Statement, statement: Statement, turns: List[int]) -> State:
         refused = judged.stopped.get(id(it))
         if it is statement or id(it) not in judged.found:
             return judged.found.get(id(it), (None,))[0]
         if refused and refused.what is it and refused.code != "E9":
             raise refused
         if isinstance(it, If):
-            return self.known(judged, it.body if is_in(statement, it.body) else it.otherwise or [], statement)
+            return self.known(judged, it.body if is_in(statement, it.body) else it.otherwise or [], statement, turns)
         if not isinstance(it, ForEach):
-            return self.known(judged, it.body, statement)
+            return self.known(judged, it.body, statement, turns)
+        if turns:
+            return self.in_turn(judged, it, statement, turns)
         known: State = None
         for turn in judged.turns.get(id(it), []):
-            known = join(known, self.known(turn, it.body, statement))
+            known = join(known, self.known(turn, it.body, statement, []))
         return known
+
+    def in_turn(self, judged: Judged, it: ForEach, statement: Statement, turns: List[int]) -> State:
+        """The same in one turn of an `each`. Raises the refusal of a turn before it."""
+        at, its = turns[0] - it.first, judged.turns.get(id(it), [])
+        if not 0 <= at < turns_of(it):
+            return None
+        if at < len(its):
+            return self.known(its[at], it.body, statement, turns[1:])
+        if id(it) in judged.stopped:
+            raise judged.stopped[id(it)]
+        return None
 
     def lines(self, known: Known, body: int) -> List[str]:
         """The ranges of the variables, the registers in the order of their first `cdreg`, and the crates that are locked."""
@@ -121,6 +143,8 @@ def judge(it: Comparison) -> None:
         wanted = told([refused.line()], REFUSED, "refused")
     for _ in range(PLACES if script else 1):
         place = make_place(random, inputs.script, script.starts if script else ())
+        turns = make_turns(random, script.loops if script else [])
         if script:
-            wanted = script.told(place)
-        it.compare("explain", inputs._replace(words=f"--at {place.line}:{place.column}".encode()), wanted)
+            wanted = script.told(place, turns)
+        words = f"--at {place.line}:{place.column}" + "".join(f" --turn {one}" for one in turns)
+        it.compare("explain", inputs._replace(words=words.encode()), wanted)

@@ -18,8 +18,7 @@ sys.path.append(str(pathlib.Path(__file__).resolve().parents[3] / "python"))
 from camac.edits import edited
 from camac.loops.changes import Kind
 from camac.loops.proposals import put_before_block
-from camac.loops.search import propose
-from camac.loops.turns import turn_by_turn
+from camac.loops.search import propose, turn_by_turn
 from camac.reader import read_script as read_tree
 
 PLAN = sample_plan()

@@ -1,7 +1,8 @@
-"""The place of the `^` of an explanation: under the fault of the text, or under the statement, the `cdlam` or the heading that is refused."""
+"""The place of the `^` of an explanation: under the fault of the text, or under the statement, the `cdlam` or the heading that is refused; and the turn."""
 from __future__ import annotations
 
-from typing import List, Optional, Tuple
+import re
+from typing import List, Optional
 
 from oracle.cases import make_edge_inputs, make_inputs
 from oracle.comparing import Comparison
@@ -9,29 +10,19 @@ from oracle.reader.checker import Checker
 from oracle.reader.engines import REFUSED, plan_of, told
 from oracle.reader.grammar import read_script
 from oracle.reader.refusals import Refused
-from oracle.reader.tree import Assign, Block, Body, Call, CrateCall, Cycle, For, ForEach, If, Lam, LamCall, Lock, Put, Scan, Script, SetRegister, While
+from oracle.reader.tree import Script
 
-TRANSFERS = Scan, Block
-LOOPS = For, ForEach, While
-# What a rule of linking or of the checker can refuse.
-REFUSES: List[Tuple[str, Tuple[type, ...]]] = [
-    ("L1", (Lam,)), ("L2 L3 L4 E11 E12 E18", (Body,)), ("E1 E2", (Cycle, LamCall, *TRANSFERS)), ("E3 E6", (Cycle, *TRANSFERS)),
-    ("E4", (Assign, SetRegister, Cycle, CrateCall, Put, If, Lock, Call, *TRANSFERS, *LOOPS)), ("E5", (Cycle, Block)), ("E7", (While,)),
-    ("E8 E9 E10", LOOPS), ("E13", (Scan,)), ("E14", (Block,)), ("E15", (CrateCall, Lock)), ("E16", (Put,)),
-    ("E17", (Assign, Cycle, For, ForEach, *TRANSFERS)), ("E21", (Call,)),
-]
-KINDS = {code: kinds for codes, kinds in REFUSES for code in codes.split()}
 # What stands before the line of the source, and before the mark below it; and what stands for a part that is cut off.
 MARGIN, CUT = len("    1 | "), b".."
 CONTROL = bytes(ord("?") if it < 32 and it != 9 or it == 127 else it for it in range(256))
 
 
-def starts_of(refused: Refused, script: Optional[Script]) -> List[int]:
-    """Where what is refused begins, and then what else in its line the rule can refuse."""
+def start_of(refused: Refused, script: Optional[Script]) -> int:
+    """Where what is refused begins, in bytes of the text."""
     if script is None:
-        return [refused.what]
-    its = [start for start, it in script.starts.items() if isinstance(it, KINDS[refused.code]) and it.line == refused.place]
-    return sorted(its, key=lambda start: script.starts[start] is not refused.what)
+        assert isinstance(refused.what, int)
+        return refused.what
+    return next(start for start, it in script.starts.items() if it is refused.what)
 
 
 def places(shown: bytes, mark: bytes, line: bytes) -> List[int]:
@@ -53,17 +44,16 @@ def judge(it: Comparison) -> None:
         return
     except Refused as refused:
         first = refused
-    start, *others = starts_of(first, script)
+    start = start_of(first, script)
     begin = inputs.script.rfind(b"\n", 0, start) + 1
     line = inputs.script[begin:].partition(b"\n")[0].translate(CONTROL)
     answered = it.asked("explain", inputs)
     _, shown, mark, *_ = [*(answered.out.split(b"\n") if answered else []), b"", b"", b""]
     it.judged += 1
-    if b"^" in mark and mark[:MARGIN].strip() == b"|":
-        it.seen[first.code] += 1
-        is_right = start - begin in places(shown[MARGIN:], mark[MARGIN:], line)
-    else:
-        it.seen["no mark"] += 1
-        is_right = bool(others)
-    if not is_right:
+    it.seen[first.code] += 1
+    has_mark = b"^" in mark and mark[:MARGIN].strip() == b"|"
+    if not has_mark or start - begin not in places(shown[MARGIN:], mark[MARGIN:], line):
         it.differs("explain", inputs, told([first.line(), f"a ^ below byte {start - begin + 1} of the line"], REFUSED, first.code), answered)
+    turn = f"Turn: {', '.join(first.turns)}\n" if first.turns else ""
+    if answered and turn != "".join(re.findall("^Turn: .*\n", answered.out.decode("latin-1"), re.M)):
+        it.differs("explain", inputs, told([first.line(), turn], REFUSED, "turn"), answered)

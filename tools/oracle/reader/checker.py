@@ -121,12 +121,15 @@ class Checker:
         return state, cost
 
     @contextmanager
-    def turn_of(self, it: ForEach) -> Iterator[None]:
+    def turn_of(self, it: ForEach, number: int) -> Iterator[None]:
         """A turn, of which what is found is kept apart."""
         around, self.judged = self.judged, Judged()
         around.turns.setdefault(id(it), []).append(self.judged)
         try:
             yield
+        except Refused as refused:
+            refused.turns.insert(0, f"{it.name} = {number}")
+            raise
         finally:
             self.judged = around
 

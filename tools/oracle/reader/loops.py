@@ -123,7 +123,7 @@ def each(checker: Checker, known: Known, it: ForEach) -> Tuple[State, Cost]:
     for number in range(it.first, it.last + 1):
         if state is None:
             break
-        with checker.turn_of(it):
+        with checker.turn_of(it, number):
             state, one = checker.block(state.with_variable(it.name, (number, number)), it.body)
         cost = cost.plus(STEP).plus(one)
     checker.loop_variables = around

@@ -1,6 +1,8 @@
 """Codes of refusals, their texts, and the faults that end a call of the program."""
 from __future__ import annotations
 
+from typing import List
+
 TEXTS = {
     "P1": "not TOML", "P2": "unknown key", "P3": "missing key or wrong kind", "P4": "value out of range", "P5": "crate twice",
     "P6": "station twice", "P7": "unknown module type", "P8": "declared twice", "P9": "GL bit twice",
@@ -25,12 +27,14 @@ MOST = 4_294_967_295
 class Refused(Exception):
     """A rule that is broken: its code, and the line (S, L, E, A) or byte (V) where, which a plan's refusal has not.
 
-    `what` is refused: the byte of a script's text at which the fault begins (S), a `cdlam` (L), a heading (L, E) or a statement (E).
+    `what` is refused: the byte of a script's text at which the fault begins (S), a `cdlam` (L), a heading (L, E) or a statement (E). `turns` has the
+    variable and the number of each `each` around it, the outermost first.
     """
 
     def __init__(self, code: str, place: int = 0, what: object = None) -> None:
         super().__init__(code, place)
         self.code, self.place, self.what = code, place, what
+        self.turns: List[str] = []
 
     def line(self) -> str:
         """The line that the program prints."""

@@ -33,8 +33,8 @@ class Tail(NamedTuple):
 
     def text(self) -> str:
         if len(self.ranges) == 6:
-            (crate, _), (station, _), (sub, _), _, (_, last_station), (_, last_sub) = self.ranges
-            return f" at {crate} {station} {sub} to {crate} {last_station} {min(last_sub, 15)}"
+            crates, (station, _), (sub, _), _, (_, last_station), (_, last_sub) = self.ranges
+            return " at {0} {1} {2} to {0} {3} {4}".format(range_text(crates), station, sub, last_station, min(last_sub, 15))
         if self.word == "turns":
             return f" turns {self.ranges[0][1]}"
         return "".join(f" {it}" for it in (self.word, *map(range_text, self.ranges)) if it)

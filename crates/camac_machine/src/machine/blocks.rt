@@ -3,7 +3,7 @@
 ghost use Rattle.std.specs.Prelude.{◌≡◌, ℕ, suc, ◌+◌, ◌-◌, ◌<◌, ◌≤◌, length, ◌∷◌, ◌++◌, [], List, map, true, None, IsSome, IfSome, IfNone, IsSomeAnd};
 ghost use Rattle.camac_branch.specs.Branch.{Answer};
 ghost use Rattle.camac_lang.specs.View.{call_of, expression_of, for_of, part_of, statements_of};
-ghost use Rattle.camac_lang.specs.Tree.{done, choose_else, locked};
+ghost use Rattle.camac_lang.specs.Tree.{done, choose_else, locked, on_line};
 ghost use Rattle.camac_model.specs.Fine.{most_turns};
 ghost use Rattle.camac_model.specs.Meaning.{effect, block_meaning, for_from, for_turns, turns as while_turns};
 ghost use Rattle.camac_model.specs.Value.{value};
@@ -31,9 +31,9 @@ impl<'a, const V: usize, const DEPTH: usize, const CAP: usize> Machine<'a, V, DE
         requires declared { PartsRefer (reach self.now).variables (map part_of test.now) }
         requires then { Opens (reach self.now) (free self.now) (statements_of then.now) }
         requires otherwise { Opens (reach self.now) (free self.now) (statements_of otherwise.now) }
-        requires fine { FineThen self.now (λ c. effect c most_turns (choose_else 0 (map part_of test.now) (statements_of then.now) (statements_of otherwise.now))) }
+        requires fine { FineThen self.now (λ c. effect c most_turns (choose_else (on_line 0) (map part_of test.now) (statements_of then.now) (statements_of otherwise.now))) }
         ensures opens { Opens (reach self.now) (free self.now) (statements_of result.now) }
-        ensures goes { (answers : List Answer) → block_meaning (context_in self.now.checked.now) most_turns (statements_of result.now) (state_of self.now answers) ≡ effect (context_in self.now.checked.now) most_turns (choose_else 0 (map part_of test.now) (statements_of then.now) (statements_of otherwise.now)) (state_of self.now answers) }
+        ensures goes { (answers : List Answer) → block_meaning (context_in self.now.checked.now) most_turns (statements_of result.now) (state_of self.now answers) ≡ effect (context_in self.now.checked.now) most_turns (choose_else (on_line 0) (map part_of test.now) (statements_of then.now) (statements_of otherwise.now)) (state_of self.now answers) }
     {
         if self.holds(test) { then } else { otherwise }
     }
@@ -58,8 +58,8 @@ impl<'a, const V: usize, const DEPTH: usize, const CAP: usize> Machine<'a, V, DE
         requires declared { PartsRefer (reach self.old).variables (map part_of test.now) }
         requires then { Opens (reach self.old) (free self.old) (statements_of then.now) }
         requires otherwise { Opens (reach self.old) (free self.old) (statements_of otherwise.now) }
-        requires fine { FineThen self.old (λ c. effect c most_turns (choose_else 0 (map part_of test.now) (statements_of then.now) (statements_of otherwise.now))) }
-        ensures { Enters self.old (λ c. effect c most_turns (choose_else 0 (map part_of test.now) (statements_of then.now) (statements_of otherwise.now))) self.new }
+        requires fine { FineThen self.old (λ c. effect c most_turns (choose_else (on_line 0) (map part_of test.now) (statements_of then.now) (statements_of otherwise.now))) }
+        ensures { Enters self.old (λ c. effect c most_turns (choose_else (on_line 0) (map part_of test.now) (statements_of then.now) (statements_of otherwise.now))) self.new }
     {
         let body = self.chosen(test, then, otherwise);
         self.open(body, Owner::Plain);
@@ -153,8 +153,8 @@ impl<'a, const V: usize, const DEPTH: usize, const CAP: usize> Machine<'a, V, DE
         requires room { HasRoom self.now }
         requires declared { Refers (reach self.now).variables (expression_of crate_no.now) }
         requires body { Opens (reach self.now) (free self.now) (statements_of body.now) }
-        requires fine { FineThen self.now (λ c. effect c most_turns (locked 0 (expression_of crate_no.now) (statements_of body.now))) }
-        ensures { IsSomeAnd pending.new (Awaits self.now (λ c. effect c most_turns (locked 0 (expression_of crate_no.now) (statements_of body.now)))) }
+        requires fine { FineThen self.now (λ c. effect c most_turns (locked (on_line 0) (expression_of crate_no.now) (statements_of body.now))) }
+        ensures { IsSomeAnd pending.new (Awaits self.now (λ c. effect c most_turns (locked (on_line 0) (expression_of crate_no.now) (statements_of body.now)))) }
     {
         let plan = self.checked.plan();
         plan.is_plan();

@@ -121,8 +121,8 @@ accept_if-returns-clause-rows t c =
     let inner = block_rows context around (statements_of c.args.then.now) holds in
     block_put c.args.rows.now c.inside-inner.result c.accept_block.new.rows c.put_block.new.self inner c.if_row.result c.once.result
     c.inside-inner.ensures c.in_ok-first.ensures.rows c.in_ok-put_block.ensures
-    ∙ ap (with_rows c.args.rows.now) (sym (if_rows context around c.args.line (map part_of c.args.test.now) (statements_of c.args.then.now) c.args.known (branches holds c.in_ok-ways.ways.fails) first c.in_ok-ways.ensures c.in_ok-first.ensures.found
-    ∙ own_row_is c.args.line kind.If _ _ _ _ detail.Nothing c.if_row.result inner c.once.result once c.if_row.ensures
+    ∙ ap (with_rows c.args.rows.now) (sym (if_rows context around c.args.spot (map part_of c.args.test.now) (statements_of c.args.then.now) c.args.known (branches holds c.in_ok-ways.ways.fails) first c.in_ok-ways.ensures c.in_ok-first.ensures.found
+    ∙ own_row_is c.args.spot kind.If _ _ _ _ detail.Nothing c.if_row.result inner c.once.result once c.if_row.ensures
     (c.or-costs.ensures ∙ ap (λ z. capped (choice_costs first.costs z)) c.new.ensures) refl c.once.ensures))
 
 pub accept_lock-returns-clause-rows : goal.accept_lock-returns-clause-rows
@@ -134,9 +134,9 @@ accept_lock-returns-clause-rows t c =
     let inner = block_rows context (with_locked n around) (statements_of c.args.body.now) (Some c.args.known) in
     block_put c.args.rows.now c.inside-inner.result c.accept_block.new.rows c.put_block.new.self inner c.lock_row.result c.once.result
     c.inside-inner.ensures (c.in_ok-found.ensures.rows ∙ ap (λ r. with_rows c.inside-inner.result (block_rows context r (statements_of c.args.body.now) (Some c.args.known))) c.in_ok-inside.ensures) c.in_ok-put_block.ensures
-    ∙ ap (with_rows c.args.rows.now) (sym (lock_rows context around c.args.line (expression_of c.args.crate_no.now) (statements_of c.args.body.now) c.args.known n (verdict_of c.in_ok-found.found) c.in_ok-c.ensures
+    ∙ ap (with_rows c.args.rows.now) (sym (lock_rows context around c.args.spot (expression_of c.args.crate_no.now) (statements_of c.args.body.now) c.args.known n (verdict_of c.in_ok-found.found) c.in_ok-c.ensures
     (ap (λ r. accept_block context r (statements_of c.args.body.now) c.args.known) (sym c.in_ok-inside.ensures) ∙ c.in_ok-found.ensures.found)
-    ∙ own_row_is c.args.line kind.Lock _ _ _ _ _ c.lock_row.result inner c.once.result once c.lock_row.ensures
+    ∙ own_row_is c.args.spot kind.Lock _ _ _ _ _ c.lock_row.result inner c.once.result once c.lock_row.ensures
     (c.in_lock-costs.ensures ∙ ap (λ w. capped (lock_costs w (verdict_of c.in_ok-found.found).costs)) c.waits_of-waits.ensures)
     (ap (λ w. costs w 0 2) c.waits_of-waits.ensures) c.once.ensures))
 
@@ -153,15 +153,15 @@ accept_while-returns-clause-rows t c =
     let inner = block_rows (by_code context) around body arms.holds in
     let v = verdict_of c.in_ok-found.found in
     let turns : c.from-most.result ≡ turn_bound arms.holds it.turns = c.from-most.ensures ∙ c.turn_bound-most.ensures in
-    let ways = ap (λ ps. split it.line (map part_of ps) top) (sym c.deref.ensures.value) ∙ c.in_ok-ways.ensures in
-    let end = ap (λ ks. loop_end c.body-2.result it.line (map keep_of ks) arms.fails c.from-most.result (verdict_of c.in_ok-turn.turn)) (sym c.deref-2.ensures.value) ∙ c.in_ok-found.ensures in
+    let ways = ap (λ ps. split it.spot (map part_of ps) top) (sym c.deref.ensures.value) ∙ c.in_ok-ways.ensures in
+    let end = ap (λ ks. loop_end c.body-2.result it.spot (map keep_of ks) arms.fails c.from-most.result (verdict_of c.in_ok-turn.turn)) (sym c.deref-2.ensures.value) ∙ c.in_ok-found.ensures in
     block_put c.args.rows.now c.inside-inner.result c.accept_block.new.rows c.put_block.new.self inner c.loop_row-own.result c.turning.result
     c.inside-inner.ensures c.in_ok-turn.ensures.rows c.in_ok-put_block.ensures
-    ∙ ap (with_rows c.args.rows.now) (sym (while_rows (by_code context) around it.line test it.turns it.measure keeps body c.args.known top arms v (ap (λ b. while_head b it.line it.turns it.measure keeps body c.args.known) (sym c.body.ensures) ∙ c.in_ok-top.ensures) ways
-    (while_is context around it.line test it.turns it.measure keeps body c.args.known top arms (verdict_of c.in_ok-turn.turn) v
-    (ap (λ b. while_head b it.line it.turns it.measure keeps body c.args.known) (sym c.body.ensures) ∙ c.in_ok-top.ensures) ways c.in_ok-turn.ensures.found
-    (end_is c.body-2.result around.body it.line keeps arms.fails arms.fails c.from-most.result _ _ _ c.body-2.ensures refl turns end))
-    ∙ loop_row_is it.line kind.While v.costs c.from-most.result _ c.loop_row-own.result inner c.turning.result c.loop_row-own.ensures turns c.turning.ensures))
+    ∙ ap (with_rows c.args.rows.now) (sym (while_rows (by_code context) around it.spot test it.turns it.measure keeps body c.args.known top arms v (ap (λ b. while_head b it.spot it.turns it.measure keeps body c.args.known) (sym c.body.ensures) ∙ c.in_ok-top.ensures) ways
+    (while_is context around it.spot test it.turns it.measure keeps body c.args.known top arms (verdict_of c.in_ok-turn.turn) v
+    (ap (λ b. while_head b it.spot it.turns it.measure keeps body c.args.known) (sym c.body.ensures) ∙ c.in_ok-top.ensures) ways c.in_ok-turn.ensures.found
+    (end_is c.body-2.result around.body it.spot keeps arms.fails arms.fails c.from-most.result _ _ _ c.body-2.ensures refl turns end))
+    ∙ loop_row_is it.spot kind.While v.costs c.from-most.result _ c.loop_row-own.result inner c.turning.result c.loop_row-own.ensures turns c.turning.ensures))
 
 pub accept_for-returns-clause-rows : goal.accept_for-returns-clause-rows
 accept_for-returns-clause-rows t c =
@@ -178,20 +178,20 @@ accept_for-returns-clause-rows t c =
     let rows_at : Around → Known → List Row = λ r h. block_rows (by_code context) r body h in
     let inner = rows_at (with_fixed it.variable around) (for_head it.variable l keeps body k) in
     let there = c.in_ok-turn.ensures.rows ∙ ap₂ (λ r h. with_rows c.inside-inner.result (rows_at r h)) c.in_ok-inside.ensures c.in_ok-facts.ensures.head in
-    let end = ap (λ ks. loop_end c.body.result it.line (map keep_of ks) (Some c.in_ok-facts.facts.after) c.turns-turns.result (verdict_of c.in_ok-turn.turn)) (sym c.deref.ensures.value) ∙ c.in_ok-found.ensures in
+    let end = ap (λ ks. loop_end c.body.result it.spot (map keep_of ks) (Some c.in_ok-facts.facts.after) c.turns-turns.result (verdict_of c.in_ok-turn.turn)) (sym c.deref.ensures.value) ∙ c.in_ok-found.ensures in
     let turn = ap₂ (λ r h. if_reached unreached h (accept_block (by_code context) r body)) (sym c.in_ok-inside.ensures) (sym c.in_ok-facts.ensures.head) ∙ c.in_ok-turn.ensures.found in
     block_put c.args.rows.now c.inside-inner.result c.accept_block.new.rows c.put_block.new.self inner c.loop_row-own.result c.turning.result
     c.inside-inner.ensures there c.in_ok-put_block.ensures
-    ∙ ap (with_rows c.args.rows.now) (sym (for_rows (by_code context) around it.line it.variable first last keeps body k l v c.in_ok-limits.ensures.rule
-    (for_is context around it.line it.variable first last keeps body k l (verdict_of c.in_ok-turn.turn) v c.in_ok-limits.ensures.rule turn
-    (end_is c.body.result around.body it.line keeps (Some c.in_ok-facts.facts.after) _ c.turns-turns.result _ _ _ c.body.ensures c.in_ok-facts.ensures.after c.turns-turns.ensures end))
-    ∙ loop_row_is it.line kind.For v.costs c.turns-turns.result _ c.loop_row-own.result inner c.turning.result c.loop_row-own.ensures c.turns-turns.ensures c.turning.ensures))
+    ∙ ap (with_rows c.args.rows.now) (sym (for_rows (by_code context) around it.spot it.variable first last keeps body k l v c.in_ok-limits.ensures.rule
+    (for_is context around it.spot it.variable first last keeps body k l (verdict_of c.in_ok-turn.turn) v c.in_ok-limits.ensures.rule turn
+    (end_is c.body.result around.body it.spot keeps (Some c.in_ok-facts.facts.after) _ c.turns-turns.result _ _ _ c.body.ensures c.in_ok-facts.ensures.after c.turns-turns.ensures end))
+    ∙ loop_row_is it.spot kind.For v.costs c.turns-turns.result _ c.loop_row-own.result inner c.turning.result c.loop_row-own.ensures c.turns-turns.ensures c.turning.ensures))
 
 pub accept_reached-returns-in_ok-join-in-IfElse-clause-rows : goal.accept_reached-returns-in_ok-join-in-IfElse-clause-rows
 accept_reached-returns-in_ok-join-in-IfElse-clause-rows t c =
     let context = by_code c.args.place.now.context.now in
     let around = c.args.place.now.around.now in
-    let line = c.in-IfElse.line in
+    let spot = c.in-IfElse.spot in
     let test = condition_of c.in-IfElse.test in
     let a = statements_of c.in-IfElse.then.items in
     let b = statements_of c.in-IfElse.otherwise.items in
@@ -202,24 +202,24 @@ accept_reached-returns-in_ok-join-in-IfElse-clause-rows t c =
     let old = c.args.rows.now in
     let xs = block_rows context around a holds in
     let ys = block_rows context around b fails in
-    let own : c.if_row-own.result ≡ first_row line kind.If 1 (capped (choice_costs one.costs two.costs)) (costs 0 0 1) detail.Nothing =
-    c.if_row-own.ensures ∙ ap (λ x. first_row line kind.If 1 x (costs 0 0 1) detail.Nothing) c.or-costs.ensures in
-    let other : c.else_row-other.result ≡ first_row line kind.Else (times_at fails) two.costs no_costs detail.Nothing =
-    c.else_row-other.ensures ∙ ap (λ n. first_row line kind.Else n two.costs no_costs detail.Nothing) c.times_at-times.ensures in
+    let own : c.if_row-own.result ≡ first_row spot kind.If 1 (capped (choice_costs one.costs two.costs)) (costs 0 0 1) detail.Nothing =
+    c.if_row-own.ensures ∙ ap (λ x. first_row spot kind.If 1 x (costs 0 0 1) detail.Nothing) c.or-costs.ensures in
+    let other : c.else_row-other.result ≡ first_row spot kind.Else (times_at fails) two.costs no_costs detail.Nothing =
+    c.else_row-other.ensures ∙ ap (λ n. first_row spot kind.Else n two.costs no_costs detail.Nothing) c.times_at-times.ensures in
     arms_put old c.inside-one.result c.inside-two.result c.accept_block.new.rows c.accept_block-in-IfElse.new.rows c.put_block.new.self c.put_block-in-IfElse.new.self xs ys
     c.if_row-own.result c.else_row-other.result c.first_arm.result c.second_arm.result c.inside-one.ensures c.inside-two.ensures
     (c.in_ok-first-in-IfElse.ensures.rows ∙ ap (λ p. with_rows c.inside-one.result (block_rows context around (statements_of p) holds)) c.deref-in-IfElse-2.ensures.value)
     (c.in_ok-second-in-IfElse.ensures.rows ∙ ap (λ p. with_rows c.inside-two.result (block_rows context around (statements_of p) fails)) c.deref-in-IfElse-3.ensures.value)
     c.in_ok-put_block-in-IfElse.ensures c.in_ok-put_block-in-IfElse-2.ensures
     ∙ ap₂ (λ x y. with_rows old (x ∷ map (inside_row capped c.first_arm.result) xs ++ y ∷ map (inside_row capped c.second_arm.result) ys)) own other
-    ∙ ap₂ (λ v w. with_rows old (first_row line kind.If 1 (capped (choice_costs one.costs two.costs)) (costs 0 0 1) detail.Nothing ∷ map (inside_row capped v) xs
-    ++ first_row line kind.Else (times_at fails) two.costs no_costs detail.Nothing ∷ map (inside_row capped w) ys)) c.first_arm.ensures c.second_arm.ensures
+    ∙ ap₂ (λ v w. with_rows old (first_row spot kind.If 1 (capped (choice_costs one.costs two.costs)) (costs 0 0 1) detail.Nothing ∷ map (inside_row capped v) xs
+    ++ first_row spot kind.Else (times_at fails) two.costs no_costs detail.Nothing ∷ map (inside_row capped w) ys)) c.first_arm.ensures c.second_arm.ensures
     ∙ ap (with_rows old)
-    (sym (choice_rows context around line test a b c.args.known (branches holds fails) one two
-    (ap (λ p. split line (map part_of p) c.args.known) (sym c.deref-in-IfElse.ensures.value) ∙ c.in_ok-ways-in-IfElse.ensures)
+    (sym (choice_rows context around spot test a b c.args.known (branches holds fails) one two
+    (ap (λ p. split spot (map part_of p) c.args.known) (sym c.deref-in-IfElse.ensures.value) ∙ c.in_ok-ways-in-IfElse.ensures)
     (ap (λ p. if_reached unreached holds (accept_block context around (statements_of p))) (sym c.deref-in-IfElse-2.ensures.value) ∙ c.in_ok-first-in-IfElse.ensures.found)
     (ap (λ p. if_reached unreached fails (accept_block context around (statements_of p))) (sym c.deref-in-IfElse-3.ensures.value) ∙ c.in_ok-second-in-IfElse.ensures.found))
-    ∙ sym (ap (λ q. statement_rows context around q (Some c.args.known)) (ap statement_of c.in-IfElse.is ∙ choose_else_is line c.in-IfElse.test c.in-IfElse.then c.in-IfElse.otherwise)))
+    ∙ sym (ap (λ q. statement_rows context around q (Some c.args.known)) (ap statement_of c.in-IfElse.is ∙ choose_else_is spot c.in-IfElse.test c.in-IfElse.then c.in-IfElse.otherwise)))
 
 pub accept_reached-returns-in-For-clause-rows : goal.accept_reached-returns-in-For-clause-rows
 accept_reached-returns-in-For-clause-rows t c =
@@ -339,8 +339,8 @@ accept_each-returns-in_err-found-clause-found t c =
     let it = c.args.head in
     let body = statements_of c.args.body.now in
     let p = err_from_is_err_and c.from_residual-in_err-found.result c.from_residual-in_err-found.ensures.1 in
-    subst (λ r. Gives verdict_of r (accept_statement (by_code context) around (for_each it.line it.variable it.first it.last body) c.args.known)) (sym (p.1 ∙ ap (λ e. Err e) p.2))
-    (each_stops context around c.in_ok-around.around it.line it.variable it.first it.last body c.args.known c.in_ok-turns.turns c.in_err-found.field-0.0 c.in_ok-turns.ensures.rule c.in_ok-around.ensures c.in_err-found.ensures.found)
+    subst (λ r. Gives verdict_of r (accept_statement (by_code context) around (for_each it.spot it.variable it.first it.last body) c.args.known)) (sym (p.1 ∙ ap (λ e. Err e) p.2))
+    (each_stops context around c.in_ok-around.around it.spot it.variable it.first it.last body c.args.known c.in_ok-turns.turns c.in_err-found.field-0.0 c.in_ok-turns.ensures.rule c.in_ok-around.ensures c.in_err-found.ensures.found)
 
 pub accept_each-returns-clause-found : goal.accept_each-returns-clause-found
 accept_each-returns-clause-found t c =
@@ -350,7 +350,7 @@ accept_each-returns-clause-found t c =
     let body = statements_of c.args.body.now in
     let k = c.args.known in
     let n = c.in_ok-turns.turns in
-    each_is context around it.line it.variable it.first it.last body k n (verdict_of c.in_ok-found.field-0.found) c.in_ok-turns.ensures.rule
+    each_is context around it.spot it.variable it.first it.last body k n (verdict_of c.in_ok-found.field-0.found) c.in_ok-turns.ensures.rule
     (ap (λ r. each_judged n it.variable it.first it.last (accept_block (by_code context) r body) k) (sym c.in_ok-around.ensures) ∙ c.in_ok-found.ensures.found)
 
 pub accept_each-returns-clause-rows : goal.accept_each-returns-clause-rows
@@ -364,9 +364,9 @@ accept_each-returns-clause-rows t c =
     let end = c.in_ok-found.field-0 in
     let rows_at : Around → Known → List Row = λ r h. block_rows (by_code context) r body h in
     let w = verdict_of end.found in
-    each_rows context around it.line it.variable it.first it.last body k n end.reached w
+    each_rows context around it.spot it.variable it.first it.last body k n end.reached w
     c.args.rows.now c.in_ok-all.all c.accept_turns.new.rows c.put_block.new.self c.loop_row-own.result c.once.result
-    (each_is context around it.line it.variable it.first it.last body k n w c.in_ok-turns.ensures.rule
+    (each_is context around it.spot it.variable it.first it.last body k n w c.in_ok-turns.ensures.rule
     (ap (λ r. each_judged n it.variable it.first it.last (accept_block (by_code context) r body) k) (sym c.in_ok-around.ensures) ∙ c.in_ok-found.ensures.found))
     c.in_ok-turns.ensures.turns
     (c.in_ok-all.ensures.rows ∙ ap (λ r. option_map (λ before. rows_at r None) c.args.rows.now) c.in_ok-around.ensures)
@@ -378,5 +378,5 @@ pub accept_reached-returns-in-ForEach-clause-rows : goal.accept_reached-returns-
 accept_reached-returns-in-ForEach-clause-rows t c =
     let it = c.in-ForEach in
     subst (λ s. OnOk c.accept_each.result (c.accept_each.new.rows ≡ with_rows c.args.rows.now (statement_rows (by_code c.args.place.now.context.now) c.args.place.now.around.now s (Some c.args.known))))
-    (ap (λ b. for_each it.line it.variable it.first it.last (statements_of b)) c.deref-in-ForEach.ensures.value ∙ sym (ap statement_of it.is ∙ each_tree it.line it.variable it.first it.last it.body))
+    (ap (λ b. for_each it.spot it.variable it.first it.last (statements_of b)) c.deref-in-ForEach.ensures.value ∙ sym (ap statement_of it.is ∙ each_tree it.spot it.variable it.first it.last it.body))
     c.accept_each.ensures.rows

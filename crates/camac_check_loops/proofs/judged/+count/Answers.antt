@@ -18,6 +18,6 @@ count-returns-in-ForEach t c =
     let all : c.saturating_mul-all.result ≡ min (turns * min (min n most + 1) most) most = c.saturating_mul-all.ensures ∙ ap (λ m. min (turns * m) most) some in
     let numbers : turns ≡ it.last + 1 - it.first = c.saturating_sub-turns.ensures ∙ ap₂ (λ a b. a + 1 - b) c.from.ensures c.from-in-ForEach.ensures in
     subst (λ s. Gives (λ m. m) c.within_limit.result (count c.args.place s before))
-    (sym (ap statement_of it.is ∙ each_is it.line it.variable it.first it.last it.body))
+    (sym (ap statement_of it.is ∙ each_is it.spot it.variable it.first it.last it.body))
     (c.within_limit.ensures (before + (it.last + 1 - it.first) * (1 + n))
     (c.saturating_add-in-ForEach.ensures ∙ ap (λ m. min (before + m) most) all ∙ turns_cut before turns n most ∙ ap (λ m. min (before + m * (1 + n)) most) numbers))

@@ -29,11 +29,11 @@ push_unreached-statements-preserved t c = λ around.
 
 pub unreached_rows-returns-in_ok-push_unreached-in-IfElse-2 : goal.unreached_rows-returns-in_ok-push_unreached-in-IfElse-2
 unreached_rows-returns-in_ok-push_unreached-in-IfElse-2 t c = λ around.
-    none_choice (by_code c.args.context.now) around (statement_of c.args.statement.now) c.in-IfElse.line _ _ _
+    none_choice (by_code c.args.context.now) around (statement_of c.args.statement.now) c.in-IfElse.spot _ _ _
     (statements_of c.deref-in-IfElse.result.now) (statements_of c.deref-in-IfElse-2.result.now)
     c.new-nothing.result c.in_ok-detail.detail c.simple_row.result c.else_row.result c.first_arm-first.result c.second_arm-second.result
     c.new-rows.result.items c.push.new.self.items c.push_unreached-in-IfElse.new.rows.items c.push-in-IfElse.new.self.items c.push_unreached-in-IfElse-2.new.rows.items
-    (ap statement_of c.in-IfElse.is ∙ choose_else_is c.in-IfElse.line c.in-IfElse.test c.in-IfElse.then c.in-IfElse.otherwise) (ap statements_of c.deref-in-IfElse.ensures.value) (ap statements_of c.deref-in-IfElse-2.ensures.value)
+    (ap statement_of c.in-IfElse.is ∙ choose_else_is c.in-IfElse.spot c.in-IfElse.test c.in-IfElse.then c.in-IfElse.otherwise) (ap statements_of c.deref-in-IfElse.ensures.value) (ap statements_of c.deref-in-IfElse-2.ensures.value)
     c.new-nothing.ensures c.in_ok-detail.ensures c.simple_row.ensures c.else_row.ensures c.first_arm-first.ensures c.second_arm-second.ensures
     c.new-rows.ensures.items c.in_ok-push.ensures.items (c.in_ok-push_unreached-in-IfElse.ensures around)
     c.in_ok-push-in-IfElse.ensures.items (c.in_ok-push_unreached-in-IfElse-2.ensures around)
@@ -41,9 +41,9 @@ unreached_rows-returns-in_ok-push_unreached-in-IfElse-2 t c = λ around.
 pub unreached_rows-returns-in_ok-push_unreached-in-ForEach : goal.unreached_rows-returns-in_ok-push_unreached-in-ForEach
 unreached_rows-returns-in_ok-push_unreached-in-ForEach t c = λ around.
     let it = c.in-ForEach in
-    none_each (by_code c.args.context.now) around (statement_of c.args.statement.now) it.line it.variable it.first it.last (statements_of it.body.items) (statements_of c.deref-in-ForEach.result.now)
+    none_each (by_code c.args.context.now) around (statement_of c.args.statement.now) it.spot it.variable it.first it.last (statements_of it.body.items) (statements_of c.deref-in-ForEach.result.now)
     c.new-nothing.result c.in_ok-detail.detail c.simple_row.result c.once-in-ForEach.result
     c.new-rows.result.items c.push.new.self.items c.push_unreached-in-ForEach.new.rows.items
-    (ap statement_of it.is ∙ each_tree it.line it.variable it.first it.last it.body) (ap statements_of c.deref-in-ForEach.ensures.value)
+    (ap statement_of it.is ∙ each_tree it.spot it.variable it.first it.last it.body) (ap statements_of c.deref-in-ForEach.ensures.value)
     c.new-nothing.ensures c.in_ok-detail.ensures c.simple_row.ensures c.once-in-ForEach.ensures
     c.new-rows.ensures.items c.in_ok-push.ensures.items (c.in_ok-push_unreached-in-ForEach.ensures (with_fixed it.variable around))

@@ -10,7 +10,7 @@ pub returns : goal.returns
 returns c =
     let context = c.args.place.now.context.now in
     let around = c.args.place.now.around.now in
-    step _ c.in_ok-v.v _ _ (ap (λ rs. range_of c.args.action.now.line (expression_of c.args.value.now) rs) (sym c.ranges-2.ensures) ∙ c.in_ok-v.ensures)
+    step _ c.in_ok-v.v _ _ (ap (λ rs. range_of c.args.action.now.spot (expression_of c.args.value.now) rs) (sym c.ranges-2.ensures) ∙ c.in_ok-v.ensures)
     (step _ c.in_ok-g.g _ _ c.in_ok-g.ensures
     (step _ c.in_ok-widths.widths _ _ c.in_ok-widths.ensures.rule
     (step _ tt _ _ c.in_ok-moves.ensures

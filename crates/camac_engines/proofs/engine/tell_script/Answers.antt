@@ -1,3 +1,4 @@
+use Rattle.std.proofs.Common.{◌∙◌, ℕ, List, ap, sym}
 use Rattle.camac_word.specs.Watched.{inner_of}
 use Rattle.camac_engines.specs.Headings.{headings_report, headings_report_of}
 use Rattle.camac_engines.specs.Known.{known_report, known_report_of}
@@ -11,7 +12,7 @@ returns-in_ok-judge-in-Check-clause-tells g c =
 
 pub returns-in_ok-found-in-ExplainAt-clause-tells : goal.returns-in_ok-found-in-ExplainAt-clause-tells
 returns-in_ok-found-in-ExplainAt-clause-tells g c =
-    rw c.in-ExplainAt.is (reported (known_report c.in-ExplainAt.line c.in-ExplainAt.column c.args.plan.now c.args.text.now) (known_report_of c.in-ExplainAt.line c.in-ExplainAt.column c.in_ok-found-in-ExplainAt.found) (g.W.Write.contents (inner_of c.args.out.now)) (g.W.Write.contents (inner_of c.show_known.new.out)) c.show_known.result c.in_ok-found-in-ExplainAt.ensures c.show_known.ensures.shows)
+    rw c.in-ExplainAt.is (reported (known_report c.in-ExplainAt.line c.in-ExplainAt.column c.in-ExplainAt.turns c.args.plan.now c.args.text.now) (known_report_of c.in-ExplainAt.line c.in-ExplainAt.column c.in_ok-found-in-ExplainAt.found) (g.W.Write.contents (inner_of c.args.out.now)) (g.W.Write.contents (inner_of c.show_known.new.out)) c.show_known.result (ap (λ (turns : List ℕ). known_report c.in-ExplainAt.line c.in-ExplainAt.column turns c.args.plan.now c.args.text.now) (sym c.numbers.ensures) ∙ c.in_ok-found-in-ExplainAt.ensures) c.show_known.ensures.shows)
 
 pub returns-in_ok-judge_headings-in-Bounds-clause-tells : goal.returns-in_ok-judge_headings-in-Bounds-clause-tells
 returns-in_ok-judge_headings-in-Bounds-clause-tells g c =

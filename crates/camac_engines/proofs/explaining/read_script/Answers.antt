@@ -13,13 +13,13 @@ returns-in_ok-lines-in-Err-Broken c =
     let text = c.args.text.now in
     let told = c.in_ok-sentence-in-Err-Broken in
     let exact = rw broken.field-0-is at broken.ensures.exact in (
-      record { case = broken.case; line = broken.line; left = broken.left },
+      record { case = broken.case; spot = broken.spot },
       exact,
-      ap (λ r. finding.Text r broken.line broken.left) c.rule-rule.ensures,
+      ap (λ r. finding.Text r broken.spot) c.rule-rule.ensures,
       (
         Some (string_bytes told.sentence),
-        subst (λ (s : Result Script TextFault). IsSentence text s (finding.Text c.rule-rule.result broken.line broken.left) (Some (string_bytes told.sentence))) (sym exact)
-            (of_fault c.parse_expecting.new.expected text broken.case broken.line broken.left (string_bytes told.sentence) exact
+        subst (λ (s : Result Script TextFault). IsSentence text s (finding.Text c.rule-rule.result broken.spot) (Some (string_bytes told.sentence))) (sym exact)
+            (of_fault c.parse_expecting.new.expected text broken.case broken.spot (string_bytes told.sentence) exact
             (rw broken.field-0-is at broken.ensures.tells) told.ensures),
         c.in_ok-lines-in-Err-Broken.ensures,
       ),

@@ -7,8 +7,8 @@ use Rattle.camac_explain.proofs.explanation.explain_script.Goals as goal
 
 pub returns : goal.returns
 returns c =
-    explained (source_of c.args.text.now c.args.finding c.args.mark) _ _ _ _ _ _ _
-    (c.in_ok-push_source.ensures ∙ ap (λ l. l ++ source_of c.args.text.now c.args.finding c.args.mark) c.new-lines.ensures.items) c.in_ok-push_sentence.ensures
+    explained (source_of c.args.text.now c.args.finding) _ _ _ _ _ _ _
+    (c.in_ok-push_source.ensures ∙ ap (λ l. l ++ source_of c.args.text.now c.args.finding) c.new-lines.ensures.items) c.in_ok-push_sentence.ensures
     refl c.in_ok-push_advice.ensures
     (same_advice _ _ _ _ (told_of c.args.finding) c.advice_of.ensures.why c.advice_of.ensures.fix
     (c.code-code.ensures.name ∙ ap (λ r. (code_of r).0) c.refusal.ensures))

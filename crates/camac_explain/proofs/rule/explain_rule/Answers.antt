@@ -1,7 +1,7 @@
 use Rattle.std.proofs.Common.{◌≡◌, ◌++◌, codes, ap, ◌∙◌}
 use Rattle.camac_explain.specs.Explanation.{line_of}
 use Rattle.camac_explain.specs.Rule.{fixes_of, rule_code, why_of}
-use Rattle.camac_explain.proofs.Fixes.{rule_parts}
+use Rattle.camac_explain.proofs.Told.{rule_parts}
 use Rattle.camac_explain.proofs.rule.explain_rule.Goals as goal
 
 pub returns : goal.returns

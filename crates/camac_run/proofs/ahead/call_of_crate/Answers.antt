@@ -8,4 +8,4 @@ pub returns : goal.returns
 returns c =
     let known = c.args.known.now in
     let e = expression_of c.args.action.now.crate_no in
-    λ c' registers. crate_makes c' known registers c.crate_call.result c.args.action.now.line c.args.action.now.call e c.in_ok-c.c (subst (HasValue known e) (sym c.in_ok-c.ensures.kept) c.in_ok-value_of.ensures) c.crate_call.ensures
+    λ c' registers. crate_makes c' known registers c.crate_call.result c.args.action.now.spot c.args.action.now.call e c.in_ok-c.c (subst (HasValue known e) (sym c.in_ok-c.ensures.kept) c.in_ok-value_of.ensures) c.crate_call.ensures

@@ -21,6 +21,6 @@ returns-then-action-lams c =
     let there : slice_get (context_in c.args.checked.now).lams c.args.action.now.lam ≡ Some (lam_address (lam_of l)) = lam_at c.lams-lams.result.now script.lams c.args.action.now.lam l e less c.index-lams-action.is in
     map_some c.command_at.result _ _
     (λ k is known registers.
-    lam_makes (context_in c.args.checked.now) known registers k c.args.action.now.line c.args.action.now.call c.args.action.now.lam (lam_address (lam_of l)) there
+    lam_makes (context_in c.args.checked.now) known registers k c.args.action.now.spot c.args.action.now.call c.args.action.now.lam (lam_address (lam_of l)) there
     (is ∙ ap (λ a. command_at (address l.crate_no l.station a) c.lam_function.result moved.None) c.get.ensures.value ∙ ap (λ f. command_at (lam_address (lam_of l)) f moved.None) c.lam_function.ensures))
     c.command_at.ensures

@@ -7,19 +7,19 @@ use Rattle.camac_run.proofs.ahead.known_of.Goals as goal
 pub returns-in-Put : goal.returns-in-Put
 returns-in-Put c =
     let s = c.in-Put.field-0 in
-    rw (c.in-Put.is, put_is s) (put_needs_none (context_in c.args.checked.now) c.args.variables.now c.args.registers.now s.line (expression_of s.value))
+    rw (c.in-Put.is, put_is s) (put_needs_none (context_in c.args.checked.now) c.args.variables.now c.args.registers.now s.spot (expression_of s.value))
 
 pub returns-in-Assign : goal.returns-in-Assign
 returns-in-Assign c =
     let s = c.in-Assign.assignment in
     rw (c.in-Assign.is, assign_is s, c.note.ensures)
-    (assign_needs_none (context_in c.args.checked.now) c.args.variables.now c.args.registers.now s.line s.variable (expression_of s.value) c.value_of-value.result c.value_of-value.ensures)
+    (assign_needs_none (context_in c.args.checked.now) c.args.variables.now c.args.registers.now s.spot s.variable (expression_of s.value) c.value_of-value.result c.value_of-value.ensures)
 
 pub returns-in-SetRegister : goal.returns-in-SetRegister
 returns-in-SetRegister c =
     let s = c.in-SetRegister.setting in
     rw (c.in-SetRegister.is, register_is s, c.note-in-SetRegister.ensures)
-    (register_needs_none (context_in c.args.checked.now) c.args.variables.now c.args.registers.now s.line s.register (expression_of s.crate_no) (expression_of s.station) (expression_of s.sub_address) c.address_of-at.result c.address_of-at.ensures)
+    (register_needs_none (context_in c.args.checked.now) c.args.variables.now c.args.registers.now s.spot s.register (expression_of s.crate_no) (expression_of s.station) (expression_of s.sub_address) c.address_of-at.result c.address_of-at.ensures)
 
 pub returns-in-Single : goal.returns-in-Single
 returns-in-Single c =

@@ -37,8 +37,8 @@ use Rattle.camac_c.specs.Owned.{run_in}
 use Rattle.camac_c.specs.Talk.{Steps, Talks}
 use Rattle.camac_c.specs.contracts.handle.Handle as handle
 use Rattle.camac_c.specs.contracts.loose.Loose as loose
-use Rattle.camac_c.specs.contracts.plain.Ask as ask_type
-use Rattle.camac_c.proofs.plain.Ask.TheLaws as ask_laws
+use Rattle.camac_c.specs.contracts.plain.SessionAsk as ask_type
+use Rattle.camac_c.proofs.plain.SessionAsk.TheLaws as ask_laws
 use Rattle.camac_c.specs.contracts.plain.Told as told_type
 use Rattle.camac_c.proofs.Taken.{three, three_good, both_good, handle_out, handle_in, either_owned, none_owned, some_owned, loose_in_at, word_of}
 use Rattle.camac_c.proofs.Values.{both, loose_out}

@@ -1,6 +1,6 @@
 use Rattle.std.proofs.Common.{◌≡◌, ℕ, ◌+◌, Bool, sym, ap, subst, arith, rules}
 use Rattle.std.specs.Prelude.{Option, Some, None, is_some}
-use Rattle.camac_lang.specs.Tree.{choose, choose_else, for_each, locked}
+use Rattle.camac_lang.specs.Tree.{choose, choose_else, for_each, locked, on_line}
 use Rattle.camac_lang.specs.View.{assignment_of, call_of, condition_of, crate_action_of, expression_of, for_of, lam_action_of, put_of, q_repeat_of, q_stop_of, scan_of, setting_of, single_of, statement_of, statements_of, while_of}
 use Rattle.camac_model.specs.Fine.{most_turns}
 use Rattle.camac_model.specs.Meaning.{turns, block_meaning}
@@ -174,7 +174,7 @@ returns-in-QRepeat-clause-pace g c =
 pub choose-requires : goal.choose-requires
 choose-requires g c =
     let w = c.in-If in
-    let e = choose_is w.line w.test w.then in
+    let e = choose_is w.spot w.test w.then in
     let fits = rw (w.is, e) at c.requires.fits in
     let fine = rw (w.is, e) at c.requires.fine in (
       search,
@@ -190,13 +190,13 @@ choose-requires g c =
 pub returns-in-If-clause-advances : goal.returns-in-If-clause-advances
 returns-in-If-clause-advances g c =
     let w = c.in-If in
-    rw (w.is, choose_is w.line w.test w.then)
-    (enter_advances c.args.self.now (choose 0 (condition_of w.test) (statements_of w.then.items)) c.choose.new.self (rw (c.deref.ensures.value, c.deref-in-If.ensures.value) at c.choose.ensures))
+    rw (w.is, choose_is w.spot w.test w.then)
+    (enter_advances c.args.self.now (choose (on_line 0) (condition_of w.test) (statements_of w.then.items)) c.choose.new.self (rw (c.deref.ensures.value, c.deref-in-If.ensures.value) at c.choose.ensures))
 
 pub choose-requires-in-IfElse : goal.choose-requires-in-IfElse
 choose-requires-in-IfElse g c =
     let w = c.in-IfElse in
-    let e = choose_else_is w.line w.test w.then w.otherwise in
+    let e = choose_else_is w.spot w.test w.then w.otherwise in
     let fits = rw (w.is, e) at c.requires.fits in
     let fine = rw (w.is, e) at c.requires.fine in (
       search rules,
@@ -215,14 +215,14 @@ choose-requires-in-IfElse g c =
 pub returns-in-IfElse-clause-advances : goal.returns-in-IfElse-clause-advances
 returns-in-IfElse-clause-advances g c =
     let w = c.in-IfElse in
-    rw (w.is, choose_else_is w.line w.test w.then w.otherwise)
-    (enter_advances c.args.self.now (choose_else 0 (condition_of w.test) (statements_of w.then.items) (statements_of w.otherwise.items)) c.choose-in-IfElse.new.self
+    rw (w.is, choose_else_is w.spot w.test w.then w.otherwise)
+    (enter_advances c.args.self.now (choose_else (on_line 0) (condition_of w.test) (statements_of w.then.items) (statements_of w.otherwise.items)) c.choose-in-IfElse.new.self
     (rw (c.deref-in-IfElse.ensures.value, c.deref-in-IfElse-2.ensures.value, c.deref-in-IfElse-3.ensures.value) at c.choose-in-IfElse.ensures))
 
 pub want_lock-requires : goal.want_lock-requires
 want_lock-requires g c =
     let w = c.in-Lock in
-    let e = lock_is w.line w.crate_no w.body in
+    let e = lock_is w.spot w.crate_no w.body in
     let fits = rw (w.is, e) at c.requires.fits in
     let fine = rw (w.is, e) at c.requires.fine in
     (search, (room_kept c.requires.room, (fits.0, (rw c.deref-in-Lock.ensures.value (fits.1, fits.2), rw c.deref-in-Lock.ensures.value fine))))
@@ -230,14 +230,14 @@ want_lock-requires g c =
 pub returns-in-Lock-clause-advances : goal.returns-in-Lock-clause-advances
 returns-in-Lock-clause-advances g c =
     let w = c.in-Lock in
-    rw (w.is, lock_is w.line w.crate_no w.body, ← c.deref-in-Lock.ensures.value)
-    (wants_advance c.args.self.now (locked 0 (expression_of w.crate_no) (statements_of c.deref-in-Lock.result.now)) c.want_lock.new.pending c.requires.room c.want_lock.ensures)
+    rw (w.is, lock_is w.spot w.crate_no w.body, ← c.deref-in-Lock.ensures.value)
+    (wants_advance c.args.self.now (locked (on_line 0) (expression_of w.crate_no) (statements_of c.deref-in-Lock.result.now)) c.want_lock.new.pending c.requires.room c.want_lock.ensures)
 
 pub returns-in-Lock-clause-wants : goal.returns-in-Lock-clause-wants
 returns-in-Lock-clause-wants g c = λ yes.
     let w = c.in-Lock in
-    rw (w.is, lock_is w.line w.crate_no w.body, ← c.deref-in-Lock.ensures.value)
-    (wants_first c.args.self.now (locked 0 (expression_of w.crate_no) (statements_of c.deref-in-Lock.result.now)) c.want_lock.new.pending c.want_lock.ensures)
+    rw (w.is, lock_is w.spot w.crate_no w.body, ← c.deref-in-Lock.ensures.value)
+    (wants_first c.args.self.now (locked (on_line 0) (expression_of w.crate_no) (statements_of c.deref-in-Lock.result.now)) c.want_lock.new.pending c.want_lock.ensures)
 
 pub begin_for-requires : goal.begin_for-requires
 begin_for-requires g c =
@@ -256,7 +256,7 @@ returns-in-For-clause-advances g c =
 pub begin_from-requires : goal.begin_from-requires
 begin_from-requires g c =
     let w = c.in-ForEach in
-    let e = each_is w.line w.variable w.first w.last w.body in
+    let e = each_is w.spot w.variable w.first w.last w.body in
     let fits = rw (w.is, e) at c.requires.fits in
     let fine = rw (w.is, e) at c.requires.fine in
     (search, (room_kept c.requires.room, (fits.0, (rw c.deref-in-ForEach.ensures.value (fits.1, fits.2), rw c.deref-in-ForEach.ensures.value fine))))
@@ -264,8 +264,8 @@ begin_from-requires g c =
 pub returns-in-ForEach-clause-advances : goal.returns-in-ForEach-clause-advances
 returns-in-ForEach-clause-advances g c =
     let w = c.in-ForEach in
-    rw (w.is, each_is w.line w.variable w.first w.last w.body)
-    (step_advances c.args.self.now (for_each w.line w.variable w.first w.last (statements_of w.body.items)) None c.begin_from.new.self (rw c.deref-in-ForEach.ensures.value at c.begin_from.ensures))
+    rw (w.is, each_is w.spot w.variable w.first w.last w.body)
+    (step_advances c.args.self.now (for_each w.spot w.variable w.first w.last (statements_of w.body.items)) None c.begin_from.new.self (rw c.deref-in-ForEach.ensures.value at c.begin_from.ensures))
 
 pub test_while-requires : goal.test_while-requires
 test_while-requires g c =

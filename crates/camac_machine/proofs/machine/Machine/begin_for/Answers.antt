@@ -1,6 +1,6 @@
 use Rattle.std.proofs.Common.{◌+◌, ◌-◌, [], sym}
 use Rattle.std.specs.Prelude.{None}
-use Rattle.camac_lang.specs.Tree.{for_}
+use Rattle.camac_lang.specs.Tree.{for_, on_line}
 use Rattle.camac_lang.specs.View.{expression_of, statements_of}
 use Rattle.camac_model.specs.Fine.{most_turns}
 use Rattle.camac_model.specs.Meaning.{effect, for_from, block_meaning}
@@ -37,7 +37,7 @@ begin_from-requires g c =
           c.requires.fits.0,
           (
             (c.requires.fits.3, c.requires.fits.4),
-            fine_as h (λ k. effect k most_turns (for_ 0 x e1 e2 [] b)) (λ k. for_from (w + 1 - v) most_turns x v w (block_meaning k most_turns b))
+            fine_as h (λ k. effect k most_turns (for_ (on_line 0) x e1 e2 [] b)) (λ k. for_from (w + 1 - v) most_turns x v w (block_meaning k most_turns b))
                 (from_to h x e1 e2 b v w c.value_of-first.ensures c.value_of-last.ensures) c.requires.fine,
           ),
         ),
@@ -53,5 +53,5 @@ returns g c =
     let b = statements_of c.args.body.now in
     let v = c.value_of-first.result in
     let w = c.value_of-last.result in
-    advances_as h (λ k. for_from (w + 1 - v) most_turns x v w (block_meaning k most_turns b)) (λ k. effect k most_turns (for_ 0 x e1 e2 [] b)) None c.begin_from.new.self
+    advances_as h (λ k. for_from (w + 1 - v) most_turns x v w (block_meaning k most_turns b)) (λ k. effect k most_turns (for_ (on_line 0) x e1 e2 [] b)) None c.begin_from.new.self
     (λ answers. sym (from_to h x e1 e2 b v w c.value_of-first.ensures c.value_of-last.ensures answers)) c.begin_from.ensures

@@ -1,7 +1,7 @@
 use Rattle.std.proofs.Common.{refl, ap}
 use Rattle.camac_esone.specs.InProgress.{q_repeat_left}
 use Rattle.camac_esone.specs.Transfers.{q_repeat_next}
-use Rattle.camac_lang.specs.Tree.{q_repeat}
+use Rattle.camac_lang.specs.Tree.{q_repeat, on_line}
 use Rattle.camac_lang.specs.View.{expression_of}
 use Rattle.camac_machine.specs.Course.{words_sent}
 use Rattle.camac_machine.proofs.Courses.{q_repeat_sent, q_repeat_set, q_repeat_max, q_repeat_limit, repeat_goes, begins_fine, begins_proceed}
@@ -36,7 +36,7 @@ proceed-requires g c =
         c.requires.room,
         (
           c.requires.fits.3,
-          begins_fine h (q_repeat 0 c.args.block.now.function c.args.block.now.register c.args.block.now.table e l c.args.block.now.tally) _ table (q_repeat_next at m n) refl (ap q_repeat_left c.new.ensures.state)
+          begins_fine h (q_repeat (on_line 0) c.args.block.now.function c.args.block.now.register c.args.block.now.table e l c.args.block.now.tally) _ table (q_repeat_next at m n) refl (ap q_repeat_left c.new.ensures.state)
               (repeat_goes h c.args.block.now.function c.args.block.now.register c.args.block.now.table e l c.args.block.now.tally c.requires.fine table c.sent-words.ensures at c.address_in-at.ensures m c.value_of-max.ensures n c.value_of-limit.ensures) c.requires.fine,
         ),
       ),
@@ -51,5 +51,5 @@ returns-clause-goes g c =
     let at = c.address_in-at.result in
     let m = c.value_of-max.result in
     let n = c.value_of-limit.result in
-    begins_proceed h (q_repeat 0 c.args.block.now.function c.args.block.now.register c.args.block.now.table e l c.args.block.now.tally) _ table (q_repeat_next at m n) refl (ap q_repeat_left c.new.ensures.state)
+    begins_proceed h (q_repeat (on_line 0) c.args.block.now.function c.args.block.now.register c.args.block.now.table e l c.args.block.now.tally) _ table (q_repeat_next at m n) refl (ap q_repeat_left c.new.ensures.state)
     (repeat_goes h c.args.block.now.function c.args.block.now.register c.args.block.now.table e l c.args.block.now.tally c.requires.fine table c.sent-words.ensures at c.address_in-at.ensures m c.value_of-max.ensures n c.value_of-limit.ensures) c.proceed.new.pending c.proceed.new.self c.proceed.ensures.goes

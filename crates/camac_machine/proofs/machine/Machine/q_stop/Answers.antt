@@ -1,7 +1,7 @@
 use Rattle.std.proofs.Common.{refl, ap}
 use Rattle.camac_esone.specs.InProgress.{q_stop_left}
 use Rattle.camac_esone.specs.Transfers.{q_stop_next}
-use Rattle.camac_lang.specs.Tree.{q_stop}
+use Rattle.camac_lang.specs.Tree.{q_stop, on_line}
 use Rattle.camac_lang.specs.View.{expression_of}
 use Rattle.camac_machine.specs.Course.{words_sent}
 use Rattle.camac_machine.proofs.Courses.{stop_sent, stop_set, stop_max, stop_goes, begins_fine, begins_proceed}
@@ -29,7 +29,7 @@ proceed-requires g c =
         c.requires.room,
         (
           c.requires.fits.2,
-          begins_fine h (q_stop 0 c.args.block.now.function c.args.block.now.register c.args.block.now.table e c.args.block.now.tally) _ table (q_stop_next at m) refl (ap q_stop_left c.new.ensures.state)
+          begins_fine h (q_stop (on_line 0) c.args.block.now.function c.args.block.now.register c.args.block.now.table e c.args.block.now.tally) _ table (q_stop_next at m) refl (ap q_stop_left c.new.ensures.state)
               (stop_goes h c.args.block.now.function c.args.block.now.register c.args.block.now.table e c.args.block.now.tally c.requires.fine table c.sent-words.ensures at c.address_in-at.ensures m c.value_of-max.ensures) c.requires.fine,
         ),
       ),
@@ -42,5 +42,5 @@ returns-clause-goes g c =
     let table = words_sent c.sent-words.result in
     let at = c.address_in-at.result in
     let m = c.value_of-max.result in
-    begins_proceed h (q_stop 0 c.args.block.now.function c.args.block.now.register c.args.block.now.table e c.args.block.now.tally) _ table (q_stop_next at m) refl (ap q_stop_left c.new.ensures.state)
+    begins_proceed h (q_stop (on_line 0) c.args.block.now.function c.args.block.now.register c.args.block.now.table e c.args.block.now.tally) _ table (q_stop_next at m) refl (ap q_stop_left c.new.ensures.state)
     (stop_goes h c.args.block.now.function c.args.block.now.register c.args.block.now.table e c.args.block.now.tally c.requires.fine table c.sent-words.ensures at c.address_in-at.ensures m c.value_of-max.ensures) c.proceed.new.pending c.proceed.new.self c.proceed.ensures.goes

@@ -2,7 +2,7 @@ use Rattle.std.proofs.Common.{refl, ap}
 use Rattle.std.specs.Prelude.{None}
 use Rattle.camac_esone.specs.InProgress.{scan_left}
 use Rattle.camac_esone.specs.Transfers.{scan_next}
-use Rattle.camac_lang.specs.Tree.{address_scan}
+use Rattle.camac_lang.specs.Tree.{address_scan, on_line}
 use Rattle.camac_lang.specs.View.{expression_of}
 use Rattle.camac_machine.specs.declared.transfer.Course.TheVariants.{Scan}
 use Rattle.camac_machine.proofs.Courses.{scan_first, scan_last, scan_max, one_crate, scan_goes, begins_fine, begins_proceed}
@@ -34,7 +34,7 @@ proceed-requires g c =
         c.requires.room,
         (
           c.requires.fits.3,
-          begins_fine h (address_scan 0 c.args.scan.now.function c.args.scan.now.first c.args.scan.now.last e c.args.scan.now.tally) (record { course = Scan c.new.result; function = c.args.scan.now.function; table = None; tally = c.args.scan.now.tally }) None (scan_next first last m) refl (ap scan_left c.new.ensures.state)
+          begins_fine h (address_scan (on_line 0) c.args.scan.now.function c.args.scan.now.first c.args.scan.now.last e c.args.scan.now.tally) (record { course = Scan c.new.result; function = c.args.scan.now.function; table = None; tally = c.args.scan.now.tally }) None (scan_next first last m) refl (ap scan_left c.new.ensures.state)
               (scan_goes h c.args.scan.now.function c.args.scan.now.first c.args.scan.now.last e c.args.scan.now.tally c.requires.fine first c.address_in-first.ensures last c.address_in-last.ensures m c.value_of-max.ensures) c.requires.fine,
         ),
       ),
@@ -47,5 +47,5 @@ returns-clause-goes g c =
     let first = c.address_in-first.result in
     let last = c.address_in-last.result in
     let m = c.value_of-max.result in
-    begins_proceed h (address_scan 0 c.args.scan.now.function c.args.scan.now.first c.args.scan.now.last e c.args.scan.now.tally) (record { course = Scan c.new.result; function = c.args.scan.now.function; table = None; tally = c.args.scan.now.tally }) None (scan_next first last m) refl (ap scan_left c.new.ensures.state)
+    begins_proceed h (address_scan (on_line 0) c.args.scan.now.function c.args.scan.now.first c.args.scan.now.last e c.args.scan.now.tally) (record { course = Scan c.new.result; function = c.args.scan.now.function; table = None; tally = c.args.scan.now.tally }) None (scan_next first last m) refl (ap scan_left c.new.ensures.state)
     (scan_goes h c.args.scan.now.function c.args.scan.now.first c.args.scan.now.last e c.args.scan.now.tally c.requires.fine first c.address_in-first.ensures last c.address_in-last.ensures m c.value_of-max.ensures) c.proceed.new.pending c.proceed.new.self c.proceed.ensures.goes

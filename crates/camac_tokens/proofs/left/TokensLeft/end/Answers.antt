@@ -21,4 +21,4 @@ returns c =
     sym (ap (λ (a : Ahead). a.end) c.self.view_is)
     ∙ end_behind t.next t.line t.rest.now
     ∙ fault_here t.line t.rest.now c.fault_at.result some c.fault_at.ensures
-    ∙ ap (λ (l : ℕ). let r : Result ℕ Fault = Err (record { case = c.fault_at.result; line = l; left = length t.rest.now }) in r) (sym c.line_number-line.ensures)
+    ∙ ap (λ (l : ℕ). let r : Result ℕ Fault = Err (record { case = c.fault_at.result; spot = record { line = l; left = length t.rest.now } }) in r) (sym c.line_number-line.ensures)

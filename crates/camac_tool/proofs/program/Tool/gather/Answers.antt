@@ -2,7 +2,7 @@ use Rattle.std.proofs.Common.{◌∙◌, sym, subst, inl}
 use Rattle.std.proofs.KnownBytes.{Keeps-refl}
 use Rattle.camac_tool.specs.Gathered.{device_of, given_to, held_in}
 use Rattle.camac_tool.specs.Jobs.{Replies}
-use Rattle.camac_tool.proofs.Ended.{beginning, faulted, none_replied, not_flushed, started}
+use Rattle.camac_tool.proofs.Ended.{beginning, faulted, flushed, none_replied, not_flushed, started}
 use Rattle.camac_word.specs.Watched.{inner_of}
 use Rattle.camac_tool.proofs.program.Tool.gather.Goals as goal
 
@@ -27,3 +27,13 @@ returns-in-Err-done g c =
     (faulted c.args.question (w c.args.out) (given_to w (inner_of c.new-out.result)) (given_to w out) (w (device_of out)) (held_in out)
     (started w c.in-Ok.out (inner_of c.new-out.result) c.args.out c.new-out.ensures.inner c.in-Ok.ensures.inner c.in-Ok.ensures.empty) (Keeps-refl (given_to w out)) c.in-Err-done.fault
     (subst (λ r. Replies c.args.question (given_to w (inner_of c.new-out.result)) (given_to w out) r) c.in-Err-done.is told))
+
+pub returns-in-Ok-flush : goal.returns-in-Ok-flush
+returns-in-Ok-flush g c =
+    let w = g.W.Write.contents in
+    let out = c.into_inner-out.result in
+    let told = subst (λ x. Replies c.args.question (given_to w (inner_of c.new-out.result)) (given_to w x) c.reply-done.result) (sym c.into_inner-out.ensures) c.reply-done.ensures in
+    rw c.into_inner.ensures
+    (flushed c.args.question (w c.args.out) (given_to w (inner_of c.new-out.result)) (given_to w out) (w (device_of c.flush.new.self)) (held_in c.flush.new.self)
+    (started w c.in-Ok.out (inner_of c.new-out.result) c.args.out c.new-out.ensures.inner c.in-Ok.ensures.inner c.in-Ok.ensures.empty) c.flush.ensures.bytes c.in-Ok-flush.ensures.empty c.in-Ok-done.done
+    (subst (λ r. Replies c.args.question (given_to w (inner_of c.new-out.result)) (given_to w out) r) c.in-Ok-done.is told))

@@ -1,9 +1,0 @@
-use Rattle.std.proofs.Common.{◌≡◌, length}
-use Rattle.camac_engines.specs.Spot.{from_line}
-use Rattle.camac_engines.proofs.spot.from_line.Given as goal
-
-abbrev pub invariant-loop-rest : goal.invariant-loop-rest
-invariant-loop-rest l = from_line l.rest l.feeds ≡ from_line l.text l.fn.feeds
-
-abbrev pub decreases-loop-rest : goal.decreases-loop-rest
-decreases-loop-rest l = length l.rest
