@@ -8,9 +8,11 @@ use Rattle.camac_tokens.specs.declared.token.Keyword.TheVariants as word
 use Rattle.camac_tokens.specs.declared.token.Sign.{Sign}
 use Rattle.camac_tokens.specs.declared.token.Sign.TheVariants as sign
 use Rattle.camac_tokens.specs.declared.words.TheConstants.{KEYWORDS}
+use Rattle.camac_text_cursor.specs.Choice.{begins_declaration, compares, is_of_product, is_of_sum}
 use Rattle.camac_text_cursor.specs.declared.choice.Choice.TheVariants as choice
 use Rattle.camac_text_cursor.specs.declared.choice.Choices.{Choices}
-use Rattle.camac_explain_text_place.specs.Choices.{begins_declaration, begins_statement, has, is_comparison, is_operator}
+use Rattle.camac_explain_text_place.specs.Before.{begins_statement}
+use Rattle.camac_explain_text_place.specs.Place.{has}
 use Rattle.camac_explain_text_place.specs.Spelled.{is_mark, is_word, sign_text, word_text}
 use Rattle.camac_explain_text.specs.declared.expected.Expected.{Expected}
 use Rattle.camac_explain_text.specs.declared.expected.Expected.TheVariants as expected
@@ -39,10 +41,14 @@ is_group noted group.Name = is_name noted
 is_group noted group.Operator = has noted choice.Sum
 is_group noted group.Comparison = has noted choice.Comparison
 
+-- a sign of arithmetic
+abbrev pub is_operator : Sign → Bool
+is_operator s = is_of_sum s || is_of_product s
+
 -- a sign and a word that might stand there, and are in none of the groups
 abbrev pub is_sign_alone : Choices → Sign → Bool
 is_sign_alone noted s =
-    has noted (choice.Mark s) && not (is_operator s || (is_comparison s || (is_mark s sign.LeftBracket && is_value noted)))
+    has noted (choice.Mark s) && not (is_operator s || (compares s || (is_mark s sign.LeftBracket && is_value noted)))
 
 abbrev pub is_of_condition : Keyword → Bool
 is_of_condition w = is_word w word.Not || (is_word w word.Q || is_word w word.X)

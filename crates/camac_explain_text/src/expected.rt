@@ -1,12 +1,10 @@
 // What might stand at a place, in words.
 
 ghost use Rattle.std.specs.Prelude.{◌≡◌, ◌++◌, IfOk, OnOk, Some, filter, length, map, string_bytes};
-ghost use Rattle.camac_explain_text.specs.Expected.{each_if, expected_of, expected_text, group_text, is_condition, is_group, is_name, is_of_condition, is_sign_alone, is_value, is_word_alone, items_from, list_text};
+ghost use Rattle.camac_explain_text.specs.Expected.{each_if, expected_of, expected_text, group_text, is_condition, is_group, is_name, is_of_condition, is_operator, is_sign_alone, is_value, is_word_alone, items_from, list_text};
 ghost use Rattle.camac_explain_text.specs.declared.expected.Expected.TheVariants as expected;
 
-use camac_explain_text_place::{
-    begins_declaration, begins_statement, is_comparison, is_operator, sign_text, word_text,
-};
+use camac_explain_text_place::{begins_statement, sign_text, word_text};
 use camac_lines::before_item;
 use camac_text::{Choice, Choices};
 use camac_tokens::{KEYWORDS, Keyword, SIGNS, Sign};
@@ -173,13 +171,20 @@ pub fn is_name(noted: Choices) -> bool
     noted.has(Choice::Name) && !noted.has(Choice::Number) && !noted.has(Choice::Statement)
 }
 
+/// Whether a sign is one of arithmetic.
+pub fn is_operator(sign: Sign) -> bool
+    ensures { result ≡ is_operator sign }
+{
+    Choice::Sum.has_sign(sign) || Choice::Product.has_sign(sign)
+}
+
 // Whether a sign might stand there, and is in none of the groups.
 fn is_sign_alone(noted: Choices, sign: Sign) -> bool
     ensures { result ≡ is_sign_alone noted sign }
 {
     noted.has(Choice::Mark(sign))
         && !(is_operator(sign)
-            || is_comparison(sign)
+            || Choice::Comparison.has_sign(sign)
             || (sign == Sign::LeftBracket && is_value(noted)))
 }
 
@@ -187,7 +192,7 @@ fn is_word_alone(noted: Choices, word: Keyword) -> bool
     ensures { result ≡ is_word_alone noted word }
 {
     noted.has(Choice::Word(word))
-        && !((begins_declaration(word) && noted.has(Choice::Declaration))
+        && !((Choice::Declaration.has_word(word) && noted.has(Choice::Declaration))
             || begins_statement(word)
             || (is_of_condition(word) && is_condition(noted)))
 }

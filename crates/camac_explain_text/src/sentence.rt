@@ -17,8 +17,7 @@ use crate::limit::limit_told;
 use crate::mistake::outside_of_bodies;
 use crate::own::own_sentence;
 use camac_explain_text_place::{
-    Absent, Found, absent_sign, called_before, declared_line, is_same_word, kind_at, prefix,
-    rest_of,
+    Absent, Found, absent_sign, is_same_word, kind_at, prefix, rest_of,
 };
 use camac_lines::Quote;
 use camac_text::{Choices, NameKind, TextCase, TokenKind};
@@ -78,7 +77,7 @@ fn case_told(alloc: Global, found: &Found<'_>, case: TextCase) -> Result<String,
             format!(in alloc; "A procedure has no `lock`: put the `call` into one.")
         }
         TextCase::ArgumentCount { wanted } => {
-            arguments_told(alloc, found.word, called_before(&found.tokens), wanted)
+            arguments_told(alloc, found.word, found.before.called(), wanted)
         }
         TextCase::Number { most } => number_told(alloc, word, most),
         TextCase::Taken { by } => taken(alloc, found, by),
@@ -260,8 +259,7 @@ fn arguments_told(
 fn taken(alloc: Global, found: &Found<'_>, by: NameKind) -> Result<String, AllocError>
     ensures { IfOk result (λ s. string_bytes s ≡ taken (place_of found.now) by) }
 {
-    let line = declared_line(&found.tokens, by, found.word);
-    let sentence = taken_told(alloc, found.word, line, by)?;
+    let sentence = taken_told(alloc, found.word, found.declared_line(), by)?;
     with_hint(alloc, sentence, taken_hint(found))
 }
 
@@ -322,7 +320,7 @@ fn other_kind(
 ) -> Result<String, AllocError>
     ensures { IfOk result (λ s. string_bytes s ≡ other_kind (place_of found.now) wanted kind) }
 {
-    let line = declared_line(&found.tokens, kind, found.word);
+    let line = found.declared_line();
     let sentence = other_told(alloc, found.word, line, wanted, kind)?;
     with_hint(alloc, sentence, kind_hint(found, wanted, kind))
 }
