@@ -12,7 +12,7 @@ use Rattle.camac_text_cursor.specs.Choice.{compares, is_sign_that}
 use Rattle.camac_text_cursor.specs.Readers.{is_each, is_keyword, is_name, is_number, is_sign}
 use Rattle.camac_text_cursor.specs.declared.choice.Choice.TheVariants as choice
 use Rattle.camac_explain_text_place.specs.Before.{begins_statement, first_of, in_body, is_in_brackets, is_kind, word_of}
-use Rattle.camac_explain_text.specs.Expected.{is_name as is_name_wanted, is_operator}
+use Rattle.camac_explain_text_place.specs.Expected.{is_name as is_name_wanted, is_operator}
 use Rattle.camac_explain_text_place.specs.Place.{Place, adjoins_word, begins_statement_at, expects, is_assigned, last, needed}
 use Rattle.camac_explain_text_place.specs.Spelled.{is_word}
 

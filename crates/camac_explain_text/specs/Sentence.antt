@@ -14,7 +14,7 @@ use Rattle.camac_tokens.specs.declared.fault.TextCase.TheVariants as told
 use Rattle.camac_text_cursor.specs.declared.choice.Choices.{Choices}
 use Rattle.camac_explain_text_place.specs.Absent.{Told, absent_sign, absent_text}
 use Rattle.camac_explain_text_place.specs.Before.{called_in, is_kind}
-use Rattle.camac_explain_text.specs.Expected.{expected_of, list_text}
+use Rattle.camac_explain_text_place.specs.Expected.{expected_of, list_text}
 use Rattle.camac_explain_text.specs.Hint.{takes_text}
 use Rattle.camac_explain_text.specs.Limits.{limit_text}
 use Rattle.camac_explain_text.specs.Meant.{kind_hint, name_hint, own_sentence, unexpected_hint, word_before}

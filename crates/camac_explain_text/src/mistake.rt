@@ -5,8 +5,7 @@ ghost use Rattle.camac_explain_text_place.specs.Before.{first_of, word_of};
 ghost use Rattle.camac_explain_text.specs.Mistake.{begins_action, compares_or_sets, ends_expression, is_of_condition, joins_comparisons, mistake_after, mistake_after_value, mistake_after_word, mistake_at, mistake_for_value, mistake_in, mistaken_condition, mistaken_sign, of_both, outside_of_bodies, told_of_kind, usual_mistake};
 ghost use Rattle.camac_explain_text_place.specs.Place.{last, place_of};
 
-use crate::expected::{is_name, is_operator};
-use camac_explain_text_place::{Found, begins_statement};
+use camac_explain_text_place::{Found, begins_statement, is_name, is_operator};
 use camac_text::{Choice, NameKind, TokenKind};
 use camac_tokens::{Keyword, Sign, are_same};
 

@@ -11,13 +11,12 @@ ghost use Rattle.camac_explain_text_place.specs.Place.{place_of};
 ghost use Rattle.camac_explain_text.specs.Text.{begins_like_a_plan, fault_text, is_buffer};
 ghost use Rattle.camac_explain_text.specs.Sentence.{absent_variable, arguments_text, byte_text, case_text, character, character_size, expected_sentence, first_byte, is_of_another_language, is_truth, missing_text, not_there, noun, number_text, or_empty, other_byte_text, other_kind, other_text, start_text, taken, taken_text, undeclared, unexpected, with_hint};
 
-use crate::expected::expected_list;
 use crate::hint::{Hint, kind_hint, name_hint, unexpected_hint, word_before};
 use crate::limit::limit_told;
 use crate::mistake::outside_of_bodies;
 use crate::own::own_sentence;
 use camac_explain_text_place::{
-    Absent, Found, absent_sign, is_same_word, kind_at, prefix, rest_of,
+    Absent, Found, absent_sign, expected_list, is_same_word, kind_at, prefix, rest_of,
 };
 use camac_lines::Quote;
 use camac_text::{Choices, NameKind, TextCase, TokenKind};

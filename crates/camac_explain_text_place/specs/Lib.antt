@@ -1,5 +1,6 @@
 pub mod Absent
 pub mod Before
+pub mod Expected
 pub mod Found
 pub mod Place
 pub mod Spelled

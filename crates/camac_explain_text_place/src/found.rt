@@ -11,9 +11,7 @@ ghost use Rattle.camac_explain_text_place.specs.Place.{absent_word_at, adjoins_w
 
 use crate::absent::{Absent, absent_sign, absent_word};
 use crate::before::{Before, word_of};
-use camac_text::{
-    Choice, Choices, NameKind, TextFault, Token, TokenKind, TokensLeft, tokens,
-};
+use camac_text::{Choice, Choices, NameKind, TextFault, Token, TokenKind, TokensLeft, tokens};
 use camac_tokens::Keyword;
 use std::alloc::{AllocError, Global};
 

@@ -1,8 +1,8 @@
 use Rattle.std.proofs.Common.{◌≡◌, ◌++◌, drop, map}
 use Rattle.std.specs.Prelude.{filter}
-use Rattle.camac_explain_text.specs.Expected.{is_word_alone}
-use Rattle.camac_explain_text.specs.declared.expected.Expected.TheVariants as expected
-use Rattle.camac_explain_text.proofs.expected.push_words.Given as goal
+use Rattle.camac_explain_text_place.specs.Expected.{is_word_alone}
+use Rattle.camac_explain_text_place.specs.declared.expected.Expected.TheVariants as expected
+use Rattle.camac_explain_text_place.proofs.expected.push_words.Given as goal
 
 abbrev pub invariant-words : goal.invariant-words
 invariant-words l =

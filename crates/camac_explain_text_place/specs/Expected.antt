@@ -14,11 +14,11 @@ use Rattle.camac_text_cursor.specs.declared.choice.Choices.{Choices}
 use Rattle.camac_explain_text_place.specs.Before.{begins_statement}
 use Rattle.camac_explain_text_place.specs.Place.{has}
 use Rattle.camac_explain_text_place.specs.Spelled.{is_mark, is_word, sign_text, word_text}
-use Rattle.camac_explain_text.specs.declared.expected.Expected.{Expected}
-use Rattle.camac_explain_text.specs.declared.expected.Expected.TheVariants as expected
-use Rattle.camac_explain_text.specs.declared.expected.Group.{Group}
-use Rattle.camac_explain_text.specs.declared.expected.Group.TheVariants as group
-use Rattle.camac_explain_text.specs.declared.expected.TheConstants.{GROUPS}
+use Rattle.camac_explain_text_place.specs.declared.expected.Expected.{Expected}
+use Rattle.camac_explain_text_place.specs.declared.expected.Expected.TheVariants as expected
+use Rattle.camac_explain_text_place.specs.declared.expected.Group.{Group}
+use Rattle.camac_explain_text_place.specs.declared.expected.Group.TheVariants as group
+use Rattle.camac_explain_text_place.specs.declared.expected.TheConstants.{GROUPS}
 
 -- a second `not` may not stand after one
 abbrev pub is_condition : Choices → Bool

@@ -1,8 +1,8 @@
 use Rattle.std.proofs.Common.{◌≡◌, ◌++◌, drop, map}
 use Rattle.std.specs.Prelude.{filter}
-use Rattle.camac_explain_text.specs.Expected.{is_group}
-use Rattle.camac_explain_text.specs.declared.expected.Expected.TheVariants as expected
-use Rattle.camac_explain_text.proofs.expected.push_groups.Given as goal
+use Rattle.camac_explain_text_place.specs.Expected.{is_group}
+use Rattle.camac_explain_text_place.specs.declared.expected.Expected.TheVariants as expected
+use Rattle.camac_explain_text_place.proofs.expected.push_groups.Given as goal
 
 abbrev pub invariant-groups : goal.invariant-groups
 invariant-groups l =
