@@ -8,7 +8,7 @@ use Rattle.camac_tokens.specs.declared.token.Keyword.TheVariants as word
 use Rattle.camac_tokens.specs.declared.token.Sign.TheVariants as sign
 use Rattle.camac_tokens.specs.declared.token.TokenKind.{TokenKind}
 use Rattle.camac_tokens.specs.declared.token.TokenKind.TheVariants as kind
-use Rattle.camac_text_cursor.specs.Choice.{compares, is_sign_that}
+use Rattle.camac_text_cursor.specs.Choice.{compares, is_sign_that, is_word_that}
 use Rattle.camac_text_cursor.specs.Readers.{is_each, is_keyword, is_name, is_number, is_sign}
 use Rattle.camac_text_cursor.specs.declared.choice.Choice.TheVariants as choice
 use Rattle.camac_explain_text_place.specs.Before.{begins_statement, first_of, in_body, is_in_brackets, is_kind, word_of}
@@ -106,7 +106,9 @@ mistake_after_value p before k =
 unfoldable pub mistake_after_word : (before k : TokenKind) → Option (List ℕ)
 mistake_after_word before k =
     first_case (
-    case (is_keyword word.Not (Some before) && is_keyword word.Not (Some k)) (codes "After `not`, write a comparison, `q` or `x`.")
+    case (is_keyword word.Call (Some before) && is_word_that begins_statement (Some k))
+    (codes "A `call` calls a procedure: write this statement without it, as in `cfsa 0 channel -> v`.")
+    ∷ case (is_keyword word.Not (Some before) && is_keyword word.Not (Some k)) (codes "After `not`, write a comparison, `q` or `x`.")
     ∷ case (is_keyword word.Else (Some before) && is_keyword word.If (Some k)) (codes "Write the block of `else` in braces; an `if` may be in it.")
     ∷ case (is_any_word before && is_sign sign.LeftBracket (Some k)) (codes "What follows is written without brackets and commas.") ∷ [])
 

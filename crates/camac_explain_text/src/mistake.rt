@@ -219,6 +219,9 @@ fn mistake_after_word(before: &TokenKind, kind: &TokenKind) -> Option<&'static s
 {
     use TokenKind::{Keyword as Word, Sign as Mark};
     match (before, kind) {
+        (Word(Keyword::Call), Word(word)) if begins_statement(*word) => Some(
+            "A `call` calls a procedure: write this statement without it, as in `cfsa 0 channel -> v`.",
+        ),
         (Word(Keyword::Not), Word(Keyword::Not)) => Some(
             "After `not`, write a comparison, `q` or `x`.",
         ),
