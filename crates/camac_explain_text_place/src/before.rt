@@ -1,6 +1,6 @@
 // What stands before a place of a script.
 
-ghost use Rattle.std.specs.Prelude.{◌≡◌, ◌+◌, IfOk, OnOk, filter, option_copied, option_map, slice_get};
+ghost use Rattle.std.specs.Prelude.{◌≡◌, IfOk, OnOk, filter, option_copied, option_map, slice_get};
 ghost use Rattle.camac_explain_text_place.specs.Before.{assigned, begins_statement, begun, behind_token, called_in, closed, count_of, declared, declared_as, ended, in_body, is_before_variable, is_in_brackets, is_of_for, is_outside, is_sign, kind_behind, kind_declared_next, last_alone, near, open_line, opened, seen_as, standing, standing_of, wants_new_name, with_parameters, word_of};
 
 use camac_lang::Name;
