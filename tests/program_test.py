@@ -109,10 +109,10 @@ class Usage(Case):
             self.assertTrue(err == told or err.endswith(b"Usage: camac response [OPTIONS] <PLAN> <SCRIPT>\n\nFor more information, try '--help'.\n"), err)
 
     def test_words_of_explain(self):
-        """A word of a capital letter and digits that is no code, and a place that is none, are told before a file is read."""
-        for word in ("E19", "E20", "E22", "P10", "S0", "L5", "A1", "V1", "W1", "E012", "E1234567890"):
+        """A word of a letter and digits that is no code, and a place that is none, are told before a file is read."""
+        for word in ("E19", "E20", "E22", "P10", "S0", "L5", "A3", "v8", "W9", "G1", "e19", "E012", "E1234567890"):
             self.assertEqual(self.call("explain", word), (2, b"", f"fault {word}: no such code\n".encode()))
-        for word in ("e12", "E", "E12x", "12", "./E12"):
+        for word in ("E", "E12x", "12", "./E12"):
             self.assertEqual(self.call("explain", word), (3, b"", lacks(word)))
         self.assertEqual(self.call("explain", "E12", "@in", given=b""), (3, b"", lacks("E12")))
         for words in ("--at 3 none none", "--at 3:0 none none", "--at 0:1 none none", "--at +3:1 none none", "--at 3:1: none none", "--at 3:4294967296 none none", "--at 3:1 none", "--at 3:1 E12", "--bounds none", "--bounds E12", "--bounds --at 3:1 none none", "--turn 1 none none", "--turn 1 none", "--turn 1 E12", "--turn 1 --bounds none none", "--at 3:1 --turn +1 none none", "--at 3:1 --turn x none none", "--at 3:1 --turn 4294967296 none none", "--at 3:1 --turn 1 --turn 1: none none"):

@@ -2,10 +2,10 @@
 
 ghost use Rattle.std.specs.Prelude.{◌≡◌, IfOk, Some, option_map, string_bytes};
 ghost use Rattle.toml.specs.View.{array_view, table_view, view};
-ghost use Rattle.camac_explain_plan.specs.Told.{command_place, entry_or, first_other, key_hint, kind_name, kind_text, kind_told, needed, other_in, shown, told, twice_told};
+ghost use Rattle.camac_explain_plan.specs.Told.{command_place, entry_or, first_other, key_hint, kind_name, kind_text, kind_told, missing_hint, needed, other_in, shown, told, twice_told};
 
 use crate::path::{Nth, Path, is_known_by};
-use crate::place::DOUBLE_BRACKETS;
+use crate::place::{DOUBLE_BRACKETS, RANGE};
 use camac_lines::Quote;
 use camac_plan::{PlanCase, PlanKey, PlanTable, ValueKind};
 use std::alloc::{AllocError, Global};
@@ -57,9 +57,9 @@ pub(crate) fn told(
 {
     let shown = Shown(value);
     match case {
-        PlanCase::Missing { kind, .. } => {
-            let needed = Needed(kind);
-            format!(in alloc; "the key is missing; expected {needed}.")
+        PlanCase::Missing { key, kind, .. } => {
+            let (needed, hint) = (Needed(kind), missing_hint(key));
+            format!(in alloc; "the key is missing; expected {needed}.{hint}")
         }
         PlanCase::Kind { key, kind, .. } => kind_told(alloc, value, key, kind),
         PlanCase::Range {
@@ -155,8 +155,18 @@ fn key_hint(key: PlanKey) -> &'static str
     ensures { result.now ≡ key_hint key }
 {
     match key {
-        PlanKey::A => " A range is written as `a = 0, to = 11`.",
+        PlanKey::A => RANGE,
         PlanKey::Crates | PlanKey::Stations | PlanKey::Types => DOUBLE_BRACKETS,
+        _ => "",
+    }
+}
+
+// Where to write a key that is missing.
+fn missing_hint(key: PlanKey) -> &'static str
+    ensures { result.now ≡ missing_hint key }
+{
+    match key {
+        PlanKey::Number => " It stands above the crate's first `[[crate.station]]`.",
         _ => "",
     }
 }
