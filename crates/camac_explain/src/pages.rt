@@ -145,6 +145,8 @@ pub static OF_ANSWERS: [Row; 3] = [
     ),
 ];
 
+const KEEP: &str = "keep the records before it, as docs/RUNNING.md says.";
+
 /// The rules of event files.
 pub static OF_EVENTS: [Row; 8] = [
     (
@@ -155,38 +157,18 @@ pub static OF_EVENTS: [Row; 8] = [
     (
         "V2",
         "a record begins with the bytes ca 4d; bytes are lost, or the count of the record before is wrong.",
-        "keep the records before it, as docs/RUNNING.md says.",
+        KEEP,
     ),
-    (
-        "V3",
-        "the bit of a look-at-me is 1 to 24.",
-        "keep the records before it, as docs/RUNNING.md says.",
-    ),
+    ("V3", "the bit of a look-at-me is 1 to 24.", KEEP),
     (
         "V4",
         "events are numbered 1, 2, 3 and so on.",
         "take joined files apart, or keep the records before it, as docs/RUNNING.md says.",
     ),
-    (
-        "V5",
-        "an event has at most 4096 words.",
-        "keep the records before it, as docs/RUNNING.md says.",
-    ),
-    (
-        "V6",
-        "a word has 24 bits, the highest byte first.",
-        "keep the records before it, as docs/RUNNING.md says.",
-    ),
-    (
-        "V7",
-        "the file ends inside a record.",
-        "keep the records before it, as docs/RUNNING.md says.",
-    ),
-    (
-        "V9",
-        "a service misses no more cycles than it makes.",
-        "keep the records before it, as docs/RUNNING.md says.",
-    ),
+    ("V5", "an event has at most 4096 words.", KEEP),
+    ("V6", "a word has 24 bits, the highest byte first.", KEEP),
+    ("V7", "the file ends inside a record.", KEEP),
+    ("V9", "a service misses no more cycles than it makes.", KEEP),
 ];
 
 /// What accepted scripts are warned of.

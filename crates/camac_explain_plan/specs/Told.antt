@@ -46,6 +46,9 @@ abbrev pub missing_hint : PlanKey → List ℕ
 missing_hint key.Number = codes " It stands above the crate's first `[[crate.station]]`."
 missing_hint _ = []
 
+abbrev pub missing_told : PlanKey → (wanted : ValueKind) → List ℕ
+missing_told key wanted = codes "the key is missing; expected " ++ (needed wanted ++ (codes "." ++ missing_hint key))
+
 -- the place and the kind of the first entry that is no table, where the first of all has the place n
 abbrev pub first_other : (n : ℕ) → Items → Option (ℕ × List ℕ)
 first_other n no_items = None
@@ -76,7 +79,7 @@ twice_told top value key first =
 
 -- what a rule knew of the value at its key, if there is one
 abbrev pub told : (top : Members) → (value : Option Data) → PlanCase → List ℕ
-told top value (case.Missing there key wanted) = concat (codes "the key is missing; expected " ∷ needed wanted ∷ codes "." ∷ missing_hint key ∷ [])
+told top value (case.Missing there key wanted) = missing_told key wanted
 told top value (case.Kind there key wanted) = kind_told value key wanted
 told top value (case.Range there key found low high) =
     concat (codes "the value is " ∷ signed_decimal found ∷ codes "; expected " ∷ decimal low ∷ codes " to " ∷ decimal high ∷ codes "." ∷ [])

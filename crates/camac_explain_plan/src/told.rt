@@ -2,7 +2,7 @@
 
 ghost use Rattle.std.specs.Prelude.{◌≡◌, IfOk, Some, option_map, string_bytes};
 ghost use Rattle.toml.specs.View.{array_view, table_view, view};
-ghost use Rattle.camac_explain_plan.specs.Told.{command_place, entry_or, first_other, key_hint, kind_name, kind_text, kind_told, missing_hint, needed, other_in, shown, told, twice_told};
+ghost use Rattle.camac_explain_plan.specs.Told.{command_place, entry_or, first_other, key_hint, kind_name, kind_text, kind_told, missing_hint, missing_told, needed, other_in, shown, told, twice_told};
 
 use crate::path::{Nth, Path, is_known_by};
 use crate::place::{DOUBLE_BRACKETS, RANGE};
@@ -57,10 +57,7 @@ pub(crate) fn told(
 {
     let shown = Shown(value);
     match case {
-        PlanCase::Missing { key, kind, .. } => {
-            let (needed, hint) = (Needed(kind), missing_hint(key));
-            format!(in alloc; "the key is missing; expected {needed}.{hint}")
-        }
+        PlanCase::Missing { key, kind, .. } => missing_told(alloc, key, kind),
         PlanCase::Kind { key, kind, .. } => kind_told(alloc, value, key, kind),
         PlanCase::Range {
             found,
@@ -88,6 +85,13 @@ pub(crate) fn told(
         }
         _ => format!(in alloc; "the value is {shown}."),
     }
+}
+
+fn missing_told(alloc: Global, key: PlanKey, wanted: ValueKind) -> Result<String, AllocError>
+    ensures { IfOk result (λ s. string_bytes s ≡ missing_told key wanted) }
+{
+    let (needed, hint) = (Needed(wanted), missing_hint(key));
+    format!(in alloc; "the key is missing; expected {needed}.{hint}")
 }
 
 // A value that the first table of it has. What this is known by is no way to it, but its home has a name.

@@ -4,34 +4,35 @@ use camac_answer::LINE;
 use std::fmt;
 use std::io::Eprint;
 
-/// The bytes that judge a line of answers, with zeros behind the end of the text.
+/// The bytes that judge a line of answers, with LF behind the end of the text.
 #[derive(Clone, Copy)]
 pub struct AnswerLine([u8; LINE]);
 
 impl AnswerLine {
-    /// No line was read yet.
+    /// No line was read yet: nothing is wrong.
     pub fn none() -> AnswerLine {
-        AnswerLine([0; LINE])
+        AnswerLine(*b"1 1 123fff 0 000004\n")
     }
 
-    /// Remembers a line that was read. One that is too many is not judged by its bytes.
+    /// Remembers a line of which so many bytes were read. One that is too many is not judged by its bytes.
     #[inline(always)]
-    pub fn keep(&mut self, line: &[u8]) {
+    pub fn keep(&mut self, line: &[u8], read: usize) {
         if let Some(line) = line.first_chunk::<LINE>() {
             self.0 = *line;
+            if let Some(end) = self.0.get_mut(read) {
+                *end = b'\n';
+            }
         }
     }
 
     /// Tells on standard error where it stops being an answer, if it does.
     pub fn tell<R: Eprint>(&self, rt: &R, name: &str) {
-        if self.0[0] == 0 {
-            return;
-        }
-        for (place, byte) in self.0.iter().enumerate() {
-            if !fits(place, *byte) {
-                let column = place + 1;
-                let found = Found(&self.0, place);
-                let wanted = wanted_at(place);
+        for place in 0..LINE {
+            let byte = self.0[place];
+            if !fits(place, byte) {
+                let (column, wanted) = (place + 1, wanted_at(place));
+                let line = &self.0;
+                let found = Found { line, place, byte };
                 let _ = eprintln!(rt;
                     "  {name}: column {column}: found {found}; expected {wanted}: `x q word wait gl`, as `1 1 123fff 0 000004`"
                 );
@@ -41,12 +42,12 @@ impl AnswerLine {
     }
 }
 
-// Whether a byte can stand at this place of an answer. The last line may end without LF.
+// Whether a byte can stand at this place of an answer.
 fn fits(place: usize, byte: u8) -> bool {
     match place {
         0 | 2 => byte == b'0' || byte == b'1',
         1 | 3 | 10 | 12 => byte == b' ',
-        19 => byte == b'\n' || byte == 0,
+        19 => byte == b'\n',
         _ => byte.is_ascii_hexdigit(),
     }
 }
@@ -65,18 +66,22 @@ fn wanted_at(place: usize) -> &'static str {
 
 // What stands at a place of a line.
 #[derive(Clone, Copy)]
-struct Found<'a>(&'a [u8; LINE], usize);
+struct Found<'a> {
+    line: &'a [u8; LINE],
+    place: usize,
+    byte: u8,
+}
 
 impl fmt::Display for Found<'_> {
     fn fmt<W: fmt::Write>(&self, f: &mut fmt::Formatter<W>) -> fmt::Result {
-        if self.0.starts_with(b"CAMACEV") {
+        if self.line.starts_with(b"CAMACEV") {
             return f.write_str("an event file: ANSWERS comes before EVENTS");
         }
-        match (self.1, self.0[self.1]) {
+        match (self.place, self.byte) {
             (0, b'\n') => f.write_str("an empty line"),
             (0, b'#') => f.write_str("a comment"),
             (0, 0xef) => f.write_str("a byte order mark (BOM)"),
-            (_, 0 | b'\n') => f.write_str("the end of the line"),
+            (_, b'\n') => f.write_str("the end of the line"),
             (_, b'\r') => f.write_str("CR, which `tr -d '\\r'` removes"),
             (_, b'\t') => f.write_str("a tab"),
             (_, b' ') => f.write_str("a space"),

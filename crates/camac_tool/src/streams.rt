@@ -146,9 +146,9 @@ impl<R: Read + Drop, W: Write + Drop, E: Write + Drop> RunIo for Streams<R, W, E
 
     #[inline(always)]
     fn read_line(&mut self, line: &mut [u8]) -> Result<usize, PlayFault> {
-        let read = self.fill_line(line);
-        self.line.keep(line);
-        read
+        let read = self.fill_line(line)?;
+        self.line.keep(line, read);
+        Ok(read)
     }
 
     fn list_line(&mut self, line: &Line) -> Result<(), WriteFault> {
