@@ -201,7 +201,7 @@ pub static OF_WARNINGS: [Row; 8] = [
     (
         "W6",
         "a service of more than 10 cycles on a lower bit goes before this one each time that both modules call.",
-        "give the module that has to be answered soon the lower bit, in the wiring and in the plan; docs/RESPONSE.md has more.",
+        "give the module that has to be answered soon the lower bit, in the wiring and in the plan.",
     ),
     (
         "W7",

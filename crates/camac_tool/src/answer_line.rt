@@ -74,7 +74,8 @@ struct Found<'a> {
 
 impl fmt::Display for Found<'_> {
     fn fmt<W: fmt::Write>(&self, f: &mut fmt::Formatter<W>) -> fmt::Result {
-        if self.line.starts_with(b"CAMACEV") {
+        let line = self.line;
+        if line.starts_with(b"CAMACEV") {
             return f.write_str("an event file: ANSWERS comes before EVENTS");
         }
         match (self.place, self.byte) {
