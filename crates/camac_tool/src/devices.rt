@@ -3,6 +3,7 @@
 ghost use Rattle.camac_tool.specs.Devices.{RunsOnDevices, before};
 ghost use Rattle.camac_tool.specs.World.{world};
 
+use crate::answer_line::AnswerLine;
 use crate::running::run_over;
 use crate::streams::{Ran, Streams};
 use camac_engines::{PlanSource, ToolFault};
@@ -34,6 +35,7 @@ pub fn run_on_devices<P: Read, S: Read, A: Read + Drop, W: Write + Drop, E: Writ
             outcome: Err(ToolFault::Memory),
             listing,
             records,
+            line: AnswerLine::none(),
         },
     }
 }

@@ -1,0 +1,14 @@
+-- The code of each warning: its name and its meaning.
+use Rattle.std.specs.Prelude.{ℕ, List, codes}
+use Rattle.camac_explain.specs.declared.rule.Warning.{Warning}
+use Rattle.camac_explain.specs.declared.rule.Warning.TheVariants.{NeverReached, ScanWithoutCycle, NoNumber, KeepNotNeeded, NoService, LongerFirst, DearLoop, KeepTooWide}
+
+abbrev pub warning_code : Warning → List ℕ × List ℕ
+warning_code NeverReached = (codes "W1", codes "never reached")
+warning_code ScanWithoutCycle = (codes "W2", codes "a scan without a cycle")
+warning_code NoNumber = (codes "W3", codes "no number for look-at-mes")
+warning_code KeepNotNeeded = (codes "W4", codes "a kept bound that is not needed")
+warning_code NoService = (codes "W5", codes "no service")
+warning_code LongerFirst = (codes "W6", codes "a longer service goes first")
+warning_code DearLoop = (codes "W7", codes "a loop that costs less turn by turn")
+warning_code KeepTooWide = (codes "W8", codes "a kept bound that is wider than it has to be")
