@@ -4,25 +4,17 @@ use camac_answer::LINE;
 use std::fmt;
 use std::io::Eprint;
 
-/// The bytes that judge a line of answers, with LF behind the end of the text.
+/// The bytes that judge a line of answers, with LF behind them.
 #[derive(Clone, Copy)]
 pub struct AnswerLine([u8; LINE]);
 
 impl AnswerLine {
-    /// No line was read yet: nothing is wrong.
-    pub fn none() -> AnswerLine {
-        AnswerLine(*b"1 1 123fff 0 000004\n")
-    }
-
-    /// Remembers a line of which so many bytes were read. One that is too many is not judged by its bytes.
-    #[inline(always)]
-    pub fn keep(&mut self, line: &[u8], read: usize) {
-        if let Some(line) = line.first_chunk::<LINE>() {
-            self.0 = *line;
-            if let Some(end) = self.0.get_mut(read) {
-                *end = b'\n';
-            }
+    pub fn new(read: &[u8]) -> AnswerLine {
+        let mut line = [b'\n'; LINE];
+        for (place, byte) in read.iter().take(LINE).enumerate() {
+            line[place] = *byte;
         }
+        AnswerLine(line)
     }
 
     /// Tells on standard error where it stops being an answer, if it does.

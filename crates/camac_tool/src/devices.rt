@@ -3,7 +3,6 @@
 ghost use Rattle.camac_tool.specs.Devices.{RunsOnDevices, before};
 ghost use Rattle.camac_tool.specs.World.{world};
 
-use crate::answer_line::AnswerLine;
 use crate::running::run_over;
 use crate::streams::{Ran, Streams};
 use camac_engines::{PlanSource, ToolFault};
@@ -35,7 +34,7 @@ pub fn run_on_devices<P: Read, S: Read, A: Read + Drop, W: Write + Drop, E: Writ
             outcome: Err(ToolFault::Memory),
             listing,
             records,
-            line: AnswerLine::none(),
+            refused: None,
         },
     }
 }

@@ -316,8 +316,8 @@ impl<'r, 'f, 'a, R: Runtime + AllocGlobal> Tool<'r, 'f, 'a, R> {
             out,
             Named::new(file, events, self.failure),
         );
-        if let Ok(Outcome::Refused) = ran.outcome {
-            ran.line.tell(self.rt, given);
+        if let Some(line) = &ran.refused {
+            line.tell(self.rt, given);
         }
         (settled(ran.outcome, &ran.records), ran.listing)
     }

@@ -24,23 +24,23 @@ use camac_word::{CrateNo, GlBit, Watched, Word24, WriteFault};
 use std::alloc::Global;
 use std::io::{Read, Write};
 
-/// How a run ended, its outputs, and the last line of answers that was read.
+/// How a run ended, its outputs, and the line of answers that was refused.
 #[derive(Drop)]
 pub struct Ran<W: Drop, E: Drop> {
     pub outcome: Result<Outcome, ToolFault>,
     pub listing: W,
     pub records: E,
-    pub line: AnswerLine,
+    pub refused: Option<AnswerLine>,
 }
 
-/// The answers of a run, which are read ahead, the last line of them, and its listing and its event file, each gathered but the header. Once
-/// a call of one output has failed, both are left alone, and each later call fails.
+/// The answers of a run, which are read ahead, the line of them that is refused, and its listing and its event file, each gathered but the
+/// header. Once a call of one output has failed, both are left alone, and each later call fails.
 #[derive(Drop)]
 pub struct Streams<R: Read + Drop, W: Drop, E: Drop> {
     answers: Ahead<R>,
     listing: Gathered<W>,
     records: Gathered<E>,
-    line: AnswerLine,
+    refused: Option<AnswerLine>,
 }
 
 impl<R: Read + Drop, W: Drop, E: Drop> Streams<R, W, E> {
@@ -75,7 +75,7 @@ impl<R: Read + Drop, W: Write + Drop, E: Write + Drop> Streams<R, W, E> {
                 answers,
                 listing,
                 records,
-                line: AnswerLine::none(),
+                refused: None,
             }),
             Err(records) => Err((listing.into_inner(), records)),
         }
@@ -109,7 +109,7 @@ impl<R: Read + Drop, W: Write + Drop, E: Write + Drop> Streams<R, W, E> {
             outcome,
             listing: self.listing.into_inner(),
             records: self.records.into_inner(),
-            line: self.line,
+            refused: self.refused,
         }
     }
 
@@ -146,9 +146,11 @@ impl<R: Read + Drop, W: Write + Drop, E: Write + Drop> RunIo for Streams<R, W, E
 
     #[inline(always)]
     fn read_line(&mut self, line: &mut [u8]) -> Result<usize, PlayFault> {
-        let read = self.fill_line(line)?;
-        self.line.keep(line, read);
-        Ok(read)
+        self.fill_line(line)
+    }
+
+    fn see_refused(&mut self, line: &[u8]) {
+        self.refused = Some(AnswerLine::new(line));
     }
 
     fn list_line(&mut self, line: &Line) -> Result<(), WriteFault> {
