@@ -5,13 +5,14 @@ mod ahead;
 mod devices;
 mod failure;
 mod gathered;
+mod host;
 mod input;
 mod launch;
 pub mod laws;
-mod places;
 mod program;
 mod running;
 mod streams;
+mod system;
 mod target;
 
 pub use camac_engines::{
