@@ -227,15 +227,16 @@ class Package(unittest.TestCase):
         """A module is there as if it had been loaded, and no name of one hides a function."""
         self.assertEqual(self.run_python("import camac; print(camac.printed.read_plan.__name__)"), ["read_plan"])
         modules = {it.stem for it in (TOP / "python/camac").iterdir()} & set(camac.__all__)
-        loaded = self.run_python(f"import camac; print(*(it for it in {sorted(modules)} if callable(vars(camac)[it])))")
+        loaded = self.run_python(f"import camac.call, camac.drive, camac; print(*(it for it in {sorted(modules)} if callable(getattr(camac, it))))")
         self.assertEqual(loaded, sorted(modules))
         with self.assertRaises(AttributeError):
             camac.nothing
 
-    def test_what_camac_check_loads(self):
-        """To load one of these takes as long as a whole call of camac-check."""
-        code = "import camac.commands.check; print(*{'dataclasses', 'inspect', 'json', 'pathlib', 'subprocess', 'tempfile', 'camac.pictures'} & set(sys.modules))"
-        self.assertEqual(self.run_python(code), [])
+    def test_what_commands_load(self):
+        """To load one of these takes as long as all that a short command does."""
+        dear = {"ctypes", "dataclasses", "hashlib", "inspect", "json", "pathlib", "subprocess", "tempfile", "traceback", "camac.library", "camac.pictures"}
+        for command in ("check", "csv", "diff", "fmt"):
+            self.assertEqual(self.run_python(f"import camac.commands.{command}; print(*{dear} & set(sys.modules))"), [], command)
 
 
 if __name__ == "__main__":
