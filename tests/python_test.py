@@ -191,7 +191,8 @@ class Arrays(unittest.TestCase):
 
     def test_events(self):
         looks_like_a_marker = struct.pack(">HHIIHHI", 0xCA4D, 1, 1, 0xCA4D0001, 0xCA4D, 1, 7)
-        for data in (ONE, TWO, ONE[:8], TWO[:8], EventFiles().many(1000), TWO[:8] + looks_like_a_marker):
+        and_like_a_count = struct.pack(">HHIIHHII HHIIHH", 0xCA4D, 1, 1, 0xCA4D0001, 0, 2, 7, 0xFFFF, 0xCA4D, 1, 2, 0, 0, 0)
+        for data in (ONE, TWO, ONE[:8], TWO[:8], EventFiles().many(1000), TWO[:8] + looks_like_a_marker, TWO[:8] + and_like_a_count):
             self.compare(data)
 
     def test_faults(self):

@@ -4,11 +4,12 @@ corpus is judged as its shapes say. And commands in Python load little.
 
 usage: tests/speed_test.py [-v] [TEST ..]     from any folder; takes about a minute on four processors that are idle
 """
+import compileall
 import importlib.machinery
 import importlib.util
 import os
+import shutil
 import statistics
-import subprocess
 import sys
 import tempfile
 import unittest
@@ -52,14 +53,13 @@ class Built(unittest.TestCase):
 @needs.needed("valgrind")
 class Commands(Room):
     def test_they_take_200_million_instructions_at_most(self):
-        script = TOP / "examples/straight_line.script"
-        listing = self.write("run.listing", "demand 000004 adc\nended events 0\n")
+        """As ./install puts them in place, which compiles them."""
+        shutil.copytree(TOP / "python/camac", self.room / "camac")
+        compileall.compile_dir(self.room / "camac", quiet=1)
+        script, listing = TOP / "examples/straight_line.script", self.write("run.listing", "demand 000004 adc\nended events 0\n")
         for words in (["check", "@sample", script], ["fmt", "--check", script], ["diff", script, script, "--plan", "@sample"], ["csv", "listing", listing]):
-            called = [sys.executable, "-m", "camac", *words]
-            with self.subTest(words[0]), unittest.mock.patch.dict(os.environ, PYTHONPATH=f"{TOP}/python", PYTHONPYCACHEPREFIX=f"{self.room}/made", CAMAC_PROGRAM=str(PROGRAM)):
-                # The first call compiles what it loads.
-                subprocess.run(called, stdout=subprocess.DEVNULL, check=True)
-                self.assertLess(speed.instructions(called), 200e6)
+            with self.subTest(words[0]), unittest.mock.patch.dict(os.environ, PYTHONPATH=str(self.room), CAMAC_PROGRAM=PROGRAM):
+                self.assertLess(speed.instructions([sys.executable, "-m", "camac", *words]), 200e6)
 
 
 class Corpus(Room):

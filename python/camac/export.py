@@ -18,7 +18,6 @@ from camac.subcommands import check, plan as read_plan
 from camac.texts import script_text
 from camac.values import Service
 from camac.word_file import parse_words
-from camac.word_sources import words_of_script
 from camac.words import Words
 
 FORM = "camac export 1"
@@ -99,6 +98,8 @@ def learn(given: Given, program: Optional[File] = None) -> About:
 def _judge(plan: Source, script: Source, program: Optional[File]) -> Tuple[List[Service], Words]:
     """The services of a script that is given as its text, and what it says of words."""
     import tempfile
+
+    from camac.word_sources import words_of_script
 
     with tempfile.TemporaryDirectory(prefix="camac-") as room:
         files = []

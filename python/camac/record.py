@@ -20,13 +20,13 @@ from camac.output import Rule, anything, holds_bytes, output
 from camac.printed import read_responses, read_services
 from camac.program import output_of
 from camac.proof import told
-from camac.runs import Inputs, collect, is_event_file
 from camac.signals import Signals, signal_of
 from camac.subcommands import plan, rates
 from camac.texts import plan_text, read_regular, script_text
 from camac.values import Contradiction, RunEnd, Service
 
 if TYPE_CHECKING:
+    from camac.runs import Inputs
     from camac.surveys.summary import Summary
 
 FORM = "camac record 1"
@@ -290,9 +290,11 @@ def refuse_foreign(file: File) -> None:
             raise file_fault("write", file, OWN_FILE)
 
 
-def write_played(file: File, inputs: Inputs, may_replace: bool = False, survey: Optional[File] = None) -> None:
+def write_played(file: File, inputs: "Inputs", may_replace: bool = False, survey: Optional[File] = None) -> None:
     """Writes the record of a run that is played or read for it: nothing of it is timed. Raises as `describe`, and as `refuse_foreign` unless it
     `may_replace` a file."""
+    from camac.runs import collect, is_event_file
+
     events = inputs.source if is_event_file(inputs.source) else None
     record = describe(Played(inputs.plan, inputs.script, events, None), survey=survey)
     run = collect(inputs, plan(inputs.plan), record.list_services())
