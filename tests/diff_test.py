@@ -115,7 +115,7 @@ class Sarif(Plans):
     def test_log(self):
         name = "a b%c.script"
         self.write(name, SCRIPT.replace("within 9", "within 3", 1))
-        self.write("warned.script", SCRIPT.replace("  cfsa 0 r -> v\n", "").replace("  cclc one\n", ""))
+        self.write("warned.script", SCRIPT.replace("  cclc one\n", ""))
         status, out, said = self.package("check", "--format", "sarif", "plan.toml", name, "warned.script", "none.script")
         self.assertEqual((status, said), (3, ""))
         log = json.loads(out)

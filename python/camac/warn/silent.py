@@ -1,7 +1,7 @@
 """What is surely not meant and changes no bound: by the flow of each body, its rows of `camac costs`, and what the checker knows at a place."""
 import re
 from collections import Counter
-from typing import Dict, Iterator, List, NamedTuple, Optional, Sequence, Set
+from typing import Dict, Iterable, Iterator, List, NamedTuple, Optional, Sequence, Set, Tuple
 
 from camac.bodies import parse_costs
 from camac.drive import File
@@ -12,18 +12,18 @@ from camac.program import verdict
 from camac.subcommands import plan as ask_plan
 from camac.texts import GREATEST_TEXT, plan_text
 from camac.tree import (
-    Assign, Cycle, Expression, For, If, Loop, Name, Number, Operation, Plain, Range, Script, Statement, all_in, names_in, written_by,
+    Assign, Body, Cycle, Expression, For, If, Loop, Name, Number, Operation, Range, Script, SetRegister, Statement, Transfer, all_in, names_in, written_by,
 )
-from camac.values import Body as Costs, range_of
+from camac.values import Address, Body as Costs, range_of
 from camac.warn.codes import Code, Warned
-from camac.warn.flow import FLAGS, Flow, Settings, whole
+from camac.warn.flow import FLAGS, Flow, Some, is_put
 
 # A number with a 0 before it, for which the tokens are looked through.
 ZERO = re.compile(rb"\b0\d")
 # What a function reads and clears may be read for the clear alone.
 READ_AND_CLEAR = 2
-# Of a quotient by so much or less the checker is not asked whether it is one number: few registers are so narrow.
-SMALL = 15
+# How often the checker is asked for what the flow leaves open.
+MOST_ASKED = 50
 
 
 def costs_with_arms(plan: File, text: bytes, script: Script, program: Optional[File] = None) -> List[Costs]:
@@ -34,44 +34,56 @@ def costs_with_arms(plan: File, text: bytes, script: Script, program: Optional[F
 
 
 class Guard(NamedTuple):
-    """An `if` that adds to a variable while it is at most `most`."""
+    """An `if` that adds a step to a total while this is at most `most`."""
 
     it: If
     adds: Assign
+    total: Name
+    step: Expression
     most: int
 
 
 class Silent:
-    """An accepted script on a plan, with what `costs_with_arms` says of it."""
+    """An accepted script on a plan, with what `costs_with_arms` says of it. `left` is how often the checker may still be asked."""
 
     def __init__(self, plan: File, text: bytes, script: Script, costs: Sequence[Costs], program: Optional[File] = None) -> None:
-        self.plan, self.text, self.script, self.costs, self.program = plan, text, script, costs, program
+        self.plan, self.text, self.script, self.costs, self.program, self.left = plan, text, script, costs, program, MOST_ASKED
 
     def found(self) -> Iterator[Warned]:
         flows: Dict[str, Flow] = {}
         for body, its in zip(self.script.bodies, self.costs):
             flow = flows[body.name] = Flow(body, its.rows, flows)
-            yield from _of_rows(flow)
-            yield from self.of_uses(flow)
-            yield from self.of_words(flow)
-            yield from _of_registers(flow)
+            numbers = {it: self.number(it, flow) for it in filter(is_put, flow.value) if flow.row[it].times}
+            yield from (Warned(it.line, Code.ONE_NUMBER, f"this word is always {number}") for it, number in numbers.items() if number is not None)
+            yield from self.of_reads(flow)
+            yield from _of_unset((it, name) for it, name in flow.unset if numbers.get(it) is None)
             yield from self.of_guards(flow)
-            yield from (_unused(body.line, PARAMETER, it) for it in body.variables if not body.is_service and it not in flow.named)
+            yield from _of_rows(flow)
+            yield from _of_registers(flow)
+            yield from () if body.is_service else _of_parameters(body)
         yield from self.of_tokens()
 
-    def of_uses(self, flow: Flow) -> Iterator[Warned]:
-        """What is read and never used, and what is used before it is set."""
+    def number(self, it: Statement, flow: Flow) -> Optional[int]:
+        """The one number that a `put` of a variable puts; None if there are more."""
+        (put,), value = it.expressions, flow.value[it]
+        if names_in(put) and value is Some.OPEN and self.left:
+            self.left -= 1
+            low, high = self.range(it, put)
+            return low if low == high else None
+        return value if names_in(put) and isinstance(value, int) else None
+
+    def range(self, it: Statement, of: Expression) -> Range:
+        """The range of an expression before a statement, by what the checker knows there of its names."""
+        at = it.line, it.start - self.text.rfind(b"\n", 0, it.start)
+        known = read_known(verdict("explain", self.plan, self.text, self.program, at).text)
+        return span(of, {name: range_of(known[name][0]) for name in names_in(of)})
+
+    def of_reads(self, flow: Flow) -> Iterator[Warned]:
+        """Words that are read and never used."""
         for it, row in flow.row.items():
             is_dropped = isinstance(it, Cycle) and it.into and row.times and it not in flow.used
             if isinstance(it, Cycle) and is_dropped and it.function != READ_AND_CLEAR and not self.clears(it, flow):
                 yield Warned(it.line, Code.DROPPED, f"the word in `{it.into}` is read and never used")
-        told: Set[str] = set()
-        for it, name, _ in flow.unset:
-            if name == FLAGS:
-                yield Warned(it.line, Code.EARLY_FLAG, "`q` and `x` are 0 here: no cycle of this service comes before")
-            elif name not in told and not (_is_put(it) and self.number(it, flow) is not None):
-                told.add(name)
-                yield Warned(it.line, Code.UNSET, f"`{name}` is 0 here: nothing sets it before, and no variable lasts from service to service")
 
     def clears(self, it: Cycle, flow: Flow) -> bool:
         """Whether the plan says that a cycle clears the look-at-me of its module."""
@@ -81,49 +93,21 @@ class Silent:
         its = ask_plan(self.plan, self.program).declaration(at.crate[0], at.station[0], at.sub_address[0], it.function)
         return its is not None and its.clears
 
-    def of_words(self, flow: Flow) -> Iterator[Warned]:
-        """Words of the event that are always one number."""
-        for it in filter(_is_put, flow.seen):
-            number = self.number(it, flow) if flow.row[it].times else None
-            if number is not None:
-                yield Warned(it.line, Code.ONE_NUMBER, f"this word is always {number}")
-
-    def number(self, it: Statement, flow: Flow) -> Optional[int]:
-        """The one number that a `put` of a variable puts; None if there are more."""
-        (value,) = it.expressions
-        if not names_in(value):
-            return None
-        its = constant(value, flow.seen[it], flow)
-        if its is None and may_be_one(value, flow.seen[it], flow):
-            low, high = span(value, self.known(it))
-            its = low if low == high else None
-        return its
-
-    def known(self, it: Statement) -> Dict[str, Range]:
-        """What the checker knows of variables before a statement."""
-        at = it.line, it.start - self.text.rfind(b"\n", 0, it.start)
-        known = read_known(verdict("explain", self.plan, self.text, self.program, at).text)
-        return {name: range_of(words[0]) for name, words in known.items() if len(words) == 1}
-
     def of_guards(self, flow: Flow) -> Iterator[Warned]:
         """Guards of sums that leave something out after many turns."""
         guards = {it.adds: it for it in map(guard_of, flow.inside) if it and flow.row[it.adds].times}
-        for it, name, most in ((guard.it, adds.name, guard.most) for adds, guard in guards.items()):
-            # The outermost loop in which nothing else sets the sum.
-            its = (loop for loop in flow.inside[it] if all(one in guards for one in all_in(loop.body) if written_by(one) == name))
-            loop = next(its, None)
-            if loop is None:
-                continue
-            steps = {one: self.step(one) for one in guards if one.name == name and loop in flow.inside[guards[one].it]}
-            after = self.known(loop)[name][1] + sum(step * flow.row[one].times // flow.row[loop].times for one, step in steps.items())
-            step = next(step for one, step in steps.items() if guards[one].it is it)
-            if after > most + step:
-                text = f"after all turns `{name}` may be {after}, and this condition lets it be {most + step}: the rest is left out"
-                yield Warned(it.line, Code.LEFT_OUT, text)
-
-    def step(self, it: Assign) -> int:
-        """The most that an assignment adds to its variable."""
-        return span(it.value, {**self.known(it), it.name: (0, 0)})[1]
+        for adds, (it, _, total, step, most) in guards.items() if len(guards) <= MOST_ASKED else ():
+            for loop in flow.inside[it]:
+                # The outermost loop in which nothing else sets the sum.
+                setting = [one for one in all_in(loop.body) if written_by(one) == adds.name]
+                if all(one in guards for one in setting):
+                    steps = [(self.range(one, guards[one].step)[1], flow.row[one].times) for one in setting if isinstance(one, Assign)]
+                    added = [step_of * times // flow.row[loop].times for step_of, times in steps]
+                    after, bound = self.range(loop, total)[1] + sum(added), most + self.range(adds, step)[1]
+                    if after > bound:
+                        text = f"after all turns `{total.name}` may be {after}, and this condition lets it be {bound} at most: the rest is left out"
+                        yield Warned(it.line, Code.LEFT_OUT, text)
+                    break
 
     def of_tokens(self) -> Iterator[Warned]:
         """Names of the script that are never used, and numbers with a 0 before them."""
@@ -132,10 +116,6 @@ class Silent:
         for it in self.script.tokens if ZERO.search(self.text) else ():
             if it.text[:1] == "0" and set(it.text) <= set("01234567") and int(it.text, 8) != int(it.text):
                 yield Warned(it.line, Code.LEADING_ZERO, f"`{it.text}` is {int(it.text)} here, not {int(it.text, 8)}: numbers are decimal")
-
-
-def _is_put(it: Statement) -> bool:
-    return isinstance(it, Plain) and it.word == "put"
 
 
 def _unused(line: int, kind: Kind, name: str) -> Warned:
@@ -160,41 +140,38 @@ def _of_rows(flow: Flow) -> Iterator[Warned]:
             yield Warned(it.line, Code.DECIDED, f"this condition is always true: {rest}")
 
 
+def _of_unset(uses: Iterable[Tuple[Statement, str]]) -> Iterator[Warned]:
+    """Conditions on a flag before any cycle, and the first use of each variable before it is set."""
+    told: Set[str] = set()
+    for it, name in uses:
+        if name == FLAGS:
+            yield Warned(it.line, Code.EARLY_FLAG, "`q` and `x` are 0 here: no cycle of this service comes before")
+        elif name not in told:
+            told.add(name)
+            yield Warned(it.line, Code.UNSET, f"`{name}` is 0 here: nothing sets it before, and no variable lasts from service to service")
+
+
 def _of_registers(flow: Flow) -> Iterator[Warned]:
-    """Registers that are never used, and those of one address by which one function is sent."""
-    yield from (_unused(it.line, REGISTER, name) for name, it in flow.first.items() if name not in flow.sent)
-    for second, first in flow.twins:
-        both = flow.sent.get(second.register, set()) & flow.sent.get(first.register, set())
-        if both and flow.row[second].times:
-            text = f"`{second.register}` gets the address of `{first.register}` (line {first.line}), and F{min(both)} is sent by both"
-            yield Warned(second.line, Code.TWINS, text)
+    """Registers by which no cycle is made, and those by which the same cycle is made as by another one."""
+    made = {register for it in flow.row if isinstance(it, (Cycle, Transfer)) for register in it.registers}
+    set_by: Dict[str, SetRegister] = {}
+    first: Dict[Tuple[Address, int], SetRegister] = {}
+    for it, row in flow.row.items():
+        if isinstance(it, SetRegister):
+            if it.register not in made and it.register not in set_by:
+                yield _unused(it.line, REGISTER, it.register)
+            set_by[it.register] = it
+        elif isinstance(it, (Cycle, Transfer)) and len(it.registers) == 1 and row.times:
+            (at,), mine = row.addresses(), set_by[it.registers[0]]
+            other = first.setdefault((at, it.function), mine) if all(low == high for low, high in at) else mine
+            if other.register != mine.register and set_by[other.register] is other:
+                text = f"`{mine.register}` has the address of `{other.register}` (line {other.line}), and F{it.function} is sent by both"
+                yield Warned(mine.line, Code.TWINS, text)
 
 
-def constant(it: Expression, names: Dict[str, Settings], flow: Flow, inside: Sequence[Statement] = ()) -> Optional[int]:
-    """The number that an expression always is, by what may have set its names; None if that is not known. It is in the assignments `inside`."""
-    if isinstance(it, Number):
-        return it.value
-    if isinstance(it, Name):
-        values = {_set_to(one, flow, inside) for one in whole(names[it.name]) if one is None or isinstance(one, Statement)}
-        return values.pop() if len(values) == 1 else None
-    left, right = constant(it.left, names, flow, inside), constant(it.right, names, flow, inside)
-    return None if left is None or right is None else result(it.sign, (left, left), (right, right))[0]
-
-
-def _set_to(it: Optional[Statement], flow: Flow, inside: Sequence[Statement]) -> Optional[int]:
-    if it is None:
-        return 0
-    return constant(it.value, flow.seen[it], flow, (*inside, it)) if isinstance(it, Assign) and it not in inside else None
-
-
-def may_be_one(it: Expression, names: Dict[str, Settings], flow: Flow, inside: Sequence[Statement] = ()) -> bool:
-    """Whether ranges may still tell that an expression is one number: a quotient, and what is made of it and of numbers."""
-    if isinstance(it, Name):
-        its = [one for one in whole(names[it.name]) if isinstance(one, Statement)]
-        return all(isinstance(one, Assign) and one not in inside and may_be_one(one.value, flow.seen[one], flow, (*inside, one)) for one in its)
-    if isinstance(it, Number) or it.sign == "/" and isinstance(it.right, Number) and it.right.value > SMALL:
-        return True
-    return all(may_be_one(one, names, flow, inside) for one in (it.left, it.right))
+def _of_parameters(body: Body) -> Iterator[Warned]:
+    named = {*map(written_by, body.every), *(name for it in body.every for one in it.expressions for name in names_in(one))}
+    return (_unused(body.line, PARAMETER, it) for it in body.variables if it not in named)
 
 
 def span(it: Expression, known: Dict[str, Range]) -> Range:
@@ -216,11 +193,13 @@ def result(sign: str, left: Range, right: Range) -> Range:
 
 def guard_of(it: If) -> Optional[Guard]:
     """The guard that an `if` is: `if sum <= 16777215 - 4095 { sum = sum + v }`, as camac proposes it, with any numbers, and without an `else`."""
-    only = it.body[0] if len(it.body) == 1 else None
-    if len(it.parts) > 1 or it.has_else or not it.parts[0].sides or it.parts[0].sign != "<=" or not isinstance(only, Assign):
+    adds = it.body[0] if len(it.body) == 1 else None
+    if len(it.parts) > 1 or it.has_else or not it.parts[0].sides or it.parts[0].sign != "<=" or not isinstance(adds, Assign):
         return None
-    (left, right), value = it.parts[0].sides, only.value
-    if not (isinstance(left, Name) and left.name == only.name and isinstance(right, Operation) and right.sign == "-" and not names_in(right)):
+    (total, most), value = it.parts[0].sides, adds.value
+    if not isinstance(value, Operation) or value.sign != "+" or not isinstance(most, Operation) or names_in(most):
         return None
-    is_sum = isinstance(value, Operation) and value.sign == "+" and names_in(value).count(only.name) == 1
-    return Guard(it, only, span(right, {})[0]) if is_sum else None
+    for one, step in ((value.left, value.right), (value.right, value.left)):
+        if isinstance(total, Name) and isinstance(one, Name) and total.name == one.name == adds.name and adds.name not in names_in(step):
+            return Guard(it, adds, total, step, span(most, {})[0])
+    return None
