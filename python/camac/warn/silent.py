@@ -12,7 +12,8 @@ from camac.program import verdict
 from camac.subcommands import plan as ask_plan
 from camac.texts import GREATEST_TEXT, plan_text
 from camac.tree import (
-    Assign, Body, Cycle, Expression, For, If, Loop, Name, Number, Operation, Range, Script, SetRegister, Statement, Transfer, all_in, names_in, written_by,
+    Assign, Body, Cycle, Expression, For, If, Loop, Name, Number, Operation, Range, Script, SetRegister, Statement, Transfer, all_in, names_in,
+    written_by,
 )
 from camac.values import Address, Body as Costs, range_of
 from camac.warn.codes import Code, Warned
@@ -163,8 +164,10 @@ def _of_registers(flow: Flow) -> Iterator[Warned]:
             set_by[it.register] = it
         elif isinstance(it, (Cycle, Transfer)) and len(it.registers) == 1 and row.times:
             (at,), mine = row.addresses(), set_by[it.registers[0]]
-            other = first.setdefault((at, it.function), mine) if all(low == high for low, high in at) else mine
-            if other.register != mine.register and set_by[other.register] is other:
+            other = first.get((at, it.function), mine)
+            if other.register == mine.register or set_by[other.register] is not other:
+                first[at, it.function] = mine
+            elif all(low == high for low, high in at):
                 text = f"`{mine.register}` has the address of `{other.register}` (line {other.line}), and F{it.function} is sent by both"
                 yield Warned(mine.line, Code.TWINS, text)
 
