@@ -84,7 +84,7 @@ RULES: Dict[Code, Rule] = {
         "set the variable first; a register of a module keeps what has to last.",
     ),
     Code.TWINS: Rule(
-        "two registers of one address", "one function is sent by both, so a channel is read twice, and another maybe never.",
+        "two registers of one address", "one function is sent by both: to a channel twice, and maybe never to another.",
         "correct an address, or use one register.",
     ),
     Code.EARLY_FLAG: Rule("a flag before any cycle", "`q` and `x` are 0 until the service makes a cycle.", "make the cycle first."),

@@ -106,7 +106,7 @@ class Silent:
                     added = [step_of * times // flow.row[loop].times for step_of, times in steps]
                     after, bound = self.range(loop, total)[1] + sum(added), most + self.range(adds, step)[1]
                     if after > bound:
-                        text = f"after all turns `{total.name}` may be {after}, and this condition lets it be {bound} at most: the rest is left out"
+                        text = f"after all turns `{total.name}` may be {after}, and this condition lets it be {bound}: the rest is left out"
                         yield Warned(it.line, Code.LEFT_OUT, text)
                     break
 
