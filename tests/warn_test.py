@@ -46,9 +46,9 @@ class Warnings(Case):
         patch.start()
         self.addCleanup(patch.stop)
 
-    def codes(self, text, *wanted):
-        """The lines and codes of the warnings of a script on the plan @sample: those that are wanted, or all that are about no name and no word."""
-        found = camac.warnings("@sample", self.write("a.script", text))
+    def codes(self, text, *wanted, plan="@sample"):
+        """The lines and codes of the warnings of a script: those that are wanted, or all that are about no name and no word."""
+        found = camac.warnings(plan, self.write("a.script", text))
         return [(it.line, it.code.value) for it in found if it.code in (wanted or OF_BOUNDS)]
 
     def test_page(self):
@@ -274,15 +274,19 @@ class Warnings(Case):
                 self.assertEqual(camac.warnings(bench / "plan.toml", bench / name), [])
 
     def test_pages(self):
-        """The scripts of the pages that are accepted on @sample are meant, but for the examples of warnings."""
+        """The scripts of the pages that are accepted, on plans that are files or stand there, are meant, but for the examples of warnings."""
         tried = 0
-        for page in sorted((TOP / "docs").rglob("*.md")):
-            for words, text in ACCEPTED.findall(page.read_text()):
-                if " on " not in words and page.name != "REFUSALS.md":
+        for page in [TOP / "README.md", *sorted((TOP / "docs").rglob("*.md"))]:
+            text = page.read_text()
+            plans = {name: self.write(name, plan) for name, plan in re.findall(r"(?ms)^```toml (\S+\.toml)\n(.*?)^```", text)}
+            for words, its in ACCEPTED.findall(text) if page.name != "REFUSALS.md" else ():
+                name = words.partition(" on ")[2] or "@sample"
+                plan = plans.get(name, name if name == "@sample" else TOP / name)
+                if name == "@sample" or plan.is_file():
                     tried += 1
-                    with self.subTest(page=page.name, script=text):
-                        self.assertEqual(self.codes(text, *set(Code) - {Code.UNKEPT}), [])
-        self.assertGreater(tried, 10)
+                    with self.subTest(page=page.name, script=its):
+                        self.assertEqual(self.codes(its, *set(Code) - {Code.UNKEPT}, plan=plan), [])
+        self.assertGreater(tried, 15)
 
 
 class Command(Case):

@@ -1,7 +1,7 @@
 """What may have set each name of a body where it is used, and what it then is: one pass over its statements, in the order of the text."""
 import enum
 import operator
-from typing import AbstractSet, Dict, FrozenSet, List, Mapping, Sequence, Set, Tuple, Union
+from typing import AbstractSet, Callable, Dict, FrozenSet, List, Mapping, Sequence, Set, Tuple, Union
 
 from camac.tree import (
     Assign, Body, Cycle, Expression, For, If, Lock, Loop, Name, Number, Plain, SetRegister, Statement, Transfer, While, names_in, written_by,
@@ -12,7 +12,7 @@ from camac.values import Row
 FLAGS = "q"
 # Of a quotient by so much or less the checker is not asked whether it is one number: few registers are so narrow.
 SMALL = 15
-OPERATIONS = {"+": operator.add, "-": operator.sub, "*": operator.mul, "/": operator.floordiv, "%": operator.mod}
+OPERATIONS: Dict[str, Callable[[int, int], int]] = {"+": operator.add, "-": operator.sub, "*": operator.mul, "/": operator.floordiv, "%": operator.mod}
 
 
 class Some(enum.Enum):
@@ -121,8 +121,7 @@ class Flow:
             return self.set_to(self.now[it.name])
         left, right = self.value_of(it.left), self.value_of(it.right)
         if isinstance(left, int) and isinstance(right, int):
-            number: int = OPERATIONS[it.sign](left, right)
-            return number
+            return OPERATIONS[it.sign](left, right)
         if it.sign == "/" and isinstance(right, int) and right > SMALL:
             return Some.OPEN
         return Some.MANY if Some.MANY in (left, right) else Some.OPEN

@@ -17,7 +17,7 @@ from camac.tree import (
 )
 from camac.values import Address, Body as Costs, range_of
 from camac.warn.codes import Code, Warned
-from camac.warn.flow import FLAGS, Flow, Some, is_put
+from camac.warn.flow import FLAGS, OPERATIONS, Flow, Some, is_put
 
 # A number with a 0 before it, for which the tokens are looked through.
 ZERO = re.compile(rb"\b0\d")
@@ -178,20 +178,17 @@ def _of_parameters(body: Body) -> Iterator[Warned]:
 
 
 def span(it: Expression, known: Dict[str, Range]) -> Range:
-    """The least and the greatest result of an expression of names in these ranges, as the checker has them."""
+    """The least and the greatest result of an expression of names in these ranges, as the checker has them. A divisor is one number."""
     if isinstance(it, Number):
         return it.value, it.value
-    return known[it.name] if isinstance(it, Name) else result(it.sign, span(it.left, known), span(it.right, known))
-
-
-def result(sign: str, left: Range, right: Range) -> Range:
-    """The least and the greatest result of an operation. A divisor is one number."""
-    (low, high), (least, most) = left, right
-    if sign in "+*":
-        return (low + least, high + most) if sign == "+" else (low * least, high * most)
-    if sign == "%":
-        return (low % most, high % most) if low // most == high // most else (0, most - 1)
-    return (low - most, high - least) if sign == "-" else (low // most, high // most)
+    if isinstance(it, Name):
+        return known[it.name]
+    (low, high), (least, most) = span(it.left, known), span(it.right, known)
+    if it.sign == "%" and low // most < high // most:
+        return 0, most - 1
+    if it.sign == "-":
+        least, most = most, least
+    return OPERATIONS[it.sign](low, least), OPERATIONS[it.sign](high, most)
 
 
 def guard_of(it: If) -> Optional[Guard]:
