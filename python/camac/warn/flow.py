@@ -63,7 +63,6 @@ class Flow:
     """The pass over a body, with its rows of `camac costs`. `flows` has the procedures before it.
 
     row     of each statement its row, and in `other` of each `if` that of its `else`
-    inside  of each `if` the loops in which it is, the outermost first
     used    what may have set what is used
     unset   the uses of names before which no statement sets them, on any way
     value   of each assignment and `put` what it is"""
@@ -72,10 +71,8 @@ class Flow:
         self.rows, self.at, self.flows, self.makes_cycles = rows, 0, flows, False
         self.now: Dict[str, Settings] = dict.fromkeys(body.variables, frozenset((None if body.is_service else GIVEN,)))
         self.now[FLAGS] = frozenset((None if body.is_service else EARLIER,))
-        self.loops: Tuple[Loop, ...] = ()
         self.row: Dict[Statement, Row] = {}
         self.other: Dict[If, Row] = {}
-        self.inside: Dict[If, Tuple[Loop, ...]] = {}
         self.used: Set[Setting] = set()
         self.value: Dict[Statement, Value] = {}
         self.uses: List[Tuple[Statement, str, Settings]] = []
@@ -152,7 +149,6 @@ class Flow:
             self.now[name] = frozenset((it,))
 
     def branch(self, it: If) -> None:
-        self.inside[it] = self.loops
         before = dict(self.now)
         self.block(it.body)
         after, self.now = self.now, before
@@ -168,14 +164,13 @@ class Flow:
             self.use(it)
         turns = {name: Turn(self.now[name]) for name in (*it.written, it.name, FLAGS)}
         self.now.update((name, frozenset((turn,))) for name, turn in turns.items())
-        now, loops = dict(self.now), self.loops
+        now = dict(self.now)
         if isinstance(it, For):
             self.now[it.name] = frozenset((it,))
         else:
             self.use(it)
-        self.loops = (*loops, it)
         self.block(it.body)
         for name, turn in turns.items():
             turn.settings |= self.now[name]
             turn.value = self.set_to(turn.settings - {turn})
-        self.now, self.loops = now, loops
+        self.now = now

@@ -96,9 +96,9 @@ class Silent:
 
     def of_guards(self, flow: Flow) -> Iterator[Warned]:
         """Guards of sums that leave something out after many turns."""
-        guards = {it.adds: it for it in map(guard_of, flow.inside) if it and flow.row[it.adds].times}
+        guards = {it.adds: it for one in flow.row if isinstance(one, If) for it in [guard_of(one)] if it and flow.row[it.adds].times}
         for adds, (it, _, total, step, most) in guards.items() if len(guards) <= MOST_ASKED else ():
-            for loop in flow.inside[it]:
+            for loop in (one for one in flow.row if isinstance(one, Loop) and one.start < it.start < one.end):
                 # The outermost loop in which nothing else sets the sum.
                 setting = [one for one in all_in(loop.body) if written_by(one) == adds.name]
                 if all(one in guards for one in setting):
