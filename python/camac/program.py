@@ -5,7 +5,7 @@ program. The library and what calls another process are each loaded when they ar
 import functools
 import itertools
 import os
-from typing import Iterator, List, Mapping, NamedTuple, Optional, Tuple
+from typing import Any, Dict, Iterator, List, Mapping, NamedTuple, Optional, Tuple
 
 from camac.drive import File, Refused, UsageFault, fault_of, find_program
 from camac.printed import is_known, is_refused
@@ -71,12 +71,18 @@ def output_of(*words: File, program: Optional[File] = None) -> str:
         verdict = _of_library(*words)
         _judge(0 if verdict.accepted else REFUSED, verdict.text, "")
         return verdict.text
+    status, printed, errors = _called(found, *words)
+    _judge(status, printed, errors)
+    return printed
+
+
+def _called(program: str, *words: File, given: Optional[bytes] = None) -> Tuple[int, str, str]:
+    """The status of the program, and what it prints to standard output and standard error."""
     import subprocess
 
-    done = subprocess.run([found, *words], stdin=subprocess.DEVNULL, stdout=subprocess.PIPE, stderr=subprocess.PIPE, check=False)
-    printed = done.stdout.decode(errors="replace")
-    _judge(done.returncode, printed, done.stderr.decode(errors="replace"))
-    return printed
+    stdin: Dict[str, Any] = {"stdin": subprocess.DEVNULL} if given is None else {"input": given}
+    done = subprocess.run([program, *words], **stdin, stdout=subprocess.PIPE, stderr=subprocess.PIPE, check=False)
+    return done.returncode, done.stdout.decode(errors="replace"), done.stderr.decode(errors="replace")
 
 
 def lines_of(*words: File, program: Optional[File] = None) -> Iterator[str]:
@@ -131,17 +137,14 @@ def verdict(command: str, plan: File, script: bytes, program: Optional[File] = N
 
     Raises ProgramFault and OSError as `output_of`."""
     words = command.split()
-    if find(words[0], program) == IN_PROCESS:
+    found = find(words[0], program)
+    if found == IN_PROCESS:
         from camac import library
 
         return library.explain_at(plan_text(plan), script, *at) if at else library.judged(command.replace(" --", "_"), plan_text(plan), script)
-    import tempfile
-
-    with tempfile.TemporaryDirectory(prefix="camac-") as room:
-        file = os.path.join(room, "script")
-        with open(file, "wb") as out:
-            out.write(script)
-        text = "".join(f"{it}\n" for it in lines_of(*words, *(["--at", "{}:{}".format(*at)] if at else []), "--", plan, file, program=program))
+    status, text, errors = _called(found, *words, *(["--at", "{}:{}".format(*at)] if at else []), "--", plan, "@in", given=script)
+    if status not in (0, REFUSED):
+        _judge(status, "", errors)
     return Verdict(is_known(text) if at else not is_refused(text), text)
 
 
