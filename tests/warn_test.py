@@ -316,6 +316,7 @@ class Command(Case):
             (["@sample", "none", "bad"], 3, "none: fault: No such file or directory\nbad:4:5: refused S5: name not declared\n"),
             (["@sample", "two"], 1, "two:2:3: refused E16: word above 24 bits\ntwo:5:1: refused E12: more cycles than annotated\n"),
             (["plan", "good", "odd"], 1, "plan:1:3: refused P2: unknown key\n"),
+            (["good", "plan"], 1, "good:1:7: refused P1: not TOML (PLAN comes first, then SCRIPT)\n"),
             (["none", "good"], 3, "none: fault: No such file or directory\n"),
             (["@sample", "@in"], 2, ""),
             (["@sample"], 2, ""),

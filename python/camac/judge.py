@@ -141,7 +141,8 @@ def _faults(call: Callable[[], List[Found]], files: List[TextFile], program: Opt
         if its is None or its.refusal[:3] != (refusal.code, refusal.line, refusal.rule):
             return [Found("refused", refusal.line, refusal.code, refusal.rule)]
         line, column = _place_in_plan(files[0], its.sentence) if refusal.line is None else (refusal.line, its.column)
-        first = Found("refused", line, refusal.code, refusal.rule, its.lines, column)
+        text = f"{refusal.rule} ({SWAPPED})" if its.sentence.endswith(f"{SWAPPED}.") else refusal.rule
+        first = Found("refused", line, refusal.code, text, its.lines, column)
         return [first, *(Found("refused", it.line, it.code, it.rule, (), it.column) for it in its.also)]
     except UsageFault:
         raise
@@ -182,6 +183,8 @@ def status(judged: Sequence[Judged], is_strict: bool) -> int:
     return max(worst, REFUSED) if is_strict and any(found.kind == "warning" for it in judged for found in it.found) else worst
 
 
+# How an explanation ends of a script in the place of the plan, or a plan in that of the script.
+SWAPPED = "PLAN comes first, then SCRIPT"
 NO_COSTS = "this program has no `costs` or no `response`, so most warnings are not looked for"
 
 
