@@ -2,7 +2,6 @@
 and calls sooner than the rates that were told. It is counted here alone."""
 import collections
 import os
-import shutil
 from typing import TYPE_CHECKING, Counter, Dict, List, Optional, Sequence, Tuple
 
 from camac.functions import CONTROLLERS, reads
@@ -113,6 +112,8 @@ def plan_of(plan: "File", program: "Optional[File]") -> Optional[Plan]:
     from camac.subcommands import plan as read_plan
 
     if program == IN_PROCESS:
+        import shutil
+
         program = os.environ.get("CAMAC_PROGRAM") or shutil.which("camac") or program
     try:
         return read_plan(plan, program) if os.fsdecode(plan) == "@sample" or os.path.isfile(plan) else None

@@ -21,6 +21,7 @@ from camac.native import BUSY, EVENT_WORDS, LONG, MISUSE, NO_MEMORY, OK, OVERRUN
 from camac.native import CYCLE as CYCLE, DEMAND as DEMAND, LOCK as LOCK, NO_DATA as NO_DATA, NO_LIMIT as NO_LIMIT, READ as READ, STOPPED as STOPPED
 from camac.native import is_there as is_there
 from camac.output import holds_bytes
+from camac.program import IN_PROCESS, Verdict, settings
 from camac.texts import plan_text, script_text
 
 if TYPE_CHECKING:
@@ -32,9 +33,6 @@ ROOM = 4096
 LONGEST = 16 + 4 * EVENT_WORDS
 # What the program says at the codes that it knows, with its status.
 FAULTS = {NO_MEMORY: ("fault memory", 3), LONG: ("fault input too long", 3)}
-# The subcommands of the program that the library has too.
-IN_PROCESS = "@library"
-COMMANDS = frozenset(("plan", "check", "explain", "bounds", "costs", "response", "run"))
 SPENT_LINE = "refused A4 line 4294967296: too many answers"
 MISUSED = "{} needs each service of the script once at most, as adc=200, with a number from 0, or from 1 of `every`, to 4294967295"
 CLOSED = "{} needs an open session: this one is closed"
@@ -77,13 +75,6 @@ class Overrun(Exception):
     def __init__(self, crate: int, wait: int) -> None:
         super().__init__(f"overrun {crate} wait {wait}")
         self.crate, self.wait = crate, wait
-
-
-class Verdict(NamedTuple):
-    """Whether the texts were accepted, and what the program would print."""
-
-    accepted: bool
-    text: str
 
 
 def version() -> str:
@@ -230,11 +221,6 @@ def response(plan: Text, script: Text, every: Optional[Mapping[str, int]] = None
     accepted, too, where a line is `unkept`, or a service may end above its number in `within`. Raises UsageFault if a number is out of range
     (0 to 4,294,967,295, from 1 on in `every`), or the accepted script does not have the service."""
     return _judged("response", plan, script, _settings(settings(every)), _settings(settings(within)))
-
-
-def settings(numbers: Optional[Mapping[str, int]]) -> List[str]:
-    """The words that follow an option of `response`: NAME=CYCLES for each service."""
-    return [f"{service}={cycles}" for service, cycles in (numbers or {}).items()]
 
 
 def _settings(words: Iterable[str]) -> str:

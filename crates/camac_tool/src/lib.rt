@@ -2,16 +2,18 @@
 #![tactic(auto)]
 
 mod ahead;
+mod answer_line;
 mod devices;
 mod failure;
 mod gathered;
+mod host;
 mod input;
 mod launch;
 pub mod laws;
-mod places;
 mod program;
 mod running;
 mod streams;
+mod system;
 mod target;
 
 pub use camac_engines::{
