@@ -172,11 +172,11 @@ pub static OF_EVENTS: [Row; 8] = [
 ];
 
 /// What accepted scripts are warned of.
-pub static OF_WARNINGS: [Row; 8] = [
+pub static OF_WARNINGS: [Row; 17] = [
     (
         "W1",
-        "the condition of this `if` never holds, or this loop makes no turn, whatever the modules answer; the checker accepts even a wrong command there.",
-        "correct the condition or the bounds of the loop, or remove the statement.",
+        "this loop makes no turn, whatever the modules answer; the checker accepts even a wrong command in it.",
+        "correct the ends of the loop, or remove it.",
     ),
     (
         "W2",
@@ -201,7 +201,7 @@ pub static OF_WARNINGS: [Row; 8] = [
     (
         "W6",
         "a service of more than 10 cycles on a lower bit goes before this one each time that both modules call.",
-        "give the module that has to be answered soon the lower bit, in the wiring and in the plan.",
+        "give the module that has to be answered soon the lower bit, in the wiring and in the plan; docs/RESPONSE.md has more.",
     ),
     (
         "W7",
@@ -212,6 +212,51 @@ pub static OF_WARNINGS: [Row; 8] = [
         "W8",
         "a loop keeps a variable in a range, and a smaller one is accepted, too; one that is too wide may refuse what you write later.",
         "write the range that the warning names.",
+    ),
+    (
+        "W9",
+        "neither the word nor Q or X of its cycle is used on any way; nothing is said of a cycle that may be there to clear, as each F2.",
+        "use the word, or leave out the cycle.",
+    ),
+    (
+        "W10",
+        "no answer of a module changes what is put here.",
+        "set the variable before, correct the expression, or put the number itself.",
+    ),
+    (
+        "W11",
+        "each service begins with all variables 0.",
+        "set the variable first; a register of a module keeps what has to last.",
+    ),
+    (
+        "W12",
+        "one function is sent by both, so a channel is read twice, and another maybe never.",
+        "correct an address, or use one register.",
+    ),
+    (
+        "W13",
+        "`q` and `x` are 0 until the service makes a cycle.",
+        "make the cycle first.",
+    ),
+    (
+        "W14",
+        "another name may stand where this one is meant.",
+        "use it, or remove it.",
+    ),
+    (
+        "W15",
+        "such a number is octal in other languages; here all are decimal.",
+        "write the number that you mean, without the 0.",
+    ),
+    (
+        "W16",
+        "so say the ranges that are known before it, whatever the modules answer.",
+        "correct the condition, or remove what it leaves out.",
+    ),
+    (
+        "W17",
+        "in all its turns the loop may add more to the sum than this condition lets in.",
+        "make fewer turns, widen the bound, or say in an `else` what is done then.",
     ),
 ];
 

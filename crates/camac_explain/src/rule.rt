@@ -45,6 +45,15 @@ pub enum Warning {
     LongerFirst,
     DearLoop,
     KeepTooWide,
+    WordNotUsed,
+    OneNumber,
+    UsedBeforeSet,
+    OneAddressTwice,
+    FlagBeforeCycle,
+    NameNotUsed,
+    LeadingZero,
+    AlwaysTrueOrFalse,
+    GuardLeavesOut,
 }
 
 impl Rule {
@@ -108,6 +117,15 @@ fn warning_code(warning: Warning) -> Code
         Warning::LongerFirst => ("W6", "a longer service goes first"),
         Warning::DearLoop => ("W7", "a loop that costs less turn by turn"),
         Warning::KeepTooWide => ("W8", "a kept bound that is wider than it has to be"),
+        Warning::WordNotUsed => ("W9", "a word that is read and never used"),
+        Warning::OneNumber => ("W10", "a word that is always one number"),
+        Warning::UsedBeforeSet => ("W11", "used before it is set"),
+        Warning::OneAddressTwice => ("W12", "two registers of one address"),
+        Warning::FlagBeforeCycle => ("W13", "a flag before any cycle"),
+        Warning::NameNotUsed => ("W14", "a name that is never used"),
+        Warning::LeadingZero => ("W15", "a 0 before a number"),
+        Warning::AlwaysTrueOrFalse => ("W16", "a condition that is always true or always false"),
+        Warning::GuardLeavesOut => ("W17", "a guard that leaves something out"),
     };
     Code { name, meaning }
 }
@@ -231,6 +249,15 @@ fn warning_of(code: &str) -> Option<Warning>
         "W6" => Warning::LongerFirst,
         "W7" => Warning::DearLoop,
         "W8" => Warning::KeepTooWide,
+        "W9" => Warning::WordNotUsed,
+        "W10" => Warning::OneNumber,
+        "W11" => Warning::UsedBeforeSet,
+        "W12" => Warning::OneAddressTwice,
+        "W13" => Warning::FlagBeforeCycle,
+        "W14" => Warning::NameNotUsed,
+        "W15" => Warning::LeadingZero,
+        "W16" => Warning::AlwaysTrueOrFalse,
+        "W17" => Warning::GuardLeavesOut,
     )
 }
 

@@ -39,12 +39,14 @@ pub fn runner_holds_the_rest()
 {}
 
 /// What is left after a service was abandoned is what the run had left at the demand that called it.
+#[tactic(auto, using(crate::proofs::Abandoned::abandoning_holds))]
 pub fn abandoning_holds()
     ensures { AbandoningHolds }
 {}
 
 /// The run makes the operations that were told ahead, one for each answer, in their order, and no others; it wants each of them before its
 /// answer, and until the last answer no lockout is released and no event left. A caller may ask for fewer: any beginning of them is ahead, too.
+#[tactic(auto, using(crate::proofs::Coming::ahead_is_made, crate::proofs::Coming::beginnings_are_ahead))]
 pub fn ahead_is_made()
     ensures made { AheadIsMade }
     ensures beginnings { BeginningsAreAhead }
