@@ -47,8 +47,8 @@ ANSWERS = [
 
 # What stands in a service below its register `r`, and what is told of it.
 FORTRAN = [
-    ("CALL CFSA(0, R, V, Q)", "`cfsa 0 r -> v`"),
-    ("call cdreg(r, 1, 1, 5, 0)", "`cdreg r 1 c n a`"),
+    ("CALL CFSA(0, R, V, Q)", "`cfsa 0 channel -> v`"),
+    ("call cdreg(r, 1, 1, 5, 0)", "write this statement without it"),
     ("if (v .GT. 3) put v", "`>`"),
     ("if v.eq.3 { put v }", "`==`"),
     ("DO 10 I = 1, 12", "`for i = A to B { .. }`"),
@@ -62,7 +62,7 @@ FORTRAN = [
 ]
 C = [
     ("cfsa(0, r, &v, &q);", "`cfsa 0 r -> v`"),
-    ("cdreg(&r, 1, 1, 5, 0);", "`cdreg r 1 c n a`"),
+    ("cdreg(&r, 1, 1, 5, 0);", "`v` alone for its address"),
     ("for (i = 0; i < 12; i++) { }", "`for i = A to B { .. }`"),
     ("while (!q) { }", "`not`"),
     ("v = cfsa(0, r);", "`cfsa 0 r -> v`"),
