@@ -58,8 +58,8 @@ CELL = re.compile(r"^\|(?:[^|\n]*\|)*([^|\n]*)\|$")
 PLACES = ("{}", "{} {{ }}", "if {} {{ }}", "if v > 0 {} {{ }}", "put ({}) % 2", "put (v {}) % 2")
 READ = """cdlam adc 1 1 5 12
 var a b c d k v
-service adc within 15 cycles event 1 words {
-  cdreg r 1 1 5 0
+service adc within 18 cycles event 1 words {
+  cdreg r 1 1 5 0  cdreg channel 1 1 5 0
   cfsa 0 r -> a  cfsa 0 r -> b  cfsa 0 r -> c  cfsa 0 r -> k  cfsa 0 r -> v
 """
 # The section of docs/inside/CHANGING.md that each diff belongs to.

@@ -13,10 +13,14 @@ from typing import NamedTuple
 from support import plans
 from support.program import TOP, Room, run_tests
 from support.rows import ROWS
+from camac.events import MEANINGS as FLAWS
+from camac.warn import Code
 
 PAGE = (TOP / "docs/REFUSALS.md").read_text()
 NUMBERED = {"P": (*range(1, 10), 11), "S": range(1, 8), "L": range(1, 5), "E": (*range(1, 19), 21)}
 RULES = [f"{letter}{n}" for letter, numbers in NUMBERED.items() for n in numbers]
+# The codes of answers, of event files and of warnings.
+OTHERS = ["A1", "A2", "A4", *FLAWS, *(it.value for it in Code)]
 
 
 def service(*body, heading="within 100 cycles event 100 words", more=""):
@@ -287,6 +291,13 @@ def part_of(rule):
     return PAGE.partition(f"\n### {rule}: ")[2].partition("\n#")[0]
 
 
+def example_of(rule, part):
+    """The lines of the example of a rule, below what it is."""
+    kind, head, example = re.search(r"(?s)```(\w+) ([^\n]*)\n(.*?)```", part).groups()
+    above = "Example, a plan:" if kind == "toml" else f"Example on the plan @sample, refused on {head.removeprefix(f'{rule} ')}:"
+    return above + "\n" + "".join(f"  {it}\n" for it in example.splitlines())
+
+
 def unmarked(lines):
     """The lines of an explanation without the one of its mark."""
     return [it for it in lines if not it.startswith("      | ")]
@@ -365,17 +376,16 @@ class Explain(Room):
                 self.assertEqual(self.call("check", plan, "script"), (1, f"{first}\n"))
 
     def test_rules_by_their_codes(self):
-        """What is told of a code without a file: the headline, the texts and the example of the page."""
-        for rule in RULES:
+        """What is told of a code, in either case, without a file: the headline and the texts of the page, and the example of a plan or script."""
+        self.assertEqual(re.findall(r"(?m)^### ([AVW]\d+): ", PAGE), OTHERS)
+        for rule in RULES + OTHERS:
             with self.subTest(rule=rule):
                 part = re.search(rf"(?ms)^### {rule}: (.*?)\n(.*?)(?=^##|\Z)", PAGE)
-                kind, head, example = re.search(r"(?s)```(\w+) ([^\n]*)\n(.*?)```", part[2]).groups()
                 texts = [f"{it[1]}: {it[2]}\n" for it in re.finditer(r"(?m)^- \*\*((?:Why|Fix)[^:]*):\*\* (.*)$", part[2])]
-                place = head.removeprefix(f"{rule} ")
-                above = "Example, a plan:" if kind == "toml" else f"Example on the plan @sample, refused on {place}:"
-                lines = "".join(f"  {it}\n" for it in example.splitlines())
-                wanted = f"{rule}: {part[1]}\n{''.join(texts)}{above}\n{lines}More: docs/REFUSALS.md, {rule}\n"
+                example = example_of(rule, part[2]) if rule in RULES else ""
+                wanted = f"{rule}: {part[1]}\n{''.join(texts)}{example}More: docs/REFUSALS.md, {rule}\n"
                 self.assertEqual(self.call("explain", rule), (0, wanted))
+                self.assertEqual(self.call("explain", rule.lower()), (0, wanted))
 
     def test_mistakes(self):
         self.assertGreaterEqual(len(MISTAKES), 45)

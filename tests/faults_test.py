@@ -6,6 +6,7 @@ usage: tests/faults_test.py [-v] [TEST ..]     from any folder; takes about half
 """
 import collections
 import os
+import re
 import subprocess
 
 from support.needs import needed, skip
@@ -167,7 +168,9 @@ class Ran:
     that close a file are apart: what is closed at the end has no part in the order."""
 
     def __init__(self, answer, events, log):
-        self.status, self.out, self.err = answer
+        self.status, self.out, err = answer
+        # Of a refused answer there is more, which tests/mistakes_test.py tries.
+        self.err = re.sub(rb"  \w+: column .*\n", b"", err)
         self.events, self.calls, self.turns, self.closes = events, [], [], []
         for turn, line in enumerate(log.splitlines(), 1):
             name, place, asked, answer, text = line.split(" ")

@@ -49,7 +49,8 @@ class Branch:
         self.asked += 1
         if self.asked == place and not times:
             print("waits", flush=True)
-            time.sleep(600)
+            for _ in range(6000):
+                time.sleep(0.01)  # a signal that comes just before a sleep does not end it
         if self.asked == place or 0 < self.sent < times:
             self.sent += 1
             os.kill(os.getpid(), number)
@@ -110,14 +111,14 @@ class Ends(Case):
     def test_three_at_once(self):
         """A terminal sends them to the whole group of processes: the driver gets them alone, and ends the run."""
         for way, numbers, place in itertools.product(WAYS, (*([it] * 3 for it in ENDS), ENDS), (1, 4)):
+            for name in ("run.events", "run.json"):
+                (self.room / name).unlink(missing_ok=True)
             with self.subTest(way=way, signals=numbers, place=place), self.start((way, 0, 0, place)) as started:
                 said = list(itertools.takewhile("waits\n".__ne__, started.stdout))
                 for it in numbers:
                     os.killpg(started.pid, it)
                 said.append(started.communicate(timeout=PATIENCE)[0])
                 self.expect(self.room, "".join(said), started.returncode, set(numbers), place)
-                for name in ("run.events", "run.json"):
-                    (self.room / name).unlink()
 
 
 class Sends(Listed):

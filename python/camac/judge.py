@@ -21,7 +21,7 @@ MESSAGE, PROPERTY = "%\r\n", "%\r\n:,"
 class Found(NamedTuple):
     """What was found in a file: `kind` is "refused", "warning", "fault", "written" (a heading or a loop that was changed), "proposed" (a change that
     helps) or "remaining" (what refuses it with all that is proposed). `line` and `code` are None if there is none. `explanation` has what `camac
-    explain` says of a refusal, by lines. `column` is that of its first token, or of a plan's key, in characters from 1."""
+    explain` says of a refusal, or why a warning is given, by lines. `column` is that of its first token, or of a plan's key, in characters from 1."""
 
     kind: str
     line: Optional[int]
@@ -110,7 +110,7 @@ def _judge_script(plan: TextFile, name: str, program: Optional[File], writes: bo
         script.text()
         accepted, warned = look(plan, script, program)
         services.extend(accepted)
-        return [Found("warning", it.line, it.code.value, it.text) for it in warned]
+        return [Found("warning", it.line, it.code.value, it.text, it.explanation()) for it in warned]
 
     files = [plan, script]
     found = (_faults(write, files, program) if writes else []) or _faults(judged, files, program)
@@ -141,7 +141,8 @@ def _faults(call: Callable[[], List[Found]], files: List[TextFile], program: Opt
         if its is None or its.refusal[:3] != (refusal.code, refusal.line, refusal.rule):
             return [Found("refused", refusal.line, refusal.code, refusal.rule)]
         line, column = _place_in_plan(files[0], its.sentence) if refusal.line is None else (refusal.line, its.column)
-        first = Found("refused", line, refusal.code, refusal.rule, its.lines, column)
+        text = f"{refusal.rule} ({SWAPPED})" if its.sentence.endswith(f"{SWAPPED}.") else refusal.rule
+        first = Found("refused", line, refusal.code, text, its.lines, column)
         return [first, *(Found("refused", it.line, it.code, it.rule, (), it.column) for it in its.also)]
     except UsageFault:
         raise
@@ -182,7 +183,9 @@ def status(judged: Sequence[Judged], is_strict: bool) -> int:
     return max(worst, REFUSED) if is_strict and any(found.kind == "warning" for it in judged for found in it.found) else worst
 
 
-NO_COSTS = "this program has no `costs` or no `response`, so W1, W2 and W3 are not looked for"
+# How an explanation ends of a script in the place of the plan, or a plan in that of the script.
+SWAPPED = "PLAN comes first, then SCRIPT"
+NO_COSTS = "this program has no `costs` or no `response`, so most warnings are not looked for"
 
 
 def note(program: Optional[File] = None) -> Optional[str]:

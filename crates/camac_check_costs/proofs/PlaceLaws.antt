@@ -14,6 +14,7 @@ use Rattle.camac_rules.specs.Known.{Facts, Known, with_range}
 use Rattle.camac_rules.specs.Loops.{Limits, with_fixed, for_limits, for_head, while_head}
 use Rattle.camac_rules.specs.Refusal.{go_on, if_reached}
 use Rattle.camac_rules.specs.Statements.{accept_statement, accept_block}
+use Rattle.camac_check_costs.specs.declared.turns.EachLoop.{EachLoop}
 use Rattle.camac_check_costs.specs.Places.{Place, place, HasPlace, BlockHasPlace, at_turn, IsTold, at_one, at_both, PlacesAreFound, TurnsAreTold, begins_at, holds, holds_at, each_inside, each_around, chosen_inside, are_chosen, told_of_both, left_by, over_turns, in_turns, place_inside, place_in_block}
 
 -- ---- what led to an answer
@@ -53,12 +54,12 @@ is_told : (P : Place → Type 0) (b : Bool) (told : Place) → Tells P b told �
 is_told P true told h = at_one told h
 is_told P false told h = h
 
-by_choice : (P : Place → Type 0) (b : Bool) (xs turns : List ℕ) (here p : Place) (f : Found) → P here → (f ≡ Ok (Some p) → Tells P (are_chosen xs turns) p)
+by_choice : (P : Place → Type 0) (b : Bool) (xs : List EachLoop) (turns : List ℕ) (here p : Place) (f : Found) → P here → (f ≡ Ok (Some p) → Tells P (are_chosen xs turns) p)
     → (if b then Ok (Some here) else f) ≡ Ok (Some p) → Tells P (are_chosen (if b then [] else xs) turns) p
 by_choice P true xs turns here p f h g e = subst P (same_place here p e) h
 by_choice P false xs turns here p f h g e = g e
 
-in_either : (P : Place → Type 0) (b : Bool) (first other : Found) (xs ys turns : List ℕ) (p : Place)
+in_either : (P : Place → Type 0) (b : Bool) (first other : Found) (xs ys : List EachLoop) (turns : List ℕ) (p : Place)
     → (first ≡ Ok (Some p) → Tells P (are_chosen xs turns) p) → (other ≡ Ok (Some p) → Tells P (are_chosen ys turns) p)
     → (if b then first else other) ≡ Ok (Some p) → Tells P (are_chosen (if b then xs else ys) turns) p
 in_either P true first other xs ys turns p h g e = h e
@@ -217,8 +218,8 @@ mutual
       let find : Facts → Found = λ t. place_in_block c around rest t n turns in
       let there : Place → Type 0 = There c around (next s rest) k in
       let here : Found = if begins_at n s then Ok (Some (place around s k)) else place_inside c around s k n turns in
-      let variables : List ℕ = if begins_at n s then [] else each_inside n s in
-      in_either there (holds_at n s) here (go_on (accept_statement c around s k) (λ v. if_reached None v.after find)) variables (each_around n rest) turns p
+      let loops : List EachLoop = if begins_at n s then [] else each_inside n s in
+      in_either there (holds_at n s) here (go_on (accept_statement c around s k) (λ v. if_reached None v.after find)) loops (each_around n rest) turns p
       (by_choice there (begins_at n s) (each_inside n s) turns (place around s k) p (place_inside c around s k n turns) (inl refl)
       (λ f. tells_more (Inside c around s k) there (λ q i. inr (inl i)) (are_chosen (each_inside n s) turns) p (inside c around s k n turns p f)))
       (λ g. let v = went_on (accept_statement c around s k) (λ w. if_reached None w.after find) p g in

@@ -1,5 +1,6 @@
 -- Where the checker comes while it judges a body, and the place of a statement by its spot.
 use Rattle.std.specs.Prelude.{◌≡◌, ◌⊎◌, ℕ, zero, suc, ◌+◌, ◌-◌, ◌<◌, Bool, true, false, ◌&&◌, ◌||◌, List, [], ◌∷◌, ◌++◌, Option, Some, None, Result, Ok, Err, nat_eq, nat_le, nat_lt, if◌then◌else◌}
+use Rattle.camac_lang.specs.declared.spot.Spot.{Spot}
 use Rattle.camac_lang.specs.Tree.{Statement, choose, choose_else, for_, for_each, while_, locked, Block, done, next, Script, spot_of}
 use Rattle.camac_range.specs.Interval.{Interval, only, IsWithin}
 use Rattle.camac_branch.specs.Plan.{Layout}
@@ -21,6 +22,7 @@ use Rattle.camac_rules.specs.Procedures.{at_entry}
 use Rattle.camac_rules.specs.Refusal.{◌>>=◌, if_reached}
 use Rattle.camac_rules.specs.Statements.{accept_statement, accept_block}
 use Rattle.camac_check_costs.specs.Bodies.{sections_of}
+use Rattle.camac_check_costs.specs.declared.turns.EachLoop.{EachLoop}
 
 -- a statement, what stands around it, and what is known where it begins
 pub record Place : Type 0 where
@@ -97,22 +99,27 @@ abbrev mutual
 abbrev pub holds_at : (left : ℕ) → Statement → Bool
 holds_at left s = begins_at left s || holds_inside left s
 
+-- where a block in this statement begins
+abbrev pub begin_of : Spot → Block → Spot
+begin_of spot done = spot
+begin_of spot (next s rest) = spot_of s
+
 abbrev mutual
-  -- the variables of the `each` loops around the statement, the outermost first
-  pub each_inside : (left : ℕ) → Statement → List ℕ
+  -- the `each` loops around the statement, the outermost first
+  pub each_inside : (left : ℕ) → Statement → List EachLoop
   each_inside left (choose spot test a) = each_around left a
   each_inside left (choose_else spot test a b) = if holds left a then each_around left a else each_around left b
   each_inside left (for_ spot x e1 e2 keeps body) = each_around left body
-  each_inside left (for_each spot x v last body) = x ∷ each_around left body
+  each_inside left (for_each spot x v last body) = record { variable = x; begin = begin_of spot body } ∷ each_around left body
   each_inside left (while_ spot test most x keeps body) = each_around left body
   each_inside left (locked spot e body) = each_around left body
   each_inside left s = []
 
-  pub each_around : (left : ℕ) → Block → List ℕ
+  pub each_around : (left : ℕ) → Block → List EachLoop
   each_around left done = []
   each_around left (next s rest) = if holds_at left s then (if begins_at left s then [] else each_inside left s) else each_around left rest
 
-abbrev pub each_at : (left : ℕ) → Statement → List ℕ
+abbrev pub each_at : (left : ℕ) → Statement → List EachLoop
 each_at left s = if begins_at left s then [] else each_inside left s
 
 -- Turns are chosen by the numbers that the variables have in them, of the outermost `each` around the statement first. Whether one is chosen of each of
@@ -121,9 +128,9 @@ abbrev pub chosen_inside : (List ℕ → Bool) → (turns : List ℕ) → Bool
 chosen_inside inside [] = false
 chosen_inside inside (value ∷ turns) = inside turns
 
-abbrev pub are_chosen : (variables turns : List ℕ) → Bool
+abbrev pub are_chosen : List EachLoop → (turns : List ℕ) → Bool
 are_chosen [] turns = true
-are_chosen (x ∷ xs) turns = chosen_inside (are_chosen xs) turns
+are_chosen (l ∷ ls) turns = chosen_inside (are_chosen ls) turns
 
 -- ---- what is told over turns
 

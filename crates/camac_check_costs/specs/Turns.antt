@@ -1,4 +1,4 @@
--- The last turn in which the checker comes to a statement. A statement that is refused is refused there.
+-- The last turn that the checker begins of each `each` loop around a statement. A statement that is refused is refused there.
 use Rattle.std.specs.Prelude.{ℕ, List, [], ◌∷◌, ◌++◌, codes, decimal, option_and_then, option_map, slice_get, unwrap_or, Option, Some, None, Result, Ok, Err, nat_eq, if◌then◌else◌}
 use Rattle.camac_branch.specs.Plan.{Layout}
 use Rattle.camac_lang.specs.Tree.{Text, Block, done, Parameter, Procedure, Service, Script}
@@ -8,6 +8,7 @@ use Rattle.camac_rules.specs.Capped.{capped}
 use Rattle.camac_rules.specs.Fault.{Fault}
 use Rattle.camac_rules.specs.Known.{range_at}
 use Rattle.camac_check_costs.specs.Places.{Place, each_around, place_with}
+use Rattle.camac_check_costs.specs.declared.turns.EachLoop.{EachLoop}
 
 abbrev Found : Type 0
 Found = Result (Option Place) Fault
@@ -27,7 +28,8 @@ abbrev pub variable_in : Script → Body → (variable : ℕ) → Option Text
 variable_in s (body.Procedure i) x = option_and_then (parameter_in x) (slice_get s.procedures i)
 variable_in s (body.Service l) x = slice_get s.variables x
 
--- the greatest number that a variable may have at a place: of the variable of an `each`, its number in the last turn that comes there
+-- The greatest number that a variable may have at a place. Where the block of an `each` begins, that is the number of its variable in the last turn:
+-- behind it a loop that writes the variable may make it greater.
 abbrev pub last_number : (variable : ℕ) → Found → Option ℕ
 last_number x (Ok (Some p)) = Some (range_at p.known.ranges x).hi
 last_number x (Ok None) = None
@@ -37,16 +39,16 @@ abbrev pub turn_text : (name : Option Text) → (number : ℕ) → (outer : List
 turn_text name number [] = unwrap_or name [] ++ codes " = " ++ decimal number
 turn_text name number (n ∷ ns) = codes ", " ++ unwrap_or name [] ++ codes " = " ++ decimal number
 
--- of each loop, from the one of these variables on, in the last turn of those around it
-abbrev pub turns_text : (find : List ℕ → Found) → (name : ℕ → Option Text) → (variables outer : List ℕ) → List ℕ
+-- of each of these loops, in the last turn of those around it
+abbrev pub turns_text : (find : (left : ℕ) → (turns : List ℕ) → Found) → (name : ℕ → Option Text) → List EachLoop → (outer : List ℕ) → List ℕ
 turns_text find name [] outer = []
-turns_text find name (x ∷ xs) outer =
-    unwrap_or (option_map (λ n. turn_text (name x) n outer ++ turns_text find name xs (outer ++ n ∷ [])) (last_number x (find outer))) []
+turns_text find name (l ∷ ls) outer =
+    unwrap_or (option_map (λ n. turn_text (name l.variable) n outer ++ turns_text find name ls (outer ++ n ∷ [])) (last_number l.variable (find l.begin.left outer))) []
 
-abbrev pub turn_of : Script → (left : ℕ) → (find : List ℕ → Found) → Found → List ℕ
+abbrev pub turn_of : Script → (left : ℕ) → (find : (left : ℕ) → (turns : List ℕ) → Found) → Found → List ℕ
 turn_of s left find (Ok (Some p)) = turns_text find (variable_in s p.around.body) (each_around left (block_of s p.around.body)) []
 turn_of s left find (Ok None) = []
 turn_of s left find (Err f) = []
 
 abbrev pub last_turn : Layout → Script → (left : ℕ) → List ℕ
-last_turn plan s left = turn_of s left (place_with capped plan s left) (place_with capped plan s left [])
+last_turn plan s left = turn_of s left (place_with capped plan s) (place_with capped plan s left [])

@@ -4,21 +4,25 @@ ghost use Rattle.camac_esone.specs.Laws.{StopTestGivesQStop, RepeatTestGivesQRep
 ghost use Rattle.camac_esone.specs.Bounds.{QStopIsBounded, QRepeatIsBounded, ScanIsBounded, ScanIsWithinAddresses};
 
 /// The test of Q-stop for one more cycle gives exactly the lists of Q-stop, and cut short their prefixes.
+#[tactic(auto, using(crate::proofs::QStopLists::q_stop_gives))]
 pub fn q_stop_test_gives_its_lists()
     ensures { StopTestGivesQStop }
 {}
 
 /// The test of Q-repeat for one more cycle gives exactly the lists of Q-repeat, and cut short their prefixes.
+#[tactic(auto, using(crate::proofs::QRepeatLists::q_repeat_gives))]
 pub fn q_repeat_test_gives_its_lists()
     ensures { RepeatTestGivesQRepeat }
 {}
 
 /// The test of the scan for one more cycle gives exactly the lists of Scan, and cut short their prefixes.
+#[tactic(auto, using(crate::proofs::ScanLists::scan_gives))]
 pub fn scan_test_gives_scan()
     ensures { ScanTestGivesScan }
 {}
 
 /// Whatever Q the replies have, a test for one more cycle drives cycles up to its end or as far as the replies go.
+#[tactic(auto, using(crate::proofs::Drives::any_replies_drive))]
 pub fn any_replies_drive()
     ensures { AnyRepliesDrive }
 {}

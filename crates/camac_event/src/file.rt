@@ -59,6 +59,7 @@ impl<'a> EventWords<'a> {
 }
 
 // The three low bytes of the number of four at a place.
+#[tactic(auto, using(crate::proofs::InPlace::low_bytes_of))]
 fn low_bytes(bytes: &[u8], at: usize) -> [u8; 3]
     requires { at + 4 ≤ length bytes.now }
     ensures { result ≡ big_bytes 3 (big_number 4 (drop at bytes.now)) }

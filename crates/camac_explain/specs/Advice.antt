@@ -14,8 +14,12 @@ use Rattle.camac_rules.specs.declared.case.Body.TheVariants.{Procedure}
 use Rattle.camac_rules.specs.declared.case.Case.TheVariants.{Direction, Operation, Turns, Judged, Budget, Width, Word}
 use Rattle.camac_rules.specs.declared.case.Numbers.{Numbers}
 use Rattle.camac_rules.specs.declared.case.Operator.TheVariants.{Sub}
-use Rattle.camac_lines.specs.Codes.{check_code, link_code, plan_code, text_code}
-use Rattle.camac_explain.specs.declared.pages.TheConstants.{ANY_RIGHT, ANY_SIDE, ANY_VALUE, ANY_WORD, DIFFERENCE, FEWER_CYCLES, FEWER_EACH, FEWER_STEPS, FEWER_WORDS, MORE_CYCLES, MORE_OF_PROCEDURE, MORE_STEPS, MORE_TURNS, MORE_WORDS, MOST_TURNS, MOVES_NONE, OF_CHECKER, OF_LINKS, OF_PLANS, OF_TEXTS, READS, RESULT, TWO_LOOPS, VALUE, WORD, WRITES}
+use Rattle.camac_lines.specs.Codes.{answer_code, check_code, event_code, link_code, plan_code, text_code}
+use Rattle.camac_answer.specs.declared.fault.AnswerRule.{AnswerRule}
+use Rattle.camac_event.specs.declared.fault.EventRule.{EventRule}
+use Rattle.camac_explain.specs.Warning.{warning_code}
+use Rattle.camac_explain.specs.declared.rule.Warning.{Warning}
+use Rattle.camac_explain.specs.declared.pages.TheConstants.{ANY_RIGHT, ANY_SIDE, ANY_VALUE, ANY_WORD, DIFFERENCE, FEWER_CYCLES, FEWER_EACH, FEWER_STEPS, FEWER_WORDS, MORE_CYCLES, MORE_OF_PROCEDURE, MORE_STEPS, MORE_TURNS, MORE_WORDS, MOST_TURNS, MOVES_NONE, OF_ANSWERS, OF_CHECKER, OF_EVENTS, OF_LINKS, OF_PLANS, OF_TEXTS, OF_WARNINGS, READS, RESULT, TWO_LOOPS, VALUE, WORD, WRITES}
 
 pub record Told : Type 0 where
   pub why : List ℕ
@@ -41,6 +45,15 @@ text_told rule = told_in OF_TEXTS (text_code rule).0
 
 unfoldable pub link_told : LinkRule → Told
 link_told rule = told_in OF_LINKS (link_code rule).0
+
+unfoldable pub answer_told : AnswerRule → Told
+answer_told rule = told_in OF_ANSWERS (answer_code rule).0
+
+unfoldable pub event_told : EventRule → Told
+event_told rule = told_in OF_EVENTS (event_code rule).0
+
+unfoldable pub warning_told : Warning → Told
+warning_told warning = told_in OF_WARNINGS (warning_code warning).0
 
 -- why a rule of the checker is there, and each way to mend what breaks it: what that is for, and what to do
 pub record Page : Type 0 where

@@ -3,5 +3,6 @@ pub mod Finding
 pub mod Source
 pub mod Explanation
 pub mod Rule
+pub mod Warning
 pub mod Sentence
 pub mod Names

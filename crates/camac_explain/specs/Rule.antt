@@ -1,40 +1,27 @@
 -- What is said of a rule without a case: its code and meaning, why it is there, each way to fix it, and an example.
-use Rattle.std.specs.Prelude.{◌≡◌, ℕ, Bool, true, false, List, ◌++◌, Option, Some, None, codes}
+use Rattle.std.specs.Prelude.{◌≡◌, ℕ, true, false, List, ◌++◌, Option, Some, None, codes}
 use Rattle.std.specs.List.{flat_map}
-use Rattle.camac_rules.specs.declared.rule.CheckRule.{CheckRule}
-use Rattle.camac_rules.specs.declared.rule.CheckRule.TheVariants as check
-use Rattle.camac_lines.specs.Codes.{plan_code, text_code, link_code, check_code}
-use Rattle.camac_explain.specs.Advice.{check_page, link_told, plan_told, text_told}
+use Rattle.std.specs.Str.{str_eq_ignore_ascii_case}
+use Rattle.camac_lines.specs.Codes.{plan_code, text_code, link_code, check_code, answer_code, event_code}
+use Rattle.camac_explain.specs.Advice.{answer_told, check_page, event_told, link_told, plan_told, text_told, warning_told}
 use Rattle.camac_explain.specs.Explanation.{line_of}
+use Rattle.camac_explain.specs.Warning.{warning_code}
 use Rattle.camac_explain.specs.declared.rule.Rule.{Rule}
-use Rattle.camac_explain.specs.declared.rule.Rule.TheVariants.{Plan, Text, Link, Check}
+use Rattle.camac_explain.specs.declared.rule.Rule.TheVariants.{Plan, Text, Link, Check, Answer, Event, Warning}
 
 abbrev pub rule_code : Rule → List ℕ × List ℕ
 rule_code (Plan rule) = plan_code rule
 rule_code (Text rule) = text_code rule
 rule_code (Link rule) = link_code rule
 rule_code (Check rule) = check_code rule
+rule_code (Answer rule) = answer_code rule
+rule_code (Event rule) = event_code rule
+rule_code (Warning warning) = warning_code warning
 
--- the rule of these that has this code, or none has it
+-- the rule of these that has this code, in either case, or none has it
 abbrev pub Names : {R : Type 0} → (R → List ℕ × List ℕ) → List ℕ → Option R → Type 0
-Names code_of code (Some rule) = (code_of rule).0 ≡ code
-Names {R} code_of code None = (rule : R) → (code_of rule).0 ≡ code → ⊥
-
--- no rule from E11 on has this code
-abbrev pub is_late : CheckRule → Bool
-is_late check.TooManyWords = true
-is_late check.TooManyCycles = true
-is_late check.ScanCratesDiffer = true
-is_late check.CountAboveTable = true
-is_late check.CrateUnfit = true
-is_late check.WordTooWide = true
-is_late check.LoopVariableAssigned = true
-is_late check.TooManySteps = true
-is_late check.ArgumentOutOfRange = true
-is_late rule = false
-
-abbrev pub IsEarly : List ℕ → Type 0
-IsEarly code = (rule : CheckRule) → is_late rule ≡ true → (check_code rule).0 ≡ code → ⊥
+Names code_of code (Some rule) = str_eq_ignore_ascii_case (code_of rule).0 code ≡ true
+Names {R} code_of code None = (rule : R) → str_eq_ignore_ascii_case (code_of rule).0 code ≡ false
 
 abbrev pub IsRuleOf : List ℕ → Option Rule → Type 0
 IsRuleOf code found = Names rule_code code found
@@ -44,6 +31,9 @@ why_of (Plan rule) = (plan_told rule).why
 why_of (Text rule) = (text_told rule).why
 why_of (Link rule) = (link_told rule).why
 why_of (Check rule) = (check_page rule).why
+why_of (Answer rule) = (answer_told rule).why
+why_of (Event rule) = (event_told rule).why
+why_of (Warning warning) = (warning_told warning).why
 
 -- a way to mend, behind what it is for
 abbrev pub fix_line : List ℕ × List ℕ → List ℕ
@@ -54,6 +44,9 @@ fixes_of (Plan rule) = line_of (codes "Fix: ") (plan_told rule).fix
 fixes_of (Text rule) = line_of (codes "Fix: ") (text_told rule).fix
 fixes_of (Link rule) = line_of (codes "Fix: ") (link_told rule).fix
 fixes_of (Check rule) = flat_map fix_line (check_page rule).fixes
+fixes_of (Answer rule) = line_of (codes "Fix: ") (answer_told rule).fix
+fixes_of (Event rule) = line_of (codes "Fix: ") (event_told rule).fix
+fixes_of (Warning warning) = line_of (codes "Fix: ") (warning_told warning).fix
 
 -- something was put at the end
 abbrev pub Grows : (old new : List ℕ) → Type 0

@@ -1,9 +1,12 @@
 // Why each rule is there, and what to do where it is broken.
 
 ghost use Rattle.std.specs.Prelude.{◌≡◌, map};
-ghost use Rattle.camac_explain.specs.Advice.{check_fix, check_page, check_told, has_room, is_any, is_difference, is_forgotten, is_of_procedure, is_right_forgotten, is_side_forgotten, is_within, link_told, plan_told, text_told};
+ghost use Rattle.camac_explain.specs.Advice.{answer_told, check_fix, check_page, check_told, event_told, has_room, is_any, is_difference, is_forgotten, is_of_procedure, is_right_forgotten, is_side_forgotten, is_within, link_told, plan_told, text_told, warning_told};
 
 use crate::pages::{self, Fix};
+use crate::rule::Warning;
+use camac_answer::AnswerRule;
+use camac_event::EventRule;
 use camac_func::FunctionClass;
 use camac_lang::limits;
 use camac_names::LinkRule;
@@ -50,6 +53,36 @@ pub fn link_advice(rule: LinkRule) -> Advice
     ensures fix { result.fix.now ≡ (link_told rule).fix }
 {
     let (_, why, fix) = pages::OF_LINKS[rule as usize];
+    Advice { why, fix }
+}
+
+/// What is told of a rule of answers.
+#[tactic(auto, unfolding(crate::specs::Advice::answer_told))]
+pub fn answer_advice(rule: AnswerRule) -> Advice
+    ensures why { result.why.now ≡ (answer_told rule).why }
+    ensures fix { result.fix.now ≡ (answer_told rule).fix }
+{
+    let (_, why, fix) = pages::OF_ANSWERS[rule as usize];
+    Advice { why, fix }
+}
+
+/// What is told of a rule of event files.
+#[tactic(auto, unfolding(crate::specs::Advice::event_told))]
+pub fn event_advice(rule: EventRule) -> Advice
+    ensures why { result.why.now ≡ (event_told rule).why }
+    ensures fix { result.fix.now ≡ (event_told rule).fix }
+{
+    let (_, why, fix) = pages::OF_EVENTS[rule as usize];
+    Advice { why, fix }
+}
+
+/// What is told of a warning.
+#[tactic(auto, unfolding(crate::specs::Advice::warning_told))]
+pub fn warning_advice(warning: Warning) -> Advice
+    ensures why { result.why.now ≡ (warning_told warning).why }
+    ensures fix { result.fix.now ≡ (warning_told warning).fix }
+{
+    let (_, why, fix) = pages::OF_WARNINGS[warning as usize];
     Advice { why, fix }
 }
 

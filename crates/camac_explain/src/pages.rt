@@ -126,6 +126,140 @@ pub static OF_LINKS: [Row; 4] = [
     ),
 ];
 
+/// The rules of answers.
+pub static OF_ANSWERS: [Row; 3] = [
+    (
+        "A1",
+        "an answer is a line of 19 bytes, `x q word wait gl`, as `1 1 123fff 0 000004`.",
+        "write one digit for `x`, `q` and `wait`, six for `word` and `gl`, and one space between two fields; no comma, tab, comment or empty line, and no CR (`tr -d '\\r'`).",
+    ),
+    (
+        "A2",
+        "`x` and `q` are 0 or 1, and the digits of the other fields hexadecimal.",
+        "correct the digit; write no `0x`.",
+    ),
+    (
+        "A4",
+        "a run takes at most 1000000 answers, a live run 4294967295.",
+        "play several runs.",
+    ),
+];
+
+const KEEP: &str = "keep the records before it, as docs/RUNNING.md says.";
+
+/// The rules of event files.
+pub static OF_EVENTS: [Row; 8] = [
+    (
+        "V1",
+        "an event file begins with `CAMACEV1` or `CAMACEV2`.",
+        "name the EVENTS of a run; one is empty where the disk had no room.",
+    ),
+    (
+        "V2",
+        "a record begins with the bytes ca 4d; bytes are lost, or the count of the record before is wrong.",
+        KEEP,
+    ),
+    ("V3", "the bit of a look-at-me is 1 to 24.", KEEP),
+    (
+        "V4",
+        "events are numbered 1, 2, 3 and so on.",
+        "take joined files apart, or keep the records before it, as docs/RUNNING.md says.",
+    ),
+    ("V5", "an event has at most 4096 words.", KEEP),
+    ("V6", "a word has 24 bits, the highest byte first.", KEEP),
+    ("V7", "the file ends inside a record.", KEEP),
+    ("V9", "a service misses no more cycles than it makes.", KEEP),
+];
+
+/// What accepted scripts are warned of.
+pub static OF_WARNINGS: [Row; 17] = [
+    (
+        "W1",
+        "this loop makes no turn, whatever the modules answer; the checker accepts even a wrong command in it.",
+        "correct the ends of the loop, or remove it.",
+    ),
+    (
+        "W2",
+        "the first address of this `cfmad` is after its last one, or its `max` is 0.",
+        "exchange the two registers, or write a larger `max`.",
+    ),
+    (
+        "W3",
+        "a service may end without a clear, so most modules would call for ever; or one may clear or hide the look-at-me of another.",
+        "write `cclc NAME` at the end of the service, and leave it to the service of NAME alone.",
+    ),
+    (
+        "W4",
+        "a loop keeps a variable in a range, and the script is also accepted without it.",
+        "remove this bound; each was left out alone.",
+    ),
+    (
+        "W5",
+        "a run of this script makes no cycle; if its lines end with CR alone, a first comment takes them all.",
+        "write a service, or save the file with LF.",
+    ),
+    (
+        "W6",
+        "a service of more than 10 cycles on a lower bit goes before this one each time that both modules call.",
+        "give the module that has to be answered soon the lower bit, in the wiring and in the plan; docs/RESPONSE.md has more.",
+    ),
+    (
+        "W7",
+        "all turns of this `for` pay for what a few do.",
+        "write `each` before the block.",
+    ),
+    (
+        "W8",
+        "a loop keeps a variable in a range, and a smaller one is accepted, too; one that is too wide may refuse what you write later.",
+        "write the range that the warning names.",
+    ),
+    (
+        "W9",
+        "neither the word nor Q or X of its cycle is used on any way; nothing is said of a cycle that may be there to clear, as each F2.",
+        "use the word, or leave out the cycle.",
+    ),
+    (
+        "W10",
+        "no answer of a module changes what is put here.",
+        "set the variable before, correct the expression, or put the number itself.",
+    ),
+    (
+        "W11",
+        "each service begins with all variables 0.",
+        "set the variable first; a register of a module keeps what has to last.",
+    ),
+    (
+        "W12",
+        "one function is sent by both: to a channel twice, and maybe never to another.",
+        "correct an address, or use one register.",
+    ),
+    (
+        "W13",
+        "`q` and `x` are 0 until the service makes a cycle.",
+        "make the cycle first.",
+    ),
+    (
+        "W14",
+        "another name may stand where this one is meant.",
+        "use it, or remove it.",
+    ),
+    (
+        "W15",
+        "such a number is octal in other languages; here all are decimal.",
+        "write the number that you mean, without the 0.",
+    ),
+    (
+        "W16",
+        "so say the ranges that are known before it, whatever the modules answer.",
+        "correct the condition, or remove what it leaves out.",
+    ),
+    (
+        "W17",
+        "in all its turns the loop may add more to the sum than this condition lets in.",
+        "make fewer turns, widen the bound, or say in an `else` what is done then.",
+    ),
+];
+
 pub const READS: Fix = (
     ", a function that reads",
     "with a function that reads, write `-> v` after the register of `cfsa` or `cssa`, and name no `table` in `cfubc` or `cfubr`.",

@@ -1,14 +1,20 @@
 // The rules by their codes, and what is said of each without a case.
 
-ghost use Rattle.std.specs.Prelude.{◌≡◌, ◌++◌, ◌↔◌, IfNone, IfOk, IfSome, IsTrue, OnOk, codes, map};
+ghost use Rattle.std.specs.Prelude.{◌≡◌, ◌++◌, IfOk, OnOk, codes, map};
 ghost use Rattle.std.specs.List.{flat_map};
+ghost use Rattle.std.specs.Str.{str_eq_ignore_ascii_case};
 ghost use Rattle.camac_explain.specs.Explanation.{line_of};
-ghost use Rattle.camac_explain.specs.Rule.{Grows, IsEarly, IsRuleOf, IsRuleText, Names, fix_line, fixes_of, rule_code, why_of};
-ghost use Rattle.camac_lines.specs.Codes.{check_code, link_code, plan_code, text_code};
+ghost use Rattle.camac_explain.specs.Rule.{Grows, IsRuleOf, IsRuleText, Names, fix_line, fixes_of, rule_code, why_of};
+ghost use Rattle.camac_explain.specs.Warning.{warning_code};
+ghost use Rattle.camac_lines.specs.Codes.{answer_code, check_code, event_code, link_code, plan_code, text_code};
 
-use crate::advice::{check_page, link_advice, plan_advice, text_advice};
-use crate::example::{Example, check_example, link_example, plan_example, text_example};
+use crate::advice::{
+    answer_advice, check_page, event_advice, link_advice, plan_advice, text_advice, warning_advice,
+};
+use crate::example::{check_example, link_example, plan_example, text_example};
 use crate::pages::Fix;
+use camac_answer::AnswerRule;
+use camac_event::{EventFlaw, EventRule};
 use camac_lines::{Code, Refusal};
 use camac_names::LinkRule;
 use camac_plan::PlanRule;
@@ -16,17 +22,42 @@ use camac_rules::CheckRule;
 use camac_text::TextRule;
 use std::alloc::{AllocError, Global};
 
-/// A rule of plans, of a script's text, of linking or of the checker.
+/// A rule of plans, of a script's text, of linking, of the checker, of answers or of event files, or a warning.
 #[derive(Clone, Copy, Debug, PartialEq, Eq)]
 pub enum Rule {
     Plan(PlanRule),
     Text(TextRule),
     Link(LinkRule),
     Check(CheckRule),
+    Answer(AnswerRule),
+    Event(EventRule),
+    Warning(Warning),
+}
+
+/// What `camac-check` warns of in an accepted script.
+#[derive(Clone, Copy, Debug, PartialEq, Eq)]
+pub enum Warning {
+    NeverReached,
+    ScanWithoutCycle,
+    NoNumber,
+    KeepNotNeeded,
+    NoService,
+    LongerFirst,
+    DearLoop,
+    KeepTooWide,
+    WordNotUsed,
+    OneNumber,
+    UsedBeforeSet,
+    OneAddressTwice,
+    FlagBeforeCycle,
+    NameNotUsed,
+    LeadingZero,
+    AlwaysTrueOrFalse,
+    GuardLeavesOut,
 }
 
 impl Rule {
-    /// The rule of a code: P1 to P9, P11, S1 to S7, L1 to L4, E1 to E18 or E21.
+    /// The rule of a code in either case, as E12 or w3.
     pub fn of_code(code: &str) -> Option<Rule>
         ensures { IsRuleOf code.now result }
     {
@@ -39,8 +70,17 @@ impl Rule {
         if let Some(rule) = link_rule(code) {
             return Some(Rule::Link(rule));
         }
-        match check_rule(code) {
-            Some(rule) => Some(Rule::Check(rule)),
+        if let Some(rule) = check_rule(code) {
+            return Some(Rule::Check(rule));
+        }
+        if let Some(rule) = answer_rule(code) {
+            return Some(Rule::Answer(rule));
+        }
+        if let Some(rule) = event_rule(code) {
+            return Some(Rule::Event(rule));
+        }
+        match warning_of(code) {
+            Some(rule) => Some(Rule::Warning(rule)),
             None => None,
         }
     }
@@ -56,140 +96,172 @@ impl Rule {
             Rule::Text(rule) => Refusal::Text { rule, line },
             Rule::Link(rule) => Refusal::Link { rule, line },
             Rule::Check(rule) => Refusal::Check { rule, line },
+            Rule::Answer(rule) => Refusal::Answer { rule, line: 1 },
+            Rule::Event(rule) => Refusal::Event(EventFlaw { rule, offset: 0 }),
+            Rule::Warning(warning) => return warning_code(warning),
         };
         refusal.code()
     }
 }
 
-fn is_code(word: &str, code: &str) -> bool
-    ensures { IsTrue result ↔ (word.now ≡ code.now) }
+fn warning_code(warning: Warning) -> Code
+    ensures name { result.name.now ≡ (warning_code warning).0 }
+    ensures meaning { result.meaning.now ≡ (warning_code warning).1 }
 {
-    word == code
+    let (name, meaning) = match warning {
+        Warning::NeverReached => ("W1", "never reached"),
+        Warning::ScanWithoutCycle => ("W2", "a scan without a cycle"),
+        Warning::NoNumber => ("W3", "no number for look-at-mes"),
+        Warning::KeepNotNeeded => ("W4", "a kept bound that is not needed"),
+        Warning::NoService => ("W5", "no service"),
+        Warning::LongerFirst => ("W6", "a longer service goes first"),
+        Warning::DearLoop => ("W7", "a loop that costs less turn by turn"),
+        Warning::KeepTooWide => ("W8", "a kept bound that is wider than it has to be"),
+        Warning::WordNotUsed => ("W9", "a word that is read and never used"),
+        Warning::OneNumber => ("W10", "a word that is always one number"),
+        Warning::UsedBeforeSet => ("W11", "used before it is set"),
+        Warning::OneAddressTwice => ("W12", "two registers of one address"),
+        Warning::FlagBeforeCycle => ("W13", "a flag before any cycle"),
+        Warning::NameNotUsed => ("W14", "a name that is never used"),
+        Warning::LeadingZero => ("W15", "a 0 before a number"),
+        Warning::AlwaysTrueOrFalse => ("W16", "a condition that is always true or always false"),
+        Warning::GuardLeavesOut => ("W17", "a guard that leaves something out"),
+    };
+    Code { name, meaning }
+}
+
+// The first of these rules whose name this code is.
+macro_rules! rule_of {
+    ($code:ident,) => { None };
+    ($code:ident, $name:literal => $rule:path, $($rest:tt)*) => {
+        if is_code($name, $code) { Some($rule) } else { rule_of!($code, $($rest)*) }
+    };
+}
+
+fn is_code(name: &str, code: &str) -> bool
+    ensures { result ≡ str_eq_ignore_ascii_case name.now code.now }
+{
+    name.eq_ignore_ascii_case(code)
 }
 
 fn plan_rule(code: &str) -> Option<PlanRule>
     ensures { Names plan_code code.now result }
 {
-    if is_code(code, "P1") {
-        Some(PlanRule::NotToml)
-    } else if is_code(code, "P2") {
-        Some(PlanRule::UnknownKey)
-    } else if is_code(code, "P3") {
-        Some(PlanRule::MissingOrWrongKind)
-    } else if is_code(code, "P4") {
-        Some(PlanRule::OutOfRange)
-    } else if is_code(code, "P5") {
-        Some(PlanRule::CrateTwice)
-    } else if is_code(code, "P6") {
-        Some(PlanRule::StationTwice)
-    } else if is_code(code, "P7") {
-        Some(PlanRule::UnknownType)
-    } else if is_code(code, "P8") {
-        Some(PlanRule::DeclaredTwice)
-    } else if is_code(code, "P9") {
-        Some(PlanRule::BitTwice)
-    } else if is_code(code, "P11") {
-        Some(PlanRule::TooDeep)
-    } else {
-        None
-    }
+    rule_of!(code,
+        "P1" => PlanRule::NotToml,
+        "P2" => PlanRule::UnknownKey,
+        "P3" => PlanRule::MissingOrWrongKind,
+        "P4" => PlanRule::OutOfRange,
+        "P5" => PlanRule::CrateTwice,
+        "P6" => PlanRule::StationTwice,
+        "P7" => PlanRule::UnknownType,
+        "P8" => PlanRule::DeclaredTwice,
+        "P9" => PlanRule::BitTwice,
+        "P11" => PlanRule::TooDeep,
+    )
 }
 
 fn text_rule(code: &str) -> Option<TextRule>
     ensures { Names text_code code.now result }
 {
-    if is_code(code, "S1") {
-        Some(TextRule::BadByte)
-    } else if is_code(code, "S2") {
-        Some(TextRule::UnexpectedToken)
-    } else if is_code(code, "S3") {
-        Some(TextRule::NumberTooLarge)
-    } else if is_code(code, "S4") {
-        Some(TextRule::DeclaredTwice)
-    } else if is_code(code, "S5") {
-        Some(TextRule::NotDeclared)
-    } else if is_code(code, "S6") {
-        Some(TextRule::LimitPassed)
-    } else if is_code(code, "S7") {
-        Some(TextRule::BranchNotOne)
-    } else {
-        None
-    }
+    rule_of!(code,
+        "S1" => TextRule::BadByte,
+        "S2" => TextRule::UnexpectedToken,
+        "S3" => TextRule::NumberTooLarge,
+        "S4" => TextRule::DeclaredTwice,
+        "S5" => TextRule::NotDeclared,
+        "S6" => TextRule::LimitPassed,
+        "S7" => TextRule::BranchNotOne,
+    )
 }
 
 fn link_rule(code: &str) -> Option<LinkRule>
     ensures { Names link_code code.now result }
 {
-    if is_code(code, "L1") {
-        Some(LinkRule::LamNotInstalled)
-    } else if is_code(code, "L2") {
-        Some(LinkRule::StationWithoutBit)
-    } else if is_code(code, "L3") {
-        Some(LinkRule::StationServedTwice)
-    } else if is_code(code, "L4") {
-        Some(LinkRule::EventAboveBuffer)
-    } else {
-        None
-    }
+    rule_of!(code,
+        "L1" => LinkRule::LamNotInstalled,
+        "L2" => LinkRule::StationWithoutBit,
+        "L3" => LinkRule::StationServedTwice,
+        "L4" => LinkRule::EventAboveBuffer,
+    )
 }
 
 fn check_rule(code: &str) -> Option<CheckRule>
     ensures { Names check_code code.now result }
 {
-    if is_code(code, "E1") {
-        Some(CheckRule::StationNotInstalled)
-    } else if is_code(code, "E2") {
-        Some(CheckRule::CommandNotDeclared)
-    } else if is_code(code, "E3") {
-        Some(CheckRule::WrongDirection)
-    } else if is_code(code, "E4") {
-        Some(CheckRule::ValueOutOfRange)
-    } else if is_code(code, "E5") {
-        Some(CheckRule::ValueTooWide)
-    } else if is_code(code, "E6") {
-        Some(CheckRule::RegisterUnset)
-    } else if is_code(code, "E7") {
-        Some(CheckRule::MeasureBroken)
-    } else if is_code(code, "E8") {
-        Some(CheckRule::KeepFailsAtEntry)
-    } else if is_code(code, "E9") {
-        Some(CheckRule::KeepFailsAfterTurn)
-    } else if is_code(code, "E10") {
-        Some(CheckRule::TooManyTurns)
-    } else {
-        later_rule(code)
-    }
+    rule_of!(code,
+        "E1" => CheckRule::StationNotInstalled,
+        "E2" => CheckRule::CommandNotDeclared,
+        "E3" => CheckRule::WrongDirection,
+        "E4" => CheckRule::ValueOutOfRange,
+        "E5" => CheckRule::ValueTooWide,
+        "E6" => CheckRule::RegisterUnset,
+        "E7" => CheckRule::MeasureBroken,
+        "E8" => CheckRule::KeepFailsAtEntry,
+        "E9" => CheckRule::KeepFailsAfterTurn,
+        "E10" => CheckRule::TooManyTurns,
+        "E11" => CheckRule::TooManyWords,
+        "E12" => CheckRule::TooManyCycles,
+        "E13" => CheckRule::ScanCratesDiffer,
+        "E14" => CheckRule::CountAboveTable,
+        "E15" => CheckRule::CrateUnfit,
+        "E16" => CheckRule::WordTooWide,
+        "E17" => CheckRule::LoopVariableAssigned,
+        "E18" => CheckRule::TooManySteps,
+        "E21" => CheckRule::ArgumentOutOfRange,
+    )
 }
 
-// E11 to E18, and E21.
-fn later_rule(code: &str) -> Option<CheckRule>
-    ensures some { IfSome result (λ r. (check_code r).0 ≡ code.now) }
-    ensures none { IfNone result (IsEarly code.now) }
+fn answer_rule(code: &str) -> Option<AnswerRule>
+    ensures { Names answer_code code.now result }
 {
-    if is_code(code, "E11") {
-        Some(CheckRule::TooManyWords)
-    } else if is_code(code, "E12") {
-        Some(CheckRule::TooManyCycles)
-    } else if is_code(code, "E13") {
-        Some(CheckRule::ScanCratesDiffer)
-    } else if is_code(code, "E14") {
-        Some(CheckRule::CountAboveTable)
-    } else if is_code(code, "E15") {
-        Some(CheckRule::CrateUnfit)
-    } else if is_code(code, "E16") {
-        Some(CheckRule::WordTooWide)
-    } else if is_code(code, "E17") {
-        Some(CheckRule::LoopVariableAssigned)
-    } else if is_code(code, "E18") {
-        Some(CheckRule::TooManySteps)
-    } else if is_code(code, "E21") {
-        Some(CheckRule::ArgumentOutOfRange)
-    } else {
-        None
-    }
+    rule_of!(code,
+        "A1" => AnswerRule::LineShape,
+        "A2" => AnswerRule::BadDigit,
+        "A4" => AnswerRule::TooMany,
+    )
 }
 
-/// Explains a rule without a case: its code and meaning, why it is there, each way to fix it, and an example.
+fn event_rule(code: &str) -> Option<EventRule>
+    ensures { Names event_code code.now result }
+{
+    rule_of!(code,
+        "V1" => EventRule::WrongHeader,
+        "V2" => EventRule::WrongMarker,
+        "V3" => EventRule::GlOutOfRange,
+        "V4" => EventRule::NumberOutOfOrder,
+        "V5" => EventRule::CountAboveLimit,
+        "V6" => EventRule::WordTooWide,
+        "V7" => EventRule::Truncated,
+        "V9" => EventRule::MissedAboveCycles,
+    )
+}
+
+fn warning_of(code: &str) -> Option<Warning>
+    ensures { Names warning_code code.now result }
+{
+    rule_of!(code,
+        "W1" => Warning::NeverReached,
+        "W2" => Warning::ScanWithoutCycle,
+        "W3" => Warning::NoNumber,
+        "W4" => Warning::KeepNotNeeded,
+        "W5" => Warning::NoService,
+        "W6" => Warning::LongerFirst,
+        "W7" => Warning::DearLoop,
+        "W8" => Warning::KeepTooWide,
+        "W9" => Warning::WordNotUsed,
+        "W10" => Warning::OneNumber,
+        "W11" => Warning::UsedBeforeSet,
+        "W12" => Warning::OneAddressTwice,
+        "W13" => Warning::FlagBeforeCycle,
+        "W14" => Warning::NameNotUsed,
+        "W15" => Warning::LeadingZero,
+        "W16" => Warning::AlwaysTrueOrFalse,
+        "W17" => Warning::GuardLeavesOut,
+    )
+}
+
+/// Explains a rule without a case: its code and meaning, why it is there, each way to fix it, and of plans and scripts an example.
 pub fn explain_rule(alloc: Global, rule: Rule) -> Result<Vec<u8>, AllocError>
     ensures { IfOk result (λ v. IsRuleText rule v.items) }
 {
@@ -198,7 +270,7 @@ pub fn explain_rule(alloc: Global, rule: Rule) -> Result<Vec<u8>, AllocError>
     push_line(&mut lines, code.name, ": ", code.meaning)?;
     push_line(&mut lines, "Why", ": ", why_of(rule))?;
     push_fixes(&mut lines, rule)?;
-    push_example(&mut lines, example_of(rule))?;
+    push_example(&mut lines, rule)?;
     push_line(&mut lines, "More", ": docs/REFUSALS.md, ", code.name)?;
     Ok(lines)
 }
@@ -221,6 +293,9 @@ fn why_of(rule: Rule) -> &'static str
         Rule::Text(rule) => text_advice(rule).why,
         Rule::Link(rule) => link_advice(rule).why,
         Rule::Check(rule) => check_page(rule).0,
+        Rule::Answer(rule) => answer_advice(rule).why,
+        Rule::Event(rule) => event_advice(rule).why,
+        Rule::Warning(warning) => warning_advice(warning).why,
     }
 }
 
@@ -232,6 +307,9 @@ fn push_fixes(lines: &mut Vec<u8>, rule: Rule) -> Result<(), AllocError>
         Rule::Text(rule) => push_line(lines, "Fix", ": ", text_advice(rule).fix),
         Rule::Link(rule) => push_line(lines, "Fix", ": ", link_advice(rule).fix),
         Rule::Check(rule) => push_each(lines, check_page(rule).1),
+        Rule::Answer(rule) => push_line(lines, "Fix", ": ", answer_advice(rule).fix),
+        Rule::Event(rule) => push_line(lines, "Fix", ": ", event_advice(rule).fix),
+        Rule::Warning(warning) => push_line(lines, "Fix", ": ", warning_advice(warning).fix),
     }
 }
 
@@ -246,18 +324,17 @@ fn push_each(lines: &mut Vec<u8>, fixes: &[Fix]) -> Result<(), AllocError>
     Ok(())
 }
 
-fn example_of(rule: Rule) -> Example {
-    match rule {
+// Of a rule for plans and scripts there is one.
+fn push_example(lines: &mut Vec<u8>, rule: Rule) -> Result<(), AllocError>
+    ensures { OnOk result (Grows lines.old.items lines.new.items) }
+{
+    let example = match rule {
         Rule::Plan(rule) => plan_example(rule),
         Rule::Text(rule) => text_example(rule),
         Rule::Link(rule) => link_example(rule),
         Rule::Check(rule) => check_example(rule),
-    }
-}
-
-fn push_example(lines: &mut Vec<u8>, example: Example) -> Result<(), AllocError>
-    ensures { OnOk result (Grows lines.old.items lines.new.items) }
-{
+        Rule::Answer(_) | Rule::Event(_) | Rule::Warning(_) => return Ok(()),
+    };
     lines.extend_from_slice(example.head.as_bytes())?;
     lines.push(b'\n')?;
     lines.extend_from_slice(example.text.as_bytes())?;

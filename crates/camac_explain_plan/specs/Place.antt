@@ -1,7 +1,7 @@
 -- A place in the text of a plan, and what is to be known of a text that is no TOML.
-use Rattle.std.specs.Prelude.{ℕ, ◌+◌, ◌-◌, Bool, true, false, ◌&&◌, ◌||◌, ◌==◌, not, List, [], ◌∷◌, ◌++◌, Option, Some, None, codes, count_by, decimal, drop, length, nat_le, nat_lt, take, take_while, if◌then◌else◌}
+use Rattle.std.specs.Prelude.{ℕ, ◌+◌, ◌-◌, Bool, true, false, ◌&&◌, ◌||◌, ◌==◌, not, List, [], ◌∷◌, ◌++◌, Option, Some, None, codes, count_by, decimal, drop, length, nat_eq, nat_le, nat_lt, take, take_while, if◌then◌else◌}
 use Rattle.std.specs.Char.{is_ascii_alphanumeric, is_ascii_whitespace}
-use Rattle.std.specs.List.{concat}
+use Rattle.std.specs.List.{concat, starts_with}
 use Rattle.std.specs.Str.{bytes_eq}
 
 abbrev pub is_line_feed : ℕ → Bool
@@ -58,9 +58,30 @@ is_table_heading text at = nat_lt at (length text) && is_single_bracket (drop (l
 abbrev pub double_brackets : List ℕ
 double_brackets = codes " Write crates, stations and types in double brackets: `[[crate]]`, `[[crate.station]]`, `[[type]]`."
 
+abbrev pub range_hint : List ℕ
+range_hint = codes " A range is written as `a = 0, to = 11`."
+
+-- a curly quote in UTF-8
+abbrev pub begins_quote : List ℕ → Bool
+begins_quote (a ∷ b ∷ c ∷ rest) = (a == 226) && (b == 128) && nat_le 152 c && nat_le c 157
+begins_quote _ = false
+
+-- two points behind one digit or two
+abbrev pub begins_range : List ℕ → Bool
+begins_range (a ∷ b ∷ c ∷ d ∷ rest) = (c == 46) && ((b == 46) || (d == 46))
+begins_range _ = false
+
+-- by what stands where a text stops
+abbrev pub hint_at : (rest : List ℕ) → List ℕ
+hint_at rest =
+    if starts_with nat_eq rest (codes ":") then codes " Write `=` between a key and its value."
+    else if begins_quote rest then codes " Curly quotes are none: write `\"`."
+    else if begins_range rest then range_hint
+    else []
+
 -- behind a sentence
 abbrev pub hint_of_text : (text : List ℕ) → (at : ℕ) → List ℕ
 hint_of_text text at =
     if begins_like_a_script text then codes " This begins like a script: PLAN comes first, then SCRIPT."
     else if is_table_heading text at then double_brackets
-    else []
+    else hint_at (drop at text)

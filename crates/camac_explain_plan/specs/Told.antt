@@ -13,7 +13,7 @@ use Rattle.camac_plan.specs.declared.fault.ValueKind.TheVariants.{Number, Flag, 
 use Rattle.camac_plan.specs.declared.key.PlanKey.{PlanKey}
 use Rattle.camac_plan.specs.declared.key.PlanKey.TheVariants as key
 use Rattle.camac_explain_plan.specs.Path.{nth, way_to_first}
-use Rattle.camac_explain_plan.specs.Place.{double_brackets}
+use Rattle.camac_explain_plan.specs.Place.{double_brackets, range_hint}
 
 abbrev pub needed : ValueKind → List ℕ
 needed (Number low high) = codes "a whole number from " ++ decimal low ++ codes " to " ++ decimal high
@@ -35,11 +35,19 @@ kind_text value wanted hint = codes "the value is of the kind " ++ (kind_name va
 
 -- how to write what belongs at a key
 abbrev pub key_hint : PlanKey → List ℕ
-key_hint key.A = codes " A range is written as `a = 0, to = 11`."
+key_hint key.A = range_hint
 key_hint key.Crates = double_brackets
 key_hint key.Stations = double_brackets
 key_hint key.Types = double_brackets
 key_hint _ = []
+
+-- where to write a key that is missing
+abbrev pub missing_hint : PlanKey → List ℕ
+missing_hint key.Number = codes " It stands above the crate's first `[[crate.station]]`."
+missing_hint _ = []
+
+abbrev pub missing_told : PlanKey → (wanted : ValueKind) → List ℕ
+missing_told key wanted = codes "the key is missing; expected " ++ (needed wanted ++ (codes "." ++ missing_hint key))
 
 -- the place and the kind of the first entry that is no table, where the first of all has the place n
 abbrev pub first_other : (n : ℕ) → Items → Option (ℕ × List ℕ)
@@ -71,7 +79,7 @@ twice_told top value key first =
 
 -- what a rule knew of the value at its key, if there is one
 abbrev pub told : (top : Members) → (value : Option Data) → PlanCase → List ℕ
-told top value (case.Missing there key wanted) = concat (codes "the key is missing; expected " ∷ needed wanted ∷ codes "." ∷ [])
+told top value (case.Missing there key wanted) = missing_told key wanted
 told top value (case.Kind there key wanted) = kind_told value key wanted
 told top value (case.Range there key found low high) =
     concat (codes "the value is " ∷ signed_decimal found ∷ codes "; expected " ∷ decimal low ∷ codes " to " ∷ decimal high ∷ codes "." ∷ [])

@@ -2,7 +2,7 @@
 
 ghost use Rattle.std.specs.Prelude.{◌≡◌, ◌≤◌, IfOk, count_by, false, drop, length, string_bytes, take, take_while};
 ghost use Rattle.std.specs.Char.{is_ascii_alphanumeric};
-ghost use Rattle.camac_explain_plan.specs.Place.{begins_character, begins_like_a_script, column_behind, from_word, hint_of_text, is_declaration, is_single_bracket, is_table_heading, last_begin, line_behind, place_text};
+ghost use Rattle.camac_explain_plan.specs.Place.{begins_character, begins_like_a_script, begins_quote, begins_range, column_behind, from_word, hint_at, hint_of_text, is_declaration, is_single_bracket, is_table_heading, last_begin, line_behind, place_text};
 
 use std::alloc::{AllocError, Global};
 
@@ -33,6 +33,16 @@ pub(crate) fn before(text: &[u8], place: usize) -> &[u8]
         &text[..place]
     } else {
         text
+    }
+}
+
+fn behind(text: &[u8], place: usize) -> &[u8]
+    ensures { result.now ≡ drop place text.now }
+{
+    if place < text.len() {
+        &text[place..]
+    } else {
+        &[]
     }
 }
 
@@ -91,6 +101,8 @@ fn last_begin(text: &[u8]) -> usize
 pub(crate) const DOUBLE_BRACKETS: &str =
     " Write crates, stations and types in double brackets: `[[crate]]`, `[[crate.station]]`, `[[type]]`.";
 
+pub(crate) const RANGE: &str = " A range is written as `a = 0, to = 11`.";
+
 // What is to be known of a text that is no TOML behind so many of its bytes.
 pub(crate) fn hint_of_text(text: &[u8], at: usize) -> &'static str
     ensures { result.now ≡ hint_of_text text.now at }
@@ -100,7 +112,42 @@ pub(crate) fn hint_of_text(text: &[u8], at: usize) -> &'static str
     } else if is_table_heading(text, at) {
         DOUBLE_BRACKETS
     } else {
+        hint_at(behind(text, at))
+    }
+}
+
+// What is to be known of what stands where a text stops.
+fn hint_at(rest: &[u8]) -> &'static str
+    ensures { result.now ≡ hint_at rest.now }
+{
+    if rest.starts_with(b":") {
+        " Write `=` between a key and its value."
+    } else if begins_quote(rest) {
+        " Curly quotes are none: write `\"`."
+    } else if begins_range(rest) {
+        RANGE
+    } else {
         ""
+    }
+}
+
+// Whether a curly quote stands first.
+fn begins_quote(rest: &[u8]) -> bool
+    ensures { result ≡ begins_quote rest.now }
+{
+    match rest {
+        [a, b, c, ..] => *a == 0xe2 && *b == 0x80 && 0x98 <= *c && *c <= 0x9d,
+        _ => false,
+    }
+}
+
+// Whether two points stand behind one digit or two.
+fn begins_range(rest: &[u8]) -> bool
+    ensures { result ≡ begins_range rest.now }
+{
+    match rest {
+        [_, b, c, d, ..] => *c == b'.' && (*b == b'.' || *d == b'.'),
+        _ => false,
     }
 }
 

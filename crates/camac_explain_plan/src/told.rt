@@ -2,10 +2,10 @@
 
 ghost use Rattle.std.specs.Prelude.{◌≡◌, IfOk, Some, option_map, string_bytes};
 ghost use Rattle.toml.specs.View.{array_view, table_view, view};
-ghost use Rattle.camac_explain_plan.specs.Told.{command_place, entry_or, first_other, key_hint, kind_name, kind_text, kind_told, needed, other_in, shown, told, twice_told};
+ghost use Rattle.camac_explain_plan.specs.Told.{command_place, entry_or, first_other, key_hint, kind_name, kind_text, kind_told, missing_hint, missing_told, needed, other_in, shown, told, twice_told};
 
 use crate::path::{Nth, Path, is_known_by};
-use crate::place::DOUBLE_BRACKETS;
+use crate::place::{DOUBLE_BRACKETS, RANGE};
 use camac_lines::Quote;
 use camac_plan::{PlanCase, PlanKey, PlanTable, ValueKind};
 use std::alloc::{AllocError, Global};
@@ -57,10 +57,7 @@ pub(crate) fn told(
 {
     let shown = Shown(value);
     match case {
-        PlanCase::Missing { kind, .. } => {
-            let needed = Needed(kind);
-            format!(in alloc; "the key is missing; expected {needed}.")
-        }
+        PlanCase::Missing { key, kind, .. } => missing_told(alloc, key, kind),
         PlanCase::Kind { key, kind, .. } => kind_told(alloc, value, key, kind),
         PlanCase::Range {
             found,
@@ -88,6 +85,13 @@ pub(crate) fn told(
         }
         _ => format!(in alloc; "the value is {shown}."),
     }
+}
+
+fn missing_told(alloc: Global, key: PlanKey, wanted: ValueKind) -> Result<String, AllocError>
+    ensures { IfOk result (λ s. string_bytes s ≡ missing_told key wanted) }
+{
+    let (needed, hint) = (Needed(wanted), missing_hint(key));
+    format!(in alloc; "the key is missing; expected {needed}.{hint}")
 }
 
 // A value that the first table of it has. What this is known by is no way to it, but its home has a name.
@@ -155,8 +159,18 @@ fn key_hint(key: PlanKey) -> &'static str
     ensures { result.now ≡ key_hint key }
 {
     match key {
-        PlanKey::A => " A range is written as `a = 0, to = 11`.",
+        PlanKey::A => RANGE,
         PlanKey::Crates | PlanKey::Stations | PlanKey::Types => DOUBLE_BRACKETS,
+        _ => "",
+    }
+}
+
+// Where to write a key that is missing.
+fn missing_hint(key: PlanKey) -> &'static str
+    ensures { result.now ≡ missing_hint key }
+{
+    match key {
+        PlanKey::Number => " It stands above the crate's first `[[crate.station]]`.",
         _ => "",
     }
 }

@@ -1,4 +1,3 @@
-pub mod Expected
 pub mod Hint
 pub mod Limits
 pub mod Meant

@@ -11,38 +11,37 @@ use Rattle.camac_tokens.specs.declared.token.Sign.TheVariants as sign
 use Rattle.camac_tokens.specs.declared.token.TokenKind.{TokenKind}
 use Rattle.camac_tokens.specs.declared.token.TokenKind.TheVariants as kind
 use Rattle.camac_tokens.specs.declared.words.TheConstants.{KEYWORDS}
-use Rattle.camac_text_cursor.specs.Readers.{each_word, is_name, is_number}
+use Rattle.camac_text_cursor.specs.Choice.{begins_declaration}
+use Rattle.camac_text_cursor.specs.Readers.{each_word, is_keyword, is_name, is_number}
 use Rattle.camac_text_cursor.specs.declared.choice.Choice.TheVariants as choice
 use Rattle.camac_explain_text_place.specs.Absent.{Told, absent_sign, absent_text}
-use Rattle.camac_explain_text_place.specs.Before.{Standing, called_in, declared, in_body, is_declared_before, is_in_brackets, is_kind, near, open_line, wants_new_name, word_of}
-use Rattle.camac_explain_text_place.specs.Choices.{begins_declaration, begins_statement}
+use Rattle.camac_explain_text_place.specs.Before.{Standing, begins_statement, called_in, declared, first_of, is_in_brackets, is_kind, near, open_line, wants_new_name, word_of}
 use Rattle.camac_explain_text.specs.Hint.{address_text, before_text, brackets_text, called_text, inside_text, meant_text, name_text, no_arrow_text, no_result_text, of_language_text, open_text, takes_text}
 use Rattle.camac_explain_text.specs.Mistake.{case, first_case, is_either, told_of_kind, usual_mistake}
 use Rattle.camac_explain_text_place.specs.Place.{Place, absent_word_at, adjoins_word, begins_line, begins_statement_at, expects, is_assigned, is_before, last}
 use Rattle.camac_explain_text_place.specs.Spelled.{is_word, sign_text, word_text}
 
-abbrev pub begins_here : Standing → Keyword → Bool
-begins_here s w = if in_body s then begins_statement w else begins_declaration w
+unfoldable pub near_among : (name : List ℕ) → List Keyword → Option (List ℕ)
+near_among name ws = option_map word_text (find (λ w. begins_declaration w && is_near name (word_text w)) ws)
 
-unfoldable pub near_among : Standing → (name : List ℕ) → List Keyword → Option (List ℕ)
-near_among s name ws = option_map word_text (find (λ w. begins_here s w && is_near name (word_text w)) ws)
+-- the first word that begins a declaration, and is near a name
+unfoldable pub near_beginning : (name : List ℕ) → Option (List ℕ)
+near_beginning name = near_among name KEYWORDS
 
--- the first word that begins a declaration or a statement here, and is near a name
-unfoldable pub near_beginning : Standing → (name : List ℕ) → Option (List ℕ)
-near_beginning s name = near_among s name KEYWORDS
-
-abbrev pub meant_by_name : Standing → Option TokenKind → Option (List ℕ)
-meant_by_name s (Some (kind.Name name)) =
-    if is_declared_before name s then None else option_map (before_text name) (near_beginning s name)
-meant_by_name s _ = None
+abbrev pub meant_by_name : Option TokenKind → Option (List ℕ)
+meant_by_name (Some (kind.Name name)) = option_map (before_text name) (near_beginning name)
+meant_by_name _ = None
 
 -- the token that stands so many before the end of a phrase, or its first one
 abbrev pub from_end : ℕ → Standing → Option TokenKind
 from_end n s = slice_get s.phrase (length s.phrase - n)
 
--- one of the two words before, which is near a word that begins what may stand there, and no name that was declared before
+abbrev pub of_two_before : Standing → Option (List ℕ)
+of_two_before s = or_else (meant_by_name (from_end 1 s)) (meant_by_name (from_end 2 s))
+
+-- one of the two words before, which a `var` takes for names, and which is near a word that begins a declaration
 unfoldable pub word_before : Place → Option (List ℕ)
-word_before p = or_else (meant_by_name p.before (from_end 1 p.before)) (meant_by_name p.before (from_end 2 p.before))
+word_before p = if is_keyword word.Var (first_of p.before) then of_two_before p.before else None
 
 -- a word that may stand in its place; `lock` may begin a statement, but in a procedure
 abbrev pub fits : Place → Keyword → Bool

@@ -8,12 +8,11 @@ use Rattle.camac_tokens.specs.declared.token.Keyword.TheVariants as word
 use Rattle.camac_tokens.specs.declared.token.Sign.TheVariants as sign
 use Rattle.camac_tokens.specs.declared.token.TokenKind.{TokenKind}
 use Rattle.camac_tokens.specs.declared.token.TokenKind.TheVariants as kind
-use Rattle.camac_text_cursor.specs.Choice.{is_sign_that}
+use Rattle.camac_text_cursor.specs.Choice.{compares, is_sign_that, is_word_that}
 use Rattle.camac_text_cursor.specs.Readers.{is_each, is_keyword, is_name, is_number, is_sign}
 use Rattle.camac_text_cursor.specs.declared.choice.Choice.TheVariants as choice
-use Rattle.camac_explain_text_place.specs.Before.{first_of, in_body, is_in_brackets, is_kind, word_of}
-use Rattle.camac_explain_text.specs.Expected.{is_name as is_name_wanted}
-use Rattle.camac_explain_text_place.specs.Choices.{begins_statement, is_comparison, is_operator}
+use Rattle.camac_explain_text_place.specs.Before.{begins_statement, first_of, in_body, is_in_brackets, is_kind, word_of}
+use Rattle.camac_explain_text_place.specs.Expected.{is_name as is_name_wanted, is_operator}
 use Rattle.camac_explain_text_place.specs.Place.{Place, adjoins_word, begins_statement_at, expects, is_assigned, last, needed}
 use Rattle.camac_explain_text_place.specs.Spelled.{is_word}
 
@@ -68,7 +67,7 @@ mistaken_sign p first k =
 
 -- a token that compares once more what was compared
 abbrev pub joins_comparisons : Place → TokenKind → Bool
-joins_comparisons p k = is_sign_that is_comparison (Some k) && (expects p (choice.Word word.And) && ends_expression (last p))
+joins_comparisons p k = is_sign_that compares (Some k) && (expects p (choice.Word word.And) && ends_expression (last p))
 
 -- a token that may not stand in a loop or a condition
 unfoldable pub mistaken_condition : Place → (first : Keyword) → TokenKind → Option (List ℕ)
@@ -88,7 +87,7 @@ abbrev pub is_flag : Option TokenKind → Bool
 is_flag k = is_keyword word.Q k || is_keyword word.X k
 
 abbrev pub compares_or_sets : Option TokenKind → Bool
-compares_or_sets k = is_sign_that is_comparison k || is_sign sign.Equals k
+compares_or_sets k = is_sign_that compares k || is_sign sign.Equals k
 
 abbrev pub is_any_word : TokenKind → Bool
 is_any_word (kind.Keyword w) = true
@@ -107,7 +106,9 @@ mistake_after_value p before k =
 unfoldable pub mistake_after_word : (before k : TokenKind) → Option (List ℕ)
 mistake_after_word before k =
     first_case (
-    case (is_keyword word.Not (Some before) && is_keyword word.Not (Some k)) (codes "After `not`, write a comparison, `q` or `x`.")
+    case (is_keyword word.Call (Some before) && is_word_that begins_statement (Some k))
+    (codes "A `call` calls a procedure: write this statement without it, as in `cfsa 0 channel -> v`.")
+    ∷ case (is_keyword word.Not (Some before) && is_keyword word.Not (Some k)) (codes "After `not`, write a comparison, `q` or `x`.")
     ∷ case (is_keyword word.Else (Some before) && is_keyword word.If (Some k)) (codes "Write the block of `else` in braces; an `if` may be in it.")
     ∷ case (is_any_word before && is_sign sign.LeftBracket (Some k)) (codes "What follows is written without brackets and commas.") ∷ [])
 
@@ -126,7 +127,7 @@ mistake_after p before k = or_else (mistake_after_value p before k) (or_else (mi
 
 -- a sign or a word of conditions alone
 abbrev pub is_of_condition : TokenKind → Bool
-is_of_condition (kind.Sign s) = is_comparison s
+is_of_condition (kind.Sign s) = compares s
 is_of_condition k = is_keyword word.And (Some k) || (is_keyword word.Not (Some k) || is_flag (Some k))
 
 abbrev pub tests_lams : Keyword → Bool

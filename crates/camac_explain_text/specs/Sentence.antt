@@ -13,14 +13,13 @@ use Rattle.camac_tokens.specs.declared.fault.TextCase.{TextCase}
 use Rattle.camac_tokens.specs.declared.fault.TextCase.TheVariants as told
 use Rattle.camac_text_cursor.specs.declared.choice.Choices.{Choices}
 use Rattle.camac_explain_text_place.specs.Absent.{Told, absent_sign, absent_text}
-use Rattle.camac_explain_text_place.specs.Before.{is_kind}
-use Rattle.camac_explain_text_place.specs.Declaring.{called_before, declared_line}
-use Rattle.camac_explain_text.specs.Expected.{expected_of, list_text}
+use Rattle.camac_explain_text_place.specs.Before.{called_in, is_kind}
+use Rattle.camac_explain_text_place.specs.Expected.{expected_of, list_text}
 use Rattle.camac_explain_text.specs.Hint.{takes_text}
 use Rattle.camac_explain_text.specs.Limits.{limit_text}
 use Rattle.camac_explain_text.specs.Meant.{kind_hint, name_hint, own_sentence, unexpected_hint, word_before}
 use Rattle.camac_explain_text.specs.Mistake.{outside_of_bodies}
-use Rattle.camac_explain_text_place.specs.Place.{Place, absent_word_at, begins_statement_at, is_assigned, is_before}
+use Rattle.camac_explain_text_place.specs.Place.{Place, absent_word_at, begins_statement_at, declared_line, is_assigned, is_before}
 
 abbrev pub noun : NameKind → List ℕ
 noun named.Lam = codes "LAM"
@@ -112,10 +111,10 @@ unfoldable pub unexpected : Place → List ℕ
 unexpected p = or_sentence (own_sentence p) (with_hint (expected_sentence p.bytes p.noted) (unexpected_hint p))
 
 unfoldable pub taken : Place → (by : NameKind) → List ℕ
-taken p by = with_hint (taken_text p.bytes (declared_line by p.bytes p.tokens) by) (or_else (outside_of_bodies p) (word_before p))
+taken p by = with_hint (taken_text p.bytes (declared_line p) by) (or_else (outside_of_bodies p) (word_before p))
 
 unfoldable pub other_kind : Place → (wanted is : NameKind) → List ℕ
-other_kind p wanted is = with_hint (other_text p.bytes (declared_line is p.bytes p.tokens) wanted is) (kind_hint p wanted is)
+other_kind p wanted is = with_hint (other_text p.bytes (declared_line p) wanted is) (kind_hint p wanted is)
 
 abbrev pub is_truth : (word : List ℕ) → Bool
 is_truth word = str_eq_ignore_ascii_case word (codes "true") || str_eq_ignore_ascii_case word (codes "false")
@@ -143,7 +142,7 @@ case_text p told.Byte = byte_text p.text p.rest
 case_text p told.Unexpected = unexpected p
 case_text p told.ZeroDivisor = concat (codes "Found " ∷ quoted p.bytes ∷ codes ". A divisor is a number of at least 1." ∷ [])
 case_text p told.LockInProcedure = codes "A procedure has no `lock`: put the `call` into one."
-case_text p (told.ArgumentCount wanted) = arguments_text p.bytes (called_before p.tokens) wanted
+case_text p (told.ArgumentCount wanted) = arguments_text p.bytes (called_in p.before.phrase) wanted
 case_text p (told.Number most) = number_text p.bytes most
 case_text p (told.Taken by) = taken p by
 case_text p told.KeptTwice = concat (codes "The variable " ∷ quoted p.bytes ∷ codes " is kept twice." ∷ [])

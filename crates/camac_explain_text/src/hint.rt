@@ -6,15 +6,13 @@ ghost use Rattle.camac_tokens.specs.declared.token.Keyword.TheVariants as keywor
 ghost use Rattle.camac_text_cursor.specs.declared.choice.Choice.TheVariants as choice;
 ghost use Rattle.camac_explain_text_place.specs.Before.{standing_of};
 ghost use Rattle.camac_explain_text.specs.Hint.{arguments_of, before_text, call_text, hint_text};
-ghost use Rattle.camac_explain_text.specs.Meant.{arguments, arguments_of_call, arrow_before_number, arrow_before_value, begins_here, decimal_digits, fits, from_end, if_expected, kind_hint, meant_by_name, meant_by_sign, missing_arrow, name_hint, near_among, near_beginning, near_each, near_fitting, near_named, near_word, open_block, taken_for, unexpected_hint, word_before, word_before_beginning};
+ghost use Rattle.camac_explain_text.specs.Meant.{arguments, arguments_of_call, arrow_before_number, arrow_before_value, decimal_digits, fits, from_end, if_expected, kind_hint, meant_by_name, meant_by_sign, missing_arrow, name_hint, near_among, near_beginning, near_each, near_fitting, near_named, near_word, of_two_before, open_block, taken_for, unexpected_hint, word_before, word_before_beginning};
 ghost use Rattle.camac_explain_text.specs.Mistake.{is_either};
 ghost use Rattle.camac_explain_text_place.specs.Place.{expects, place_of};
 ghost use Rattle.camac_explain_text_place.specs.Spelled.{word_text};
 
 use crate::mistake::{told_of_kind, usual_mistake};
-use camac_explain_text_place::{
-    Absent, Before, Found, begins_declaration, begins_statement, sign_text, word_text,
-};
+use camac_explain_text_place::{Absent, Before, Found, sign_text, word_text};
 use camac_lines::{Quote, is_near};
 use camac_text::{Choice, NameKind, TokenKind};
 use camac_tokens::{KEYWORDS, Keyword, Sign};
@@ -190,15 +188,25 @@ fn word_before_beginning<'a>(found: &'a Found<'_>) -> Option<Hint<'a>>
     }
 }
 
-/// One of the two words before, where it is near a word that begins what may stand there, and no name that was declared before.
+/// One of the two words before, which a `var` takes for names, and which is near a word that begins a declaration.
 #[tactic(auto, unfolding(crate::specs::Meant::word_before))]
 pub fn word_before<'a>(found: &'a Found<'_>) -> Option<Hint<'a>>
     ensures { option_map hint_text result ≡ word_before (place_of found.now) }
 {
-    if let Some(hint) = meant_by_name(&found.before, from_end(&found.before, 1)) {
+    if found.before.first_word() == Some(Keyword::Var) {
+        of_two_before(&found.before)
+    } else {
+        None
+    }
+}
+
+fn of_two_before(before: &Before) -> Option<Hint<'_>>
+    ensures { option_map hint_text result ≡ of_two_before (standing_of before.now) }
+{
+    if let Some(hint) = meant_by_name(from_end(before, 1)) {
         return Some(hint);
     }
-    meant_by_name(&found.before, from_end(&found.before, 2))
+    meant_by_name(from_end(before, 2))
 }
 
 // The token that stands so many before the end of the phrase, or its first one.
@@ -208,17 +216,14 @@ fn from_end(before: &Before, count: usize) -> Option<&TokenKind>
     before.phrase.get(before.phrase.len().saturating_sub(count))
 }
 
-fn meant_by_name<'a>(before: &Before, kind: Option<&'a TokenKind>) -> Option<Hint<'a>>
-    ensures { option_map hint_text result ≡ meant_by_name (standing_of before.now) (option_copied kind.entry) }
+fn meant_by_name(kind: Option<&TokenKind>) -> Option<Hint<'_>>
+    ensures { option_map hint_text result ≡ meant_by_name (option_copied kind.entry) }
 {
     let Some(TokenKind::Name(name)) = kind else {
         return None;
     };
     let word = name.as_bytes();
-    if before.is_declared_before(word) {
-        return None;
-    }
-    meant_before(word, near_beginning(before, word))
+    meant_before(word, near_beginning(word))
 }
 
 fn meant_before<'a>(word: &'a [u8], meant: Option<&'static str>) -> Option<Hint<'a>>
@@ -230,20 +235,20 @@ fn meant_before<'a>(word: &'a [u8], meant: Option<&'static str>) -> Option<Hint<
     }
 }
 
-// The first word that begins a declaration or a statement here, and is near a name.
+// The first word that begins a declaration, and is near a name.
 #[tactic(auto, unfolding(crate::specs::Meant::near_beginning))]
-fn near_beginning(before: &Before, name: &[u8]) -> Option<&'static str>
-    ensures { option_map (λ s. s.now) result ≡ near_beginning (standing_of before.now) name.now }
+fn near_beginning(name: &[u8]) -> Option<&'static str>
+    ensures { option_map (λ s. s.now) result ≡ near_beginning name.now }
 {
-    near_among(before, name, &KEYWORDS)
+    near_among(name, &KEYWORDS)
 }
 
 #[tactic(auto, unfolding(crate::specs::Meant::near_among))]
-fn near_among(before: &Before, name: &[u8], words: &[Keyword]) -> Option<&'static str>
-    ensures { option_map (λ s. s.now) result ≡ near_among (standing_of before.now) name.now words.now }
+fn near_among(name: &[u8], words: &[Keyword]) -> Option<&'static str>
+    ensures { option_map (λ s. s.now) result ≡ near_among name.now words.now }
 {
     'words: for word in words {
-        if begins_here(before, *word) && is_near_word(name, *word) {
+        if Choice::Declaration.has_word(*word) && is_near_word(name, *word) {
             return Some(word_text(*word));
         }
     }
@@ -254,16 +259,6 @@ fn is_near_word(name: &[u8], word: Keyword) -> bool
     ensures { result ≡ is_near name.now (word_text word) }
 {
     is_near(name, word_text(word).as_bytes())
-}
-
-fn begins_here(before: &Before, word: Keyword) -> bool
-    ensures { result ≡ begins_here (standing_of before.now) word }
-{
-    if before.in_body() {
-        begins_statement(word)
-    } else {
-        begins_declaration(word)
-    }
 }
 
 // The first word of the language that is near a name and may stand in its place.

@@ -2,7 +2,6 @@
 // A crate of its own beside the explanations of rules, so that both are proved at once, and a change of one leaves the other.
 #![tactic(auto)]
 
-mod expected;
 mod hint;
 mod limit;
 mod mistake;

@@ -5,8 +5,7 @@ ghost use Rattle.camac_explain_text_place.specs.Before.{first_of, word_of};
 ghost use Rattle.camac_explain_text.specs.Mistake.{begins_action, compares_or_sets, ends_expression, is_of_condition, joins_comparisons, mistake_after, mistake_after_value, mistake_after_word, mistake_at, mistake_for_value, mistake_in, mistaken_condition, mistaken_sign, of_both, outside_of_bodies, told_of_kind, usual_mistake};
 ghost use Rattle.camac_explain_text_place.specs.Place.{last, place_of};
 
-use crate::expected::is_name;
-use camac_explain_text_place::{Found, begins_statement, is_comparison, is_operator};
+use camac_explain_text_place::{Found, begins_statement, is_name, is_operator};
 use camac_text::{Choice, NameKind, TokenKind};
 use camac_tokens::{Keyword, Sign, are_same};
 
@@ -152,7 +151,7 @@ fn joins_comparisons(found: &Found<'_>, kind: &TokenKind) -> bool
 {
     match kind {
         TokenKind::Sign(sign) => {
-            is_comparison(*sign)
+            Choice::Comparison.has_sign(*sign)
                 && found.expects(Choice::Word(Keyword::And))
                 && ends_expression(found.last())
         }
@@ -174,7 +173,7 @@ fn compares_or_sets(kind: &TokenKind) -> bool
     ensures { result ≡ compares_or_sets (Some kind.now) }
 {
     match kind {
-        TokenKind::Sign(sign) => is_comparison(*sign) || *sign == Sign::Equals,
+        TokenKind::Sign(sign) => Choice::Comparison.has_sign(*sign) || *sign == Sign::Equals,
         _ => false,
     }
 }
@@ -220,6 +219,9 @@ fn mistake_after_word(before: &TokenKind, kind: &TokenKind) -> Option<&'static s
 {
     use TokenKind::{Keyword as Word, Sign as Mark};
     match (before, kind) {
+        (Word(Keyword::Call), Word(word)) if begins_statement(*word) => Some(
+            "A `call` calls a procedure: write this statement without it, as in `cfsa 0 channel -> v`.",
+        ),
         (Word(Keyword::Not), Word(Keyword::Not)) => Some(
             "After `not`, write a comparison, `q` or `x`.",
         ),
@@ -288,7 +290,7 @@ fn is_of_condition(kind: &TokenKind) -> bool
     ensures { result ≡ is_of_condition kind.now }
 {
     match kind {
-        TokenKind::Sign(sign) => is_comparison(*sign),
+        TokenKind::Sign(sign) => Choice::Comparison.has_sign(*sign),
         TokenKind::Keyword(Keyword::And | Keyword::Not | Keyword::Q | Keyword::X) => true,
         _ => false,
     }

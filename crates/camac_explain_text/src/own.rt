@@ -6,8 +6,8 @@ ghost use Rattle.camac_explain_text.specs.Meant.{inside, is_name_wanted, is_set,
 ghost use Rattle.camac_explain_text_place.specs.Place.{place_of};
 
 use crate::hint::{Hint, word_before};
-use camac_explain_text_place::{Found, begins_declaration, begins_statement, word_text};
-use camac_text::TokenKind;
+use camac_explain_text_place::{Found, begins_statement, word_text};
+use camac_text::{Choice, TokenKind};
 use camac_tokens::Keyword;
 
 /// A word or a sign of another language, a declaration in a body, a word of the language where a name has to stand.
@@ -52,7 +52,7 @@ fn own_of_word<'a>(found: &'a Found<'_>, word: Keyword) -> Option<Hint<'a>>
 fn inside<'a>(found: &'a Found<'_>, keyword: Keyword) -> Option<Hint<'a>>
     ensures { option_map hint_text result ≡ inside (place_of found.now) keyword }
 {
-    let is_declaration = begins_declaration(keyword)
+    let is_declaration = Choice::Declaration.has_word(keyword)
         && (keyword != Keyword::Table || found.begins_line());
     match found.before.open_line() {
         Some(line) if is_declaration => {

@@ -11,14 +11,12 @@ ghost use Rattle.camac_explain_text_place.specs.Place.{place_of};
 ghost use Rattle.camac_explain_text.specs.Text.{begins_like_a_plan, fault_text, is_buffer};
 ghost use Rattle.camac_explain_text.specs.Sentence.{absent_variable, arguments_text, byte_text, case_text, character, character_size, expected_sentence, first_byte, is_of_another_language, is_truth, missing_text, not_there, noun, number_text, or_empty, other_byte_text, other_kind, other_text, start_text, taken, taken_text, undeclared, unexpected, with_hint};
 
-use crate::expected::expected_list;
 use crate::hint::{Hint, kind_hint, name_hint, unexpected_hint, word_before};
 use crate::limit::limit_told;
 use crate::mistake::outside_of_bodies;
 use crate::own::own_sentence;
 use camac_explain_text_place::{
-    Absent, Found, absent_sign, called_before, declared_line, is_same_word, kind_at, prefix,
-    rest_of,
+    Absent, Found, absent_sign, expected_list, is_same_word, kind_at, prefix, rest_of,
 };
 use camac_lines::Quote;
 use camac_text::{Choices, NameKind, TextCase, TokenKind};
@@ -78,7 +76,7 @@ fn case_told(alloc: Global, found: &Found<'_>, case: TextCase) -> Result<String,
             format!(in alloc; "A procedure has no `lock`: put the `call` into one.")
         }
         TextCase::ArgumentCount { wanted } => {
-            arguments_told(alloc, found.word, called_before(&found.tokens), wanted)
+            arguments_told(alloc, found.word, found.before.called(), wanted)
         }
         TextCase::Number { most } => number_told(alloc, word, most),
         TextCase::Taken { by } => taken(alloc, found, by),
@@ -260,8 +258,7 @@ fn arguments_told(
 fn taken(alloc: Global, found: &Found<'_>, by: NameKind) -> Result<String, AllocError>
     ensures { IfOk result (λ s. string_bytes s ≡ taken (place_of found.now) by) }
 {
-    let line = declared_line(&found.tokens, by, found.word);
-    let sentence = taken_told(alloc, found.word, line, by)?;
+    let sentence = taken_told(alloc, found.word, found.declared_line(), by)?;
     with_hint(alloc, sentence, taken_hint(found))
 }
 
@@ -322,7 +319,7 @@ fn other_kind(
 ) -> Result<String, AllocError>
     ensures { IfOk result (λ s. string_bytes s ≡ other_kind (place_of found.now) wanted kind) }
 {
-    let line = declared_line(&found.tokens, kind, found.word);
+    let line = found.declared_line();
     let sentence = other_told(alloc, found.word, line, wanted, kind)?;
     with_hint(alloc, sentence, kind_hint(found, wanted, kind))
 }

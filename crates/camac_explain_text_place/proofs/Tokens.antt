@@ -4,7 +4,7 @@ use Rattle.std.specs.Prelude.{Ok, Err}
 use Rattle.camac_tokens.specs.Fault.{Fault}
 use Rattle.camac_tokens.specs.Scanning.{tokens_of}
 use Rattle.camac_tokens.specs.declared.token.Token.{Token}
-use Rattle.camac_explain_text_place.specs.Declaring.{or_none, tokens_in}
+use Rattle.camac_explain_text_place.specs.Place.{or_none, tokens_in}
 
 pub of_tokens : (text : List ℕ) (ts : List Token) → tokens_of text ≡ Ok ts → ts ≡ tokens_in text
 of_tokens text ts e = sym (ap or_none e)

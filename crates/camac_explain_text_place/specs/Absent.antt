@@ -74,7 +74,9 @@ sign_in (r ∷ rs) size before rest =
 -- the longest sign of the table that stands around a place; of several the first
 abbrev pub absent_sign : (before rest : List ℕ) → Option Told
 absent_sign before rest =
-    or_else (sign_in absent_table 3 before rest) (or_else (sign_in absent_table 2 before rest) (sign_in absent_table 1 before rest))
+    or_else (sign_in absent_table 5 before rest)
+    (or_else (sign_in absent_table 4 before rest)
+    (or_else (sign_in absent_table 3 before rest) (or_else (sign_in absent_table 2 before rest) (sign_in absent_table 1 before rest))))
 
 -- camac has none; what to write in its place
 abbrev pub absent_text : Told → List ℕ

@@ -1,6 +1,5 @@
 -- What stands before a place of a script that is right up to there.
-use Rattle.std.specs.Prelude.{ℕ, ◌+◌, ◌-◌, ◌==◌, Bool, false, ◌&&◌, ◌||◌, not, List, [], ◌∷◌, ◌++◌, count_by, drop, find, is_none, is_some, length, nat_lt, slice_get, take, Option, Some, None, if◌then◌else◌}
-use Rattle.std.specs.List.{list_any}
+use Rattle.std.specs.Prelude.{ℕ, ◌-◌, ◌==◌, Bool, false, ◌&&◌, ◌||◌, not, List, [], ◌∷◌, ◌++◌, count_by, drop, filter, find, is_none, is_some, length, nat_lt, slice_get, take, Option, Some, None, if◌then◌else◌}
 use Rattle.std.specs.Str.{bytes_eq}
 use denote.Enum.Bare.{sameb}
 use Rattle.camac_lines.specs.Words.{is_near}
@@ -15,10 +14,15 @@ use Rattle.camac_tokens.specs.declared.token.Sign.TheVariants as sign
 use Rattle.camac_tokens.specs.declared.token.Token.{Token}
 use Rattle.camac_tokens.specs.declared.token.TokenKind.{TokenKind}
 use Rattle.camac_tokens.specs.declared.token.TokenKind.TheVariants as kind
+use Rattle.camac_text_cursor.specs.Choice.{begins_anywhere, begins_declaration}
 use Rattle.camac_text_cursor.specs.Readers.{is_keyword, is_sign as is_sign_at}
-use Rattle.camac_explain_text_place.specs.Choices.{begins_declaration, begins_statement}
+use Rattle.camac_explain_text_place.specs.Spelled.{is_word}
 use Rattle.camac_explain_text_place.specs.declared.before.Before as declared_before
 use Rattle.camac_explain_text_place.specs.declared.before.Declared.{Declared}
+
+-- `lock` begins a statement, too, and a procedure refuses it by a case of its own
+abbrev pub begins_statement : Keyword → Bool
+begins_statement w = begins_anywhere w || is_word w word.Lock
 
 -- the word of the language that a token is
 abbrev pub word_of : Option TokenKind → Option Keyword
@@ -38,17 +42,15 @@ is_sign wanted _ = false
 abbrev pub count_of : Sign → List TokenKind → ℕ
 count_of wanted phrase = count_by (is_sign wanted) phrase
 
--- The phrase is the declaration or the statement in hand, as far as it goes. The names are those that the place sees, in order, of which so many
--- are declared outside of the declaration in hand.
+-- The phrase is the declaration or the statement in hand, as far as it goes. The names are those that are declared at the place, in order.
 pub record Standing : Type 0 where
   pub phrase : List TokenKind
   pub open_lines : List ℕ
   pub names : List Declared
-  pub outside : ℕ
   pub in_procedure : Bool
 
 abbrev pub standing_of : declared_before.Before → Standing
-standing_of b = record { phrase = b.phrase.items; open_lines = b.blocks.items; names = b.names.items; outside = b.outside; in_procedure = b.in_procedure }
+standing_of b = record { phrase = b.phrase.items; open_lines = b.blocks.items; names = b.names.items; in_procedure = b.in_procedure }
 
 abbrev pub first_of : Standing → Option TokenKind
 first_of s = slice_get s.phrase 0
@@ -68,31 +70,19 @@ is_in_brackets s = nat_lt (count_of sign.RightBracket s.phrase) (count_of sign.L
 abbrev pub is_kind : (k wanted : NameKind) → Bool
 is_kind k wanted = sameb name_kind_type.the_type k wanted
 
--- how many parameters the procedure in hand has
-abbrev pub parameters : Standing → ℕ
-parameters s = count_by (λ (d : Declared). is_kind d.kind named.Parameter) (drop s.outside s.names)
-
 abbrev pub is_named : (name : List ℕ) → Declared → Bool
 is_named name d = bytes_eq d.name name
 
 abbrev pub declared : (name : List ℕ) → Standing → Option Declared
 declared name s = find (is_named name) s.names
 
--- before the declaration or the statement in hand
-abbrev pub is_declared_before : (name : List ℕ) → Standing → Bool
-is_declared_before name s = list_any (is_named name) (take (if in_body s then length s.names else s.outside) s.names)
-
--- a parameter serves as a variable
-abbrev pub serves_as : NameKind → Declared → Bool
-serves_as wanted d = is_kind d.kind wanted || (is_kind wanted named.Variable && is_kind d.kind named.Parameter)
-
--- a procedure sees no variable of the script
-abbrev pub seen_as : NameKind → Standing → List Declared
-seen_as wanted s = drop (if s.in_procedure && is_kind wanted named.Variable then s.outside else 0) s.names
+-- a procedure sees its parameters in place of the variables of the script
+abbrev pub seen_as : NameKind → Standing → NameKind
+seen_as wanted s = if s.in_procedure && is_kind wanted named.Variable then named.Parameter else wanted
 
 -- the first name of a kind that is near a word
 abbrev pub near : (word : List ℕ) → NameKind → Standing → Option Declared
-near name wanted s = find (λ (d : Declared). serves_as wanted d && is_near name d.name) (seen_as wanted s)
+near name wanted s = find (λ (d : Declared). is_kind d.kind (seen_as wanted s) && is_near name d.name) s.names
 
 -- as what a phrase that begins with this word and ends in this token declares the name that follows it
 abbrev pub kind_behind : Keyword → TokenKind → Option NameKind
@@ -125,9 +115,7 @@ abbrev pub longer : TokenKind → Standing → Standing
 longer k s = record s { phrase = s.phrase ++ (k ∷ []) }
 
 abbrev pub begun : Keyword → Standing → Standing
-begun w s =
-    if in_body s then (if begins_statement w then record s { phrase = [] } else s)
-    else (if begins_declaration w then record s { phrase = []; outside = length s.names } else s)
+begun w s = if (if in_body s then begins_statement w else begins_declaration w) then record s { phrase = [] } else s
 
 -- An `=` in a body makes the name before it the beginning of a statement, but in `for i =`.
 abbrev pub last_alone : List TokenKind → List TokenKind
@@ -139,10 +127,10 @@ is_of_for s = (length s.phrase == 2) && is_keyword word.For (first_of s)
 abbrev pub assigned : Standing → Standing
 assigned s = if in_body s && not (is_of_for s) then record s { phrase = last_alone s.phrase } else s
 
-abbrev pub declared_as : Option NameKind → (name : List ℕ) → Standing → Standing
-declared_as None name s = s
-declared_as (Some k) name s =
-    if is_none (declared name s) then record s { names = s.names ++ (record { name = name; kind = k; parameters = 0 } ∷ []) } else s
+abbrev pub declared_as : Option NameKind → (name : List ℕ) → (line : ℕ) → Standing → Standing
+declared_as None name line s = s
+declared_as (Some k) name line s =
+    if is_none (declared name s) then record s { names = s.names ++ (record { name = name; kind = k; line = line; parameters = 0 } ∷ []) } else s
 
 abbrev pub opened : (line : ℕ) → Standing → Standing
 opened line s =
@@ -152,16 +140,23 @@ opened line s =
       in_procedure = if in_body s then s.in_procedure else is_keyword word.Proc (first_of s);
     }
 
--- What a body declared is declared no more. Its procedure, the last of the names outside, stays with the number of its parameters.
+-- What a body declared, its registers and parameters, is declared no more. Its procedure, the last of the other names, stays with the number of its
+-- parameters.
+abbrev pub is_outside : Declared → Bool
+is_outside d = not (is_kind d.kind named.Register || is_kind d.kind named.Parameter)
+
 abbrev pub with_parameters : ℕ → List Declared → List Declared
 with_parameters count [] = []
 with_parameters count (d ∷ []) = record d { parameters = count } ∷ []
 with_parameters count (d ∷ e ∷ ds) = d ∷ with_parameters count (e ∷ ds)
 
+abbrev pub parameters : Standing → ℕ
+parameters s = count_by (λ (d : Declared). is_kind d.kind named.Parameter) s.names
+
 abbrev pub ended : Standing → Standing
 ended s =
     record s {
-      names = if s.in_procedure then with_parameters (parameters s) (take (s.outside + 1) s.names) else take s.outside s.names;
+      names = if s.in_procedure then with_parameters (parameters s) (filter is_outside s.names) else filter is_outside s.names;
       in_procedure = false;
     }
 
@@ -179,7 +174,7 @@ behind_token line (kind.Sign sign.LeftBrace) s = opened line s
 behind_token line (kind.Sign sign.RightBrace) s = closed s
 behind_token line (kind.Sign sign.Equals) s = longer (kind.Sign sign.Equals) (assigned s)
 behind_token line (kind.Keyword w) s = longer (kind.Keyword w) (begun w s)
-behind_token line (kind.Name name) s = longer (kind.Name name) (declared_as (kind_declared_next s) name s)
+behind_token line (kind.Name name) s = longer (kind.Name name) (declared_as (kind_declared_next s) name line s)
 behind_token line k s = longer k s
 
 abbrev pub behind : List Token → Standing → Standing
@@ -188,4 +183,4 @@ behind (t ∷ ts) s = behind ts (behind_token t.spot.line t.kind s)
 
 -- what stands before a place, by the tokens before it
 abbrev pub standing : List Token → Standing
-standing ts = behind ts (record { phrase = []; open_lines = []; names = []; outside = 0; in_procedure = false })
+standing ts = behind ts (record { phrase = []; open_lines = []; names = []; in_procedure = false })

@@ -1,7 +1,6 @@
 pub mod Absent
 pub mod Before
-pub mod Choices
-pub mod Declaring
+pub mod Expected
 pub mod Found
 pub mod Place
 pub mod Spelled

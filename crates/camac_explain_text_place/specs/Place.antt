@@ -1,31 +1,30 @@
 -- A place of a text at which a fault shows: the token there, what stands around it, and what may stand in its place.
-use Rattle.std.specs.Prelude.{ℕ, ◌-◌, ◌==◌, Bool, false, ◌&&◌, ◌||◌, nat_eq, not, List, [], ◌∷◌, codes, drop, is_none, length, slice_get, Option, Some, None, if◌then◌else◌}
+use Rattle.std.specs.Prelude.{ℕ, ◌-◌, ◌==◌, Bool, false, ◌&&◌, ◌||◌, nat_eq, not, List, [], ◌∷◌, codes, drop, is_none, length, option_map, slice_get, Option, Some, None, Result, Ok, Err, if◌then◌else◌}
 use Rattle.std.specs.Char.{is_ascii_whitespace}
 use Rattle.std.specs.List.{prefix_len, starts_with}
-use Rattle.camac_tokens.specs.Scanning.{is_name_byte}
+use Rattle.camac_tokens.specs.Fault.{Fault}
+use Rattle.camac_tokens.specs.Scanning.{is_name_byte, tokens_of}
 use Rattle.camac_tokens.specs.declared.fault.NameKind.{NameKind}
 use Rattle.camac_tokens.specs.declared.fault.NameKind.TheVariants as named
 use Rattle.camac_tokens.specs.declared.token.Keyword.TheVariants as word
 use Rattle.camac_tokens.specs.declared.token.Token.{Token}
 use Rattle.camac_tokens.specs.declared.token.TokenKind.{TokenKind}
+use Rattle.camac_text_cursor.specs.Choice.{has as has_all, held}
 use Rattle.camac_text_cursor.specs.Readers.{is_keyword, is_name}
 use Rattle.camac_text_cursor.specs.declared.choice.Choice.{Choice}
 use Rattle.camac_text_cursor.specs.declared.choice.Choice.TheVariants as choice
 use Rattle.camac_text_cursor.specs.declared.choice.Choices.{Choices}
 use Rattle.camac_explain_text_place.specs.Absent.{Told, absent_word}
 use Rattle.camac_explain_text_place.specs.Before.{Standing, declared, first_of, last_of, standing, standing_of}
-use Rattle.camac_explain_text_place.specs.Declaring.{tokens_in}
-use Rattle.camac_explain_text_place.specs.Choices.{has}
 use Rattle.camac_explain_text_place.specs.Found.{kind_at, rest_of, text_before, word_at}
 use Rattle.camac_explain_text_place.specs.declared.found.Found.{Found}
 
--- the token's bytes and what it is, the texts before it and from it on, the tokens before it, what they come to, and what may stand there
+-- the token's bytes and what it is, the texts before it and from it on, what the tokens before it come to, and what may stand there
 pub record Place : Type 0 where
   pub bytes : List ℕ
   pub token : Option TokenKind
   pub text : List ℕ
   pub rest : List ℕ
-  pub tokens : List Token
   pub before : Standing
   pub noted : Choices
 
@@ -36,10 +35,17 @@ place_of f =
       token = f.kind;
       text = f.text.now;
       rest = f.rest.now;
-      tokens = f.tokens.items;
       before = standing_of f.before;
       noted = f.expected;
     }
+
+-- the tokens of a text; none where it has a fault of a token
+abbrev pub or_none : Result (List Token) Fault → List Token
+or_none (Ok ts) = ts
+or_none (Err f) = []
+
+abbrev pub tokens_in : (text : List ℕ) → List Token
+tokens_in text = or_none (tokens_of text)
 
 -- A fault of a token is the first of its text, and needs nothing of what stands before.
 abbrev pub read_before : Option TokenKind → (bytes : List ℕ) → List Token → List Token
@@ -54,7 +60,6 @@ place_between noted text rest =
       token = kind_at rest;
       text = text;
       rest = rest;
-      tokens = tokens_in text;
       before = standing (read_before (kind_at rest) (word_at rest) (tokens_in text));
       noted = noted;
     }
@@ -66,6 +71,9 @@ place_at noted left text = place_between noted (text_before left text) (rest_of 
 -- the token before, if it belongs to the same declaration or statement
 abbrev pub last : Place → Option TokenKind
 last p = last_of p.before
+
+abbrev pub has : Choices → Choice → Bool
+has noted c = has_all c (held noted)
 
 abbrev pub expects : Place → Choice → Bool
 expects p c = has p.noted c
@@ -99,6 +107,10 @@ is_before p bytes = starts_with nat_eq (without_blanks (drop (length p.bytes) p.
 -- an `=` that sets follows
 unfoldable pub is_assigned : Place → Bool
 is_assigned p = is_before p (codes "=") && not (is_before p (codes "=="))
+
+-- the line on which the script declares it
+abbrev pub declared_line : Place → Option ℕ
+declared_line p = option_map (λ d. d.line) (declared p.bytes p.before)
 
 abbrev pub is_free_name : Place → Bool
 is_free_name p = is_name p.token && is_none (declared p.bytes p.before)

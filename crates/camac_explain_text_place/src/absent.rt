@@ -7,7 +7,7 @@ ghost use Rattle.camac_explain_text_place.specs.Absent.{absent_of, absent_sign, 
 // Words and signs of other languages, and what a script has in their place.
 type Row = (&'static [&'static str], &'static str);
 
-static ABSENT: [Row; 41] = [
+static ABSENT: [Row; 46] = [
     (
         &["print", "printf", "println", "echo"],
         "`put v`, which makes `v` a word of the event",
@@ -37,7 +37,7 @@ static ABSENT: [Row; 41] = [
         "a `for` that counts up, and a difference in its body",
     ),
     (
-        &["or", "||"],
+        &["or", "||", ".OR.", ".or."],
         "one `if` into the `else` of the other, or a variable that both set",
     ),
     (&["elif", "elseif", "elsif"], "`else { if c { .. } }`"),
@@ -71,23 +71,37 @@ static ABSENT: [Row; 41] = [
     ),
     (&["mod"], "`%` between the two numbers"),
     (
-        &["&", "|", "^", "~", "<<", ">>", "xor", "shl", "shr"],
+        &["|", "^", "~", "<<", ">>", "xor", "shl", "shr"],
         "`/` and `%` with powers of two: `v % 256` is the low byte of `v`, and `v * 4` shifts it left by two",
     ),
     (
         &["&H", "&h", "&B", "&b"],
         "decimal digits: `255` for `0xff`",
     ),
-    (&["&&"], "`and`"),
-    (&["!"], "`not` before a comparison or a flag"),
-    (&["<>", "≠"], "`!=`"),
+    (
+        &["&"],
+        "`v % 256` for the low byte of `v`, and `v` alone for its address",
+    ),
+    (
+        &["CALL"],
+        "`cfsa 0 channel -> v` for `CALL CFSA(..)`, and `call p(..)` for a procedure",
+    ),
+    (&["&&", ".AND.", ".and."], "`and`"),
+    (
+        &["!", ".NOT.", ".not."],
+        "`not` before a comparison or a flag",
+    ),
+    (&[".GT.", ".gt."], "`>`"),
+    (&[".LT.", ".lt."], "`<`"),
+    (&[".EQ.", ".eq."], "`==`"),
+    (&["<>", "≠", ".NE.", ".ne."], "`!=`"),
     (
         &["/="],
         "`!=` to compare, and the whole to divide, as in `v = v / 2`",
     ),
     (&[":="], "`=`"),
-    (&["=>"], "`>=`"),
-    (&["=<"], "`<=`"),
+    (&["=>", ".GE.", ".ge."], "`>=`"),
+    (&["=<", ".LE.", ".le."], "`<=`"),
     (
         &["++", "--", "+=", "-=", "*=", "%="],
         "the whole, as in `v = v + 1`",
@@ -173,6 +187,12 @@ pub fn absent_sign(before: &[u8], rest: &[u8]) -> Option<Absent<'static>>
     ensures { option_map absent_of result ≡ absent_sign before.now rest.now }
 {
     let table = absent_table();
+    if let Some(absent) = sign_in(table, 5, before, rest) {
+        return Some(absent);
+    }
+    if let Some(absent) = sign_in(table, 4, before, rest) {
+        return Some(absent);
+    }
     if let Some(absent) = sign_in(table, 3, before, rest) {
         return Some(absent);
     }

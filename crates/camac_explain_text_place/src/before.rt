@@ -1,20 +1,20 @@
 // What stands before a place of a script.
 
-ghost use Rattle.std.specs.Prelude.{◌≡◌, ◌+◌, IfOk, OnOk, option_copied, option_map, slice_get, take};
-ghost use Rattle.camac_explain_text_place.specs.Before.{assigned, begun, behind_token, called_in, closed, count_of, declared, declared_as, ended, in_body, is_before_variable, is_declared_before, is_in_brackets, is_of_for, is_sign, kind_behind, kind_declared_next, last_alone, near, open_line, opened, parameters, serves_as, standing, standing_of, wants_new_name, with_parameters, word_of};
+ghost use Rattle.std.specs.Prelude.{◌≡◌, IfOk, OnOk, filter, option_copied, option_map, slice_get};
+ghost use Rattle.camac_explain_text_place.specs.Before.{assigned, begins_statement, begun, behind_token, called_in, closed, count_of, declared, declared_as, ended, in_body, is_before_variable, is_in_brackets, is_of_for, is_outside, is_sign, kind_behind, kind_declared_next, last_alone, near, open_line, opened, seen_as, standing, standing_of, wants_new_name, with_parameters, word_of};
 
-use crate::choices::{begins_declaration, begins_statement};
 use camac_lang::Name;
 use camac_lines::is_near;
-use camac_text::NameKind;
+use camac_text::{Choice, NameKind};
 use camac_tokens::{Keyword, Sign, Token, TokenKind};
 use std::alloc::{AllocError, Global};
 
-/// A name, and what it is declared as.
+/// A name, what it is declared as, and on which line.
 #[derive(Drop)]
 pub struct Declared {
     pub name: Name,
     pub kind: NameKind,
+    pub line: u32,
     /// Of a procedure that has ended: how many parameters it has.
     pub parameters: usize,
 }
@@ -28,8 +28,6 @@ pub struct Before {
     blocks: Vec<u32>,
     /// The names that are declared so far, and those of the body in hand.
     pub names: Vec<Declared>,
-    // How many of the names are declared before the declaration in hand.
-    outside: usize,
     /// Whether it ends in a procedure's body.
     pub in_procedure: bool,
 }
@@ -43,7 +41,6 @@ impl Before {
             phrase: Vec::new(alloc),
             blocks: Vec::new(alloc),
             names: Vec::new(alloc),
-            outside: 0,
             in_procedure: false,
         };
         'tokens: for token in tokens {
@@ -99,14 +96,6 @@ impl Before {
         self.blocks.last().copied()
     }
 
-    /// How many parameters the procedure in hand has.
-    pub fn parameters(&self) -> usize
-        ensures { result ≡ parameters (standing_of self.now) }
-    {
-        let own = self.names.iter().skip(self.outside);
-        own.filter(|it| it.kind == NameKind::Parameter).count()
-    }
-
     /// What a name is declared as.
     pub fn declared(&self, name: &[u8]) -> Option<&Declared>
         ensures { option_copied result ≡ declared name.now (standing_of self.now) }
@@ -114,27 +103,24 @@ impl Before {
         self.names.iter().find(|it| it.name.as_bytes() == name)
     }
 
-    /// Whether a name is declared before the declaration or the statement in hand.
-    pub fn is_declared_before(&self, name: &[u8]) -> bool
-        ensures { result ≡ is_declared_before name.now (standing_of self.now) }
-    {
-        let known = if self.in_body() {
-            self.names.len()
-        } else {
-            self.outside
-        };
-        let mut before = self.names.iter().take(known);
-        before.any(|it| it.name.as_bytes() == name)
-    }
-
-    /// The first name of a kind that is near a word, of those that the body in hand sees: a procedure sees no variable of the script.
+    /// The first name of a kind that is near a word.
     pub fn near(&self, word: &[u8], kind: NameKind) -> Option<&Declared>
         ensures { option_copied result ≡ near word.now kind (standing_of self.now) }
     {
-        let is_hidden = self.in_procedure && kind == NameKind::Variable;
-        let hidden = if is_hidden { self.outside } else { 0 };
-        let mut seen = self.names.iter().skip(hidden);
-        seen.find(|it| serves_as(it, kind) && is_near(word, it.name.as_bytes()))
+        let seen = self.seen_as(kind);
+        let mut names = self.names.iter();
+        names.find(|it| it.kind == seen && is_near(word, it.name.as_bytes()))
+    }
+
+    // A procedure sees its parameters in place of the variables of the script.
+    fn seen_as(&self, kind: NameKind) -> NameKind
+        ensures { result ≡ seen_as kind (standing_of self.now) }
+    {
+        if self.in_procedure && kind == NameKind::Variable {
+            NameKind::Parameter
+        } else {
+            kind
+        }
     }
 
     #[tactic(auto, unfolding(crate::specs::Before::behind_token))]
@@ -147,7 +133,7 @@ impl Before {
             TokenKind::Sign(Sign::Equals) => self.begin_assignment()?,
             TokenKind::Sign(_) | TokenKind::Number(_) => {}
             TokenKind::Keyword(word) => self.begin(*word),
-            TokenKind::Name(name) => self.declare(name)?,
+            TokenKind::Name(name) => self.declare(name, line)?,
         }
         self.phrase.push(kind.duplicate())?;
         Ok(())
@@ -157,13 +143,13 @@ impl Before {
     fn begin(&mut self, word: Keyword)
         ensures { standing_of self.new ≡ begun word (standing_of self.old) }
     {
-        if self.in_body() {
-            if begins_statement(word) {
-                self.phrase.clear();
-            }
-        } else if begins_declaration(word) {
+        let begins = if self.in_body() {
+            begins_statement(word)
+        } else {
+            Choice::Declaration.has_word(word)
+        };
+        if begins {
             self.phrase.clear();
-            self.outside = self.names.len();
         }
     }
 
@@ -183,8 +169,8 @@ impl Before {
         self.phrase.len() == 2 && self.first_word() == Some(Keyword::For)
     }
 
-    fn declare(&mut self, name: &Name) -> Result<(), AllocError>
-        ensures { OnOk result (standing_of self.new ≡ declared_as (kind_declared_next (standing_of self.old)) name.now (standing_of self.old)) }
+    fn declare(&mut self, name: &Name, line: u32) -> Result<(), AllocError>
+        ensures { OnOk result (standing_of self.new ≡ declared_as (kind_declared_next (standing_of self.old)) name.now line (standing_of self.old)) }
     {
         let Some(kind) = self.kind_declared_next() else {
             return Ok(());
@@ -193,6 +179,7 @@ impl Before {
             self.names.push(Declared {
                 name: name.duplicate(),
                 kind,
+                line,
                 parameters: 0,
             })?;
         }
@@ -232,12 +219,11 @@ impl Before {
     fn end_body(&mut self) -> Result<(), AllocError>
         ensures { OnOk result (standing_of self.new ≡ ended (standing_of self.old)) }
     {
-        let parameters = self.parameters();
+        let mut names = self.names.iter();
+        let parameters = names.filter(|it| it.kind == NameKind::Parameter).count();
+        keep_outside(&mut self.names);
         if self.in_procedure {
-            keep_one_more(&mut self.names, self.outside);
             set_parameters(&mut self.names, parameters)?;
-        } else {
-            self.names.truncate(self.outside);
         }
         self.in_procedure = false;
         Ok(())
@@ -255,12 +241,17 @@ fn keep_last(phrase: &mut Vec<TokenKind>) -> Result<(), AllocError>
     Ok(())
 }
 
-fn keep_one_more(names: &mut Vec<Declared>, count: usize)
-    ensures { names.new.items ≡ take (count + 1) names.old.items }
+fn keep_outside(names: &mut Vec<Declared>)
+    ensures { names.new.items ≡ filter is_outside names.old.items }
 {
-    if count < names.len() {
-        names.truncate(count + 1);
-    }
+    names.retain(is_outside);
+}
+
+// Whether a name is declared outside of bodies.
+fn is_outside(declared: &Declared) -> bool
+    ensures { result ≡ is_outside declared.now }
+{
+    !matches!(declared.kind, NameKind::Register | NameKind::Parameter)
 }
 
 // The last of these names is that of a procedure with so many parameters.
@@ -335,9 +326,9 @@ pub fn word_of(kind: Option<&TokenKind>) -> Option<Keyword>
     }
 }
 
-// A parameter serves as a variable.
-fn serves_as(declared: &Declared, kind: NameKind) -> bool
-    ensures { result ≡ serves_as kind declared.now }
+/// Whether a word begins a statement: `lock`, too.
+pub fn begins_statement(word: Keyword) -> bool
+    ensures { result ≡ begins_statement word }
 {
-    declared.kind == kind || (kind == NameKind::Variable && declared.kind == NameKind::Parameter)
+    Choice::Statement.has_word(word) || word == Keyword::Lock
 }

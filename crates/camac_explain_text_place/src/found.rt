@@ -7,12 +7,11 @@ ghost use Rattle.camac_tokens.specs.Words.{pair_signs, spelled_in};
 ghost use Rattle.camac_explain_text_place.specs.Absent.{absent_of, absent_sign};
 ghost use Rattle.camac_explain_text_place.specs.Before.{standing_of, word_of};
 ghost use Rattle.camac_explain_text_place.specs.Found.{begun_length, kind_at, rest_of, sign_length, text_before, word_at, word_length};
-ghost use Rattle.camac_explain_text_place.specs.Place.{absent_word_at, adjoins_word, begins_line, begins_statement_at, ends_in_blanks, expects, is_assigned, is_before, is_free_name, last, needed, place_at, place_of, read_before, wants_register, without_blanks};
+ghost use Rattle.camac_explain_text_place.specs.Place.{absent_word_at, adjoins_word, begins_line, begins_statement_at, declared_line, ends_in_blanks, expects, is_assigned, is_before, is_free_name, last, needed, place_at, place_of, read_before, tokens_in, wants_register, without_blanks};
 
 use crate::absent::{Absent, absent_sign, absent_word};
 use crate::before::{Before, word_of};
-use crate::declaring::tokens_in;
-use camac_text::{Choice, Choices, NameKind, Token, TokenKind, TokensLeft};
+use camac_text::{Choice, Choices, NameKind, TextFault, Token, TokenKind, TokensLeft, tokens};
 use camac_tokens::Keyword;
 use std::alloc::{AllocError, Global};
 
@@ -26,8 +25,6 @@ pub struct Found<'a> {
     /// The texts before it, and from it on.
     pub text: &'a [u8],
     pub rest: &'a [u8],
-    /// Those before it.
-    pub tokens: Vec<Token>,
     pub before: Before,
     /// What may stand in its place.
     pub expected: Choices,
@@ -53,7 +50,6 @@ impl<'a> Found<'a> {
             kind,
             text,
             rest,
-            tokens,
             before,
             expected,
         })
@@ -138,6 +134,14 @@ impl<'a> Found<'a> {
         }
     }
 
+    /// The line on which the script declares it.
+    pub fn declared_line(&self) -> Option<u32>
+        ensures { result ≡ declared_line (place_of self.now) }
+    {
+        let declared = self.before.declared(self.word)?;
+        Some(declared.line)
+    }
+
     fn is_free_name(&self) -> bool
         ensures { result ≡ is_free_name (place_of self.now) }
     {
@@ -169,6 +173,18 @@ impl<'a> Found<'a> {
             Some(Cfmad) => self.before.phrase.len() == 2 || self.before.phrase.len() == 3,
             _ => false,
         }
+    }
+}
+
+// The tokens of a text; none where it has a fault of a token.
+#[tactic(auto, using(crate::proofs::Tokens::of_tokens, crate::proofs::Tokens::of_token_fault))]
+fn tokens_in(alloc: Global, text: &[u8]) -> Result<Vec<Token>, AllocError>
+    ensures { IfOk result (λ v. v.items ≡ tokens_in text.now) }
+{
+    match tokens(alloc, text) {
+        Ok(tokens) => Ok(tokens),
+        Err(TextFault::OutOfMemory) => Err(AllocError),
+        Err(TextFault::Broken { .. }) => Ok(Vec::new(alloc)),
     }
 }
 

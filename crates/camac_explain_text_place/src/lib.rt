@@ -3,14 +3,12 @@
 
 mod absent;
 mod before;
-mod choices;
-mod declaring;
+mod expected;
 mod found;
 mod spelled;
 
 pub use absent::{Absent, absent_sign, is_same_word};
-pub use before::{Before, Declared};
-pub use choices::{begins_declaration, begins_statement, is_comparison, is_operator};
-pub use declaring::{called_before, declared_line};
+pub use before::{Before, Declared, begins_statement};
+pub use expected::{expected_list, is_name, is_operator};
 pub use found::{Found, kind_at, prefix, rest_of};
 pub use spelled::{sign_text, word_text};

@@ -18,6 +18,7 @@ pub fn procedures_stand()
 {}
 
 /// Registers are only added along a body.
+#[tactic(auto, using(crate::proofs::Grows::block_grows))]
 pub fn registers_grow()
     ensures { RegistersGrow }
 {}

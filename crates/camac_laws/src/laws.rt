@@ -17,21 +17,25 @@ ghost use Rattle.camac_laws.specs.Windows.{WindowsAreCounted, WindowsAreDeclared
 use camac_check::Checked;
 
 /// With lower numbers in the headings of its procedures a block is judged the same, and costs no more.
+#[tactic(auto, using(crate::proofs::Grown::costs_grow))]
 pub fn costs_grow()
     ensures { CostsGrow }
 {}
 
 /// Whatever headings a linked script is accepted with, its least headings are there, and no number of them is greater.
+#[tactic(auto, using(crate::proofs::Least::least_are_least))]
 pub fn least_are_least()
     ensures { LeastAreLeast }
 {}
 
 /// Where a script has no least headings, no numbers in its headings make it linked and accepted.
+#[tactic(auto, using(crate::proofs::Least::refused_have_none))]
 pub fn refused_have_none()
     ensures { RefusedHaveNone }
 {}
 
 /// Where `check` accepts a linked script, `least` answers Ok, with no number above those of its headings; or memory ran out.
+#[tactic(auto, using(crate::proofs::Least::checked_have_least))]
 pub fn checked_have_least()
     ensures { CheckedHaveLeast }
 {}
@@ -42,6 +46,7 @@ pub fn guards_stop()
 {}
 
 /// Of any script: a guarded block does the same as the plain one, unless it stops as wrong.
+#[tactic(auto, using(crate::proofs::Guarded::guards_only_stop))]
 pub fn guards_only_stop()
     ensures { GuardsOnlyStop }
 {}
@@ -64,12 +69,14 @@ pub fn calls_keep_to_ranges(checked: &Checked)
 /// Where a script is refused, all procedures and services before one are accepted, and this one is refused. A statement of its body, to which
 /// the checker comes as all before it are accepted, has this fault, on its line, and none of those in its blocks has one; in an `each` it is so in
 /// some turn. Or with an `each` on this line more is judged than its body may. Or its body is accepted and costs more than its heading has.
+#[tactic(auto, using(crate::proofs::RefusedAt::refused_at_places))]
 pub fn refused_at_places()
     ensures { RefusedAtPlaces }
 {}
 
 /// Where the body of a procedure or service is accepted and the whole is not (E11, E12, E18), the case shows what the body costs and the lower
 /// number of its heading. A heading with any number that is at least the cost is not refused by that rule.
+#[tactic(auto, using(crate::proofs::RefusedAt::headings_are_shown))]
 pub fn headings_are_shown()
     ensures { HeadingsAreShown }
 {}
@@ -91,6 +98,7 @@ pub fn kept_are_shown()
 /// Where a `while` may have too many turns (E10), the case shows the turns that it needs, which are the greatest value of its measure divided by
 /// its step, and the number after `turns`. With a number that is enough it is not refused by that rule. Or that number is above the most
 /// that any loop may have, and the case shows both.
+#[tactic(auto, using(crate::proofs::ShownTurns::while_turns_are_shown))]
 pub fn while_turns_are_shown()
     ensures { WhileTurnsAreShown }
 {}
@@ -104,28 +112,33 @@ pub fn for_turns_are_shown()
 
 /// Where an expression may have no number as its value (E4), the case shows an operator in it, and the numbers of the parts on both sides, on
 /// which it has no result. Else the expression has a number above the greatest or a division by 0, which no text gives.
+#[tactic(auto, using(crate::proofs::ShownExpressions::expressions_are_shown))]
 pub fn expressions_are_shown()
     ensures { ExpressionsAreShown }
 {}
 
 /// Where a condition is refused, one of its parts is, in the state in which all parts before it hold.
+#[tactic(auto, using(crate::proofs::ShownExpressions::conditions_are_shown))]
 pub fn conditions_are_shown()
     ensures { ConditionsAreShown }
 {}
 
 /// Where a part of a condition is refused, its fault is that of one of the two expressions in it.
+#[tactic(auto, using(crate::proofs::ShownExpressions::parts_are_shown))]
 pub fn parts_are_shown()
     ensures { PartsAreShown }
 {}
 
 /// Where a station may not be installed (E1), the case shows the first crate of the addresses not all of whose stations are there. Where that
 /// crate is in the plan, it shows its first station that is not installed.
+#[tactic(auto, using(crate::proofs::ShownAddresses::missing_are_shown))]
 pub fn missing_are_shown()
     ensures { MissingAreShown }
 {}
 
 /// Where a command may not be declared (E2), the case shows the function, the first crate that has not the command at all addresses, its first
 /// such station, and the first sub-address there that has not the command.
+#[tactic(auto, using(crate::proofs::ShownAddresses::undeclared_are_shown))]
 pub fn undeclared_are_shown()
     ensures { UndeclaredAreShown }
 {}
@@ -133,18 +146,21 @@ pub fn undeclared_are_shown()
 /// The same of a scan, whose addresses are those of its window: from its first to its last, in the order of stations and then of
 /// sub-addresses. Where a station may not be installed (E1), the case shows the crate, which is not in the plan; or it is, and the station is
 /// the first of the window that is not installed.
+#[tactic(auto, using(crate::proofs::ShownWindows::missing_over_are_shown))]
 pub fn missing_over_are_shown()
     ensures { MissingOverAreShown }
 {}
 
 /// Where a scan may come to an address that does not declare its command (E2), the case shows the function and the first such address of the
 /// window. Or one of its registers may hold a sub-address past the last, and the case shows the first of these.
+#[tactic(auto, using(crate::proofs::ShownWindows::undeclared_over_are_shown))]
 pub fn undeclared_over_are_shown()
     ensures { UndeclaredOverAreShown }
 {}
 
 /// Each register that is set where the checker comes to a statement has an address: each of its three ranges has a number. So it is in
 /// the body of a service, and in that of a procedure.
+#[tactic(auto, using(crate::proofs::Places::registers_have_addresses))]
 pub fn registers_have_addresses()
     ensures { RegistersHaveAddresses }
 {}
@@ -177,6 +193,7 @@ pub fn values_are_fit()
 
 /// After a read its variable has the range of the words that have no more bits than the function has at some address of the register, and for
 /// `cssa` no more than 16. All else is known as before it.
+#[tactic(auto, using(crate::proofs::Values::reads_are_all))]
 pub fn reads_are_all()
     ensures { ReadsAreAll }
 {}

@@ -45,6 +45,7 @@ impl Linked {
     }
 
     /// The bit of the graded-L pattern that calls the service of this number, from 0.
+    #[tactic(auto, using(crate::proofs::Places::found_bit))]
     pub fn gl(&self, i: usize) -> GlBit
         requires { i < length self.now.script.services }
         ensures { bit_of_service self.now i ≡ Some result }

@@ -7,7 +7,7 @@ ghost use Rattle.camac_play.specs.RunIo.{OnlyReads};
 
 use crate::fault::PlayFault;
 use crate::run_io::RunIo;
-use camac_answer::{AnswerFault, LINE, judge, judged_by};
+use camac_answer::{AnswerFault, AnswerRule, LINE, judge, judged_by};
 use camac_branch::Answer;
 
 /// The answer after so many, or none at the end, or the fault of its line. A write fault is one in handing on, and then nothing was read.
@@ -26,5 +26,18 @@ pub fn next_answer<I: RunIo>(
     let mut room = [0; LINE];
     let line = &mut room[..judged_by(given, limit)];
     let len = io.read_line(line)?;
-    Ok(judge(given, limit, &line[..len]))
+    let read = judge(given, limit, &line[..len]);
+    show_refused(io, &read, &line[..len]);
+    Ok(read)
+}
+
+// Of a line that is one too many not all was read.
+fn show_refused<I: RunIo>(io: &mut I, read: &Result<Option<Answer>, AnswerFault>, line: &[u8])
+    ensures { I.state io.new ≡ I.state io.old }
+{
+    if let Err(fault) = read {
+        if fault.rule != AnswerRule::TooMany {
+            io.see_refused(line);
+        }
+    }
 }

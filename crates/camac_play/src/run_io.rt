@@ -38,6 +38,11 @@ pub trait RunIo {
         ensures holding { is_write_fault result ≡ true → (state self.old).gathers ≡ true }
         ensures only { OnlyReads (state self.old) (state self.new) (is_write_fault result) (is_read_fault result) };
 
+    /// Is shown the line of answers that is refused.
+    fn see_refused(&mut self, _line: &[u8])
+        ensures { state self.new ≡ state self.old }
+    {}
+
     /// Lists what the line holds. After a write fault a prefix of it was.
     fn list_line(&mut self, line: &Line) -> Result<(), WriteFault>
         ensures text { Writes (state self.old).listed (state self.new).listed result line.now }

@@ -35,6 +35,7 @@ pub fn services_serve()
 {}
 
 /// A service that makes a cycle that clears its look-at-me, and whose cycles clear no other and hide none, does what is asked of it.
+#[tactic(auto, using(crate::proofs::Harmless::harmless_serve))]
 pub fn harmless_serve()
     ensures { HarmlessServe }
 {}

@@ -2,6 +2,7 @@
 
 ghost use Rattle.camac_run.specs.Abandoned.{AbandoningHolds};
 ghost use Rattle.camac_run.specs.Ahead.{AheadIsMade, BeginningsAreAhead};
+ghost use Rattle.camac_run.specs.Back.{SettingBackHolds};
 ghost use Rattle.camac_run.specs.Holds.{AllIsTold, GoingOnHolds, ResumingHolds, WantsAreWanted};
 ghost use Rattle.camac_run.specs.Headline.{RunsAlways, RunsByHeadline, LeavesFewEvents};
 ghost use Rattle.camac_run.specs.Requested.{RequestsAreSafe};
@@ -39,12 +40,19 @@ pub fn runner_holds_the_rest()
 {}
 
 /// What is left after a service was abandoned is what the run had left at the demand that called it.
+#[tactic(auto, using(crate::proofs::Abandoned::abandoning_holds))]
 pub fn abandoning_holds()
     ensures { AbandoningHolds }
 {}
 
+/// What sets the crates back does so, and may be made.
+pub fn setting_back_holds()
+    ensures { SettingBackHolds }
+{}
+
 /// The run makes the operations that were told ahead, one for each answer, in their order, and no others; it wants each of them before its
 /// answer, and until the last answer no lockout is released and no event left. A caller may ask for fewer: any beginning of them is ahead, too.
+#[tactic(auto, using(crate::proofs::Coming::ahead_is_made, crate::proofs::Coming::beginnings_are_ahead))]
 pub fn ahead_is_made()
     ensures made { AheadIsMade }
     ensures beginnings { BeginningsAreAhead }

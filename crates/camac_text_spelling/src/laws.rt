@@ -3,16 +3,19 @@
 ghost use Rattle.camac_text_spelling.specs.Laws.{ExampleIsSpelled, ReadIsSpelled, SpelledTokensAreRead, SpelledIsRead, SpelledOnce, FaultSpellsNothing, RefusedIsNotSpelled};
 
 /// The tokens of the standard example's text spell its tree.
+#[tactic(auto, using(crate::proofs::Rows::example_is_spelled))]
 pub fn example_is_spelled()
     ensures { ExampleIsSpelled }
 {}
 
 /// The tree that is read of a text, which `parse` answers, is one that the text's tokens spell.
+#[tactic(auto, using(crate::proofs::Whole::read_is_spelled))]
 pub fn read_is_spelled()
     ensures { ReadIsSpelled }
 {}
 
 /// A tree that tokens spell is what is read of them, whatever the line of the end.
+#[tactic(auto, using(crate::proofs::Read::spelled_tokens_are_read))]
 pub fn spelled_tokens_are_read()
     ensures { SpelledTokensAreRead }
 {}
@@ -23,6 +26,7 @@ pub fn spelled_is_read()
 {}
 
 /// Tokens spell at most one tree.
+#[tactic(auto, using(crate::proofs::Read::spelled_once))]
 pub fn spelled_once()
     ensures { SpelledOnce }
 {}

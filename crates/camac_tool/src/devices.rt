@@ -34,6 +34,7 @@ pub fn run_on_devices<P: Read, S: Read, A: Read + Drop, W: Write + Drop, E: Writ
             outcome: Err(ToolFault::Memory),
             listing,
             records,
+            refused: None,
         },
     }
 }

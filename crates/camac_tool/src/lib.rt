@@ -2,6 +2,7 @@
 #![tactic(auto)]
 
 mod ahead;
+mod answer_line;
 mod devices;
 mod failure;
 mod gathered;

@@ -35,6 +35,15 @@ const USAGE: u8 = 2;
 
 const STANDARD_OUTPUT: &str = "standard output";
 
+/// The commands of the Python package that the program does not have.
+const OF_PACKAGE: [&str; 11] = [
+    "annotate", "csv", "diff", "draw", "export", "fmt", "lsp", "report", "simulate", "survey",
+    "watch",
+];
+
+/// The options of `camac-check` that `check` does not have.
+const OF_CHECK: [&str; 5] = ["--strict", "--write", "--keeps", "--json", "--format"];
+
 /// Does what the words after the program's name ask for. Returns the exit status: 0 or 1 by the outcome, 2 where the words ask for nothing
 /// that is there, 3 for a fault, and 141 where a pipe was written that its reader closed. What a job tells goes to `out`, which is returned.
 /// Help and version go to standard output, and end with 0. A fault is a line on standard error, and below it its file and the reason.
@@ -57,7 +66,7 @@ pub fn exit_status<R: Host + Print + Eprint + AllocGlobal, W: Write + Drop>(
     match read_words(rt.alloc(), words) {
         Ok(job) => tool.serve(job, out),
         Err(JobFault::InTwice) => (tool.misused("fault @in twice"), out),
-        Err(JobFault::Usage(error)) => (tool.print_usage(error), out),
+        Err(JobFault::Usage(error)) => (tool.print_usage(error, words), out),
     }
 }
 
@@ -106,7 +115,11 @@ impl<'r, 'f, 'a, R: Host + Print + Eprint + AllocGlobal> Tool<'r, 'f, 'a, R> {
     fn serve<W: Write + Drop>(&self, job: Job<'a>, out: W) -> (u8, W)
         ensures { EndsJob (R.bytes_of self.now.rt.now) job.entry (W.contents out) (W.contents result.1) result.0 }
     {
+        let is_swapped = is_swapped(&job);
         let (done, out) = self.do_job(job, Named::new(out, STANDARD_OUTPUT, self.failure));
+        if is_swapped && let Ok(Done::Answered(Outcome::Refused)) = &done {
+            let _ = eprintln!(self.rt; "  PLAN comes first, then SCRIPT");
+        }
         (self.finished(done), out.device)
     }
 
@@ -287,7 +300,7 @@ impl<'r, 'f, 'a, R: Host + Print + Eprint + AllocGlobal> Tool<'r, 'f, 'a, R> {
     ) -> (Result<Done<'a>, ToolFault>, W)
         ensures { HandsOn (RunsTold (R.bytes_of self.now.rt.now) plan.now script.now answers.now Listing) (W.contents out) (W.contents result.1) result.0 }
     {
-        let (plan, script, answers) = match self.open_run(plan, script, answers, events) {
+        let (plan, script, lines) = match self.open_run(plan, script, answers, events) {
             Ok(inputs) => inputs,
             Err(fault) => return (Err(fault), out),
         };
@@ -296,10 +309,13 @@ impl<'r, 'f, 'a, R: Host + Print + Eprint + AllocGlobal> Tool<'r, 'f, 'a, R> {
             self.rt.alloc(),
             &mut source_of(plan),
             &mut Watched::new(script),
-            answers,
+            lines,
             out,
             Named::new(file, events, self.failure),
         );
+        if let Some(line) = &ran.refused {
+            line.tell(self.rt, answers);
+        }
         (settled(ran.outcome, &ran.records), ran.listing)
     }
 
@@ -389,7 +405,7 @@ impl<'r, 'f, 'a, R: Host + Print + Eprint + AllocGlobal> Tool<'r, 'f, 'a, R> {
             return USAGE;
         };
         match setting_error(self.rt.alloc(), option, word) {
-            Ok(error) => self.print_usage(error),
+            Ok(error) => self.print_usage(error, &[]),
             Err(_) => self.failure.tell(self.rt, ToolFault::Memory),
         }
     }
@@ -402,9 +418,15 @@ impl<'r, 'f, 'a, R: Host + Print + Eprint + AllocGlobal> Tool<'r, 'f, 'a, R> {
     }
 
     // The text of `clap`: help, version, or why the words name no job.
-    fn print_usage(&self, error: Error) -> u8
+    fn print_usage(&self, error: Error, words: &[String]) -> u8
         ensures { EndsUsage (kind_of error) result }
     {
+        if let ErrorKind::InvalidSubcommand | ErrorKind::UnknownArgument = error.kind()
+            && let Some((program, rest)) = meant_by(words)
+        {
+            let _ = eprintln!(self.rt; "error: camac has no such command; write '{program}{rest}'");
+            return USAGE;
+        }
         if error.kind() == ErrorKind::OutOfMemory {
             return self.failure.tell(self.rt, ToolFault::Memory);
         }
@@ -418,6 +440,36 @@ impl<'r, 'f, 'a, R: Host + Print + Eprint + AllocGlobal> Tool<'r, 'f, 'a, R> {
                 .failure
                 .tell(self.rt, self.failure.write(STANDARD_OUTPUT, why)),
         }
+    }
+}
+
+// Whether a name says that a script stands in the place of the plan, or a plan in that of the script. `explain` tells it by what they hold.
+fn is_swapped(job: &Job<'_>) -> bool {
+    match job {
+        Job::Check(plan, script)
+        | Job::Bounds(plan, script)
+        | Job::Costs(plan, script)
+        | Job::Response(plan, script, _, _)
+        | Job::Run(plan, script, _, _)
+        | Job::Drive(plan, script, _) => plan.ends_with(".script") || script.ends_with(".toml"),
+        _ => false,
+    }
+}
+
+// The command that the words mean where `clap` knows none of this name or with this option.
+fn meant_by(words: &[String]) -> Option<(&'static str, &str)> {
+    let (first, rest) = words.split_first()?;
+    let first = first.as_str();
+    if first == "version" {
+        Some(("camac ", "--version"))
+    } else if first.ends_with(".toml") {
+        Some(("camac ", "check PLAN SCRIPT"))
+    } else if OF_PACKAGE.contains(&first) {
+        Some(("python3 -m camac ", first))
+    } else if rest.iter().any(|word| OF_CHECK.contains(&word.as_str())) {
+        Some(("camac-check", " PLAN SCRIPT"))
+    } else {
+        None
     }
 }
 

@@ -11,6 +11,7 @@ ghost use Rattle.camac_play.specs.Play.{is_read_fault, is_write_fault};
 ghost use Rattle.camac_word.specs.Watched.{inner_of, has_failed};
 
 use crate::ahead::Ahead;
+use crate::answer_line::AnswerLine;
 use crate::gathered::Gathered;
 use camac_answer::fill;
 use camac_check::Checked;
@@ -23,21 +24,23 @@ use camac_word::{CrateNo, GlBit, Watched, Word24, WriteFault};
 use std::alloc::Global;
 use std::io::{Read, Write};
 
-/// How a run ended, and its outputs.
+/// How a run ended, its outputs, and the line of answers that was refused.
 #[derive(Drop)]
 pub struct Ran<W: Drop, E: Drop> {
     pub outcome: Result<Outcome, ToolFault>,
     pub listing: W,
     pub records: E,
+    pub refused: Option<AnswerLine>,
 }
 
-/// The answers of a run, which are read ahead, and its listing and its event file, each gathered but the header. Once a call of one output has failed, both
-/// are left alone, and each later call fails.
+/// The answers of a run, which are read ahead, the line of them that is refused, and its listing and its event file, each gathered but the
+/// header. Once a call of one output has failed, both are left alone, and each later call fails.
 #[derive(Drop)]
 pub struct Streams<R: Read + Drop, W: Drop, E: Drop> {
     answers: Ahead<R>,
     listing: Gathered<W>,
     records: Gathered<E>,
+    refused: Option<AnswerLine>,
 }
 
 impl<R: Read + Drop, W: Drop, E: Drop> Streams<R, W, E> {
@@ -72,6 +75,7 @@ impl<R: Read + Drop, W: Write + Drop, E: Write + Drop> Streams<R, W, E> {
                 answers,
                 listing,
                 records,
+                refused: None,
             }),
             Err(records) => Err((listing.into_inner(), records)),
         }
@@ -105,6 +109,7 @@ impl<R: Read + Drop, W: Write + Drop, E: Write + Drop> Streams<R, W, E> {
             outcome,
             listing: self.listing.into_inner(),
             records: self.records.into_inner(),
+            refused: self.refused,
         }
     }
 
@@ -142,6 +147,10 @@ impl<R: Read + Drop, W: Write + Drop, E: Write + Drop> RunIo for Streams<R, W, E
     #[inline(always)]
     fn read_line(&mut self, line: &mut [u8]) -> Result<usize, PlayFault> {
         self.fill_line(line)
+    }
+
+    fn see_refused(&mut self, line: &[u8]) {
+        self.refused = Some(AnswerLine::new(line));
     }
 
     fn list_line(&mut self, line: &Line) -> Result<(), WriteFault> {

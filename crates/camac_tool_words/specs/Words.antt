@@ -1,5 +1,6 @@
 -- The command line as `clap` is told of it, and the job that its matches name.
 use Rattle.std.specs.Prelude.{◌≡◌, ◌⊎◌, ◌==◌, ◌<◌, ◌≤◌, ◌^◌, ℕ, Bool, true, false, ◌&&◌, nat_le, List, [], ◌∷◌, map, codes, count_by, Option, Some, None, unwrap_or}
+use Rattle.std.specs.Char.{is_ascii_alphabetic}
 use Rattle.std.specs.List.{before_first, after_first}
 use Rattle.std.specs.Str.{bytes_eq}
 use Rattle.std.specs.Str.Parse.{IsNumeral, digits_value}
@@ -143,7 +144,7 @@ inputs_of (Run plan script answers events) = plan.now ∷ script.now ∷ answers
 inputs_of (Drive plan script events) = codes "@in" ∷ plan.now ∷ script.now ∷ []
 inputs_of (Events file) = file.now ∷ []
 
--- a capital letter, and digits after it
+-- a letter, and digits after it
 abbrev pub is_digit : ℕ → Bool
 is_digit c = nat_le 48 c && nat_le c 57
 
@@ -154,7 +155,7 @@ are_digits (c ∷ cs) = is_digit c && are_digits cs
 abbrev pub has_code_form : Text → Bool
 has_code_form [] = false
 has_code_form (c ∷ []) = false
-has_code_form (c ∷ d ∷ cs) = ((nat_le 65 c && nat_le c 90) && is_digit d) && are_digits cs
+has_code_form (c ∷ d ∷ cs) = (is_ascii_alphabetic c && is_digit d) && are_digits cs
 
 -- decimal digits alone, and the number that they write
 pub record IsNumber (digits : Text) (n : ℕ) : Type 0 where

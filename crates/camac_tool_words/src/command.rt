@@ -191,7 +191,9 @@ pub fn setting_error<T: Display + Drop>(
     ensures { IfOk result (λ e. kind_of e ≡ ValueValidation) }
 {
     let mut command = response_command(alloc)?.bin_name("camac response")?;
-    let message = format!(in alloc; "invalid value '{word}' for '{option} <SERVICE=CYCLES>'")?;
+    let message = format!(in alloc;
+        "invalid value '{word}' for '{option} <SERVICE=CYCLES>': CYCLES is a whole number of dataway cycles, as in 'adc=200'"
+    )?;
     command.error(ErrorKind::ValueValidation, &message)
 }
 

@@ -33,7 +33,7 @@ pub const EVENTS_COMMAND: &str = "Lists an event file";
 pub const PLAN: &str = "A plan: a TOML file, or @sample, the built-in plan, or @in, standard input";
 
 pub const PLAN_OR_CODE: &str =
-    "A plan: a TOML file, or @sample, or @in, standard input; or the code of a rule";
+    "A plan: a TOML file, or @sample, or @in, standard input; or a code as E12 or w3";
 
 pub const COMMANDS: &str = "Lists the commands of each type, too";
 
@@ -110,9 +110,9 @@ service that is refused. Status as check. At most one of the two can be @in.
 
 With --bounds it explains what bounds refuses, and else prints what bounds prints.
 
-Given the code of a refusal, it prints why the rule is there, each way to fix it,
-and an example. It reads no file. A lone word of a capital letter and digits is a
-code, so give a plan with such a name as ./E12.
+Given a code, of a refusal or a warning, it prints why the rule is there and each way
+to fix it, and of a plan or script an example. It reads no file. A lone word of a
+letter and digits is a code, so give a plan with such a name as ./E12.
 
 With --at it prints what the checker knows before the statement at that place:
 'reached', then a line for each variable with its range, for each register that is

@@ -242,13 +242,13 @@ fn numbers_in(alloc: Global, words: &[&str]) -> Result<Option<Vec<u32>>, AllocEr
     Ok(Some(numbers))
 }
 
-// Whether a word is a capital letter and digits after it.
+// Whether a word is a letter and digits after it.
 fn has_code_form(word: &str) -> bool
     ensures { result ≡ has_code_form word.now }
 {
     match word.as_bytes() {
         [letter, digit, rest @ ..] => {
-            b'A' <= *letter && *letter <= b'Z' && is_digit(*digit) && are_digits(rest)
+            letter.is_ascii_alphabetic() && is_digit(*digit) && are_digits(rest)
         }
         _ => false,
     }

@@ -1,8 +1,8 @@
 """A survey: asks the crates which commands they accept, and compares that with the plan. What is sent is in scripts that the program has judged,
 and none of it writes to a module."""
-import datetime
 import enum
 import itertools
+import time
 from typing import Callable, Iterator, List, NamedTuple, Optional, Sequence, Tuple, Union
 
 from camac.drive import Answer, Branch, File
@@ -139,7 +139,7 @@ def survey(
     if not getattr(branch, "tells_x", True) and any(it >= 8 for it in functions):
         raise ValueError("this driver tells no X of functions that move no data: ask for F0 and F1 alone, or let it read to tell X (mcstd:LIBRARY,x)")
     its = declared_plan(plan, program)
-    at = now("seconds")
+    at = time.strftime("%Y-%m-%dT%H:%M:%SZ", time.gmtime())
     asked = []
     for number, crate in enumerate(its.crates, 1):
         for script in scripts(its, crate, functions, has_empty):
@@ -148,11 +148,6 @@ def survey(
             asked.append(ask(script, branch, program, timeout))
     answers = [cycle for it in asked for cycle in it.cycles()]
     return Survey(at, its, tuple(functions), has_empty, tuple(asked), tuple(_rows(its, answers)))
-
-
-def now(timespec: str = "milliseconds") -> str:
-    """The time, as records have it (UTC, ISO 8601)."""
-    return datetime.datetime.now(datetime.timezone.utc).isoformat(timespec=timespec).replace("+00:00", "Z")
 
 
 def _names(functions: Sequence[int]) -> str:

@@ -335,6 +335,7 @@ fn next_statement<'a>(frames: &mut [Frame<'a>]) -> Option<&'a Stmt>
 }
 
 // What the caller of a procedure sees, where the innermost block is the body of one.
+#[tactic(auto, using(crate::proofs::Lists::caller_last))]
 fn caller_of<'b>(frames: &'b [Frame<'_>]) -> Option<&'b Scope>
     ensures { IfSome result (λ caller. ReturnsTo frames.now caller.now) }
 {

@@ -7,8 +7,8 @@ push_each_around-returns-then-is_in t c =
     let xs = c.args.block.now in
     let i = c.statements.statement-index in
     let lt : i < length xs = omega arith in
-    subst (λ l. OnOk c.push_each.result (c.push_each.new.variables.items ≡ l))
-    (ap (λ l. c.statements.variables.items ++ l) (sym (around_here c.args.left xs i c.statement-item.result lt c.statement-item.is (sym c.is_in.ensures ∙ c.if-is_in.true)))
+    subst (λ l. OnOk c.push_each.result (c.push_each.new.loops.items ≡ l))
+    (ap (λ l. c.statements.loops.items ++ l) (sym (around_here c.args.left xs i c.statement-item.result lt c.statement-item.is (sym c.is_in.ensures ∙ c.if-is_in.true)))
     ∙ c.statements.invariant)
     c.push_each.ensures
 
@@ -17,4 +17,4 @@ push_each_around-returns t c =
     let xs = c.args.block.now in
     let i = c.statements.statement-index in
     let le : length xs ≤ i = omega arith in
-    sym (append-nil c.statements.variables.items) ∙ ap (λ l. c.statements.variables.items ++ l) (sym (around_none c.args.left xs i le)) ∙ c.statements.invariant
+    sym (append-nil c.statements.loops.items) ∙ ap (λ l. c.statements.loops.items ++ l) (sym (around_none c.args.left xs i le)) ∙ c.statements.invariant

@@ -5,4 +5,4 @@ use Rattle.camac_check_costs.proofs.turns.+around.Given as goal
 
 abbrev pub invariant-push_each_around-statements : goal.invariant-push_each_around-statements
 invariant-push_each_around-statements l =
-    l.variables.items ++ each_around l.left (statements_of (drop l.statement-index l.block)) ≡ l.fn.variables.items ++ each_around l.left (statements_of l.block)
+    l.loops.items ++ each_around l.left (statements_of (drop l.statement-index l.block)) ≡ l.fn.loops.items ++ each_around l.left (statements_of l.block)

@@ -1,7 +1,6 @@
 use Rattle.std.proofs.Common.{◌≡◌, drop}
-use Rattle.camac_explain_text_place.specs.Before.{standing_of}
 use Rattle.camac_explain_text.specs.Meant.{near_among}
 use Rattle.camac_explain_text.proofs.hint.near_among.Given as goal
 
 abbrev pub invariant-words : goal.invariant-words
-invariant-words l = near_among (standing_of l.before) l.name (drop l.word-index l.words) ≡ near_among (standing_of l.before) l.name l.words
+invariant-words l = near_among l.name (drop l.word-index l.words) ≡ near_among l.name l.words

@@ -1,5 +1,0 @@
-use Rattle.camac_laws.proofs.ShownWindows as shown
-use Rattle.camac_laws.proofs.laws.undeclared_over_are_shown.Goals as goal
-
-pub returns : goal.returns
-returns c = shown.undeclared_over_are_shown

@@ -1,6 +1,0 @@
-use Rattle.std.proofs.Common.{refl}
-use Rattle.std.proofs.lemmas.Nat.Bits.{shr_and_one}
-use Rattle.camac_module.proofs.row.has_bit.Goals as goal
-
-pub returns : goal.returns
-returns c = rw (shr_and_one c.args.mask c.args.place) refl

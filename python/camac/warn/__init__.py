@@ -1,0 +1,98 @@
+"""Warnings about an accepted script: what is probably not meant. docs/REFUSALS.md has each with an example."""
+from typing import Iterator, List, NamedTuple, Optional, Sequence, Set, Tuple
+
+from camac.bodies import services_of
+from camac.drive import File
+from camac.loops.loose import dear_loops, wide_keeps
+from camac.program import knows_command
+from camac.reader import read_script
+from camac.subcommands import check, response
+from camac.texts import TextFile
+from camac.tree import Plain, Script
+from camac.values import Harm, Response, Service
+from camac.warn.codes import Code as Code, Warned as Warned
+from camac.warn.silent import Silent, costs_with_arms
+
+# What is said of a service, whose name is first, and of the one that clears or hides its look-at-me.
+UNKEPT = {
+    Harm.LEFT: "this service does not clear its look-at-me on every way: write `cclc {0}`",
+    Harm.CLEARED: "`{1}` may clear the look-at-me of `{0}`: leave that to `{0}`",
+    Harm.HIDDEN: "`{1}` may hide the look-at-me of `{0}`: leave it enabled, and the demand output on",
+}
+# A service of so many cycles or fewer is a short one.
+SHORT = 10
+
+
+def warnings(plan: File, script: File, program: Optional[File] = None) -> List[Warned]:
+    """Returns what is probably not meant in an accepted script, by lines. If the program has no `costs` or no `response`, W4 to W8 alone are looked
+    for (`looks_for_all`).
+
+    Raises as `camac.check`."""
+    return look(plan, script, program)[1]
+
+
+def look(plan: File, script: File, program: Optional[File] = None) -> Tuple[List[Service], List[Warned]]:
+    """Returns the services of an accepted script, and what `warnings` does: one judgement serves both."""
+    script = script if isinstance(script, TextFile) else TextFile(script)
+    if looks_for_all(program):
+        return look_at(plan, script.text(), [], response(plan, script, program=program), program)
+    return look_at(plan, script.text(), check(plan, script, program), [], program)
+
+
+def look_at(
+    plan: File, text: bytes, services: List[Service], responses: Sequence[Response], program: Optional[File] = None
+) -> Tuple[List[Service], List[Warned]]:
+    """What `look` returns of an accepted script that is given as its text, with the answers of `check`, which is not needed where the program has
+    `costs`, and of `response`."""
+    its = read_script(text)
+    bodies = costs_with_arms(plan, text, its, program) if looks_for_all(program) else []
+    services = services_of(bodies) if bodies else services
+    if not services:
+        return [], [Warned(1, Code.NO_SERVICE, "this script has no service, so a run of it makes no cycle")]
+    found = [*Silent(plan, text, its, bodies, program).found(), *_unkept(its, responses), *_held_up(its, services), *_loose(plan, text, its, program)]
+    return services, sorted(found, key=lambda it: (it.line, it.code.value))
+
+
+def looks_for_all(program: Optional[File] = None) -> bool:
+    """Whether the program has `costs` and `response`, which W1 to W3 and W9 to W17 need."""
+    return knows_command("costs", program) and knows_command("response", program)
+
+
+def _unkept(script: Script, responses: Sequence[Response]) -> Iterator[Warned]:
+    """What services do to look-at-mes, so that `camac response` has no number. A script that initialises crates alone keeps nothing of it."""
+    if not any(it.unkept for it in responses):
+        return
+    starting: Set[str] = set()
+    # A body calls procedures that end before it, so each is looked at once.
+    for it in script.bodies:
+        if any(isinstance(one, Plain) and (one.word == "cccz" or one.word == "call" and one.name in starting) for one in it.every):
+            starting.add(it.name)
+    if any(it.name not in starting for it in responses):
+        yield from (Warned(it.line, Code.UNKEPT, UNKEPT[it.why].format(it.name, it.other)) for its in responses for it in its.unkept)
+
+
+def _held_up(script: Script, services: List[Service]) -> Iterator[Warned]:
+    """Short services that a longer one on a lower bit can hold up; the longest of those is named."""
+    lines = {it.name: it.line for it in script.bodies}
+    for it in services:
+        lower = [other for other in services if other.gl < it.gl and other.cycles > SHORT]
+        if it.cycles <= SHORT and lower:
+            longest = max(lower, key=lambda other: (other.cycles, -other.gl))
+            text = f"this service (bit {it.gl}, cycles {it.cycles}) can be held up by `{longest.name}` (bit {longest.gl}, cycles {longest.cycles})"
+            yield Warned(lines[it.name], Code.HELD_UP, f"{text}, whose bit is lower")
+
+
+def _loose(plan: File, text: bytes, script: Script, program: Optional[File]) -> Iterator[Warned]:
+    """Loops that keep more than they need, and loops that would cost less turn by turn."""
+    for wide in wide_keeps(plan, text, script.bodies, program):
+        if wide.least is None:
+            yield Warned(wide.line, Code.UNUSED_KEEP, f"this kept bound of `{wide.name}` is not needed: the script is accepted without it", wide.edits)
+        else:
+            its = "{}..{}".format(*wide.least)
+            said = f"this kept bound of `{wide.name}` is wider than it has to be: `{wide.name} in {its}` is accepted, too"
+            yield Warned(wide.line, Code.WIDE_KEEP, said, wide.edits)
+    for dear in dear_loops(plan, text, script.bodies, program):
+        its_bounds = zip(dear.after, dear.before, ("cycles", "words"))
+        less = " and ".join(f"{after} {word} in place of {before}" for after, before, word in its_bounds if after != before)
+        said = f"judged turn by turn (`each`), this loop has a lower bound: `{dear.name}` then takes {less}"
+        yield Warned(dear.line, Code.EACH, said, (dear.edit,))
