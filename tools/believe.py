@@ -4,7 +4,7 @@
 usage: tools/believe.py [--list | --dead | --lawless]
 
 Prints the page docs/inside/BELIEVE.md; with --list each definition and its lines; with --dead those on which no source rests: only proofs do, or nothing;
-with --lawless how many lines of each crate's definitions stand under no law of a file laws.rt, and their sum.
+with --lawless how many lines of each crate's definitions stand under no law, one of a file laws.rt or of camac_laws, and their sum.
 """
 import re
 import sys
@@ -113,7 +113,7 @@ def main(words):
         for it in [(module, name) for module, file in MODULES.items() for name in file.definitions if (module, name) not in living]:
             print(f"{'only proofs rest' if it in proved else 'nothing rests'} on {'.'.join(it)}, {count([it])}")
     elif words == ["--lawless"]:
-        lawful = {*under({it for file in FILES if file.part == "src" and file.module.endswith("laws") for it in named(file, file.lines)})}
+        lawful = {*under({it for file in FILES if file.part == "src" and "laws" in file.module for it in named(file, file.lines)})}
         crates = {it.partition(".")[0]: 0 for it in MODULES}
         for module, name in {(module, name) for module, file in MODULES.items() for name in file.definitions} - lawful:
             crates[module.partition(".")[0]] += count([(module, name)])
