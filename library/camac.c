@@ -21,6 +21,7 @@ uint32_t camac_raw_open(void *run, const uint8_t *plan, size_t plan_size, const 
                         size_t *size);
 uint32_t camac_raw_wants(void *run, void *want);
 size_t camac_raw_ahead(void *run, uint8_t *bytes, size_t room);
+size_t camac_raw_back(void *run, uint8_t *bytes, size_t room);
 uint32_t camac_raw_next(void *run, const void *answer, void *progress);
 uint32_t camac_raw_step(void *run, const void *answer, void *progress, void *want);
 size_t camac_raw_words(void *run, uint8_t *bytes, size_t room);
@@ -50,7 +51,9 @@ void camac_raw_close(void *run);
 #define MOST_BYTES 4096u
 
 /* Whether a struct is as large as here, or larger, as in a later version, so that the next of a list is aligned. */
-#define IS_KNOWN(its) ((its) && (its)->size >= sizeof *(its) && (its)->size <= MOST_BYTES && (its)->size % 4 == 0)
+#define IS_KNOWN(its) ((its) && ((its)->size == sizeof *(its) || is_later((its)->size, sizeof *(its))))
+
+static int is_later(size_t size, size_t known) { return size > known && size <= MOST_BYTES && size % 4 == 0; }
 
 /* Puts zeros behind the size of a struct. */
 #define CLEAR(its) memset(&(its)->size + 1, 0, (its)->size - sizeof (its)->size)
@@ -61,7 +64,7 @@ void camac_raw_close(void *run);
 static void clear_rest(void *its, size_t size, size_t known) { memset((char *)its + known, 0, size - known); }
 
 static int is_session(const camac_session *s) {
-    return s && s->size >= sizeof *s && s->version / 100u == CAMAC_VERSION_NUMBER / 100u;
+    return s && s->size >= sizeof *s && s->version - CAMAC_VERSION_NUMBER / 100u * 100u < 100u;
 }
 
 /* The run of a session. An export changes it only where its call takes a session that is not const. */
@@ -201,14 +204,17 @@ int camac_wants(const camac_session *s, camac_want *want) {
 /* The struct behind this one in a list, which gets the same size. */
 #define NEXT(its, bytes) ((its) = (void *)((char *)(its) + (bytes)), (its)->size = (bytes))
 
-size_t camac_ahead(const camac_session *s, camac_want *want, size_t room) {
-    uint32_t numbers[7 * CAMAC_AHEAD];
+/* How many numbers an export tells of an operation. */
+#define NUMBERS 9u
+
+/* Operations, of which an export writes the numbers. */
+static size_t call_of_wants(size_t (*call)(void *, uint8_t *, size_t), const camac_session *s, camac_want *want, size_t room) {
+    uint32_t numbers[NUMBERS * CAMAC_AHEAD];
     if (!is_session(s) || !room || !IS_KNOWN(want)) return 0;
-    if (s->camac_is_short) room = 1;
     const uint32_t size = want->size;
-    const size_t all = camac_raw_ahead(run_of(s), (uint8_t *)numbers, sizeof numbers) / 7, count = all < room ? all : room;
+    const size_t all = call(run_of(s), (uint8_t *)numbers, sizeof numbers) / NUMBERS, count = all < room ? all : room;
     for (size_t i = 0; i < count; i++) {
-        const uint32_t *const its = numbers + 7 * i;
+        const uint32_t *const its = numbers + NUMBERS * i;
         if (i) NEXT(want, size);
         CLEAR(want);
         want->kind = (uint8_t)its[0];
@@ -217,10 +223,18 @@ size_t camac_ahead(const camac_session *s, camac_want *want, size_t room) {
         want->a = (uint8_t)its[3];
         want->f = (uint8_t)its[4];
         want->data = (uint8_t)its[5];
-        want->word = its[6];
+        want->waits = (uint8_t)its[6];
+        want->width = (uint8_t)its[7];
+        want->word = its[8];
     }
     return count;
 }
+
+size_t camac_ahead(const camac_session *s, camac_want *want, size_t room) {
+    return call_of_wants(camac_raw_ahead, s, want, room > 1 && is_session(s) && s->camac_is_short ? 1 : room);
+}
+
+size_t camac_back(const camac_session *s, camac_want *want, size_t room) { return call_of_wants(camac_raw_back, s, want, room); }
 
 /* Adds which service left the event: the one that the last demand called. */
 static int served(camac_session *s, camac_progress *its, uint32_t code) {
@@ -339,13 +353,19 @@ int camac_go_on(camac_session *s, camac_progress *progress) {
     return served(s, progress, camac_raw_go_on(run_of(s), &progress->kind));
 }
 
-/* Leaves the service in progress, and has its lockouts released. */
-static int left(camac_session *s, const camac_branch *branch, void *user) {
+/* Has the crates set back, leaves the service in progress, and has its lockouts released. 0 where the crates could not be set back. */
+static int is_left(camac_session *s, const camac_branch *branch, void *user) {
+    const camac_answer nothing = CAMAC_ANSWER;
+    camac_want back[CAMAC_BACK] = {CAMAC_WANT};
     uint32_t crates[CAMAC_CRATES];
-    size_t count;
+    size_t count = camac_back(s, back, CAMAC_BACK);
+    for (size_t i = 0; i < count; i++) {
+        camac_answer answer = nothing;
+        if (branch->make(user, &back[i], &answer) != CAMAC_MADE) return 0;
+    }
     const int code = camac_abandon(s, crates, CAMAC_CRATES, &count);
     for (size_t i = 0; i < count; i++) branch->unlock(user, crates[i]);
-    return code;
+    return code == CAMAC_OK;
 }
 
 /* Does what an answer or a pause calls for: tells the event, and has lockouts released. */
@@ -368,8 +388,7 @@ static int played(camac_session *s, const camac_branch *branch, void *user) {
         } else if ((made = branch->make(user, &want, &answer)) == CAMAC_MADE) {
             code = camac_next(s, &answer, &its);
         } else {
-            if (made != CAMAC_FAULT) return CAMAC_OK;
-            if ((code = left(s, branch, user)) != CAMAC_OK) return code;
+            if (made != CAMAC_FAULT || !is_left(s, branch, user)) return CAMAC_OK;
             continue;
         }
         if (code != CAMAC_OK && code != CAMAC_BUSY) break;

@@ -11,7 +11,7 @@ import os
 
 from support import of_c
 from support.live import PROGRAM, STRAIGHT_LINE, TOP, Case, run_tests
-from camac import Answer, UsageFault, library
+from camac import Answer, library
 
 SAMPLE = (TOP / "examples/sample_plan.toml").read_bytes()
 # It puts 1 if inhibit is on, sets it, and disables the demand output.
@@ -97,12 +97,35 @@ class Abandoned(Case):
         self.assertEqual((session.words(), session.item(), session.record(), session.answers_left()), told)
 
     def test_after_an_overrun(self):
-        session = self.session(TWO_CRATES, NESTED)
-        session.next(DEMAND)
-        self.assertEqual(session.next(Answer(wait=15)).kind, library.STOPPED)
-        with self.assertRaises(UsageFault) as found:
-            session.abandon()
-        self.assertEqual(str(found.exception), "abandon needs a run that goes on: this one is over")
+        """The event is lost, and the next has its number. The answer with that wait is not counted."""
+        session, whole = self.session(TWO_CRATES, NESTED), (DEMAND, LOCK, LOCK, CYCLE, CYCLE)
+        for count, held in ((1, ()), (2, (1,)), (4, (2, 1))):
+            for it in whole[:count]:
+                session.next(it)
+            self.assertEqual((session.next(Answer(wait=3)).kind, session.wants(), session.answers_left()), (library.STOPPED, None, 0))
+            self.assertEqual((session.abandon(), session.held(), session.where(), session.wants().kind), (held, (), None, library.DEMAND))
+        self.assertEqual([session.next(it).event for it in whole], [0, 0, 0, 0, 1])
+        self.assertEqual(session.answers_left(), 4_294_967_295 - 12)
+
+    def test_the_longest_wait(self):
+        """That of the plan, in a lockout none. A wait is as long as that may be, and no longer. That of a demand does not count."""
+        session, longest = self.session(TWO_CRATES, NESTED), []
+        for it in (DEMAND, LOCK, LOCK, CYCLE):
+            longest.append(session.wants().waits)
+            session.next(it._replace(wait=longest[-1]))
+        self.assertEqual((longest, session.wants().waits), ([15, 2, 0, 0], 0))
+        self.assertEqual(session.next(Answer(wait=1)).kind, library.STOPPED)
+
+    def test_what_sets_the_crates_back(self):
+        """At the demand inhibit was off, and the demand output enabled."""
+        session, told = self.session(SAMPLE, CHANGES), []
+        for it in (DEMAND, *[CYCLE] * 3):
+            session.next(it)
+            told.append([(its.kind, its.c, its.n, its.a, its.f, its.data, its.waits) for its in session.back()])
+        inhibit, demand = (library.CYCLE, 1, 30, 9, 24, library.NO_DATA, 2), (library.CYCLE, 1, 30, 10, 26, library.NO_DATA, 2)
+        self.assertEqual(told, [[], [], [inhibit], [inhibit, demand]])
+        session.abandon()
+        self.assertEqual(session.back(), [])
 
 
 if __name__ == "__main__":

@@ -8,7 +8,6 @@ It is left out if numpy (package python3-numpy of Debian) is not installed, and 
 CAMAC_EVENTS is how many events the cluster reads, of 64 bytes, in place of a million; 100000000 are a run for a night.
 """
 import contextlib
-import dataclasses
 import importlib
 import logging
 import math
@@ -75,8 +74,8 @@ class Archive(Case):
                 its[20_000:20_100] = [it._replace(cycles=0xCA4D0003) for it in its[20_000:20_100]]
             cls.events.append(its)
             (room / f"run{run}.events").write_bytes(NEW_FILE + b"".join(map(record, its)))
-            record_of = describe(played) if run < 2 else dataclasses.replace(record_of, plan=record_of.plan)
-            record_of = dataclasses.replace(record_of, events=f"run{run}.events", demands=10.0 + run if run else None, services=2.0 if run else None)
+            record_of = describe(played) if run < 2 else record_of._replace(plan=record_of.plan)
+            record_of = record_of._replace(events=f"run{run}.events", demands=10.0 + run if run else None, services=2.0 if run else None)
             (room / f"run{run}.json").write_text(record_of.text())
         cls.by_hand()
         cls.pattern, cls.words = str(room / "run*.events"), room / "words.toml"
@@ -166,7 +165,7 @@ class Archive(Case):
         counts, gated = numpy.zeros((2, 4096), "i8")
         for first, end in zip(ends, ends[1:]):
             name = f"many{first // OF_FILE:03}"
-            (self.room / f"{name}.json").write_text(dataclasses.replace(of, events=f"{name}.events", demands=10.0, services=0.0).text())
+            (self.room / f"{name}.json").write_text(of._replace(events=f"{name}.events", demands=10.0, services=0.0).text())
             with open(self.room / f"{name}.events", "wb") as file:
                 file.write(NEW_FILE)
                 for at in range(1, end - first + 1, PIECE):
@@ -189,7 +188,7 @@ class Archive(Case):
         cut = data.index(record(self.events[1][50_000]))
         for name, its in (("cut", data[:-3]), ("lost", data[:cut] + data[cut + len(record(self.events[1][50_000])) :]), ("no", b"no event file"), ("empty", NEW_FILE)):
             (self.room / f"{name}.events").write_bytes(its)
-            (self.room / f"{name}.json").write_text(dataclasses.replace(camac.read_record(self.made / "run1.json"), events=f"{name}.events").text())
+            (self.room / f"{name}.json").write_text(camac.read_record(self.made / "run1.json")._replace(events=f"{name}.events").text())
             with mock.patch.dict(sys.modules, {"dask": None}):
                 runs = camac.open_runs(str(self.room / f"{name}.events"), self.words, 1 << 20)
                 if name == "empty":
@@ -205,7 +204,7 @@ class Archive(Case):
         its = [it._replace(cycles=None, missed=None) for it in self.events[0][:1000]]
         head = lambda it: b"\xca\x4d" + it.gl.to_bytes(2, "big") + it.number.to_bytes(4, "big") + len(it.words).to_bytes(2, "big")
         (self.room / "one.events").write_bytes(b"CAMACEV1" + b"".join(head(it) + b"".join(word.to_bytes(4, "big") for word in it.words) for it in its))
-        (self.room / "one.json").write_text(dataclasses.replace(camac.read_record(self.made / "run1.json"), events="one.events").text())
+        (self.room / "one.json").write_text(camac.read_record(self.made / "run1.json")._replace(events="one.events").text())
         runs = camac.open_runs(str(self.room / "one.events"), self.words, 4096).gate("channel", 0, 2)
         self.assertEqual(int(runs.histogram("channel").sum()), sum(len(it.words) for it in its if it.gl == 3 and any(word >> 16 < 3 for word in it.words)))
 

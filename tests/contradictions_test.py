@@ -7,7 +7,6 @@ usage: tests/contradictions_test.py [-v] [TEST ..]     from any folder; takes so
 The run in this process is left out if the library for C is not here (support/of_c.py).
 """
 import collections
-import dataclasses
 import os
 import random
 import re
@@ -110,7 +109,7 @@ class Counted(Case):
             self.assertEqual(re.findall('<b class="bad">(the [^<]*)', watch.notes()), texts)
             # An alarm is one while the run goes on.
             for end, wanted in ((watch.record.end, False), (None, True)):
-                watch.record = dataclasses.replace(watch.record, end=end)
+                watch.record = watch.record._replace(end=end)
                 self.assertEqual("plan=0: the plan is contradicted more than 0 times" in watch.alarms(), wanted)
 
     def test_without_a_record(self):

@@ -115,7 +115,7 @@ class Sarif(Plans):
     def test_log(self):
         name = "a b%c.script"
         self.write(name, SCRIPT.replace("within 9", "within 3", 1))
-        self.write("warned.script", SCRIPT.replace("  cfsa 0 r -> v\n", "").replace("  cclc one\n", ""))
+        self.write("warned.script", SCRIPT.replace("  cclc one\n", ""))
         status, out, said = self.package("check", "--format", "sarif", "plan.toml", name, "warned.script", "none.script")
         self.assertEqual((status, said), (3, ""))
         log = json.loads(out)
@@ -141,6 +141,7 @@ class Sarif(Plans):
             found.append((unquote(place["artifactLocation"]["uri"]), line, it["level"], it["ruleId"], it["message"]["text"].partition("\n")[0]))
         self.assertEqual([it[:4] for it in found], [(name, 4, "error", "E12"), ("warned.script", 4, "warning", "W3"), ("none.script", None, "error", "fault")])
         self.assertEqual(found[0][4], "more cycles than annotated")
+        self.assertIn("\nWhy: ", run["results"][1]["message"]["text"])
 
     def test_column(self):
         """A fault of the text has a column, in characters from 1."""

@@ -622,15 +622,34 @@ class Python(Case):
             self.play(LOCKOUT, *whole[:3], broken, on_fault=lambda *_: False)
         self.assertEqual(self.branch_asked.asked[-1], ("unlock", 1))
 
+    def test_an_overrun_on_fault(self):
+        """It is left as a fault is, with the lockout whose own wait was too long; else it ends the run, as without `on_fault`."""
+        whole, places = [DEMAND, Answer(), *[CYCLE] * 4], []
+        for asked in (1, 2, 4):
+            answers = (*whole[:asked], Answer(wait=15), *whole)
+            end = self.play(LOCKOUT, *answers, events=self.room / f"{asked}.events", on_fault=lambda why, at: not places.append((str(why), at)))
+            self.assertEqual((end.line, end.contradictions), ("ended events 1", ()))
+            lines = "".join(f"{it.line()}\n" for it in whole)
+            self.assertEqual(self.file(f"{asked}.events"), library.run(self.sample(), LOCKOUT, lines)[1])
+            self.assertEqual(self.branch_asked.asked[asked + 1], ("unlock", 1))
+        self.assertEqual(places, [("overrun 1 wait 15", (1, line)) for line in (5, 6, 8)])
+        self.assertEqual(self.play(LOCKOUT, DEMAND, Answer(wait=15), on_fault=lambda *_: False).line, "overrun 1 wait 15 events 0")
+
+    def test_the_crates_are_set_back_on_fault(self):
+        script = "cdlam adc 1 1 5 12\nservice adc within 50 cycles event 0 words { cccz 1   cclc adc }\n"
+        self.play(script, DEMAND, CYCLE, Broken(), CYCLE, CYCLE, on_fault=lambda *_: True)
+        self.assertEqual(self.branch_asked.asked[2:], [("cycle", 1, 5, 12, 10, None), ("cycle", 1, 30, 9, 24, None), ("cycle", 1, 30, 10, 26, None), ("demand",)])
+
     def test_sessions(self):
         with library.Session(self.sample(), STRAIGHT_LINE) as session:
             self.assertEqual(session.wants().kind, library.DEMAND)
             self.assertEqual((session.next(DEMAND).service, session.words()), (1, ()))
             want = session.wants()
             self.assertEqual((want.kind, want.c, want.n, want.a, want.f, want.data), (library.CYCLE, 1, 5, 0, 0, library.READ))
+            self.assertEqual((want.waits, want.width), (2, 12))
             did = session.next(Answer(1, 1, 0x123FFF))
             self.assertEqual((did.event, did.event_gl, did.event_words, session.words()), (1, 3, 1, (0xFFF,)))
-            self.assertEqual((did.x, did.q, did.word, did.unlocked), (1, 1, 0x123FFF, ()))
+            self.assertEqual((did.x, did.q, did.word, did.cut, did.unlocked), (1, 1, 0x123FFF, 0x123000, ()))
             session.next(DEMAND)
             self.assertEqual(session.next(Answer(wait=15)).kind, library.STOPPED)
             self.assertIsNone(session.wants())

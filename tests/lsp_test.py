@@ -360,14 +360,17 @@ class Shown(Served):
 
     def test_warnings(self):
         """They come once nothing is typed, stay at their lines meanwhile, and go with their cause."""
-        text = SCRIPT.replace("put v\n", "put v  if v < 0 { put 1 }\n")
+        right = SCRIPT.replace("var v t", "var v")
+        text = right.replace("put v\n", "put v  if v < 0 { put 1 }\n")
         uri = self.open(text)
         self.assertEqual(self.client.found(uri), [])
-        self.assertEqual(self.warned(uri, 2), [(7, "W3"), (11, "W1")])
+        self.assertEqual(self.warned(uri, 2), [(7, "W3"), (11, "W16")])
         self.client.change(uri, 2, ((0, 0), (0, 0), "\n\n"))
-        self.assertEqual([(it[0], it[3]) for it in self.shown(uri, 2)], [(9, "W3"), (13, "W1")])
-        self.assertEqual(self.warned(uri, 2), [(9, "W3"), (13, "W1")])
-        self.client.change(uri, 3, SCRIPT.replace("  put v\n", "  put v\n  cclc adc\n").replace("within 6", "within 9"))
+        self.assertEqual([(it[0], it[3]) for it in self.shown(uri, 2)], [(9, "W3"), (13, "W16")])
+        self.assertEqual(self.warned(uri, 2), [(9, "W3"), (13, "W16")])
+        (it,) = [it for it in self.client.diagnostics[uri][1] if it["code"] == "W16"]
+        self.assertEqual([line.partition(":")[0] for line in it["message"].split("\n")[1:]], ["Why", "Fix"])
+        self.client.change(uri, 3, right.replace("  put v\n", "  put v\n  cclc adc\n").replace("within 6", "within 9"))
         self.client.until(lambda: self.client.diagnostics[uri] == (3, []))
 
     def test_hover(self):
@@ -488,7 +491,7 @@ class Changed(Served):
         self.assertEqual(self.fixed(wide, 3, "Keep the least range", 1), wide.replace("1000", "9"))
         unused = head + loop.format(" keep v in 0..9").replace("put v\n", "put 1\n") + "}\n"
         self.assertEqual(self.fixed(unused, 3, "Remove what is kept for nothing", 1), unused.replace("keep v in 0..9 ", ""))
-        dear = head.replace("within 3", "within 75").replace("event 1", "event 0") + "  cdreg o 1 1 6 0\n  for t = 0 to 11 {\n    if t < 8 { cfsa 16 o <- 1 }\n  }\n  cclc adc\n}\n"
+        dear = head.replace("var v t", "var t").replace("within 3", "within 75").replace("event 1", "event 0") + "  cdreg o 1 1 6 0\n  for t = 0 to 11 {\n    if t < 8 { cfsa 16 o <- 1 }\n  }\n  cclc adc\n}\n"
         self.assertEqual(self.fixed(dear, 4, "Judge the loop turn by turn", 1), dear.replace("11 {", "11 each {"))
 
     def test_loops_of_a_long_script(self):

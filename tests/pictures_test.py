@@ -469,8 +469,9 @@ def rates_at(factor):
     """A simulation by hand, of which no program is needed: a service of 20 cycles at so many times 5,000 triggers a second."""
     rate, answered = 5000 * factor, 1000
     lost = round(answered * rate * 20 * 1.4e-6)
-    waits = [20 + min(at * factor / 200, 13) for at in range(answered)]
-    return Simulation([Simulated("adc", 3, rate, 20, 34, answered + lost, lost, 20 * answered, waits=waits)], 1.0, 0.5, None)
+    its = Simulated("adc", 3, rate, 20, 34)
+    its.came, its.lost, its.length, its.waits = answered + lost, lost, 20 * answered, [20 + min(at * factor / 200, 13) for at in range(answered)]
+    return Simulation([its], 1.0, 0.5, None)
 
 
 def kept_pictures():

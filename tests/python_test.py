@@ -191,7 +191,8 @@ class Arrays(unittest.TestCase):
 
     def test_events(self):
         looks_like_a_marker = struct.pack(">HHIIHHI", 0xCA4D, 1, 1, 0xCA4D0001, 0xCA4D, 1, 7)
-        for data in (ONE, TWO, ONE[:8], TWO[:8], EventFiles().many(1000), TWO[:8] + looks_like_a_marker):
+        and_like_a_count = struct.pack(">HHIIHHII HHIIHH", 0xCA4D, 1, 1, 0xCA4D0001, 0, 2, 7, 0xFFFF, 0xCA4D, 1, 2, 0, 0, 0)
+        for data in (ONE, TWO, ONE[:8], TWO[:8], EventFiles().many(1000), TWO[:8] + looks_like_a_marker, TWO[:8] + and_like_a_count):
             self.compare(data)
 
     def test_faults(self):
@@ -227,15 +228,16 @@ class Package(unittest.TestCase):
         """A module is there as if it had been loaded, and no name of one hides a function."""
         self.assertEqual(self.run_python("import camac; print(camac.printed.read_plan.__name__)"), ["read_plan"])
         modules = {it.stem for it in (TOP / "python/camac").iterdir()} & set(camac.__all__)
-        loaded = self.run_python(f"import camac; print(*(it for it in {sorted(modules)} if callable(vars(camac)[it])))")
+        loaded = self.run_python(f"import camac.call, camac.drive, camac; print(*(it for it in {sorted(modules)} if callable(getattr(camac, it))))")
         self.assertEqual(loaded, sorted(modules))
         with self.assertRaises(AttributeError):
             camac.nothing
 
-    def test_what_camac_check_loads(self):
-        """To load one of these takes as long as a whole call of camac-check."""
-        code = "import camac.commands.check; print(*{'dataclasses', 'inspect', 'json', 'pathlib', 'subprocess', 'tempfile', 'camac.pictures'} & set(sys.modules))"
-        self.assertEqual(self.run_python(code), [])
+    def test_what_commands_load(self):
+        """To load one of these takes as long as all that a short command does."""
+        dear = {"ctypes", "dataclasses", "hashlib", "inspect", "json", "pathlib", "subprocess", "tempfile", "traceback", "camac.library", "camac.pictures"}
+        for command in ("check", "csv", "diff", "fmt"):
+            self.assertEqual(self.run_python(f"import camac.commands.{command}; print(*{dear} & set(sys.modules))"), [], command)
 
 
 if __name__ == "__main__":

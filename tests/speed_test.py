@@ -1,15 +1,19 @@
 #!/usr/bin/env python3
-"""The program that `./camac` builds without proof is as fast as the proved one: it takes at most a tenth more instructions, in comments a seventh. And
-the corpus is judged as its shapes say.
+"""The program that `./camac` builds without proof is as fast as the proved one: it takes at most a tenth more instructions, in comments a seventh. The
+corpus is judged as its shapes say. And commands in Python load little.
 
 usage: tests/speed_test.py [-v] [TEST ..]     from any folder; takes about a minute on four processors that are idle
 """
+import compileall
 import importlib.machinery
 import importlib.util
+import os
+import shutil
 import statistics
 import sys
 import tempfile
 import unittest
+import unittest.mock
 
 from support import needs
 from support.program import PROGRAM, TOP, Room
@@ -44,6 +48,18 @@ class Built(unittest.TestCase):
                     self.assertLess(built, (OF_COMMENTS if "comments" in case.name else MOST) * proved)
             counts = [[speed.of_shape(its, it, [""]) for it in (f"{room}/program", PROGRAM)] for its in corpus.shapes().values()]
             self.assertLess(statistics.geometric_mean(built / proved for (built,), (proved,) in counts), MOST)
+
+
+@needs.needed("valgrind")
+class Commands(Room):
+    def test_they_take_200_million_instructions_at_most(self):
+        """As ./install puts them in place, which compiles them."""
+        shutil.copytree(TOP / "python/camac", self.room / "camac")
+        compileall.compile_dir(self.room / "camac", quiet=1)
+        script, listing = TOP / "examples/straight_line.script", self.write("run.listing", "demand 000004 adc\nended events 0\n")
+        for words in (["check", "@sample", script], ["fmt", "--check", script], ["diff", script, script, "--plan", "@sample"], ["csv", "listing", listing]):
+            with self.subTest(words[0]), unittest.mock.patch.dict(os.environ, PYTHONPATH=str(self.room), CAMAC_PROGRAM=PROGRAM):
+                self.assertLess(speed.instructions([sys.executable, "-m", "camac", *words]), 200e6)
 
 
 class Corpus(Room):

@@ -8,7 +8,7 @@ import os
 import re
 from unittest import mock
 
-from support.live import PROGRAM, TOP, Case, run_tests, script
+from support.live import CLEARED, PROGRAM, TOP, Case, run_tests, script
 from support.seconds import is_within
 import camac
 from camac.edits import edited
@@ -34,6 +34,10 @@ service adc within 0 cycles event 2 words { call read(0)\rcall read(11) cclc adc
 LEAST = DRAFT.replace(b"within 90", b"within 3").replace(b"steps 99", b"steps 3").replace(b"within 0", b"within 9")
 
 
+OF_BOUNDS = {*list(Code)[: list(Code).index(Code.DROPPED)]} - {Code.UNKEPT}
+ODD = CLEARED.replace("event 0", "event 1").replace("cclc adc", "put 1")
+
+
 class Warnings(Case):
     def setUp(self):
         super().setUp()
@@ -41,28 +45,34 @@ class Warnings(Case):
         patch.start()
         self.addCleanup(patch.stop)
 
-    def codes(self, text):
-        """The lines and codes of the warnings of a script on the plan @sample, but for W3."""
-        found = camac.warnings("@sample", self.write("a.script", text))
-        return [(it.line, it.code.value) for it in found if it.code is not Code.UNKEPT]
+    def codes(self, text, *wanted, plan="@sample"):
+        """The lines and codes of the warnings of a script: those that are wanted, or all that are about no name and no word."""
+        found = camac.warnings(plan, self.write("a.script", text))
+        return [(it.line, it.code.value) for it in found if it.code in (wanted or OF_BOUNDS)]
 
     def test_page(self):
-        """It has a section for each code, where the editors' links lead."""
-        self.assertEqual(re.findall(r"(?m)^### (W\d+): ", (TOP / "docs/REFUSALS.md").read_text()), [it.value for it in Code])
+        """It has a line that shows each code."""
+        page = (TOP / "docs/REFUSALS.md").read_text()
+        (odd,) = re.findall(r"(?ms)^```camac accepted odd.script on (\S+)\n(.*?)^```", page)
+        shown = [(line, code) for line, it in enumerate(odd[1].splitlines(), 1) for code in re.findall(r"W\d+", it)]
+        found = {(it.line, it.code.value) for it in camac.warnings(TOP / odd[0], self.write("a.script", odd[1]))}
+        self.assertEqual(found, set(shown))
+        self.assertEqual({code for _, code in shown}, {it.value for it in Code} - {"W5"})
 
     def test_unreached(self):
         """The first statement of each block has a warning, and no statement in a block of it."""
         read = READ.split("\n")
         for body, wanted in [
-            ([*read, "if v > 4095 { put v }", "cclc adc"], [(6, "W1")]),
-            ([*read, "if v > 4095 {", "if q { put 1 }", "put 2 }", "if v > 5000", "{", "put 3 }"], [(7, "W1"), (11, "W1")]),
-            ([*read, "if v < 4096 { put 1 }", "else {", "put 2 }"], [(6, "W1")]),
+            ([*read, "if v > 4095 { put v }", "cclc adc"], [(6, "W16")]),
+            ([*read, "if v > 4095 {", "if q { put 1 }", "put 2 }", "if v > 5000", "{", "put 3 }"], [(6, "W16"), (9, "W16")]),
+            ([*read, "if v < 4096 { put 1 }", "else {", "put 2 }"], [(6, "W16")]),
+            ([*read, "if v < 4096 { }", "if v > 0 { if v == 0 { put v } else { } }"], [(6, "W16"), (7, "W16")]),
             ([*read, "for i = 5 to 4 {", "put 1", "put 2 }"], [(7, "W1")]),
-            ([*read, "while k > 0 turns 4 by k { k = k - 1 }", "put 1"], [(6, "W1")]),
-            ([*read, "if v < 4095 { put v }"], []),
+            ([*read, "while k > 0 turns 4 by k { k = k - 1 }", "put 1"], [(6, "W16")]),
+            ([*read, "if v < 4095 { put v }", "for i = 0 to 3 each { if i < 3 { put 1 } }", "for i = 0 to 3 each { if i < 4 { put 1 } }"], [(8, "W16")]),
         ]:
             with self.subTest(body=body):
-                self.assertEqual(self.codes(script(body)), wanted)
+                self.assertEqual(self.codes(script(body), Code.UNREACHED, Code.DECIDED), wanted)
 
     def test_empty_scan(self):
         backwards = script(["cdreg r 1 1 5 11", "cdreg last 1 1 5 0", "cfmad 0 r last max 12 tally t", "cclc adc"])
@@ -130,7 +140,7 @@ class Warnings(Case):
 
     def test_least_ranges_are_told(self):
         text = script(["for i = 0 to 11", "keep k in 0..16777215 {", *READ.split("\n"), "if v > k { k = v } }", "put k", "cclc adc"])
-        (found,) = camac.warnings("@sample", self.write("a.script", text))
+        (found,) = [it for it in camac.warnings("@sample", self.write("a.script", text)) if it.code in OF_BOUNDS]
         self.assertEqual((found.line, found.text), (5, "this kept bound of `k` is wider than it has to be: `k in 0..4095` is accepted, too"))
 
     def test_each(self):
@@ -195,8 +205,55 @@ class Warnings(Case):
         lines = [f"service s{bit} within 99 cycles event 0 words {{ {f'cclc s{bit} ' * cycles}}}\n" for bit, cycles in services]
         return camac.warnings(self.write("plan", plan), self.write("a.script", f"{lams} {''.join(lines)}"))
 
+    def test_silent(self):
+        """Bodies that get a code at a line, from 1, and such that do not."""
+        read, guard = "cfsa 0 r -> v", "for i = 1 to {} keep k in 0..65520 {{\n cfsa 0 r -> v\n if k <= 65520 - 4095 {{ k = k + v }}{}\n }} put k"
+        outer = "for t = 1 to {} keep k in 0..65520 {{ {}for i = 1 to 4 keep k in 0..65520 {{ cfsa 0 r -> v\n if k <= 61425 - 0 {{ k = v + k }} }} }} put k"
+        proc = "proc p(s in 0..3, n in 0..3) within {} cycles event 0 words steps 4 {{ {} }}\n"
+        for code, wrong, right in [
+            (Code.DROPPED, {read: 2, f"{read} {read} put v": 2, f"for i = 1 to 3 {{ {read} }} put k": 2, f"put v {read}": 2, f"if q {{ {read} }} put k": 2}, [
+                f"{read} if q {{ put 1 }}", f"{read} call p(1, 2)", f"for i = 1 to 3 each {{ put v {read} }}", f"{read} cdreg w 1 1 5 v % 12", "cfubc 0 r max 2 tally t",
+                f"while t > 0 and not q turns 3 by t {{ t = t - 1 {read} }}", f"{read} if x {{ v = 1 }}", f"{read} for i = 1 to v % 8 {{ put i }}",
+            ]),
+            (Code.ONE_NUMBER, {"put v": 2, "v = 3 put v * 4": 2, f"{read} put v / 4096": 2, f"{read} k = v / 8192 put k + 2": 2, "for i = 1 to 9 { put k }": 2, "if q { k = 0 } put k": 2}, [
+                "put 7", "put 4095 * 2", f"{read} put v / 4095", f"{read} put v % 2", "if q { k = 1 } put k", "for i = 1 to 9 each { put k k = 1 }", "for i = 1 to 2 { put i }",
+            ]),
+            (Code.UNSET, {"v = v + 1 put v": 2, "if k < 3 { put 1 }": 2, "for i = 1 to 3 { v = k + 1 } put v % 9": 2, "cdreg w 1 1 5 v": 2}, [
+                "for i = 1 to 3 each { v = v + 1 } put v", "for i = 1 to 3 { if i > k { k = i % 4 } }", "put v", "v = 1 put v", "if q { v = 1 } put v", "cfubc 0 r max 2 tally t put t",
+            ]),
+            (Code.TWINS, {f"cdreg w 1 1 5 0\n{read} cfsa 0 w -> k": 2, f"k = 4 cdreg w 1 1 5 k - 4\n{read} cfsa 0 w -> k": 2}, [
+                f"cdreg w 1 1 5 1 {read} cfsa 0 w -> k", "cdreg w 1 1 5 0 cfubc 0 w max 2 tally t", f"{read} cdreg r 1 1 5 1 cdreg w 1 1 5 0 cfsa 0 w -> k", f"cdreg r 1 1 5 0 {read}",
+                f"cdreg w 1 1 5 15 cfmad 0 r w max 12 tally t {read}", f"for i = 0 to 3 {{ cdreg w 1 1 5 i cfsa 0 w -> k }} {read}",
+            ]),
+            (Code.EARLY_FLAG, {"if not q { put 1 }": 2, "for i = 1 to 3 { if x { put 1 } }": 2, "call none() if q { put 1 }": 2, "k = 2 while k > 0 and q turns 2 by k { k = k - 1 }": 2}, [
+                "cclc adc if q { put 1 }", "call p(1, 2) if q { put 1 }", "for i = 1 to 3 { if x { put 1 } ctlm adc }", f"k = 2 while k > 0 and not q turns 2 by k {{ k = k - 1 {read} }}",
+                f"if v == 0 {{ {read} }} if q {{ put 1 }}", "cfubc 0 r max 2 tally t if q { put 1 }",
+            ]),
+            (Code.LEADING_ZERO, {"put 0777": 2, "put 1 + 0010": 2}, ["put 0", "put 00", "put 07", "put 019", "put 777", "put 1 # 0777"]),
+            (Code.LEFT_OUT, {guard.format(17, ""): 4, guard.format(1000, ""): 4, outer.format(5, ""): 3}, [
+                guard.format(16, ""), guard.format(17, " else { t = 1 }"), guard.format(17, " else { }"), outer.format(4, ""), outer.format(9, "k = 0 "), "if k <= 9 - 4 { k = k + 4 } put k",
+                "for i = 1 to 99 keep k in 0..4 { if k < 4 { k = k + 1 } } put k",
+            ]),
+        ]:
+            for body, line in [*wrong.items(), *((it, None) for it in right)]:
+                with self.subTest(code=code.value, body=body):
+                    its = f"{proc.format(3, 'if q { s = 0 n = 1 } ctlm adc')}proc none() within 0 cycles event 0 words steps 0 {{ }}\n"
+                    text = script(["cdreg r 1 1 5 0", *body.split("\n")], 99_999, 4096).replace("var", f"{its}var")
+                    found = [it.line for it in camac.warnings("@sample", self.write("a.script", text)) if it.code is code and it.line > 3]
+                    self.assertEqual(found, [line + 5] if line else [])
+
+    def test_unused_names(self):
+        """Each that is declared for nothing, and none that only a service, a table's write, a tally or a call uses."""
+        used = "table g = 1\nvar t\nproc p(s in 0..1) within 0 cycles event 0 words steps 1 { s = 1 }\n"
+        more = "table h = 1\ncdlam full 1 1 5 13\nvar v\nproc none(n in 0..1) within 0 cycles event 0 words steps 0 { }\n"
+        body = "call p(1) cdreg r 1 1 6 0 cfubc 16 r table g max 1 tally t {}cclc adc"
+        for its, register, wanted in (("", "", []), (more, "cdreg w 1 1 5 0 ", ["table `h`", "LAM `full`", "variable `v`", "parameter `n`", "procedure `none`", "register `w`"])):
+            text = its + used + CLEARED.replace("within 3", "within 6").replace("cclc adc", body.format(register))
+            found = sorted((it.line, it.text) for it in camac.warnings("@sample", self.write("a.script", text)))
+            self.assertEqual([it for _, it in found], [f"the {it} is never used" for it in wanted])
+
     def test_comments_may_hold_anything(self):
-        text = script(["cclc adc  # keep x in {{ cdreg \xff"]).encode("latin-1")
+        text = CLEARED.replace("cclc adc", "cclc adc  # keep x in {{ cdreg 0777 \xff").encode("latin-1")
         (self.room / "a.script").write_bytes(text)
         self.assertEqual(camac.warnings("@sample", self.room / "a.script"), [])
 
@@ -213,15 +270,19 @@ class Warnings(Case):
                 self.assertEqual(camac.warnings(bench / "plan.toml", bench / name), [])
 
     def test_pages(self):
-        """The scripts of the pages that are accepted on @sample are meant, but for the examples of warnings."""
+        """The scripts of the pages that are accepted, on plans that are files or stand there, are meant, but for the examples of warnings."""
         tried = 0
-        for page in sorted((TOP / "docs").rglob("*.md")):
-            for words, text in ACCEPTED.findall(page.read_text()):
-                if " on " not in words and page.name != "REFUSALS.md":
+        for page in [TOP / "README.md", *sorted((TOP / "docs").rglob("*.md"))]:
+            text = page.read_text()
+            plans = {name: self.write(name, plan) for name, plan in re.findall(r"(?ms)^```toml (\S+\.toml)\n(.*?)^```", text)}
+            for words, its in ACCEPTED.findall(text) if page.name != "REFUSALS.md" else ():
+                name = words.partition(" on ")[2] or "@sample"
+                plan = plans.get(name, name if name == "@sample" else TOP / name)
+                if name == "@sample" or plan.is_file():
                     tried += 1
-                    with self.subTest(page=page.name, script=text):
-                        self.assertEqual(self.codes(text), [])
-        self.assertGreater(tried, 10)
+                    with self.subTest(page=page.name, script=its):
+                        self.assertEqual(self.codes(its, *set(Code) - {Code.UNKEPT}, plan=plan), [])
+        self.assertGreater(tried, 15)
 
 
 class Command(Case):
@@ -236,12 +297,12 @@ class Command(Case):
         self.assertEqual(ran, (3, "", f"camac: No such file or directory: {self.room}/nowhere\n"))
 
     def test_statuses(self):
-        self.write("good", script(["cclc adc"]))
-        self.write("odd", script(["put 1"]))
+        self.write("good", CLEARED)
+        self.write("odd", ODD)
         self.write("bad", script(["put w"]))
         self.write("two", "proc p() within 0 cycles event 1 words steps 1 {\n  put 16777216\n}\n\nproc later() within 0 cycles event 0 words steps 9 { cdreg r 1 1 6 0  cfsa 27 r }\n")
         self.write("plan", "[[types]]\n")
-        calling = "odd:3: warning W3: this service does not clear its look-at-me on every way: write `cclc adc`\n"
+        calling = "odd:2: warning W3: this service does not clear its look-at-me on every way: write `cclc adc`\n"
         for words, status, printed in [
             (["@sample", "good"], 0, ""),
             (["@sample", "odd"], 0, calling),
@@ -260,11 +321,12 @@ class Command(Case):
                 self.assertEqual(self.command(*words), (status, printed))
 
     def test_json(self):
-        self.write("odd", script(["put 1"]))
+        self.write("odd", ODD)
         self.write("bad", script(["put w"]))
         status, printed = self.command("--json", "@sample", "odd", "bad")
         odd, bad = json.loads(printed)
         self.assertEqual((status, odd["accepted"], odd["found"][0]["code"], odd["services"][0]["words"]), (1, True, "W3", 1))
+        self.assertEqual(odd["found"][0]["explanation"], [*RULES[Code.UNKEPT].advice(), "More: docs/REFUSALS.md, W3"])
         explanation = bad["found"][0].pop("explanation")
         self.assertEqual((explanation[0], explanation[-1]), ("    4 | put w", "More: docs/REFUSALS.md, S5"))
         self.assertEqual(bad, {"file": "bad", "accepted": False, "found": [{"kind": "refused", "line": 4, "code": "S5", "text": "name not declared", "column": 5}], "services": []})
@@ -275,12 +337,12 @@ class Command(Case):
 
     def test_github(self):
         """Workflow commands, in which a comma, a colon, a percent sign and the end of a line are escaped."""
-        self.write("100%,a:b", script(["put 1"]))
+        self.write("100%,a:b", ODD)
         self.write("bad", script(["put w  # 5%"]))
         status, printed = self.command("--format", "github", "@sample", "100%,a:b", "bad", "none")
         odd, bad, none = printed.splitlines()
         calling = "this service does not clear its look-at-me on every way: write `cclc adc`"
-        self.assertEqual((status, odd), (3, f"::warning file=100%25%2Ca%3Ab,line=3,title=warning W3::{calling}"))
+        self.assertEqual((status, odd), (3, "%0A".join([f"::warning file=100%25%2Ca%3Ab,line=2,title=warning W3::{calling}", *RULES[Code.UNKEPT].advice(), "More: docs/REFUSALS.md, W3"])))
         self.assertTrue(bad.startswith("::error file=bad,line=4,col=5,title=refused S5::name not declared%0A    4 | put w  # 5%25%0A"), bad)
         self.assertEqual(none, "::error file=none,title=fault::No such file or directory")
 

@@ -6,7 +6,6 @@ usage: tests/watch_test.py [-v] [TEST ..]     from any folder; takes some second
 
 Tests in Chromium are left out if it is not installed.
 """
-import dataclasses
 import http.client
 import json
 import os
@@ -401,7 +400,7 @@ class Served(ServedCase):
         self.assertIn("run 7 &lt;b&gt;Co&lt;/b&gt;", self.ask(server)[1])
         other = self.write("other.words", '[[word]]\nservice = "nobody"\nname = "x"\n')
         watch.given = watch.given._replace(words=other)
-        self.change(script=dataclasses.replace(written.script, data=written.script.data + b"# another\n"))
+        self.change(script=written.script._replace(data=written.script.data + b"# another\n"))
         self.assertIn("the record: ", self.state(watch, server)["alarms"])
         watch.given = watch.given._replace(words=None)
         self.assertEqual(self.state(watch, server)["alarms"], "")
@@ -477,9 +476,9 @@ class Served(ServedCase):
         watch, server = self.start_words([100] * 600)
         watch.over = other
         self.append(watch, *(Event(at, 3, 2, 0, (2000,)) for at in range(601, 801)))
-        self.write("other.json", dataclasses.replace(made, demands=2.0).text())
+        self.write("other.json", made._replace(demands=2.0).text())
         for query, live, line in (("", None, 600), ("&events=200", 8.0, 150), (f"&gate={name}%200..200", None, 600), ("", 8.0, 1200)):
-            watch.record = dataclasses.replace(made, demands=live)
+            watch.record = made._replace(demands=live)
             parts = self.state(watch, server, f"?of={name}&low=100&last=103{query}")
             self.assertIn(f'data-line="{line} 0 0 0"', parts["one"])
             why = "the same live time (8.0 s, its own 2.0 s)" if line == 1200 else "as many events"
@@ -493,7 +492,7 @@ class Served(ServedCase):
         for name, run in (("a", 7), ("b", 8)):
             branch = camac.mock.MockBranch({}, {}, [[]] * 3)
             camac.drive(*self.bench_files().values(), branch, self.room / f"{name} 1.events", record=Recording(self.room / f"{name} 1.json", run, "<b>Co</b>"))
-        going = dataclasses.replace(camac.read_record(self.room / "b 1.json"), end=None, how=None, line=None).text()
+        going = camac.read_record(self.room / "b 1.json")._replace(end=None, how=None, line=None).text()
         (self.room / "b 1.json").write_text(going)
         self.write("survey.json", "{}")
         runs = RunList(str(self.room), None, lambda given: Watch(given))
@@ -519,7 +518,7 @@ class Served(ServedCase):
 
     def change(self, **values):
         path = self.room / "run.json"
-        new = self.write("new.json", dataclasses.replace(camac.read_record(path), **values).text())
+        new = self.write("new.json", camac.read_record(path)._replace(**values).text())
         os.replace(new, path)
 
     def test_a_look_that_fails(self):

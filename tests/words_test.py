@@ -7,7 +7,6 @@ Tests with numpy or h5py are left out if these are not installed (Debian's packa
 """
 import collections
 import csv
-import dataclasses
 import io
 import json
 import math
@@ -606,7 +605,7 @@ class Spectra(Case):
         made = camac.record.describe(camac.record.Played("@sample", files[1], None, PROGRAM))
         for seconds, told, line in (((), "for as many events", 600), ((8.0, 2.0), "for the same live time (8.0 s, its own 2.0 s)", 1200)):
             for file, its in zip(("run", "other"), seconds):
-                self.write(f"{file}.json", dataclasses.replace(made, demands=its, services=1.0).text())
+                self.write(f"{file}.json", made._replace(demands=its, services=1.0).text())
             self.assertIn(f">0 to 4,095; the line: other.events, {told}<", self.drawn(*files, *over))
             page = self.room / "run.html"
             self.assertEqual(main(["report", *files, *over, "-o", str(page), "--overwrite"]), 0)

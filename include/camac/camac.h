@@ -64,6 +64,7 @@ extern "C" {
 #define CAMAC_LINES_BYTES 256u                            /* the most of camac_item */
 #define CAMAC_CRATES 7u
 #define CAMAC_AHEAD 64u
+#define CAMAC_BACK 14u /* the most of camac_back */
 #define CAMAC_AHEAD_STEPS 512u /* the most steps from the first operation of a list to its last */
 #define CAMAC_NO_LIMIT 0xffffffffu /* more steps than any service makes */
 
@@ -74,7 +75,7 @@ enum camac_code {
     CAMAC_MISUSE = 2,    /* the session is none, or header and library do not fit; camac_open found it open; a struct or a pointer is wrong
                             (STRUCTS, TEXTS); what camac_response is told of services is wrong; camac_explain_at: a line or column of 0 */
     CAMAC_NO_MEMORY = 3, /* malloc or realloc refused */
-    CAMAC_OVERRUN = 4,   /* a wait that the plan does not permit: the run stays where it was, for good */
+    CAMAC_OVERRUN = 4,   /* a wait that the plan does not permit: the run stays where it was, until camac_abandon leaves the service */
     CAMAC_RANGE = 5,     /* a word or gl above 0xffffff, a wait above 15, or the number of no service */
     CAMAC_SPENT = 6,     /* the run has used 4,294,967,295 answers */
     CAMAC_LONG = 7,      /* a plan, a script or an event file that is longer than it may be */
@@ -93,7 +94,7 @@ enum camac_kind {
     CAMAC_DEMAND = 1, /* a graded-L operation: the answer's gl counts */
     CAMAC_CYCLE = 2,  /* a dataway cycle: x, q and wait count, and word where it reads; of some of the controller's also gl (docs/LIVE.md) */
     CAMAC_LOCK = 3,   /* the lockout of auxiliary controllers in a crate: the wait counts */
-    CAMAC_STOPPED = 4 /* none: the run is over, by an overrun */
+    CAMAC_STOPPED = 4 /* none: the run is stopped, by an overrun */
 };
 enum camac_data { CAMAC_NO_DATA = 0, CAMAC_READ = 1, CAMAC_WRITE = 2 };
 
@@ -103,11 +104,12 @@ typedef struct camac_want {
     uint8_t kind;       /* enum camac_kind */
     uint8_t c, n, a, f; /* of a cycle; of a lock c alone */
     uint8_t data;       /* enum camac_data, of a cycle */
-    uint16_t unused;
+    uint8_t waits;      /* the longest wait that its answer may have: any longer one is an overrun. 15 of a demand */
+    uint8_t width;      /* of a cycle that reads: how many bits the plan declares, 24 for a controller's; else 0 */
     uint32_t word;      /* to write, of a cycle that writes */
     uint32_t spare[4];
 } camac_want;
-#define CAMAC_WANT {sizeof(camac_want), 0, 0, 0, 0, 0, 0, 0, 0, {0, 0, 0, 0}}
+#define CAMAC_WANT {sizeof(camac_want), 0, 0, 0, 0, 0, 0, 0, 0, 0, {0, 0, 0, 0}}
 
 /* An answer. What an operation does not need is left 0. */
 typedef struct camac_answer {
@@ -140,9 +142,11 @@ typedef struct camac_progress {
     uint32_t event_cycles; /* the dataway cycles that it cost */
     uint32_t event_missed; /* how many of these had no X, at most 65535 */
     uint32_t event_service; /* which service left it, numbered as in `service` */
-    uint32_t spare[2];
+    uint32_t cut;          /* the bits of `word` above the declared width, which the run cuts off: where it is not 0, the plan does not describe
+                              the module */
+    uint32_t spare[1];
 } camac_progress;
-#define CAMAC_PROGRESS {sizeof(camac_progress), 0, 0, 0, 0, 0, {0, 0, 0}, {0, 0, 0, 0, 0, 0, 0, 0}, 0, 0, 0, 0, 0, 0, 0, 0, 0, {0, 0}}
+#define CAMAC_PROGRESS {sizeof(camac_progress), 0, 0, 0, 0, 0, {0, 0, 0}, {0, 0, 0, 0, 0, 0, 0, 0}, 0, 0, 0, 0, 0, 0, 0, 0, 0, 0, {0}}
 
 /* A service of the script, with the bounds that the checker found and the numbers of its heading. */
 typedef struct camac_service_info {
@@ -205,7 +209,7 @@ CAMAC_CALL camac_run(const void *plan, size_t plan_size, const void *script, siz
 CAMAC_CALL camac_open(camac_session *s, const void *plan, size_t plan_size, const void *script, size_t script_size,
                       char *text, size_t room, size_t *size);
 
-/* What the next answer is for; nothing changes. CAMAC_OVERRUN: nothing, since the run is over. CAMAC_BUSY: nothing yet, since the run pauses. Where
+/* What the next answer is for; nothing changes. CAMAC_OVERRUN: nothing, since the run is stopped. CAMAC_BUSY: nothing yet, since the run pauses. Where
  * the code is not CAMAC_OK, *want is zeros. */
 CAMAC_CALL camac_wants(const camac_session *s, camac_want *want);
 
@@ -216,9 +220,9 @@ CAMAC_CALL camac_next(camac_session *s, const camac_answer *answer, camac_progre
 
 /* The operations that come next, whatever is answered: a controller that makes lists of commands makes them in one transfer. Writes as many as there
  * is room for, and answers how many: one at least where the run goes on, and CAMAC_AHEAD at most; one, too, while the run may make fewer steps at
- * once than CAMAC_AHEAD_STEPS, since it could pause before the last. 0 where the run is over or pauses, or the session is none. The first is that of
- * camac_wants. Until the answer of the last one is taken, no lockout is to be released and no event left. A wait that is not permitted ends the run
- * before the rest. The size of want[0] counts for all, and is written into the others. */
+ * once than CAMAC_AHEAD_STEPS, since it could pause before the last. 0 where the run is stopped or pauses, or the session is none. The first is that
+ * of camac_wants. Until the answer of the last one is taken, no lockout is to be released and no event left. A wait that is not permitted stops the
+ * run before the rest. The size of want[0] counts for all, and is written into the others. */
 size_t camac_ahead(const camac_session *s, camac_want *want, size_t room);
 
 /* camac_next of one answer after the other, up to one that is not taken, whose code it gives, that leaves an event, whose words and record can be
@@ -254,11 +258,11 @@ size_t camac_file_header(void *bytes, size_t room);
 size_t camac_held(const camac_session *s, uint32_t *crates, size_t room);
 
 /* Where the run stands: the service in progress, from 1 in the order of the script, and the line of its statement that wants the next answer, or
- * whose wait ended the run. In a procedure the line is that of the procedure's statement. Both are 0 at a demand, and while the run pauses. Each
+ * whose wait stopped it. In a procedure the line is that of the procedure's statement. Both are 0 at a demand, and while the run pauses. Each
  * pointer may be NULL. */
 CAMAC_CALL camac_where(const camac_session *s, uint32_t *service, uint32_t *line);
 
-/* How many answers may still come: 0 where the run is over by an overrun, and where the session is none. */
+/* How many answers may still come: 0 where the run is stopped by an overrun, and where the session is none. */
 uint32_t camac_answers_left(const camac_session *s);
 
 /* How many services the script has, and one of them by its number, from 1 in the order of the script, as camac_progress tells it. CAMAC_RANGE:
@@ -266,12 +270,16 @@ uint32_t camac_answers_left(const camac_session *s);
 size_t camac_services(const camac_session *s);
 CAMAC_CALL camac_service(const camac_session *s, uint32_t number, camac_service_info *info);
 
-/* Leaves the service in progress, as after a fault of the crates, without an event. The run goes on at a demand, and takes inhibit and demand output
- * of each crate to be as at the demand that called the service: what the service has changed of them is yours to set back. The next event has the
- * next number, and answers that were used stay so. Writes the crates whose lockout is to be released, in this order, as many as there is room for.
- * *count is their number, at most CAMAC_CRATES. It is 0 between services, and then nothing changes. CAMAC_OVERRUN: the run is over, and nothing
- * changes. */
+/* Leaves the service in progress, as after a fault of the crates or an overrun, without an event. The run goes on at a demand, and takes inhibit and
+ * demand output of each crate to be as at the demand that called the service: have them set back before (camac_back). The next event has the next
+ * number, and answers that were used stay so. Writes the crates whose lockout is to be released, in this order, as many as there is room for. *count is
+ * their number, at most CAMAC_CRATES. It is 0 between services, and then nothing changes. */
 CAMAC_CALL camac_abandon(camac_session *s, uint32_t *unlocked, size_t room, size_t *count);
+
+/* What sets inhibit and demand output of each crate back, as they were at the demand that called the service in progress: cycles of the controllers,
+ * at most CAMAC_BACK, in the order of the crates, and none for what is as it was. They are no operations of the run, and their answers are yours.
+ * Writes as many as there is room for, and answers how many. 0 between services, and where the session is none. The size of want[0] counts for all. */
+size_t camac_back(const camac_session *s, camac_want *want, size_t room);
 
 /* Begins the run anew, as camac_open begins it, without judging the script: crates and variables are as at the first demand, events count from
  * 1. The lockouts that you hold are yours to release. */
@@ -281,8 +289,8 @@ CAMAC_CALL camac_rewind(camac_session *s);
 enum camac_made {
     CAMAC_MADE = 0, /* it was made, and has its answer */
     CAMAC_END = 1,  /* the run ends here: no more demands are served, or the branch failed */
-    CAMAC_FAULT = 2 /* it failed: the service in progress is left as by camac_abandon, after which the next demand is wanted. What the service has
-                       changed of inhibit and demand output has to be set back already. A lockout that failed is not held */
+    CAMAC_FAULT = 2 /* it failed: the branch makes what camac_back tells, and the service in progress is left as by camac_abandon, after which the
+                       next demand is wanted. If one of these fails, too, the run ends here. A lockout that failed is not held */
 };
 
 /* A branch, as camac_play asks it. The first word of each call is the last one of camac_play; `event` and `pause` may be NULL. */
@@ -300,9 +308,9 @@ typedef struct camac_branch {
 #define CAMAC_BRANCH {sizeof(camac_branch), 0, NULL, NULL, NULL, NULL}
 
 /* Plays a run: has the branch make all that is wanted, in order. CAMAC_OK: it said CAMAC_END. Any other code is that of the call that failed; after
- * CAMAC_OVERRUN camac_next tells the crate and the wait once more. Of what an answer or a pause brought the event is told first, and then lockouts are
- * released. However the run ends, all lockouts are released, the last that was taken first; a service that is still in progress can then only be left
- * by camac_abandon, or the run begun anew. */
+ * CAMAC_OVERRUN camac_next tells the crate and the wait once more, and after camac_back and camac_abandon the run can be played on. Of what an answer or
+ * a pause brought the event is told first, and then lockouts are released. However the run ends, all lockouts are released, the last that was taken
+ * first; a service that is still in progress can then only be left by camac_abandon, or the run begun anew. */
 CAMAC_CALL camac_play(camac_session *s, const camac_branch *branch, void *user);
 
 /* Ends the run, and frees what it has. The lockouts that you hold are yours to release. */

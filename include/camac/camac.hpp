@@ -37,7 +37,7 @@ public:
     [[nodiscard]] int code() const noexcept { return its_code; }
 };
 
-// CAMAC_OVERRUN, of the answer that ended the run and of each call after it: the crate, and the wait that is not permitted.
+// CAMAC_OVERRUN, of the answer that stopped the run and of each call after it: the crate, and the wait that is not permitted.
 class overrun : public fault {
 public:
     unsigned crate, wait;
@@ -197,14 +197,14 @@ public:
     // What check prints of the two texts.
     [[nodiscard]] const std::string &verdict() const noexcept { return its_verdict; }
 
-    // What the next answer is for. Throws overrun where the run is over, and fault where it pauses (CAMAC_BUSY) or the session is none (CAMAC_MISUSE).
+    // What the next answer is for. Throws overrun where the run is stopped, and fault where it pauses (CAMAC_BUSY) or the session is none (CAMAC_MISUSE).
     [[nodiscard]] camac_want wants() const {
         camac_want want = CAMAC_WANT;
         test(camac_wants(&its, &want), "wants");
         return want;
     }
 
-    // The operations that come next, whatever is answered, as many as `room` at most. None where the run is over.
+    // The operations that come next, whatever is answered, as many as `room` at most. None where the run is stopped.
     [[nodiscard]] std::vector<camac_want> ahead(std::size_t room = CAMAC_AHEAD) const {
         std::vector<camac_want> wants(std::min<std::size_t>(room, CAMAC_AHEAD), camac_want CAMAC_WANT);
         wants.resize(camac_ahead(&its, wants.data(), wants.size()));
@@ -283,6 +283,13 @@ public:
         return all;
     }
 
+    // What sets inhibit and demand output of the crates back, as they were at the demand of the service in progress: before `abandon`.
+    [[nodiscard]] std::vector<camac_want> back() const {
+        std::vector<camac_want> wants(CAMAC_BACK, camac_want CAMAC_WANT);
+        wants.resize(camac_back(&its, wants.data(), wants.size()));
+        return wants;
+    }
+
     // Leaves the service in progress, without an event. The result are the crates whose lockout is to be released, in this order.
     std::vector<std::uint32_t> abandon() {
         std::vector<std::uint32_t> crates(CAMAC_CRATES);
@@ -312,8 +319,8 @@ public:
     virtual void unlock(unsigned c) noexcept = 0;
     // An event is left, whose words and record the session has.
     virtual void event(const session &, const camac_progress &) {}
-    // An operation threw this. True: the service in progress is left (`abandon`), and the run goes on at a demand. What the service has changed of
-    // inhibit and demand output has to be set back here. False: `play` throws it.
+    // An operation threw this, or its wait was an overrun. True: the crates are set back by `cycle`, the service in progress is left, and the run goes
+    // on at a demand. False: `play` throws it.
     virtual bool fault(const std::exception &, const session &) { return false; }
     // The run pauses, as limit_steps has it, and then goes on.
     virtual void pause() {}
@@ -339,21 +346,30 @@ class player {
         return answer;
     }
 
+#if defined(__cpp_exceptions)
+    // Does this. Where it throws what the branch says to be a fault, the service in progress is left.
+    template <class Fault, class Call> bool leaves(Call call) {
+        try {
+            call();
+            return false;
+        } catch (const Fault &why) {
+            if (!its.fault(why, run)) throw;
+        }
+        for (const camac_want &want : run.back()) its.cycle(want);
+        run.abandon();
+        while (!held.empty()) release_last();
+        return true;
+    }
+#else
+    template <class, class Call> bool leaves(Call call) { return call(), false; }
+#endif
+
     // Has an operation made, and its answer taken. False where no more demands are served.
     bool answer(const camac_want &want) {
-#if defined(__cpp_exceptions)
         std::optional<camac_answer> made;
-        try {
-            made = make(want);
-        } catch (const std::exception &why) {
-            if (!its.fault(why, run)) throw;
-            for (auto count = run.abandon().size(); count; count--) release_last();
-            return true;
-        }
-#else
-        const std::optional<camac_answer> made = make(want);
-#endif
-        if (made) settle(run.next(*made));
+        camac_progress did = CAMAC_PROGRESS;
+        if (leaves<std::exception>([&] { made = make(want); })) return true;
+        if (made && !leaves<overrun>([&] { did = run.next(*made); })) settle(did);
         return made.has_value();
     }
 

@@ -13,11 +13,17 @@ Python 3.8 or newer, and its standard library alone; numpy and h5py make arrays 
 import importlib
 import os
 import re
+import sys
+import types
 from typing import Any, Dict, List
 
-# A function whose module has the same name: that would take its place when something loads it.
-from camac.call import call
-from camac.drive import drive
+
+class _Package(types.ModuleType):
+    """A module that is loaded does not take the place of the function of its name."""
+
+    def __setattr__(self, name: str, value: object) -> None:
+        if name not in _HOMES or not isinstance(value, types.ModuleType):
+            super().__setattr__(name, value)
 
 
 def _homes() -> Dict[str, str]:
@@ -30,15 +36,16 @@ def _homes() -> Dict[str, str]:
 
 _HOMES = _homes()
 __all__ = sorted(_HOMES)
+sys.modules[__name__].__class__ = _Package
 
 
 def __getattr__(name: str) -> Any:
+    if name in _HOMES:
+        found = globals()[name] = getattr(importlib.import_module(_HOMES[name]), name)
+        return found
     if f"{__name__}.{name}" in _HOMES.values():
         return importlib.import_module(f"{__name__}.{name}")
-    if name not in _HOMES:
-        raise AttributeError(f"module {__name__!r} has no attribute {name!r}")
-    found = globals()[name] = getattr(importlib.import_module(_HOMES[name]), name)
-    return found
+    raise AttributeError(f"module {__name__!r} has no attribute {name!r}")
 
 
 def __dir__() -> List[str]:

@@ -1,5 +1,4 @@
 """Event files of many runs as one data set, in partitions of whole events: by dask and its client where that is installed, else one by one. It needs numpy."""
-import dataclasses
 import functools
 import glob
 import importlib
@@ -109,7 +108,7 @@ def open_runs(pattern: str, words: Optional[File] = None, partition: int = PARTI
         record = beside(file)
         kind = (record.plan.sha256, record.script.sha256) if record else ()
         known[kind] = known.get(kind) or learn(Given(file, words=words))
-        found.append(dataclasses.replace(known[kind], events_file=file, record=record))
+        found.append(known[kind]._replace(events_file=file, record=record))
     if not found:
         raise FileNotFoundError(f"there is no file {pattern}")
     return Runs(tuple(found), tuple(tuple(_partitions(it.events_file, it.names(), partition)) for it in found))

@@ -57,13 +57,14 @@ def groups(events: Events, number: int) -> List[Group]:
     numpy = importlib.import_module("numpy")
     counts = numpy.diff(events.first)
     kinds = events.gl.astype("i8") << 32 | counts
-    for kind in (kinds[:1] if (kinds == kinds[:1]).all() else numpy.unique(kinds)).tolist():
-        its = numpy.flatnonzero(kinds == kind)
-        at = events.first[its]
+    is_one, numbers = (kinds == kinds[:1]).all(), numpy.arange(number, number + len(kinds))
+    for kind in (kinds[:1] if is_one else numpy.unique(kinds)).tolist():
+        its = slice(None) if is_one else numpy.flatnonzero(kinds == kind)
+        at = events.first[:-1][its]
         usage = (events.cycles[its], events.missed[its]) if events.cycles is not None and events.missed is not None else ([], [])
         size = kind & 0xFFFF
-        words = [*events.words.reshape(-1, size).T.copy()] if size and len(its) == len(kinds) else [events.words[at + place] for place in range(size)]
-        found.append(Group(kind >> 32, size, its + number, *usage, words))
+        words = [*events.words.reshape(-1, size).T.copy()] if size and is_one else [events.words[at + place] for place in range(size)]
+        found.append(Group(kind >> 32, size, numbers[its], *usage, words))
     return found
 
 
@@ -153,14 +154,14 @@ def whole_records(numpy: Any, data: Any, number: int) -> Optional[Tuple[EventArr
     is_alike = (alike[:, 0] >> 16 == MARKER).all() and (alike[:, 3] & 0xFFFF == step - head).all() and (len(rest) < head or rest[3] & 0xFFFF == step - head)
     starts = numpy.arange(0, alike.size, step) if is_alike else numpy.flatnonzero(numbers >> 16 == MARKER)
     starts = starts[starts + head <= len(numbers)]
-    counts = (numbers[starts + 3] & 0xFFFF).astype("i8") if len(starts) else starts
+    heads = alike[:, :head] if is_alike else numbers[starts[:, None] + numpy.arange(head)]
+    ends = starts + head + (heads[:, 3] & 0xFFFF)
     # The rest of the last record may not be read yet.
-    is_whole = starts + head + counts <= len(numbers)
-    starts, counts = starts[is_whole], counts[is_whole]
+    its = slice(None) if is_alike else ends <= len(numbers)
+    starts, heads, ends = starts[its], heads[its], ends[its]
     if not len(starts):
         return None
-    ends = starts + head + counts
-    gl, cycles, missed = numbers[starts] & 0xFFFF, numbers[starts + 2], numbers[starts + 3] >> 16
+    gl, cycles, missed, counts = heads[:, 0] & 0xFFFF, heads[:, 2].copy(), heads[:, 3] >> 16, heads[:, 3] & 0xFFFF
     if is_alike:
         words = alike[:, head:].ravel()
     else:
@@ -171,12 +172,12 @@ def whole_records(numpy: Any, data: Any, number: int) -> Optional[Tuple[EventArr
         starts[0] == 0
         and (ends[:-1] == starts[1:]).all()
         and ((gl >= 1) & (gl <= GREATEST_GL) & (missed <= cycles) & (counts <= GREATEST_COUNT)).all()
-        and (numbers[starts + 1] == numpy.arange(number, number + len(starts))).all()
-        and (words <= GREATEST_WORD).all()
+        and (heads[:, 1] == numpy.arange(number, number + len(starts))).all()
+        and words.max(initial=0) <= GREATEST_WORD
     )
     if not is_good:
         return None
-    return EventArrays(gl.astype("u1"), cycles, missed.astype("u2"), numpy.concatenate([[0], numpy.cumsum(counts)]), words), int(ends[-1]) * 4
+    return EventArrays(gl.astype("u1"), cycles, missed.astype("u2"), numpy.concatenate([[0], numpy.cumsum(counts, dtype="i8")]), words), int(ends[-1]) * 4
 
 
 def is_new(path: Path) -> bool:

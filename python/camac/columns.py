@@ -1,9 +1,7 @@
 """A run with the columns of its words: those of the user's file, else those of its script; beside its record, and with another run laid over it."""
-import dataclasses
 import os
 import re
-from dataclasses import dataclass
-from typing import List, Mapping, Optional, Sequence, Tuple
+from typing import List, Mapping, NamedTuple, Optional, Sequence, Tuple
 
 from camac.drive import File, UsageFault
 from camac.events import GREATEST_GL, GREATEST_WORD
@@ -16,8 +14,7 @@ from camac.word_sources import words_of_script
 from camac.words import Column, Words
 
 
-@dataclass(frozen=True)
-class Naming:
+class Naming(NamedTuple):
     """What a user says of the words of events: a file (words.toml), two names to draw against each other, names with the first and the last number of gates,
     and of regions, the events of another run to draw over these, and the most bins."""
 
@@ -26,7 +23,7 @@ class Naming:
     gates: Tuple[Tuple[str, int, int], ...] = ()
     regions: Tuple[Tuple[str, int, int], ...] = ()
     over: Optional[File] = None
-    bins: Optional[int] = dataclasses.field(default=None, compare=False)
+    bins: Optional[int] = None
 
 
 def asked_of(naming: Naming, names: Words) -> Asked:
@@ -60,7 +57,7 @@ def gather(
     script are used for an event file alone, and for what is asked.
 
     Raises as `collect`, UsageFault if a name is none of a column, and WordsFault."""
-    names = words_of_script(plan, inputs.script, services) if naming and (naming != Naming() or is_event_file(inputs.source)) else Words()
+    names = words_of_script(plan, inputs.script, services) if naming and (naming._replace(bins=None) != Naming() or is_event_file(inputs.source)) else Words()
     if naming and naming.file is not None:
         names = read_words(naming.file, services, names)
     asked = asked_of(naming or Naming(), names)

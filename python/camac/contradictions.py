@@ -2,7 +2,6 @@
 and calls sooner than the rates that were told. It is counted here alone."""
 import collections
 import os
-import shutil
 from typing import TYPE_CHECKING, Counter, Dict, List, Optional, Sequence, Tuple
 
 from camac.functions import CONTROLLERS, reads
@@ -59,10 +58,16 @@ class Contradictions:
             gl ^= 1 << bit - 1
 
     def told(self, end: RunEnd, plan: "File", program: "File") -> RunEnd:
-        """The end of a live run with what contradicts its plan. After a wait that is not permitted the last cycle did not happen, as the listing says it."""
-        if end.how is Ending.OVERRUN and self.last:
-            self.last[0][self.last[1]] -= 1
+        """The end of a live run with what contradicts its plan."""
+        if end.how is Ending.OVERRUN:
+            self.take_back()
         return end._replace(contradictions=self.found(plan_of(plan, program)))
+
+    def take_back(self) -> None:
+        """The last cycle did not happen: its wait was not permitted."""
+        if self.last:
+            self.last[0][self.last[1]] -= 1
+            self.last = None
 
     def call(self, gl: int) -> None:
         """A demand calls the service of this bit, 0 none; the one before has ended."""
@@ -107,6 +112,8 @@ def plan_of(plan: "File", program: "Optional[File]") -> Optional[Plan]:
     from camac.subcommands import plan as read_plan
 
     if program == IN_PROCESS:
+        import shutil
+
         program = os.environ.get("CAMAC_PROGRAM") or shutil.which("camac") or program
     try:
         return read_plan(plan, program) if os.fsdecode(plan) == "@sample" or os.path.isfile(plan) else None

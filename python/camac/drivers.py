@@ -1,8 +1,6 @@
 """Branches by a name, as commands take them for a live run."""
 import os
-import runpy
 import sys
-import traceback
 from typing import Any, Dict, Optional
 
 from camac.drive import Branch, File, UsageFault
@@ -45,6 +43,8 @@ def driver(name: str, plan: File, patience: Optional[float] = None) -> Branch:
 
 def run_python(file: str) -> Dict[str, Any]:
     """The names of a file of Python of the user's, which may import its neighbours. Raises UsageFault for what it raises, with its line."""
+    import runpy
+
     sys.path.insert(0, os.path.dirname(os.path.abspath(file)))
     return _called(file, runpy.run_path, file)  # type: ignore[no-any-return]
 
@@ -55,5 +55,7 @@ def _called(file: str, function: Any, *given: Any) -> Any:
     except OSError:
         raise
     except Exception as why:
+        import traceback
+
         lines = [it.lineno for it in traceback.extract_tb(why.__traceback__) if it.filename == file]
         raise UsageFault(f"{file}{f':{lines[-1]}' if lines else ''}: {type(why).__name__}: {why}", 2) from why

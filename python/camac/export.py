@@ -1,15 +1,10 @@
 """An event file as columns with names and units, for analysis: one row an event, and one row a word. numpy makes them, h5py the HDF5 file;
 without numpy there are tables of comma-separated values alone."""
 import contextlib
-import dataclasses
 import importlib
 import itertools
 import json
 import os
-import shutil
-import tempfile
-import zipfile
-from dataclasses import dataclass
 from typing import Any, BinaryIO, Dict, Iterator, List, NamedTuple, Optional, Sequence, Set, Tuple
 
 from camac import export_csv
@@ -23,7 +18,6 @@ from camac.subcommands import check, plan as read_plan
 from camac.texts import script_text
 from camac.values import Service
 from camac.word_file import parse_words
-from camac.word_sources import words_of_script
 from camac.words import Words
 
 FORM = "camac export 1"
@@ -33,8 +27,7 @@ MISSING = -1
 CHUNK, COPIED = 1 << 16, 1 << 20
 
 
-@dataclass(frozen=True)
-class About:
+class About(NamedTuple):
     """The facts on the events: their file, plan and script, the text of the file of words, the record, and what follows from them. `sources` are the words
     whose place the script fixes, `words` what the user says of them."""
 
@@ -85,25 +78,29 @@ def learn(given: Given, program: Optional[File] = None) -> About:
     if given.record is not None:
         record = read_record(given.record)
     if record is not None:
-        about = dataclasses.replace(about, record=record, plan=record.plan, script=record.script)
+        about = about._replace(record=record, plan=record.plan, script=record.script)
     if given.plan is not None and given.script is not None:
         plan, script = texts_of(given.plan, given.script)
         for mine, its in ((plan, about.plan), (script, about.script)):
             if its is not None and mine.sha256 != its.sha256:
                 raise ValueError(f"{mine.name} is not the one of the record, {its.name}")
-        about = dataclasses.replace(about, plan=plan, script=script)
+        about = about._replace(plan=plan, script=script)
     if about.plan and about.script:
         services, sources = _judge(about.plan, about.script, program)
-        about = dataclasses.replace(about, services=tuple(services), sources=sources)
+        about = about._replace(services=tuple(services), sources=sources)
     if given.words is not None:
         text = script_text(given.words)
         words = parse_words(text, given.words, about.services, about.sources)
-        about = dataclasses.replace(about, words_text=Source(os.fsdecode(given.words), text), words=words)
+        about = about._replace(words_text=Source(os.fsdecode(given.words), text), words=words)
     return about
 
 
 def _judge(plan: Source, script: Source, program: Optional[File]) -> Tuple[List[Service], Words]:
     """The services of a script that is given as its text, and what it says of words."""
+    import tempfile
+
+    from camac.word_sources import words_of_script
+
     with tempfile.TemporaryDirectory(prefix="camac-") as room:
         files = []
         for name, source in (("plan", plan), ("script", script)):
@@ -265,6 +262,10 @@ def _write_csv(reading: Reading, about: About, outs: Sequence[BinaryIO]) -> None
 
 def _write_npz(reading: Reading, about: About, outs: Sequence[BinaryIO]) -> None:
     """As `numpy.savez` does; a column is kept in a file of its own until its length is known."""
+    import shutil
+    import tempfile
+    import zipfile
+
     numpy = _needed("numpy")
     with contextlib.ExitStack() as opened, zipfile.ZipFile(outs[0], "w", allowZip64=True) as archive:
         files: Dict[str, Tuple[Any, Series]] = {}
@@ -286,6 +287,9 @@ def _write_npz(reading: Reading, about: About, outs: Sequence[BinaryIO]) -> None
 
 
 def _write_h5(reading: Reading, about: About, outs: Sequence[BinaryIO]) -> None:
+    import shutil
+    import tempfile
+
     h5py = _needed("h5py")
     with tempfile.TemporaryDirectory(prefix="camac-") as room:
         path = os.path.join(room, "export")

@@ -3,7 +3,7 @@ from typing import TYPE_CHECKING, Callable, Dict, List, NamedTuple, Optional, Se
 
 from camac.drive import File, ProgramFault, Refused, UsageFault, one_line
 from camac.printed import read_explanation
-from camac.program import lines_of, output_of
+from camac.program import advice_on, lines_of, output_of
 from camac.texts import TextFile
 from camac.values import Service
 from camac.warn import look, looks_for_all
@@ -21,7 +21,7 @@ MESSAGE, PROPERTY = "%\r\n", "%\r\n:,"
 class Found(NamedTuple):
     """What was found in a file: `kind` is "refused", "warning", "fault", "written" (a heading or a loop that was changed), "proposed" (a change that
     helps) or "remaining" (what refuses it with all that is proposed). `line` and `code` are None if there is none. `explanation` has what `camac
-    explain` says of a refusal, by lines. `column` is that of its first token, or of a plan's key, in characters from 1."""
+    explain` says of a refusal, or why a warning is given, by lines. `column` is that of its first token, or of a plan's key, in characters from 1."""
 
     kind: str
     line: Optional[int]
@@ -110,7 +110,7 @@ def _judge_script(plan: TextFile, name: str, program: Optional[File], writes: bo
         script.text()
         accepted, warned = look(plan, script, program)
         services.extend(accepted)
-        return [Found("warning", it.line, it.code.value, it.text) for it in warned]
+        return [Found("warning", it.line, it.code.value, it.text, advice_on(it.code.value, program)) for it in warned]
 
     files = [plan, script]
     found = (_faults(write, files, program) if writes else []) or _faults(judged, files, program)
@@ -185,7 +185,7 @@ def status(judged: Sequence[Judged], is_strict: bool) -> int:
 
 # How an explanation ends of a script in the place of the plan, or a plan in that of the script.
 SWAPPED = "PLAN comes first, then SCRIPT"
-NO_COSTS = "this program has no `costs` or no `response`, so W1, W2 and W3 are not looked for"
+NO_COSTS = "this program has no `costs` or no `response`, so most warnings are not looked for"
 
 
 def note(program: Optional[File] = None) -> Optional[str]:

@@ -13,7 +13,7 @@ from typing import TYPE_CHECKING, Any, Callable, Iterable, Iterator, List, Mappi
 
 from camac import native
 from camac.contradictions import seen_of
-from camac.drive import Answer, Branch, File, Lockouts, ProgramFault, Refused, UsageFault, file_fault
+from camac.drive import Answer, Branch, File, Lockouts, ProgramFault, Refused, UsageFault, branch_of, file_fault
 from camac.events import FORMS, HEADER, NEW_FILE
 from camac.signals import Signals
 from camac.values import Ending, RunEnd
@@ -21,6 +21,7 @@ from camac.native import BUSY, EVENT_WORDS, LONG, MISUSE, NO_MEMORY, OK, OVERRUN
 from camac.native import CYCLE as CYCLE, DEMAND as DEMAND, LOCK as LOCK, NO_DATA as NO_DATA, NO_LIMIT as NO_LIMIT, READ as READ, STOPPED as STOPPED
 from camac.native import is_there as is_there
 from camac.output import holds_bytes
+from camac.program import IN_PROCESS, Verdict, settings
 from camac.texts import plan_text, script_text
 
 if TYPE_CHECKING:
@@ -32,9 +33,6 @@ ROOM = 4096
 LONGEST = 16 + 4 * EVENT_WORDS
 # What the program says at the codes that it knows, with its status.
 FAULTS = {NO_MEMORY: ("fault memory", 3), LONG: ("fault input too long", 3)}
-# The subcommands of the program that the library has too.
-IN_PROCESS = "@library"
-COMMANDS = frozenset(("plan", "check", "explain", "bounds", "costs", "response", "run"))
 SPENT_LINE = "refused A4 line 4294967296: too many answers"
 MISUSED = "{} needs each service of the script once at most, as adc=200, with a number from 0, or from 1 of `every`, to 4294967295"
 CLOSED = "{} needs an open session: this one is closed"
@@ -71,11 +69,12 @@ class Place(NamedTuple):
 OnFault = Callable[[Exception, Optional[Place]], bool]
 
 
-class Verdict(NamedTuple):
-    """Whether the texts were accepted, and what the program would print."""
+class Overrun(Exception):
+    """A wait that the plan does not permit: its crate, and how long it was."""
 
-    accepted: bool
-    text: str
+    def __init__(self, crate: int, wait: int) -> None:
+        super().__init__(f"overrun {crate} wait {wait}")
+        self.crate, self.wait = crate, wait
 
 
 def version() -> str:
@@ -224,11 +223,6 @@ def response(plan: Text, script: Text, every: Optional[Mapping[str, int]] = None
     return _judged("response", plan, script, _settings(settings(every)), _settings(settings(within)))
 
 
-def settings(numbers: Optional[Mapping[str, int]]) -> List[str]:
-    """The words that follow an option of `response`: NAME=CYCLES for each service."""
-    return [f"{service}={cycles}" for service, cycles in (numbers or {}).items()]
-
-
 def _settings(words: Iterable[str]) -> str:
     words = list(words)
     if any(it.split() != [it] for it in words):
@@ -275,7 +269,7 @@ class Session:
         self.limit_steps()
 
     def wants(self) -> Optional[Want]:
-        """What the next answer is for; None if the run is over, by an overrun. The next call fills the same object again. Raises UsageFault while
+        """What the next answer is for; None if the run is stopped, by an overrun. The next call fills the same object again. Raises UsageFault while
         the run pauses."""
         code = self._calls.camac_wants(self._at, self._to_want)
         _test("wants", code, OVERRUN)
@@ -283,11 +277,18 @@ class Session:
 
     def ahead(self, room: int = native.AHEAD) -> List[Want]:
         """The operations that come next, whatever is answered, as many as `room` at most: what a controller that makes lists of commands makes in one
-        transfer. The first is that of `wants`. None if the run is over, by an overrun."""
-        room = max(0, min(room, native.AHEAD))
+        transfer. The first is that of `wants`. None if the run is stopped, by an overrun."""
+        return self._wants(self._calls.camac_ahead, max(0, min(room, native.AHEAD)))
+
+    def back(self) -> List[Want]:
+        """What sets inhibit and demand output of the crates back, as they were at the demand of the service in progress: cycles to make before
+        `abandon`, none between services."""
+        return self._wants(self._calls.camac_back, native.BACK)
+
+    def _wants(self, call: Any, room: int) -> List[Want]:
         wants = (Want * max(room, 1))()
         wants[0].size = ctypes.sizeof(Want)
-        return list(wants[: self._calls.camac_ahead(self._at, wants, room)])
+        return list(wants[: call(self._at, wants, room)])
 
     def next_many(self, answers: Iterable[Answer]) -> List[Progress]:
         """`next` of one answer after the other, up to one that leaves an event, ends the run by an overrun, makes it pause or is not taken. Returns what each did, the
@@ -318,7 +319,7 @@ class Session:
         return self._progress
 
     def step(self, answer: Answer) -> Tuple[Progress, Optional[Want]]:
-        """`next`, and then `wants`, in one call of the library. Nothing is wanted if the run is over, or pauses."""
+        """`next`, and then `wants`, in one call of the library. Nothing is wanted if the run is stopped, or pauses."""
         self._give(answer)
         code = self._calls.camac_step(self._at, self._to_answer, self._to_progress, self._to_want)
         if code == OK:
@@ -395,7 +396,7 @@ class Session:
         return tuple(self._words[:count])
 
     def where(self) -> Optional[Place]:
-        """The service in progress, and the line of its statement that wants the next answer, or whose wait ended the run; None at a demand, and while
+        """The service in progress, and the line of its statement that wants the next answer, or whose wait stopped it; None at a demand, and while
         the run pauses."""
         service, line = c_uint32(), c_uint32()
         _test("where", self._calls.camac_where(self._at, byref(service), byref(line)))
@@ -415,13 +416,10 @@ class Session:
         return found
 
     def abandon(self) -> Tuple[int, ...]:
-        """Leaves the service in progress, as after a fault of the crates, without an event. The run goes on at a demand, with the crates as they were
-        at the one that called the service. Returns the crates whose lockout is to be released, in this order. Raises UsageFault if the run is over,
-        by an overrun."""
-        code = self._calls.camac_abandon(self._at, self._words, EVENT_WORDS, self._to_size)
-        if code == OVERRUN:
-            raise UsageFault("abandon needs a run that goes on: this one is over", 2)
-        _test("abandon", code)
+        """Leaves the service in progress, as after a fault of the crates or an overrun, without an event. The run goes on at a demand, with the crates
+        as they were at the one that called the service: what `back` tells is made before. Returns the crates whose lockout is to be released, in this
+        order."""
+        _test("abandon", self._calls.camac_abandon(self._at, self._words, EVENT_WORDS, self._to_size))
         return tuple(self._words[: self._size.value])
 
     def rewind(self) -> None:
@@ -458,17 +456,13 @@ def play(
     must not hold bytes; without it none is written. Each event is there before the next operation is made. `record` is that of
     `camac.drive`. `program` and `timeout` are taken as `camac.drive` takes them; here the program has no part in the run, but lists the plan's widths.
 
-    If an operation raises an exception, `on_fault` is called with it and the place of the operation (None at a demand). If it returns True, the
-    service is left without an event, its lockouts are released, and the run goes on at a demand. What the service has changed of inhibit and demand
-    output has to be set back by then, as `Session.abandon` says. Else the exception ends the run, as without `on_fault`.
+    If an operation raises an exception, or its wait is an Overrun, `on_fault` is called with that and the place of the operation (None at a demand). If
+    it returns True, `branch.cycle` sets inhibit and demand output back, the service is left without an event, its lockouts are released, and the run
+    goes on at a demand. Else the run ends, as without `on_fault`.
 
     Returns how the run ended, and raises what `camac.drive` raises, with the texts of the program: what the branch raises, Refused,
     ProgramFault. The lockouts that are held then are released by `branch.unlock`, however the run ends, by a signal too, as `camac.drive` says."""
-    if isinstance(branch, str):
-        # Drivers need what this module declares, as the record does.
-        from camac.drivers import driver
-
-        branch = driver(branch, plan)
+    branch = branch_of(branch, plan)
     if record is not None:
         from camac.record import Played, recorded
 
@@ -500,7 +494,9 @@ class _Game:
             try:
                 answer = self.make(want)
             except Exception as error:
-                want = self.leave(error)
+                if not self.is_left(error):
+                    raise
+                want = self.session.wants()
                 continue
             if answer is None:
                 return RunEnd(Ending.ENDED, f"ended events {self.events}", self.events)
@@ -510,6 +506,9 @@ class _Game:
                 return RunEnd(Ending.REFUSED, SPENT_LINE)
             if progress.event or progress.first_unlocked:
                 self.settle(progress)
+            if want is None and self.is_left(Overrun(progress.c, progress.wait)):
+                self.seen.take_back()
+                want = self.session.wants()
         line = f"overrun {progress.c} wait {progress.wait} events {self.events}"
         return RunEnd(Ending.OVERRUN, line, self.events, progress.c, progress.wait)
 
@@ -530,13 +529,16 @@ class _Game:
             return answer
         raise TypeError(f"the branch has to answer an operation with an Answer, not {answer!r}")
 
-    def leave(self, error: Exception) -> Optional[Want]:
-        """Leaves the service in which an operation failed, if `on_fault` says so, and returns the demand that is wanted then."""
+    def is_left(self, error: Exception) -> bool:
+        """Leaves the service in which an operation failed, if `on_fault` says so: the crates are set back, and all lockouts released."""
         if not (self.on_fault and self.on_fault(error, self.session.where())):
-            raise error
-        for crate in self.session.abandon():
-            self.lockouts.unlock(crate)
-        return self.session.wants()
+            return False
+        for it in self.session.back():
+            self.branch.cycle(it.c, it.n, it.a, it.f, None)
+        self.session.abandon()
+        while self.lockouts.held:
+            self.lockouts.unlock(self.lockouts.held[-1])
+        return True
 
     def settle(self, progress: Progress) -> None:
         """Does what an answer calls for: an event is written, so that it is there whatever comes, and lockouts are released."""

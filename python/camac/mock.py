@@ -15,7 +15,6 @@ A module is a class with one method. This one holds a word: F16 writes it, F0 re
 
 `MockBranch` is a branch for `camac.drive`; `Faulty` adds faults to any branch, `Recorder` keeps what it was asked and what it answered, and
 `Recorded` gives such answers again. All that is random comes from a seed, so that two runs are alike."""
-import dataclasses
 import functools
 import os
 import random
@@ -447,8 +446,7 @@ class Faulty:
         return self.branch.lock(c)
 
 
-@dataclasses.dataclass(frozen=True)
-class Operation:
+class Operation(NamedTuple):
     """What a branch was asked, as the program's line says it, and its answer: None of an unlock, and of a demand that ended the run."""
 
     request: str

@@ -1,7 +1,6 @@
 """The names of a script: where each is declared and used. The text may have faults; what is before a name says what it is."""
 import re
 from bisect import bisect_right
-from dataclasses import dataclass, field
 from typing import Dict, Iterator, List, NamedTuple, Optional, Set, Tuple
 
 from camac.language import AFTER, BODIES, DECLARATIONS, EACH, LAM, PARAMETER, PROCEDURE, REGISTER, TABLE, VARIABLE, WORDS, Kind
@@ -28,16 +27,12 @@ class Mention(NamedTuple):
     declares: bool
 
 
-@dataclass
 class Block:
     """A service or procedure: its name, the places of its heading's begin, of its `{` and of its end, in bytes, and the parameters of a procedure."""
 
-    name: str
-    is_service: bool
-    start: int
-    brace: int
-    end: int
-    parameters: Set[str] = field(default_factory=set)
+    def __init__(self, name: str, is_service: bool, start: int, brace: int, end: int) -> None:
+        self.name, self.is_service, self.start, self.brace, self.end = name, is_service, start, brace, end
+        self.parameters: Set[str] = set()
 
 
 NO_NAMES: Tuple[Tuple[Kind, bool], ...] = ()

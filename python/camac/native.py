@@ -6,7 +6,7 @@ import ctypes
 import functools
 import os
 import struct
-from ctypes import POINTER, c_char, c_char_p, c_size_t, c_uint8, c_uint16, c_uint32, c_void_p
+from ctypes import POINTER, c_char, c_char_p, c_size_t, c_uint8, c_uint32, c_void_p
 from typing import Any, Dict, List, NamedTuple, Tuple
 
 NAME = "libcamac.so.0"
@@ -18,8 +18,9 @@ NO_DATA, READ, WRITE = range(3)
 EVENT_WORDS = 4096
 # More steps than any service makes.
 NO_LIMIT = 4_294_967_295
-# The most operations that are told ahead.
+# The most operations that are told ahead, and the most that set the crates back.
 AHEAD = 64
+BACK = 14
 
 
 class _Sized(ctypes.Structure):
@@ -43,9 +44,10 @@ class SessionStruct(_Sized):
 
 
 class Want(_Sized):
-    """What the next answer is for: `kind`, and of a CYCLE `c`, `n`, `a`, `f`, `data` and the `word` to write, of a LOCK `c`."""
+    """What the next answer is for: `kind`, the longest wait that its answer may have, `waits`, and of a CYCLE `c`, `n`, `a`, `f`, `data`, the
+    `width` of what it reads and the `word` to write, of a LOCK `c`."""
 
-    _fields_ = [("size", c_uint32), *_fields(c_uint8, "kind c n a f data"), ("unused", c_uint16), ("word", c_uint32), ("spare", c_uint32 * 4)]
+    _fields_ = [("size", c_uint32), *_fields(c_uint8, "kind c n a f data waits width"), ("word", c_uint32), ("spare", c_uint32 * 4)]
 
 
 class AnswerStruct(_Sized):
@@ -69,8 +71,8 @@ class Progress(_Sized):
         *_fields(c_uint8, "kind c wait x q"),
         ("unused", c_uint8 * 3),
         # Python reads one number faster than four
-        *_fields(c_uint32, "first_unlocked more_unlocked word pattern service event event_gl event_words event_cycles event_missed event_service"),
-        ("spare", c_uint32 * 2),
+        *_fields(c_uint32, "first_unlocked more_unlocked word pattern service event event_gl event_words event_cycles event_missed event_service cut"),
+        ("spare", c_uint32),
     ]
 
     @property
@@ -119,7 +121,7 @@ _OF_SESSIONS: Dict[str, List[Any]] = {
     **{name: [_SESSION, *_BUFFER] for name in ("item", "record")},
     **{name: [_SESSION, POINTER(c_uint32), c_size_t] for name in ("words", "held")},
     "wants": [_SESSION, POINTER(Want)],
-    "ahead": [_SESSION, POINTER(Want), c_size_t],
+    **{name: [_SESSION, POINTER(Want), c_size_t] for name in ("ahead", "back")},
     "next": [_SESSION, POINTER(AnswerStruct), POINTER(Progress)],
     "next_many": [_SESSION, POINTER(AnswerStruct), POINTER(Progress), c_size_t, POINTER(c_size_t)],
     "step": [_SESSION, POINTER(AnswerStruct), POINTER(Progress), POINTER(Want)],
@@ -132,7 +134,7 @@ _OF_SESSIONS: Dict[str, List[Any]] = {
 }
 # What is called at each answer. Their arguments are made once, as C has them, and ctypes takes half of the time where it need not look at them.
 _OFTEN = frozenset(("wants", "next", "step", "item", "record"))
-_RESULTS = {"ahead": c_size_t, "words": c_size_t, "held": c_size_t, "file_header": c_size_t, "answers_left": c_uint32, "services": c_size_t, "close": None}
+_RESULTS = {"ahead": c_size_t, "back": c_size_t, "words": c_size_t, "held": c_size_t, "file_header": c_size_t, "answers_left": c_uint32, "services": c_size_t, "close": None}
 
 
 def find_library() -> str:

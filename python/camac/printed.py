@@ -71,7 +71,7 @@ class Form(Generic[T]):
     def _made(self, found: "Optional[re.Match[str]]") -> Optional[T]:
         if found is None:
             return None
-        fields = {name: None if found[name] is None else read(found[name]) for name, read in self.readers}
+        fields = {name: None if word is None else read(word) for (name, read), word in zip(self.readers, found.groups())}
         return self.make(line=found[0], **fields) if self.has_line else self.make(**fields)
 
 

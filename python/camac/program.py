@@ -1,25 +1,40 @@
 """What the program camac prints, as text: it is called with the words of a subcommand, and its statuses become exceptions.
 
-If no program is there, the library for C answers in this process what it can (`camac.library.COMMANDS`). So it does where `@library` is
-named as the program. What calls another process is loaded when it is called: it takes as long to load as all of this package."""
+If no program is there, the library for C answers in this process what it can (`COMMANDS`). So it does where `@library` is named as the
+program. The library and what calls another process are each loaded when they are called: both take as long to load as all of this package."""
 import functools
 import itertools
 import os
-from typing import Iterator, Optional, Tuple
+from typing import Any, Dict, Iterator, List, Mapping, NamedTuple, Optional, Tuple
 
-from camac import library
 from camac.drive import File, Refused, UsageFault, fault_of, find_program
-from camac.library import IN_PROCESS as IN_PROCESS
 from camac.printed import is_known, is_refused
 from camac.texts import plan_text
 
 REFUSED, USAGE = 1, 2
 EVERY = "--every="
+# The library in the place of a program, and the subcommands that it has, too.
+IN_PROCESS = "@library"
+COMMANDS = frozenset(("plan", "check", "explain", "bounds", "costs", "response", "run"))
+
+
+class Verdict(NamedTuple):
+    """Whether the texts were accepted, and what the program would print."""
+
+    accepted: bool
+    text: str
+
+
+def has_library() -> bool:
+    """Whether the library can be loaded."""
+    from camac.native import is_there
+
+    return is_there()
 
 
 def quickest() -> Optional[File]:
     """The library, if it is there and no program is named: what is judged by it costs no other process."""
-    return None if os.environ.get("CAMAC_PROGRAM") or not library.is_there() else IN_PROCESS
+    return None if os.environ.get("CAMAC_PROGRAM") or not has_library() else IN_PROCESS
 
 
 def find(command: str, program: Optional[File]) -> str:
@@ -27,19 +42,21 @@ def find(command: str, program: Optional[File]) -> str:
     try:
         return os.fsdecode(find_program(program))
     except FileNotFoundError:
-        if command in library.COMMANDS and library.is_there():
+        if command in COMMANDS and has_library():
             return IN_PROCESS
         raise
 
 
-def _of_library(*words: File) -> library.Verdict:
+def _of_library(*words: File) -> Verdict:
     """The library's answer in the program's place. Before the files there may be the options `--every=NAME=CYCLES`, and "--"."""
+    from camac import library
+
     command, *files = words
     every = [it[len(EVERY) :] for it in itertools.takewhile(lambda it: it.startswith(EVERY), map(os.fsdecode, files))]
     files = files[len(every) :]
     if files[:1] == ["--"]:
         files = files[1:]
-    if command not in library.COMMANDS:
+    if command not in COMMANDS:
         raise UsageFault(f"the library has no `{os.fsdecode(command)}`", USAGE)
     return library.output_of(os.fsdecode(command), *files, every=every)
 
@@ -54,12 +71,18 @@ def output_of(*words: File, program: Optional[File] = None) -> str:
         verdict = _of_library(*words)
         _judge(0 if verdict.accepted else REFUSED, verdict.text, "")
         return verdict.text
+    status, printed, errors = _called(found, *words)
+    _judge(status, printed, errors)
+    return printed
+
+
+def _called(program: str, *words: File, given: Optional[bytes] = None) -> Tuple[int, str, str]:
+    """The status of the program, and what it prints to standard output and standard error."""
     import subprocess
 
-    done = subprocess.run([found, *words], stdin=subprocess.DEVNULL, stdout=subprocess.PIPE, stderr=subprocess.PIPE, check=False)
-    printed = done.stdout.decode(errors="replace")
-    _judge(done.returncode, printed, done.stderr.decode(errors="replace"))
-    return printed
+    stdin: Dict[str, Any] = {"stdin": subprocess.DEVNULL} if given is None else {"input": given}
+    done = subprocess.run([program, *words], **stdin, stdout=subprocess.PIPE, stderr=subprocess.PIPE, check=False)
+    return done.returncode, done.stdout.decode(errors="replace"), done.stderr.decode(errors="replace")
 
 
 def lines_of(*words: File, program: Optional[File] = None) -> Iterator[str]:
@@ -99,35 +122,45 @@ def _judge(status: int, printed: str, errors: str) -> None:
         raise fault_of(errors.rstrip("\n"), status)
 
 
+@functools.lru_cache(maxsize=None)
+def advice_on(code: str, program: Optional[File] = None) -> Tuple[str, ...]:
+    """What `camac explain` says of a code behind its first line; nothing where no program is there, or one that does not know it."""
+    try:
+        return tuple(output_of("explain", code, program=find_program(None if program == IN_PROCESS else program)).splitlines()[1:])
+    except (FileNotFoundError, UsageFault):
+        return ()
+
+
 def version(program: Optional[File] = None) -> str:
     """The version, as the program prints it: "camac 0.2.0"."""
     if find("check", program) == IN_PROCESS:
+        from camac import library
+
         return f"camac {library.version()}"
     return output_of("--version", program=program).rstrip("\n")
 
 
-def verdict(command: str, plan: File, script: bytes, program: Optional[File] = None, at: Optional[Tuple[int, int]] = None) -> library.Verdict:
+def verdict(command: str, plan: File, script: bytes, program: Optional[File] = None, at: Optional[Tuple[int, int]] = None) -> Verdict:
     """The program's answer on a script that is given as its text. `command` judges: "check", "bounds", "costs", "response", "explain --bounds" or
     "explain", which says with line and column what is known there.
 
     Raises ProgramFault and OSError as `output_of`."""
     words = command.split()
-    if find(words[0], program) == IN_PROCESS:
+    found = find(words[0], program)
+    if found == IN_PROCESS:
+        from camac import library
+
         return library.explain_at(plan_text(plan), script, *at) if at else library.judged(command.replace(" --", "_"), plan_text(plan), script)
-    import tempfile
-
-    with tempfile.TemporaryDirectory(prefix="camac-") as room:
-        file = os.path.join(room, "script")
-        with open(file, "wb") as out:
-            out.write(script)
-        text = "".join(f"{it}\n" for it in lines_of(*words, *(["--at", "{}:{}".format(*at)] if at else []), "--", plan, file, program=program))
-    return library.Verdict(is_known(text) if at else not is_refused(text), text)
+    status, text, errors = _called(found, *words, *(["--at", "{}:{}".format(*at)] if at else []), "--", plan, "@in", given=script)
+    if status not in (0, REFUSED):
+        _judge(status, "", errors)
+    return Verdict(is_known(text) if at else not is_refused(text), text)
 
 
-def explain_plan(plan: File, program: Optional[File] = None) -> library.Verdict:
+def explain_plan(plan: File, program: Optional[File] = None) -> Verdict:
     """The output of `camac explain` on a plan alone. Raises ProgramFault and OSError as `output_of`."""
     text = "".join(f"{it}\n" for it in lines_of("explain", "--", plan, program=program))
-    return library.Verdict(not is_refused(text), text)
+    return Verdict(not is_refused(text), text)
 
 
 def accepts(plan: File, script: bytes, program: Optional[File] = None) -> bool:
@@ -143,7 +176,7 @@ def _help(program: str, words: Tuple[str, ...]) -> str:
 def knows_command(command: str, program: Optional[File] = None) -> bool:
     """Whether the program has this subcommand. Its help is asked once."""
     found = find(command, program)
-    return command in library.COMMANDS if found == IN_PROCESS else f"\n  {command} " in _help(found, ("--help",))
+    return command in COMMANDS if found == IN_PROCESS else f"\n  {command} " in _help(found, ("--help",))
 
 
 def knows_option(command: str, option: str, program: Optional[File] = None) -> bool:
@@ -152,3 +185,6 @@ def knows_option(command: str, option: str, program: Optional[File] = None) -> b
     return found != IN_PROCESS and option in _help(found, ("help", command)).split()
 
 
+def settings(numbers: Optional[Mapping[str, int]]) -> List[str]:
+    """The words that follow an option of `response`: NAME=CYCLES for each service."""
+    return [f"{service}={cycles}" for service, cycles in (numbers or {}).items()]

@@ -1,10 +1,8 @@
 """Whether the program or the library in use is proved: what ./install noted of it, if it is still that file."""
 import functools
-import hashlib
 import os
 from typing import Dict, NamedTuple, Optional
 
-from camac import native
 from camac.drive import File
 from camac.program import IN_PROCESS, find, version
 
@@ -24,11 +22,17 @@ class Proof(NamedTuple):
 def proof(program: Optional[File] = None) -> Proof:
     """What is known of the program that judges, or of the library in its place. Raises OSError if there is none of both."""
     name = find("check", program)
-    return _proof(os.path.realpath(native.loaded() if name == IN_PROCESS else name))
+    if name == IN_PROCESS:
+        from camac.native import loaded
+
+        name = loaded()
+    return _proof(os.path.realpath(name))
 
 
 @functools.lru_cache(maxsize=None)
 def _proof(file: str) -> Proof:
+    import hashlib
+
     with open(file, "rb") as opened:
         digest = hashlib.sha256(opened.read()).hexdigest()
     folder = os.path.dirname(file)

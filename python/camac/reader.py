@@ -1,7 +1,7 @@
 """Reads a script that is no refused text into a tree."""
 from typing import Callable, Dict, List, Tuple
 
-from camac.language import BODIES, CRATE_CALLS, DECLARATIONS, EACH, LAM_CALLS, SINGLE, SWITCHED, TRANSFERS
+from camac.language import BODIES, CRATE_CALLS, DECLARATIONS, EACH, LAM, LAM_CALLS, PROCEDURE, SINGLE, SWITCHED, TABLE, TRANSFERS, VARIABLE
 from camac.tokens import NAMES, Token, tokens_of
 from camac.tree import (
     Assign, Body, Cycle, Expression, For, If, Keep, Lock, Loop, Name, Number, Operation, Part, Plain, Range, Script, SetRegister, Statement, Transfer, While,
@@ -30,20 +30,19 @@ def read_headings(text: bytes) -> List[Body]:
 
 
 class _Reader:
-    """Tokens, of which those before `at` are read."""
+    """Tokens, of which those before `at` are read, with one more at their end."""
 
     def __init__(self, tokens: List[Token]) -> None:
-        self.tokens, self.at = tokens, 0
+        self.tokens, self.at = [*tokens, END], 0
         self.variables: Dict[str, Range] = {}
 
     def next(self) -> Token:
-        token = self.tokens[self.at] if self.at < len(self.tokens) else END
         self.at += 1
-        return token
+        return self.tokens[self.at - 1]
 
     def word(self) -> str:
         """The text of the token that comes next, which is not taken."""
-        return self.tokens[self.at].text if self.at < len(self.tokens) else ""
+        return self.tokens[self.at].text
 
     def takes(self, *words: str) -> bool:
         """Takes the next token if it is one of these."""
@@ -65,14 +64,20 @@ class _Reader:
         return int(self.next().text)
 
     def script(self) -> Script:
-        script = Script()
+        script = Script(self.tokens)
         while self.word():
-            if self.word() in BODIES:
+            word = self.word()
+            if word in BODIES:
+                if word == "proc":
+                    script.declared.append((self.tokens[self.at + 1], PROCEDURE))
                 script.bodies.append(self.body())
             elif self.takes("var"):
                 # The next declaration begins with a word of the language.
                 while self.word() not in ("", "table") and self.word() not in DECLARATIONS:
-                    self.variables[self.next().text] = (0, 0)
+                    script.declared.append((self.next(), VARIABLE))
+                    self.variables[self.tokens[self.at - 1].text] = (0, 0)
+            elif self.takes("cdlam", "table"):
+                script.declared.append((self.next(), TABLE if word == "table" else LAM))
             else:
                 self.next()
         return script
@@ -90,6 +95,7 @@ class _Reader:
     def body(self) -> Body:
         body = self.heading()
         body.statements = self.block()
+        body.every = list(all_in(body.statements))
         body.end = self.end()
         return body
 
@@ -138,8 +144,8 @@ class _Reader:
         if word == "call":
             return self.call(first)
         if word == "if":
-            parts, body = self.condition(), self.block()
-            return If(*at, parts, body, self.block() if self.takes("else") else [])
+            parts, body, has_else = self.condition(), self.block(), self.takes("else")
+            return If(*at, parts, body, self.block() if has_else else [], has_else)
         if word == "lock":
             return Lock(*at, self.expression(), self.block())
         if word in ("for", "while"):
@@ -193,8 +199,9 @@ class _Reader:
                 loop.keeps.append(self.keep())
         loop.block = self.tokens[self.at].start
         loop.body = self.block()
-        loop.written = frozenset(name for it in all_in(loop.body) for name in [written_by(it)] if name is not None and name != loop.name)
-        loop.registers = frozenset(it.register for it in all_in(loop.body) if isinstance(it, SetRegister))
+        every = list(all_in(loop.body))
+        loop.written = frozenset(filter(None, map(written_by, every))) - {loop.name}
+        loop.registers = frozenset(it.register for it in every if isinstance(it, SetRegister))
         return loop
 
     def for_(self, first: Token, name: str) -> For:

@@ -5,17 +5,13 @@ demand is asked for, the modules wait for the service (dead time); the rest is s
 import base64
 import collections
 import contextlib
-import dataclasses
-import hashlib
 import json
 import operator
 import os
-import platform
+import sys
 import time
-from dataclasses import dataclass
-from typing import Any, Callable, Dict, List, Mapping, NamedTuple, Optional, Tuple, Union
+from typing import TYPE_CHECKING, Any, Callable, Dict, List, Mapping, NamedTuple, Optional, Tuple, Union
 
-from camac import native
 from camac.contradictions import Contradictions, plan_of
 from camac.drive import Answer, Branch, File, ProgramFault, UsageFault, add_note, file_fault, one_line
 from camac.events import EventFileFault, read_events
@@ -24,13 +20,14 @@ from camac.output import Rule, anything, holds_bytes, output
 from camac.printed import read_responses, read_services
 from camac.program import output_of
 from camac.proof import told
-from camac.runs import Inputs, collect, is_event_file
 from camac.signals import Signals, signal_of
 from camac.subcommands import plan, rates
-from camac.surveys import now
-from camac.surveys.summary import Summary, parse_summary, read_summary
 from camac.texts import plan_text, read_regular, script_text
 from camac.values import Contradiction, RunEnd, Service
+
+if TYPE_CHECKING:
+    from camac.runs import Inputs
+    from camac.surveys.summary import Summary
 
 FORM = "camac record 1"
 # A longer file is no record: plan, script and verdict are some megabytes at most.
@@ -41,22 +38,17 @@ FAILED = "failed"
 OWN_FILE = "it holds bytes; a run needs a record of its own"
 
 
-@dataclass(frozen=True)
 class Recording:
     """Where the record of a run is to be written, and what its caller says of the run; `survey` is a file that camac-survey made, and `every` has the rates
     of modules, as `camac.response` takes them. Raises TypeError if the number is no whole one, or the title no text."""
 
-    file: File
-    number: Optional[int] = None
-    title: str = ""
-    survey: Optional[File] = None
-    every: Optional[Mapping[str, int]] = None
-
-    def __post_init__(self) -> None:
-        if not isinstance(self.title, str):
-            raise TypeError(f"the title of a run is a text, not {self.title!r}")
-        if self.number is not None:
-            operator.index(self.number)
+    def __init__(
+        self, file: File, number: Optional[int] = None, title: str = "", survey: Optional[File] = None, every: Optional[Mapping[str, int]] = None
+    ) -> None:
+        if not isinstance(title, str):
+            raise TypeError(f"the title of a run is a text, not {title!r}")
+        self.file, self.title, self.survey, self.every = file, title, survey, every
+        self.number = None if number is None else operator.index(number)
 
 
 class Played(NamedTuple):
@@ -68,8 +60,7 @@ class Played(NamedTuple):
     program: Optional[File]
 
 
-@dataclass(frozen=True)
-class Source:
+class Source(NamedTuple):
     """A plan or a script: its name as it was given, and its bytes."""
 
     name: str
@@ -77,6 +68,8 @@ class Source:
 
     @property
     def sha256(self) -> str:
+        import hashlib
+
         return hashlib.sha256(self.data).hexdigest()
 
     def value(self) -> Dict[str, str]:
@@ -98,8 +91,7 @@ class Source:
         return its
 
 
-@dataclass(frozen=True)
-class Record:
+class Record(NamedTuple):
     """What is known of a run.
 
     plan, script        their texts
@@ -131,7 +123,7 @@ class Record:
     counts: Optional[Dict[str, int]] = None
     demands: Optional[float] = None
     services: Optional[float] = None
-    survey: Optional[Summary] = None
+    survey: "Optional[Summary]" = None
     contradictions: Optional[Tuple[Contradiction, ...]] = None
 
     def list_services(self) -> List[Service]:
@@ -190,9 +182,16 @@ def parse_record(data: bytes) -> Record:
         demands=measured.get("demands"),
         services=measured.get("services"),
         versions=fields["versions"],
-        survey=parse_summary(fields["survey"]) if fields.get("survey") else None,
+        survey=_parse_survey(fields["survey"]) if fields.get("survey") else None,
         contradictions=None if its is None else tuple(Contradiction(str(it["place"]), str(it["what"]), operator.index(it["times"])) for it in its),
     )
+
+
+def _parse_survey(fields: Any) -> "Summary":
+    # The modules of a survey take as long to load as those of a record.
+    from camac.surveys.summary import parse_summary
+
+    return parse_summary(fields)
 
 
 def texts_of(plan: File, script: File) -> Tuple[Source, Source]:
@@ -206,7 +205,13 @@ def describe(
     """The record of a run that has not begun.
 
     Raises Refused if plan or script is refused, ProgramFault and OSError as `camac.check`, and what `read_summary` raises."""
-    surveyed = None if survey is None else read_summary(survey)
+    from camac.native import VERSION, version_text
+
+    surveyed = None
+    if survey is not None:
+        from camac.surveys.summary import read_summary
+
+        surveyed = read_summary(survey)
     texts = texts_of(of.plan, of.script)
     verdict = output_of("check", "--", of.plan, of.script, program=of.program).splitlines()
     try:
@@ -215,7 +220,7 @@ def describe(
         if every:
             raise
         response = []
-    versions = {"package": native.version_text(native.VERSION), "program": told(of.program), "python": platform.python_version()}
+    versions = {"package": version_text(VERSION), "program": told(of.program), "python": sys.version.split()[0]}
     events = None if of.events is None else os.fsdecode(of.events)
     return Record(*texts, tuple(verdict), tuple(response), versions, number, title, events=events, survey=surveyed)
 
@@ -246,7 +251,7 @@ def recorded(asked: Union[File, Recording], of: Played, branch: Branch, play: Ca
 
     Raises what `describe` and the run raise, and ProgramFault if the record cannot be written; a file that holds bytes is none."""
     its = asked if isinstance(asked, Recording) else Recording(asked)
-    record = dataclasses.replace(describe(of, None if its.number is None else operator.index(its.number), its.title, its.survey, its.every), begin=now())
+    record = describe(of, its.number, its.title, its.survey, its.every)._replace(begin=now())
     writer = _Writer(its.file, record, of)
     watched = _Watched(branch, record, writer)
     with Signals() as signals:
@@ -268,6 +273,12 @@ def recorded(asked: Union[File, Recording], of: Played, branch: Branch, play: Ca
         return end
 
 
+def now() -> str:
+    """The time, as records have it (UTC, ISO 8601)."""
+    at = time.time()
+    return f"{time.strftime('%Y-%m-%dT%H:%M:%S', time.gmtime(at))}.{int(at % 1 * 1000):03}Z"
+
+
 def refuse_foreign(file: File) -> None:
     """The rule that a file holds no bytes, or is one that `write_played` made. Raises ProgramFault."""
     if holds_bytes(file):
@@ -279,9 +290,11 @@ def refuse_foreign(file: File) -> None:
             raise file_fault("write", file, OWN_FILE)
 
 
-def write_played(file: File, inputs: Inputs, may_replace: bool = False, survey: Optional[File] = None) -> None:
+def write_played(file: File, inputs: "Inputs", may_replace: bool = False, survey: Optional[File] = None) -> None:
     """Writes the record of a run that is played or read for it: nothing of it is timed. Raises as `describe`, and as `refuse_foreign` unless it
     `may_replace` a file."""
+    from camac.runs import collect, is_event_file
+
     events = inputs.source if is_event_file(inputs.source) else None
     record = describe(Played(inputs.plan, inputs.script, events, None), survey=survey)
     run = collect(inputs, plan(inputs.plan), record.list_services())
@@ -290,7 +303,7 @@ def write_played(file: File, inputs: Inputs, may_replace: bool = False, survey: 
     how = run.end.how.value if run.end else None
     of_services = {it.name: counts[it.gl] for it in record.list_services()}
     rule = anything if may_replace else refuse_foreign
-    record = dataclasses.replace(record, told=now(), how=how, line=run.last_line(), size=size, counts=of_services, contradictions=run.contradictions)
+    record = record._replace(told=now(), how=how, line=run.last_line(), size=size, counts=of_services, contradictions=run.contradictions)
     _write(file, record.text(), rule)
 
 
@@ -310,7 +323,7 @@ class _Writer:
 
     def write(self) -> None:
         self.at = time.monotonic()
-        self.record = dataclasses.replace(self.record, told=now())
+        self.record = self.record._replace(told=now())
         text = self.record.text()
         _write(self.file, text, self.refuse_change)
         self.text = text
@@ -331,20 +344,20 @@ class _Writer:
 
     def measured(self, watched: "_Watched") -> None:
         contradictions = watched.seen.found(self.plan)
-        self.record = dataclasses.replace(self.record, demands=watched.demands, services=watched.services, contradictions=contradictions)
+        self.record = self.record._replace(demands=watched.demands, services=watched.services, contradictions=contradictions)
 
     def finish(self, watched: "_Watched", how: str, line: str) -> None:
         """Writes the last record of a run."""
         watched.count()
         self.measured(watched)
-        self.record = dataclasses.replace(self.record, end=now(), how=how, line=line)
+        self.record = self.record._replace(end=now(), how=how, line=line)
         if self.of.events is not None and os.path.isfile(self.of.events):
             found: "collections.Counter[int]" = collections.Counter()
             # They are counted up to the first fault of the file.
             with contextlib.suppress(EventFileFault):
                 found.update(it.gl for it in read_events(self.of.events))
             counts = {it.name: found[it.gl] for it in self.record.list_services()}
-            self.record = dataclasses.replace(self.record, counts=counts, size=os.path.getsize(self.of.events))
+            self.record = self.record._replace(counts=counts, size=os.path.getsize(self.of.events))
         self.write()
 
 

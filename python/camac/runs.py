@@ -1,7 +1,5 @@
 """What a run did, in numbers of a fixed size: from the listing of `camac run` and its event file, or from an event file alone."""
-import dataclasses
 import enum
-import tempfile
 from array import array
 from typing import Dict, FrozenSet, Iterable, Iterator, List, NamedTuple, Optional, Sequence, Tuple, Union
 
@@ -59,11 +57,10 @@ class Kept(NamedTuple):
     more: int
 
 
-@dataclasses.dataclass(frozen=True)
-class Seen:
+class Seen(NamedTuple):
     """The counts of a number in some services."""
 
-    count: int
+    count: int  # type: ignore[assignment]
     least: int
     mean: float
     most: int
@@ -111,12 +108,11 @@ class Sent:
         self.recent, self.numbers = [], []
 
 
-@dataclasses.dataclass(frozen=True)
-class Asked:
+class Asked(NamedTuple):
     """What is asked of the words of events: the columns that they have, two of these that are wanted against each other, the most bins, gates that an event
     has to pass, and regions that are measured."""
 
-    names: Words = dataclasses.field(default_factory=Words)
+    names: Words = Words()
     pair: Optional[Tuple[Column, Column]] = None
     bins: Optional[int] = None
     gates: Tuple["Cut", ...] = ()
@@ -311,6 +307,8 @@ def collect(
     if is_event_file(inputs.source):
         made = _read_event_file(inputs.source, services, asked)
     else:
+        import tempfile
+
         with tempfile.NamedTemporaryFile(suffix=".events") as events, open(inputs.source, "rb") as answers:
             meant = transfer_commands(costs(inputs.plan, inputs.script, program), script_text(inputs.script)) if knows_command("costs", program) else frozenset()
             collector = _Collector(plan, {it.name: it.gl for it in services}, Contradictions(responses), meant, asked)

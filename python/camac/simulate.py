@@ -3,7 +3,6 @@
 Each dataway cycle, ours or that of an auxiliary controller, takes the same time, and nothing else takes any. Triggers come at random (as
 those of a Poisson process) or regularly. One is **lost** if no service answers it: the look-at-me is still up, the module may not call again
 so soon (`every`), its crate has inhibit, or the look-at-me is cleared before its service begins. All that is random comes from a seed."""
-import dataclasses
 import heapq
 import math
 import random
@@ -37,24 +36,17 @@ class Setting(NamedTuple):
     is_worst: bool = False
 
 
-@dataclasses.dataclass
 class Simulated:
     """What was simulated of a service: the triggers that came, of them those that were lost, and for each look-at-me that was answered the cycles
     until its service had ended. `length` are the cycles of its services together; `again` of them were called once more for the same
     look-at-me, which the service before had left up. `cycles` is the bound of a service, `end` the E of `camac response`, None if that has no
     number. `waiting` are the cycles that a look-at-me has waited that was not answered at the end of the simulation; None if there is none."""
 
-    name: str
-    gl: int
-    rate: float
-    cycles: int
-    end: Optional[int]
-    came: int = 0
-    lost: int = 0
-    length: int = 0
-    again: int = 0
-    waiting: Optional[float] = None
-    waits: List[float] = dataclasses.field(default_factory=list)
+    def __init__(self, name: str, gl: int, rate: float, cycles: int, end: Optional[int]) -> None:
+        self.name, self.gl, self.rate, self.cycles, self.end = name, gl, rate, cycles, end
+        self.came = self.lost = self.length = self.again = 0
+        self.waiting: Optional[float] = None
+        self.waits: List[float] = []
 
     def live(self) -> float:
         """The share of the triggers that were answered; one that waits at the end counts as answered if others were."""
@@ -85,21 +77,13 @@ class Simulation(NamedTuple):
     end: RunEnd
 
 
-@dataclasses.dataclass
 class _Source:
     """The triggers of a module: when the next one comes, when its look-at-me was raised last, and which rise was answered last."""
 
-    of: Simulated
-    place: Place
-    every: float
-    random: random.Random
-    is_regular: bool
-    next: float = 0.0
-    raised: float = -math.inf
-    answered: float = -math.inf
-
-    def __post_init__(self) -> None:
-        self.next = self.random.random() / self.of.rate if self.is_regular else self.random.expovariate(self.of.rate)
+    def __init__(self, of: Simulated, place: Place, every: float, source: random.Random, is_regular: bool) -> None:
+        self.of, self.place, self.every, self.random, self.is_regular = of, place, every, source, is_regular
+        self.next = source.random() / of.rate if is_regular else source.expovariate(of.rate)
+        self.raised = self.answered = -math.inf
 
     def is_waiting(self, branch: MockBranch) -> bool:
         """Whether a look-at-me is up that no service has answered."""

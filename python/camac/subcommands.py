@@ -3,9 +3,8 @@ from typing import Iterator, List, Mapping, Optional
 
 from camac.bodies import parse_costs
 from camac.drive import File, Refused
-from camac.library import settings
 from camac.printed import parse_listing, read_headings, read_plan, read_responses, read_services
-from camac.program import EVERY, knows_option, lines_of, output_of
+from camac.program import EVERY, knows_option, lines_of, output_of, settings
 from camac.values import Body, Heading, Item, Plan, Response, RunEnd, Service
 
 

@@ -31,8 +31,9 @@ def tokens_of(text: bytes, start: int = 0, end: Optional[int] = None) -> List[To
     line, found = 1 + text.count(b"\n", 0, start), []
     # Each byte is a letter, so that places are those in the bytes.
     for it in TOKEN.finditer(text.decode("latin-1"), start, len(text) if end is None else end):
-        if it[1]:
-            found.append(Token(it[1], *it.span(), line))
+        word = it[1]
+        if word:
+            found.append(Token(word, it.start(), it.end(), line))
         elif it[0] == "\n":
             line += 1
     return found

@@ -1,7 +1,6 @@
 """Where the keys and values of a plan are in its text. The text may have faults: what is before the first one is found."""
 import functools
 import re
-from dataclasses import dataclass
 from typing import Any, Callable, Dict, Iterator, List, NamedTuple, Optional, Tuple, Union
 
 from camac.printed import read_place
@@ -28,12 +27,11 @@ class Key(NamedTuple):
     value: "Value"
 
 
-@dataclass
 class Value:
     """A value and its place: a number, a text or a truth value, a list of values, or a table by its keys."""
 
-    value: Any
-    place: Place
+    def __init__(self, value: Any, place: Place) -> None:
+        self.value, self.place = value, place
 
 
 class Table(Value):

@@ -4,7 +4,7 @@ from typing import Dict, FrozenSet, Iterator, List, Sequence, Set, Tuple
 
 from camac.language import OF_FUNCTIONS, TRANSFERS
 from camac.reader import read_script
-from camac.tree import Cycle, Transfer, all_in
+from camac.tree import Cycle, Transfer
 from camac.values import Body, Command, Row
 
 SUB_ADDRESSES = 16
@@ -14,7 +14,7 @@ def transfer_commands(bodies: Sequence[Body], script: bytes) -> FrozenSet[Comman
     """The commands that only transfers of an accepted script send. `bodies` are what `camac.costs` gives."""
     # The functions of transfers and of single cycles, by line.
     functions: Dict[Tuple[int, bool], Set[int]] = {}
-    for it in (one for body in read_script(script).bodies for one in all_in(body.statements)):
+    for it in (one for body in read_script(script).bodies for one in body.every):
         if isinstance(it, (Cycle, Transfer)):
             functions.setdefault((it.line, isinstance(it, Transfer)), set()).add(it.function)
     sent: Dict[bool, Set[Command]] = {True: set(), False: set()}

@@ -3,6 +3,8 @@
 Statements compare by identity, so that each can be a key. (No dataclasses: they would take a call of camac-check 20 ms.)"""
 from typing import Dict, FrozenSet, Iterator, List, NamedTuple, Optional, Sequence, Tuple, Union
 
+from camac.language import Kind
+from camac.tokens import Token
 from camac.values import Range as Range
 
 
@@ -103,9 +105,11 @@ class Plain(Statement):
 
 
 class If(Statement):
-    def __init__(self, line: int, start: int, parts: Tuple[Part, ...], body: List[Statement], other: List[Statement]) -> None:
+    """An `if`: `other` is the block of its `else`, which may be there without a statement."""
+
+    def __init__(self, line: int, start: int, parts: Tuple[Part, ...], body: List[Statement], other: List[Statement], has_else: bool) -> None:
         super().__init__(line, start, *_sides(parts))
-        self.parts, self.body, self.other = parts, body, other
+        self.parts, self.body, self.other, self.has_else = parts, body, other, has_else
 
 
 class Lock(Statement):
@@ -143,21 +147,24 @@ class While(Loop):
 
 
 class Body:
-    """A service or procedure: its name, the place of its heading, where it ends, the numbers of its heading, its statements, and the ranges that its
-    variables have at its start."""
+    """A service or procedure: its name, the place of its heading, where it ends, the numbers of its heading, its statements, with those in their blocks
+    in `every`, and the ranges that its variables have at its start."""
 
     def __init__(self, name: str, is_service: bool, line: int, start: int, variables: Dict[str, Range]) -> None:
         self.name, self.is_service, self.line, self.start, self.variables = name, is_service, line, start, variables
         self.end = 0
         self.numbers: List[Number] = []
         self.statements: List[Statement] = []
+        self.every: List[Statement] = []
 
 
 class Script:
-    """The services and procedures in the order of the text."""
+    """The services and procedures in the order of the text, its tokens, and those that declare a name of all of it, each with what it stands for."""
 
-    def __init__(self) -> None:
+    def __init__(self, tokens: List[Token]) -> None:
+        self.tokens = tokens
         self.bodies: List[Body] = []
+        self.declared: List[Tuple[Token, Kind]] = []
 
 
 def blocks_of(it: Statement) -> Sequence[List[Statement]]:
@@ -197,4 +204,6 @@ def parts_of(it: Expression) -> Iterator[Expression]:
 
 
 def names_in(it: Expression) -> List[str]:
-    return [one.name for one in parts_of(it) if isinstance(one, Name)]
+    if isinstance(it, Operation):
+        return [*names_in(it.left), *names_in(it.right)]
+    return [it.name] if isinstance(it, Name) else []

@@ -1,6 +1,5 @@
 """A page that follows an event file while a run goes on. The server of the standard library gives it, to this computer alone: it writes nothing,
 and answers GET and HEAD of its own addresses."""
-import dataclasses
 import http.server
 import json
 import os
@@ -154,7 +153,7 @@ class Watch:
     def follow_asked(self, look: Look, asked: Asked) -> Follower:
         """What counts the events that are asked for, which may begin a little before. Those of whole runs take their time."""
         its, there = self.follower, self.follower.counts.events
-        make = lambda: Counts(self.about.services, dataclasses.replace(asked, regions=()))
+        make = lambda: Counts(self.about.services, asked._replace(regions=()))
         if look.seconds or look.events:
             its = its.since(its.before(look.seconds, look.events), make)
             while its.poll():
@@ -175,7 +174,7 @@ class Watch:
         """The other run, of which the same gates are asked."""
         if self.over is None:
             return None
-        file, about = self.over, dataclasses.replace(self.about, events_file=os.fsdecode(self.over))
+        file, about = self.over, self.about._replace(events_file=os.fsdecode(self.over))
         other = self.keep((file, asked.gates), lambda: Follower(file, lambda: Counts(about.services, Asked(asked.names, gates=asked.gates))))
         wrong = [other.state.text] if other.state.is_bad else [it.text for it in checks_of(other.counts.fit, about) if not it.agrees]
         self.misfits = [f"{os.path.basename(about.events_file)}: {it}" for it in wrong]

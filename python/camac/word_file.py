@@ -6,7 +6,6 @@ import importlib
 import math
 import os
 import re
-from dataclasses import replace
 from typing import Any, Dict, List, NamedTuple, NoReturn, Optional, Sequence, Tuple, Union
 
 from camac.drive import File
@@ -199,14 +198,14 @@ class _Fields:
         its = Field(name, gl, unit, self.range("bits", *WHOLE, widest or WHOLE), places, line=table.line)
         if "as" in table.keys and self.text("as") not in KINDS:
             self.fail("as", f"`as` is {', '.join(KINDS[:-1])} or {KINDS[-1]}")
-        its = replace(its, kind=self.text("as") or (VALUE if widest == its.bits == WHOLE else SPECTRUM))
+        its = its._replace(kind=self.text("as") or (VALUE if widest == its.bits == WHOLE else SPECTRUM))
         if name == PLACE:
             self.fail("name", "`place` is what each word has; choose another name")
         # A name has one unit in all of the file.
         for it in self.fields:
             if it.name == name and it.unit != unit:
                 self.fail("unit", f"`{name}` has another unit in line {it.line}")
-        its = replace(its, scale=self.amount("scale", 1), offset=self.amount("offset", 0))
+        its = its._replace(scale=self.amount("scale", 1), offset=self.amount("offset", 0))
         self.fields.append(self.tagged(its))
         if sum(it.tags[1] - it.tags[0] + 1 for it in self.fields if it.gl == gl) > GREATEST_COLUMNS:
             self.fail("of", f"a service has more than {GREATEST_COLUMNS} columns")
@@ -228,7 +227,7 @@ class _Fields:
         if of == PLACE:
             if "place" not in self.table.keys or "tag" in self.table.keys:
                 self.fail("of", 'with `of = "place"` write `place`, and no `tag`')
-            return replace(its, of=of, tags=its.places)
+            return its._replace(of=of, tags=its.places)
         tags = [it for it in self.fields if it.gl == its.gl and it.name == of and it.of is None]
         if not tags:
             self.fail("of", f"no [[word]] of this service before this one is named `{of}` and has no `of` itself")
@@ -236,10 +235,10 @@ class _Fields:
         if tag.bits[1] - tag.bits[0] >= GREATEST_TAG_BITS:
             self.fail("of", f"`{of}` has more than {GREATEST_TAG_BITS} bits, too many for a tag")
         if its.places == ANYWHERE:
-            its = replace(its, places=tag.places)
+            its = its._replace(places=tag.places)
         if not _lies_in(its.places, tag.places):
             self.fail("place", f"at some of these places `{of}` does not stand")
-        return replace(its, of=of, tags=self.range("tag", 0, tag.greatest, (0, tag.greatest)))
+        return its._replace(of=of, tags=self.range("tag", 0, tag.greatest, (0, tag.greatest)))
 
     def words(self) -> Words:
         """All fields. Two of one name in one service may have no word in common."""

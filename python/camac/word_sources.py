@@ -5,8 +5,7 @@ are known in events alone that have the greatest number of words, since then eac
 import itertools
 import re
 from collections import Counter
-from dataclasses import dataclass, replace
-from typing import Dict, List, Mapping, Optional, Sequence, Tuple, Union
+from typing import Dict, List, Mapping, NamedTuple, Optional, Sequence, Tuple, Union
 
 from camac.drive import File
 from camac.events import GREATEST_COUNT
@@ -28,8 +27,7 @@ SUB_ADDRESSES = 16
 PATIENCE = 200_000
 
 
-@dataclass(frozen=True)
-class Origin:
+class Origin(NamedTuple):
     """The register that a word was read from, and how many of its bits."""
 
     crate: int
@@ -43,8 +41,7 @@ Known = Union[int, Origin, None]
 Address = Tuple[Known, Known, Known]
 
 
-@dataclass(frozen=True)
-class Put:
+class Put(NamedTuple):
     """A word of an event: where it was read, the line that puts it, the text of its expression, and whether a transfer came before it, or
     is what puts it."""
 
@@ -208,7 +205,7 @@ class _Walk:
                 fields.append(Field(name, gl, "", bits, (place, end), count, line=it.line, kind=kind, is_expression=it.origin is None))
             place = end + 1
         counts = Counter(it.name for it in fields)
-        return [it if counts[it.name] == 1 else replace(it, name=f"{it.name}, place {it.places[0]}") for it in fields]
+        return [it if counts[it.name] == 1 else it._replace(name=f"{it.name}, place {it.places[0]}") for it in fields]
 
     def name(self, it: Put) -> str:
         if it.origin is None:

@@ -4,7 +4,6 @@ A column is a number that is in words of a service: at a place in the event, in 
 `read_words` reads columns from a file of the user's (words.toml); `words_of_script` takes them from a script, where the place of a word is
 fixed."""
 import importlib
-from dataclasses import dataclass
 from typing import Any, Collection, Dict, Iterator, List, NamedTuple, Optional, Sequence, Tuple, Union
 
 from camac.arrays import Array, EventArrays, Group
@@ -21,8 +20,7 @@ ANYWHERE: Range = (1, GREATEST_COUNT)
 PLACE = "place"
 
 
-@dataclass(frozen=True)
-class Field:
+class Field(NamedTuple):
     """A number in the words of a service.
 
     name, unit     as they are shown: any text
@@ -41,7 +39,7 @@ class Field:
     unit: str = ""
     bits: Range = WHOLE
     places: Range = ANYWHERE
-    count: Optional[int] = None
+    count: Optional[int] = None  # type: ignore[assignment]
     of: Optional[str] = None
     tags: Range = (0, 0)
     scale: Amount = 1
@@ -69,8 +67,7 @@ class Field:
         return number if self.is_plain else self.scale * number + self.offset
 
 
-@dataclass(frozen=True)
-class Column:
+class Column(NamedTuple):
     """The numbers of a field, or those of them that have one tag. Where a field has a column for each of several tags, the tag is behind
     the name: "adc[3]"."""
 

@@ -87,8 +87,26 @@ static void stands(const camac_session *s, const camac_want *want, const text *s
         fail("the service %u stands on line %u", (unsigned)service, (unsigned)line);
 }
 
-/* Leaves the service in progress: what was held is given, as far as there is room, and nothing is held then. */
+/* Inhibit, 1, and demand output, 2, of each crate, now and at the last demand that called a service. */
+static uint8_t now[CAMAC_CRATES + 1], was[CAMAC_CRATES + 1];
+
+/* A cycle was made. */
+static void made(const camac_want *its) {
+    uint8_t *const bits = &now[its->c], bit = its->a == 9 ? 1 : 2;
+    if (its->n == 28 && its->a == 8) *bits = 1;
+    if (its->n == 30 && (its->a == 9 || its->a == 10) && its->f != 27) *bits = (uint8_t)(its->f == 26 ? *bits | bit : *bits & ~bit);
+}
+
+/* Leaves the service in progress: what was held is given, as far as there is room, and nothing is held then. Each command before sets a bit back. */
 static void abandon(camac_session *s, camac_want *want, uint32_t room) {
+    camac_want back[CAMAC_BACK] = {CAMAC_WANT};
+    const size_t commands = camac_back(s, back, CAMAC_BACK);
+    for (size_t i = 0; i < commands; i++) {
+        const uint8_t before = now[back[i].c];
+        made(&back[i]);
+        if (now[back[i].c] == before || back[i].kind != CAMAC_CYCLE || back[i].size != sizeof *back) fail("a command sets nothing back");
+    }
+    if (memcmp(now, was, sizeof now)) fail("the crates are not set back");
     uint32_t held[CAMAC_CRATES] = {0}, told[CAMAC_CRATES] = {0};
     const size_t count = camac_held(s, held, room);
     size_t its = 9;
@@ -169,9 +187,10 @@ static void play(camac_session *s, const char *folder, long k, const text *scrip
     char header[8];
     FILE *const files[3] = {answers, listing, events};
     long at[3] = {0, 0, 0};
-    uint32_t seed = (uint32_t)k, count = 0, service = 0;
+    uint32_t seed = (uint32_t)k, count = 0, service = 0, used = 0;
     const uint32_t most = chance(&seed, ANSWERS), all = camac_answers_left(s);
     int code = camac_wants(s, &want);
+    memset(now, 2, sizeof now);
     if (camac_file_header(header, sizeof header) != 8 || fwrite(header, 1, 8, events) != 8) fail("a header cannot be written");
     for (uint32_t i = 0; i < most && code == CAMAC_OK; i++) {
         camac_answer answer = any_answer(&seed);
@@ -179,23 +198,28 @@ static void play(camac_session *s, const char *folder, long k, const text *scrip
         for (int n = 0; n < 3 && want.kind == CAMAC_DEMAND; n++) at[n] = ftell(files[n]);
         if (want.kind == CAMAC_DEMAND) answer.gl = any_pattern(s, &seed);
         fprintf(answers, "%d %d %06x %x %06x\n", answer.x, answer.q, (unsigned)answer.word, answer.wait, (unsigned)answer.gl);
-        const uint8_t before = want.kind;
+        const camac_want before = want;
         gather(&want, &answer, 1 + chance(&seed, CAMAC_AHEAD));
         code = camac_step(s, &answer, &did, &want);
+        if ((code == CAMAC_OVERRUN) != (answer.wait > before.waits)) fail("a wait of %u gives %d, where %u is the longest", answer.wait, code, before.waits);
         list.did[list.used++] = did;
         if (list.used == list.count || code != CAMAC_OK) hand_in(code, s);
         put(listing, item, s);
         put(events, camac_record, s);
-        if ((code == CAMAC_OK || code == CAMAC_BUSY) && camac_answers_left(s) != all - i - 1) fail("%u answers are left", (unsigned)camac_answers_left(s));
+        if (code == CAMAC_OK || code == CAMAC_BUSY) {
+            if (camac_answers_left(s) != all - ++used) fail("%u answers are left", (unsigned)camac_answers_left(s));
+            if (before.kind == CAMAC_CYCLE) made(&before);
+        }
         if (did.event) count = did.event;
-        if (did.kind == CAMAC_DEMAND) service = did.service;
+        if (did.kind == CAMAC_DEMAND) service = did.service, memcpy(was, now, sizeof was);
         is_told(s, &did, service);
-        if (did.kind != (code == CAMAC_OVERRUN ? CAMAC_STOPPED : before)) fail("an answer was for kind %u, not %u", did.kind, before);
+        if (did.kind != (code == CAMAC_OVERRUN ? CAMAC_STOPPED : before.kind)) fail("an answer was for kind %u, not %u", did.kind, before.kind);
         code = go_on(s, &list.s, code, &want, listing, events, &count, service);
-        if (code != CAMAC_OK || want.kind == CAMAC_DEMAND || chance(&seed, 20)) continue;
+        if (code == CAMAC_OVERRUN ? chance(&seed, 3) : code != CAMAC_OK || want.kind == CAMAC_DEMAND || chance(&seed, 20)) continue;
         if (list.used) hand_in(CAMAC_OK, s);
         EXPECT(CAMAC_OK, camac_abandon(&list.s, NULL, 0, NULL));
         abandon(s, &want, chance(&seed, CAMAC_CRATES + 1));
+        code = CAMAC_OK;
         for (int n = 0; n < 3; n++) take_back(files[n], at[n]);
     }
     if (list.used) hand_in(CAMAC_OK, s);

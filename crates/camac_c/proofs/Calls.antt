@@ -2,8 +2,7 @@
 use Rattle.std.proofs.Common.{◌≡◌, ℕ, List, [], length, refl, ap, ◌∙◌, subst, arith}
 use Rattle.std.specs.Prelude.{Option, Some, None, min, reverse}
 use Rattle.camac_run.specs.Runner.{last_words_in}
-use Rattle.camac_branch.specs.declared.answer.Overrun.{Overrun}
-use Rattle.camac_c.specs.Abandoned.{LeavesUnless}
+use Rattle.camac_run.specs.Back.{back_in}
 use Rattle.camac_c.specs.Ahead.{numbers_ahead}
 use Rattle.camac_c.specs.Filled.{filled, filled_words, over, over_words}
 use Rattle.camac_c.specs.Last.{last_lines, last_record}
@@ -35,15 +34,12 @@ numbered_none : (its : Option (List ℕ)) (told : Told) (ws : List ℕ) → Tell
 numbered_none None told ws h = h.0
 numbered_none (Some its) told ws h = h.0 ∙ filled_words_none its
 
-abandoned_none : (o : Option Overrun) (s after : Session) (ws : List ℕ) (told : Told) → LeavesUnless o s after [] ws told → ws ≡ []
-abandoned_none None s after ws told h = h.written ∙ filled_words_none h.unlocks
-abandoned_none (Some o) s after ws told h = h.1
-
 written : (v after : Option Session) (a : SessionAsk) (none told : Told) (ws : List ℕ) → Talks v a none after [] ws told → ws ≡ []
 written None after a none told ws h = h.1
 written (Some s) None a none told ws h = absurd h
 written (Some s) (Some after) ask.Wants none told ws h = h.0
-written (Some s) (Some after) ask.Ahead none told ws h = h.1.2.0 ∙ filled_words_none (numbers_ahead h.1.0)
+written (Some s) (Some after) ask.Ahead none told ws h = h.1.2.0 ∙ filled_words_none (numbers_ahead s.checked.now.plan s.runner h.1.0)
+written (Some s) (Some after) ask.Back none told ws h = h.1.1.0 ∙ filled_words_none (numbers_ahead s.checked.now.plan s.runner (back_in s.runner))
 written (Some s) (Some after) (ask.Next a) none told ws h = h.0
 written (Some s) (Some after) (ask.Step a) none told ws h = h.0
 written (Some s) (Some after) ask.Words none told ws h = h.1.0 ∙ filled_words_none (last_words_in s.runner)
@@ -57,7 +53,7 @@ written (Some s) (Some after) (ask.Name k) none told ws h = listed_none (name_at
 written (Some s) (Some after) (ask.Numbers k) none told ws h = numbered_none (numbers_at s.checked.now k) told ws h.1
 written (Some s) (Some after) (ask.Limit most) none told ws h = h.0
 written (Some s) (Some after) ask.GoOn none told ws h = h.0
-written (Some s) (Some after) ask.Abandon none told ws h = abandoned_none s.runner.overrun s after ws told h
+written (Some s) (Some after) ask.Abandon none told ws h = h.written ∙ filled_words_none h.unlocks
 written (Some s) (Some after) ask.Rewind none told ws h = h.0
 
 asked : (v after : Option Session) (a : SessionAsk) (told : Told) (ws : List ℕ) → Talks v a (only_code 2) after [] ws told → Talks v a (only_code 2) after [] [] told

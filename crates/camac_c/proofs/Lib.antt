@@ -1,4 +1,3 @@
-pub mod Abandoned
 pub mod Answered
 pub mod Calls
 pub mod Found

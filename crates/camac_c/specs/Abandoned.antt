@@ -1,9 +1,7 @@
 -- What C is told where a service is left before its end.
-use Rattle.std.specs.Prelude.{◌≡◌, ℕ, List, [], length, Option, None, Some}
-use Rattle.camac_branch.specs.declared.answer.Overrun.{Overrun}
+use Rattle.std.specs.Prelude.{◌≡◌, ℕ, List, [], length}
 use Rattle.camac_run.specs.Abandoned.{Abandons}
 use Rattle.camac_c.specs.Filled.{filled_words}
-use Rattle.camac_c.specs.Plain.{only_code}
 use Rattle.camac_c.specs.Told.{counted}
 use Rattle.camac_c.specs.declared.plain.Told.{Told}
 use Rattle.camac_c.specs.declared.session.Session.{Session}
@@ -15,10 +13,6 @@ pub record LeavesService (s after : Session) (old new : List ℕ) (told : Told) 
   pub written : new ≡ filled_words unlocks old
   pub told_is : told ≡ counted (length unlocks)
   pub held : after.held.items ≡ []
+  pub width : after.width ≡ 0
   pub last : after.last ≡ s.last
   pub checked : after.checked ≡ s.checked
-
--- 4 after a wait that was not permitted, and nothing changes
-abbrev pub LeavesUnless : Option Overrun → Session → Session → (old new : List ℕ) → Told → Type 0
-LeavesUnless None s after old new told = LeavesService s after old new told
-LeavesUnless (Some o) s after old new told = (after ≡ s) × (new ≡ old) × (told ≡ only_code 4)

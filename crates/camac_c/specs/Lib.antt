@@ -14,3 +14,4 @@ pub mod Service
 pub mod Talk
 pub mod Texts
 pub mod Told
+pub mod Width

@@ -8,7 +8,8 @@ use Rattle.camac_run.specs.Runner.{KeepsLimit, Resumes, last_words_in}
 use Rattle.camac_c.specs.Held.{without}
 use Rattle.camac_c.specs.Plain.{only_code}
 use Rattle.camac_c.specs.Told.{did_on, while_paused}
-use Rattle.camac_c.specs.declared.last.Last.TheVariants.{Pause}
+use Rattle.camac_c.specs.Width.{KnowsWidth}
+use Rattle.camac_c.specs.declared.last.Deed.TheVariants.{Pause}
 use Rattle.camac_c.specs.declared.plain.Told.{Told}
 use Rattle.camac_c.specs.declared.session.Session.{Session}
 
@@ -19,9 +20,10 @@ pub record GoesOn (s after : Session) (told : Told) : Type 0 where
   pub resumes : Resumes s.runner unlocks.items event after.runner
   pub keeps : KeepsLimit s.runner after.runner
   pub told_is : told ≡ while_paused (is_paused after.runner.pending) (did_on unlocks.items event (length (last_words_in after.runner)))
-  pub last : after.last ≡ Pause unlocks event
+  pub last : after.last ≡ record { deed = Pause; used = record s.last.used { unlocks = unlocks; event = event } }
   pub held : after.held.items ≡ without (length unlocks.items) s.held.items
   pub checked : after.checked ≡ s.checked
+  pub knows : KnowsWidth after
 
 -- 4 after a wait that was not permitted
 abbrev pub code_of : Option Overrun → ℕ
@@ -39,3 +41,4 @@ pub record Limits (most : ℕ) (s after : Session) : Type 0 where
   pub checked : after.checked ≡ s.checked
   pub last : after.last ≡ s.last
   pub held : after.held ≡ s.held
+  pub width : after.width ≡ s.width

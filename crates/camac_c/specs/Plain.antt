@@ -5,10 +5,10 @@ use Rattle.camac_c.specs.declared.plain.CamacProgress.{CamacProgress}
 use Rattle.camac_c.specs.declared.plain.Told.{Told}
 
 abbrev pub no_want : CamacWant
-no_want = record { kind = 0; c = 0; n = 0; a = 0; f = 0; «data» = 0; unused = 0; word = 0 }
+no_want = record { kind = 0; c = 0; n = 0; a = 0; f = 0; «data» = 0; waits = 0; width = 0; word = 0 }
 
 abbrev pub no_progress : CamacProgress
-no_progress = record { kind = 0; c = 0; wait = 0; x = 0; q = 0; unused = replicate 3 0; unlocked = replicate 8 0; word = 0; pattern = 0; service = 0; event = 0; event_gl = 0; event_words = 0; event_cycles = 0; event_missed = 0 }
+no_progress = record { kind = 0; c = 0; wait = 0; x = 0; q = 0; unused = replicate 3 0; unlocked = replicate 8 0; word = 0; pattern = 0; service = 0; event = 0; event_gl = 0; event_words = 0; event_cycles = 0; event_missed = 0; event_service = 0; cut = 0 }
 
 abbrev pub only_code : ℕ → Told
 only_code code = record { code = code; want = no_want; progress = no_progress; count = 0 }

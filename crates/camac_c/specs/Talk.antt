@@ -5,26 +5,28 @@ use Rattle.camac_branch.specs.declared.answer.Overrun.{Overrun}
 use Rattle.camac_checked.specs.Checked.{CheckedScript}
 use Rattle.camac_model.specs.Run.{the_run}
 use Rattle.camac_run.specs.Ahead.{IsAhead}
+use Rattle.camac_run.specs.Back.{SettingBackHolds, back_in}
 use Rattle.camac_run.specs.Holds.{HoldsAfter}
 use Rattle.camac_run.specs.Operation.{Wants}
 use Rattle.camac_run.specs.Requested.{IsSafeRequest, held_in}
 use Rattle.camac_run.specs.Runner.{RunnerState, rest, last_words_in, KeepsLimit, Progresses}
+use Rattle.camac_run.specs.Waits.{GoesOnUpTo, waits_of}
 use Rattle.camac_run.specs.declared.place.Place.{Place}
 use Rattle.camac_run.specs.declared.progress.Progress.{Progress}
 use Rattle.camac_run.specs.declared.progress.Wanted.{Wanted}
 use Rattle.camac_machine.specs.Rest.{is_paused}
-use Rattle.camac_c.specs.Abandoned.{LeavesUnless}
+use Rattle.camac_c.specs.Abandoned.{LeavesService}
 use Rattle.camac_c.specs.Ahead.{numbers_ahead}
 use Rattle.camac_c.specs.Filled.{filled, filled_words}
 use Rattle.camac_c.specs.Held.{held_then}
-use Rattle.camac_c.specs.Last.{last_lines, last_record}
+use Rattle.camac_c.specs.Last.{kept_of, last_lines, last_record}
 use Rattle.camac_c.specs.Paused.{GoesOnIf, Limits}
 use Rattle.camac_c.specs.Place.{IsAt, numbers_of_place}
 use Rattle.camac_c.specs.Plain.{only_code}
 use Rattle.camac_c.specs.Service.{name_at, numbers_at}
 use Rattle.camac_c.specs.Told.{InRange, answer_in, asked, counted, did, while_paused}
-use Rattle.camac_c.specs.declared.last.Last.{Last}
-use Rattle.camac_c.specs.declared.last.Last.TheVariants.{Nothing, Answer, Pause}
+use Rattle.camac_c.specs.Width.{KnowsWidth}
+use Rattle.camac_c.specs.declared.last.Deed.TheVariants.{Nothing}
 use Rattle.camac_c.specs.declared.plain.SessionAsk.{SessionAsk}
 use Rattle.camac_c.specs.declared.plain.SessionAsk.TheVariants as ask
 use Rattle.camac_c.specs.declared.plain.CamacAnswer.{CamacAnswer}
@@ -43,39 +45,48 @@ pub record Begins (c : CheckedScript) (s : Session) : Type 0 where
   pub events : s.runner.events ≡ 0
   pub overrun : s.runner.overrun ≡ None
   pub quiet : last_words_in s.runner ≡ []
-  pub last : s.last ≡ Nothing
+  pub last : s.last.deed ≡ Nothing
   pub held : s.held.items ≡ []
+  pub width : s.width ≡ 0
   pub awake : is_paused s.runner.pending ≡ false
 
 -- and it may make all its steps at once
 abbrev pub StartsOn : CheckedScript → Session → Type 0
 StartsOn c s = Begins c s × (s.runner.limit ≡ 4294967295)
 
--- what the run wants its next answer for, which may be made; 8 while it pauses; nothing changes
+-- what the run wants its next answer for, which may be made, and up to which wait it is
+pub record IsWanted (h : RunnerState) (wanted : Option Wanted) : Type 0 where
+  pub wants : Wants h wanted
+  pub safe : IfSome wanted (IsSafeRequest h.checked.plan (held_in h))
+  pub waits : IfSome wanted (λ o. GoesOnUpTo h (waits_of h o))
+
+-- that is told, 8 while it pauses, and nothing changes
 abbrev pub TellsWant : Session → Session → Told → Type 0
 TellsWant s after told =
-    (after ≡ s)
-    × ((wanted : Option Wanted) × Wants s.runner wanted × IfSome wanted (IsSafeRequest s.runner.checked.plan (held_in s.runner)) × (told ≡ while_paused (is_paused s.runner.pending) (asked wanted)))
+    (after ≡ s) × ((wanted : Option Wanted) × IsWanted s.runner wanted × (told ≡ while_paused (is_paused s.runner.pending) (asked s.width s.runner wanted)))
 
 -- an answer is not taken, and nothing changes
 abbrev pub Declines : ℕ → Session → Session → Told → Type 0
 Declines code s after told = (after ≡ s) × (told ≡ only_code code)
 
--- where the last was an answer
-abbrev pub IfAnswer : Last → (Progress → Type 0) → Type 0
-IfAnswer (Answer progress) P = P progress
-IfAnswer Nothing P = Unit {0}
-IfAnswer (Pause unlocks event) P = Unit {0}
-
--- it is taken, and told and kept is what it did
-pub record Takes (a : CamacAnswer) (s after : Session) (told : Told) : Type 0 where
+-- it is used, and told and kept is what it did
+pub record Uses (a : BranchAnswer) (s after : Session) (told : Told) : Type 0 where
   pub progress : Progress
-  pub progresses : Progresses s.runner (answer_in a) progress after.runner
+  pub progresses : Progresses s.runner a progress after.runner
   pub keeps : KeepsLimit s.runner after.runner
-  pub told_is : told ≡ while_paused (is_paused after.runner.pending) (did progress (length (last_words_in after.runner)))
-  pub last : after.last ≡ Answer progress
+  pub told_is : told ≡ did s.width progress (length (last_words_in after.runner))
+  pub last : after.last ≡ kept_of progress s.last
   pub held : after.held.items ≡ held_then progress s.held.items
   pub checked : after.checked ≡ s.checked
+
+-- it is taken; 8 where the run pauses then
+pub record Takes (a : CamacAnswer) (s after : Session) (told : Told) : Type 0 where
+  pub used : Session
+  pub done : Told
+  pub uses : Uses (answer_in a) s used done
+  pub after_is : after ≡ record used { width = after.width }
+  pub told_is : told ≡ while_paused (is_paused after.runner.pending) done
+  pub knows : KnowsWidth after
 
 -- 8 while the run pauses, 5 where the answer is out of its range, 6 where the run has used the most answers
 pub record TellsNext (a : CamacAnswer) (s after : Session) (told : Told) : Type 0 where
@@ -104,8 +115,12 @@ abbrev pub TellsPlace : RunnerState → (old new : List ℕ) → Told → Type 0
 TellsPlace h old new told = (place : Option Place) × IsAt h place × TellsWords (numbers_of_place place) old new told
 
 -- what comes next, whatever is answered
-abbrev pub TellsAhead : RunnerState → (old new : List ℕ) → Told → Type 0
-TellsAhead h old new told = (os : List Wanted) × IsAhead h os × TellsWords (numbers_ahead os) old new told
+abbrev pub TellsAhead : Session → (old new : List ℕ) → Told → Type 0
+TellsAhead s old new told = (os : List Wanted) × IsAhead s.runner os × TellsWords (numbers_ahead s.checked.now.plan s.runner os) old new told
+
+-- what sets the crates back, of which this is true
+abbrev pub TellsBack : Session → (old new : List ℕ) → Told → Type 0
+TellsBack s old new told = SettingBackHolds × TellsWords (numbers_ahead s.checked.now.plan s.runner (back_in s.runner)) old new told
 
 -- a text, as far as there is room
 abbrev pub Lists : List ℕ → (old new : List ℕ) → Told → Type 0
@@ -127,7 +142,8 @@ answers_left h = left_from h.overrun h.fed
 -- where bytes are asked for, they are written, and nothing changes
 abbrev pub Steps : Session → SessionAsk → Session → (old new : List ℕ) → Told → Type 0
 Steps s ask.Wants after old new told = (new ≡ old) × TellsWant s after told
-Steps s ask.Ahead after old new told = (after ≡ s) × TellsAhead s.runner old new told
+Steps s ask.Ahead after old new told = (after ≡ s) × TellsAhead s old new told
+Steps s ask.Back after old new told = (after ≡ s) × TellsBack s old new told
 Steps s (ask.Next a) after old new told = (new ≡ old) × TellsNext a s after told
 Steps s (ask.Step a) after old new told = (new ≡ old) × TellsStep a s after told
 Steps s ask.Words after old new told = (after ≡ s) × TellsWords (last_words_in s.runner) old new told
@@ -141,7 +157,7 @@ Steps s (ask.Name k) after old new told = (after ≡ s) × TellsIf Lists (name_a
 Steps s (ask.Numbers k) after old new told = (after ≡ s) × TellsIf TellsWords (numbers_at s.checked.now k) old new told
 Steps s (ask.Limit most) after old new told = (new ≡ old) × Limits most s after × (told ≡ only_code 0)
 Steps s ask.GoOn after old new told = (new ≡ old) × GoesOnIf (is_paused s.runner.pending) s after told
-Steps s ask.Abandon after old new told = LeavesUnless s.runner.overrun s after old new told
+Steps s ask.Abandon after old new told = LeavesService s after old new told
 Steps s ask.Rewind after old new told = (new ≡ old) × Begins s.checked.now after × (after.runner.limit ≡ s.runner.limit) × (told ≡ only_code 0)
 
 abbrev pub Talks : Option Session → SessionAsk → Told → Option Session → (old new : List ℕ) → Told → Type 0

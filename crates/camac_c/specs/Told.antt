@@ -1,5 +1,5 @@
 -- What C is told, in numbers.
-use Rattle.std.specs.Prelude.{ℕ, ◌+◌, ◌^◌, ◌<◌, ◌≤◌, min, List, replicate, Bool, true, false, Option, None, Some, not, nat_eq}
+use Rattle.std.specs.Prelude.{ℕ, ◌+◌, ◌-◌, ◌^◌, ◌%◌, ◌<◌, ◌≤◌, min, List, replicate, Bool, true, false, Option, None, Some, not, nat_eq, nat_lt, if◌then◌else◌}
 use Rattle.camac_branch.specs.Branch.{Answer}
 use Rattle.camac_branch.specs.declared.answer.CycleDone.{CycleDone}
 use Rattle.camac_func.specs.declared.data.DataMove.{DataMove}
@@ -7,6 +7,8 @@ use Rattle.camac_func.specs.declared.data.DataMove.TheVariants as moves
 use Rattle.camac_machine.specs.MachineState.{Left}
 use Rattle.camac_machine.specs.declared.item.Item.{Item}
 use Rattle.camac_machine.specs.declared.item.Item.TheVariants as item
+use Rattle.camac_run.specs.Runner.{RunnerState}
+use Rattle.camac_run.specs.Waits.{waits_of}
 use Rattle.camac_run.specs.declared.progress.Progress.{Progress}
 use Rattle.camac_run.specs.declared.progress.Progress.TheVariants.{Went, Overrun}
 use Rattle.camac_run.specs.declared.progress.Wanted.{Wanted}
@@ -38,16 +40,32 @@ written_in moves.None = 0
 written_in moves.In = 0
 written_in (moves.Out word) = word
 
--- what is wanted: 1 a demand, 2 a cycle, 3 a lock
-abbrev pub want_in : Wanted → CamacWant
-want_in Demand = record no_want { kind = 1 }
-want_in (Cycle k) = record { kind = 2; c = k.c; n = k.n; a = k.a; f = k.f; «data» = movement_in k.mv; unused = 0; word = written_in k.mv }
-want_in (Lock c) = record no_want { kind = 3; c = c }
+-- what is read; 0 where nothing is
+abbrev pub read_in : DataMove → ℕ → ℕ
+read_in moves.None n = 0
+read_in moves.In n = n
+read_in (moves.Out written) n = 0
+
+-- what is wanted: 1 a demand, 2 a cycle, 3 a lock; with the longest wait that is permitted, and the width of what is read
+abbrev pub want_in : (width : ℕ) → RunnerState → Wanted → CamacWant
+want_in width h Demand = record no_want { kind = 1; waits = waits_of h Demand; width = width }
+want_in width h (Cycle k) = record {
+  kind = 2;
+  c = k.c;
+  n = k.n;
+  a = k.a;
+  f = k.f;
+  «data» = movement_in k.mv;
+  waits = waits_of h (Cycle k);
+  width = width;
+  word = written_in k.mv;
+}
+want_in width h (Lock c) = record no_want { kind = 3; c = c; waits = waits_of h (Lock c); width = width }
 
 -- 4 and zeros where nothing is wanted, after a wait that was not permitted
-abbrev pub asked : Option Wanted → Told
-asked (Some wanted) = record (only_code 0) { want = want_in wanted }
-asked None = only_code 4
+abbrev pub asked : (width : ℕ) → RunnerState → Option Wanted → Told
+asked width h (Some wanted) = record (only_code 0) { want = want_in width h wanted }
+asked width h None = only_code 4
 
 -- the code is 8 while the run pauses
 abbrev pub while_paused : Bool → Told → Told
@@ -72,20 +90,19 @@ flag_in true = 1
 flag_in false = 0
 
 -- the word that a cycle read
-abbrev pub read_in : DataMove → ℕ → ℕ
-read_in moves.None word = 0
-read_in moves.In word = word
-read_in (moves.Out written) word = 0
-
 abbrev pub word_in : CycleDone → ℕ
 word_in done = read_in done.command.mv done.reply.word
 
+-- its bits above this width; a word has 24
+abbrev pub cut_in : (width : ℕ) → CycleDone → ℕ
+cut_in width done = if nat_lt width 24 then word_in done - word_in done % 2 ^ width else 0
+
 -- what an answer was used for: 1 a demand, 2 a cycle, 3 a lock
-abbrev pub item_in : Item → CamacProgress
-item_in (item.Demand pattern service) = record no_progress { kind = 1; pattern = pattern; service = service_in service }
-item_in (item.Cycle done) = record no_progress { kind = 2; wait = done.wait; x = flag_in done.reply.x; q = flag_in done.reply.q; word = word_in done }
-item_in (item.Lock c wait) = record no_progress { kind = 3; c = c; wait = wait }
-item_in (item.Unlock c) = no_progress
+abbrev pub item_in : (width : ℕ) → Item → CamacProgress
+item_in width (item.Demand pattern service) = record no_progress { kind = 1; pattern = pattern; service = service_in service }
+item_in width (item.Cycle done) = record no_progress { kind = 2; wait = done.wait; x = flag_in done.reply.x; q = flag_in done.reply.q; word = word_in done; cut = cut_in width done }
+item_in width (item.Lock c wait) = record no_progress { kind = 3; c = c; wait = wait }
+item_in width (item.Unlock c) = no_progress
 
 -- with the event that it left, of this many words
 abbrev pub event_in : Option Left → ℕ → CamacProgress → CamacProgress
@@ -93,13 +110,13 @@ event_in None words told = told
 event_in (Some event) words told = record told { event = event.0; event_gl = event.1; event_words = words; event_cycles = event.2.cycles; event_missed = event.2.missed }
 
 -- what an answer did; 4 is a wait that is not permitted
-abbrev pub progress_in : Progress → ℕ → CamacProgress
-progress_in (Went item unlocks event) words = event_in event words (record (item_in item) { unlocked = crates_in unlocks.items })
-progress_in (Overrun o) words = record no_progress { kind = 4; c = o.c; wait = o.wait }
+abbrev pub progress_in : (width : ℕ) → Progress → ℕ → CamacProgress
+progress_in width (Went item unlocks event) words = event_in event words (record (item_in width item) { unlocked = crates_in unlocks.items })
+progress_in width (Overrun o) words = record no_progress { kind = 4; c = o.c; wait = o.wait }
 
-abbrev pub did : Progress → ℕ → Told
-did (Went item unlocks event) words = record (only_code 0) { progress = progress_in (Went item unlocks event) words }
-did (Overrun o) words = record (only_code 4) { progress = progress_in (Overrun o) words }
+abbrev pub did : (width : ℕ) → Progress → ℕ → Told
+did width (Went item unlocks event) words = record (only_code 0) { progress = progress_in width (Went item unlocks event) words }
+did width (Overrun o) words = record (only_code 4) { progress = progress_in width (Overrun o) words }
 
 -- what it did after a pause
 abbrev pub did_on : List ℕ → Option Left → ℕ → Told

@@ -12,7 +12,6 @@ use camac_word::CrateNo;
 use std::alloc::Global;
 
 /// Leaves the service in progress. Tells the crates whose lockout is to be released, in their order, in the form of words; the number of all.
-/// `OVERRUN`: the run is over, and nothing changes.
 #[tactic(auto, using(crate::proofs::Calls::text_answers))]
 #[unsafe(no_mangle)]
 pub extern "C" fn camac_raw_abandon(

@@ -6,20 +6,20 @@ ghost use Rattle.camac_c.specs.Talk.{AnswersBytes};
 ghost use Rattle.camac_c.specs.declared.plain.SessionAsk.TheVariants as ask;
 
 use crate::handle::Handle;
-use crate::plain::{CamacWant, NO_WANT, SessionAsk};
-use crate::session::tell_operation;
+use crate::plain::{CamacWant, SessionAsk};
+use crate::session::{Session, want_of};
 use arrayvec::ArrayVec;
 use camac_run::Wanted;
 use std::alloc::Global;
 
 /// The numbers of a want.
-const FIELDS: usize = 7;
+const FIELDS: usize = 9;
 
 /// Those of the most operations that are told ahead, 64.
-const NUMBERS: usize = 448;
+const NUMBERS: usize = 576;
 
-/// The operations that come next, whatever is answered: of each its kind, crate, station, sub-address, function, data and word, in the form of words.
-/// Returns how many numbers these are.
+/// The operations that come next, whatever is answered: of each its kind, crate, station, sub-address, function, data, waits, width and word, in the
+/// form of words. Returns how many numbers these are.
 #[tactic(auto, using(crate::proofs::Calls::bytes_answer))]
 #[unsafe(no_mangle)]
 pub extern "C" fn camac_raw_ahead(alloc: Global, handle: &mut Handle, bytes: &mut [u8]) -> usize
@@ -28,15 +28,23 @@ pub extern "C" fn camac_raw_ahead(alloc: Global, handle: &mut Handle, bytes: &mu
     handle.ask(alloc, SessionAsk::Ahead, bytes).count
 }
 
+/// What sets the crates back, in the same form.
+#[tactic(auto, using(crate::proofs::Calls::bytes_answer))]
+#[unsafe(no_mangle)]
+pub extern "C" fn camac_raw_back(alloc: Global, handle: &mut Handle, bytes: &mut [u8]) -> usize
+    ensures { AnswersBytes handle.old.value ask.Back handle.new.value bytes.old bytes.new result }
+{
+    handle.ask(alloc, SessionAsk::Back, bytes).count
+}
+
 /// The numbers of operations, one after another.
-pub fn numbers_ahead(ahead: &[Wanted]) -> ArrayVec<u32, NUMBERS>
+pub fn numbers_ahead(session: &Session, ahead: &[Wanted]) -> ArrayVec<u32, NUMBERS>
     requires { length ahead.now ≤ 64 }
-    ensures { result.items ≡ numbers_ahead ahead.now }
+    ensures { result.items ≡ numbers_ahead session.now.checked.now.plan session.now.runner ahead.now }
 {
     let mut numbers = ArrayVec::new();
     'ahead: for wanted in ahead {
-        let mut want = NO_WANT;
-        tell_operation(*wanted, &mut want);
+        let want = want_of(session, wanted);
         numbers.try_extend_from_slice(&fields_of(want)).unwrap();
     }
     numbers
@@ -52,6 +60,8 @@ fn fields_of(want: CamacWant) -> [u32; FIELDS]
         u32::from(want.a),
         u32::from(want.f),
         u32::from(want.data),
+        u32::from(want.waits),
+        u32::from(want.width),
         want.word,
     ]
 }

@@ -9,44 +9,48 @@ ghost use Rattle.camac_c.specs.Last.{last_lines, last_record};
 ghost use Rattle.camac_play.specs.Told.{event_record};
 
 use crate::filling::give;
-use arrayvec::ArrayVec;
 use byteorder::{BigEndian, ByteOrder};
 use camac_checked::Checked;
 use camac_event::Usage;
 use camac_lines::{LONGEST_LINE, bytes_in};
 use camac_report::{items_in, unlocks_line};
-use camac_run::Progress;
-use camac_word::{CrateNo, GlBit, Word24};
+use camac_run::Used;
+use camac_word::{GlBit, Word24};
 
 /// The bytes of the longest record: what stands before its words, and 4,096 words.
 const LONGEST_RECORD: usize = 16 + 4 * 4096;
 
 /// What a run did last.
-#[derive(Drop)]
-pub enum Last {
-    /// It is at its beginning.
+#[derive(Clone, Copy, Debug, PartialEq, Eq)]
+pub enum Deed {
+    /// It is at its beginning, or a wait was not permitted.
     Nothing,
     /// It took an answer.
-    Answer(Progress),
-    /// It went on after a pause: these crates were released, and this event left.
-    Pause(ArrayVec<CrateNo, 7>, Option<(u32, GlBit, Usage)>),
+    Answer,
+    /// It went on after a pause.
+    Pause,
+}
+
+/// What a run did last, and what that told, which is written in place.
+#[derive(Drop)]
+pub struct Last {
+    pub deed: Deed,
+    pub used: Used,
 }
 
 /// Puts the lines of the listing for that into a buffer, as far as there is room, and tells their size.
 pub fn give_lines(checked: &Checked, last: &Last, bytes: &mut [u8], size: &mut usize)
     ensures { Gives (last_lines checked.now.script last.now) bytes.old bytes.new size.new }
 {
-    match last {
-        Last::Answer(Progress::Went { item, unlocks, .. }) => {
+    let unlocks = last.used.unlocks.as_slice();
+    match last.deed {
+        Deed::Answer => {
             let mut lines = [0; LONGEST_LINE];
-            let end = items_in(&mut lines, 0, checked, item, unlocks.as_slice());
+            let end = items_in(&mut lines, 0, checked, &last.used.item, unlocks);
             give(&lines[..end], bytes, size);
         }
-        Last::Pause(unlocks, _) => {
-            give(unlocks_line(unlocks.as_slice()).as_bytes(), bytes, size)
-        }
-        Last::Answer(Progress::Overrun(_)) => give(&[], bytes, size),
-        Last::Nothing => give(&[], bytes, size),
+        Deed::Pause => give(unlocks_line(unlocks).as_bytes(), bytes, size),
+        Deed::Nothing => give(&[], bytes, size),
     }
 }
 
@@ -55,11 +59,9 @@ pub fn give_record(last: &Last, words: &[Word24], bytes: &mut [u8], size: &mut u
     requires { length words.now ≤ 4096 }
     ensures { Gives (last_record last.now words.now) bytes.old bytes.new size.new }
 {
-    match last {
-        Last::Answer(Progress::Went { event, .. }) => give_event(event, words, bytes, size),
-        Last::Pause(_, event) => give_event(event, words, bytes, size),
-        Last::Answer(Progress::Overrun(_)) => give(&[], bytes, size),
-        Last::Nothing => give(&[], bytes, size),
+    match last.deed {
+        Deed::Nothing => give(&[], bytes, size),
+        _ => give_event(&last.used.event, words, bytes, size),
     }
 }
 

@@ -25,7 +25,10 @@ pub struct CamacWant {
     pub a: u8,
     pub f: u8,
     pub data: u8,
-    pub unused: u16,
+    /// The longest wait that is permitted before it.
+    pub waits: u8,
+    /// How wide the register is that it reads; 0 where it reads none.
+    pub width: u8,
     pub word: u32,
 }
 
@@ -49,6 +52,10 @@ pub struct CamacProgress {
     pub event_words: u32,
     pub event_cycles: u32,
     pub event_missed: u32,
+    /// The service that left it, which the caller adds.
+    pub event_service: u32,
+    /// The bits of the word above the width of its register.
+    pub cut: u32,
 }
 
 /// What a call asks of a run.
@@ -84,6 +91,8 @@ pub enum SessionAsk {
     Limit(u32),
     /// To go on after a pause.
     GoOn,
+    /// What sets the crates back, as they were at the demand of the service in progress.
+    Back,
     /// To leave the service in progress.
     Abandon,
     /// To begin anew.
@@ -143,7 +152,8 @@ pub const NO_WANT: CamacWant = CamacWant {
     a: 0,
     f: 0,
     data: 0,
-    unused: 0,
+    waits: 0,
+    width: 0,
     word: 0,
 };
 
@@ -164,6 +174,8 @@ pub const NO_PROGRESS: CamacProgress = CamacProgress {
     event_words: 0,
     event_cycles: 0,
     event_missed: 0,
+    event_service: 0,
+    cut: 0,
 };
 
 /// Nothing but a code.

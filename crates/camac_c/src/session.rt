@@ -1,22 +1,27 @@
 // A run in progress: what is asked of it, and what it tells.
 
-ghost use Rattle.std.specs.Prelude.{◌≡◌, ◌↔◌, length, IfOk, IfSome, IsSome};
+ghost use Rattle.std.specs.Prelude.{◌≡◌, ◌<◌, ◌≤◌, ◌↔◌, ℕ, false, length, IfOk, IfSome, IsSome};
 ghost use Rattle.camac_machine.specs.Rest.{is_paused};
+ghost use Rattle.camac_run.specs.Operation.{Wants};
+ghost use Rattle.camac_run.specs.Requested.{IsSafeRequest, held_in};
 ghost use Rattle.camac_run.specs.Runner.{last_words_in};
-ghost use Rattle.camac_c.specs.Abandoned.{LeavesUnless};
+ghost use Rattle.camac_run.specs.Waits.{GoesOnUpTo, waits_of};
+ghost use Rattle.camac_c.specs.Abandoned.{LeavesService};
+ghost use Rattle.camac_c.specs.Ahead.{numbers_ahead};
 ghost use Rattle.camac_c.specs.Filled.{filled_words};
 ghost use Rattle.camac_c.specs.Last.{last_lines, last_record};
 ghost use Rattle.camac_c.specs.Paused.{GoesOnIf, Limits};
 ghost use Rattle.camac_c.specs.Plain.{only_code};
 ghost use Rattle.camac_c.specs.Service.{name_at, numbers_at};
-ghost use Rattle.camac_c.specs.Talk.{Begins, IfAnswer, Lists, StartsOn, Steps, TellsAhead, TellsNext, TellsIf, TellsPlace, TellsStep, TellsWant, TellsWords, answers_left};
-ghost use Rattle.camac_c.specs.Told.{InRange, answer_in, asked, counted, crates_in, did, event_in, flag_in, item_in, movement_in, service_in, want_in, while_paused, word_in, written_in};
+ghost use Rattle.camac_c.specs.Talk.{Begins, Lists, StartsOn, Steps, TellsAhead, TellsBack, TellsNext, TellsIf, TellsPlace, TellsStep, TellsWant, TellsWords, Uses, answers_left};
+ghost use Rattle.camac_c.specs.Told.{InRange, answer_in, asked, counted, crates_in, cut_in, did, event_in, flag_in, item_in, movement_in, service_in, want_in, while_paused, word_in, written_in};
+ghost use Rattle.camac_c.specs.Width.{width_read, width_wanted};
 
 use crate::abandon::write_crates;
 use crate::ahead::numbers_ahead;
 use crate::filling::give;
 use crate::held::{Held, keep_held, release_held, write_held};
-use crate::last::{Last, give_lines, give_record};
+use crate::last::{Deed, Last, give_lines, give_record};
 use crate::loose::Loose;
 use crate::place::numbers_of_place;
 use crate::plain::{
@@ -25,12 +30,12 @@ use crate::plain::{
 };
 use crate::service::{name_of, numbers_of, write_numbers};
 use byteorder::{ByteOrder, LittleEndian};
-use camac_branch::{Answer, Command, CycleDone};
+use camac_branch::{Answer, Command, CycleDone, Overrun, Plan};
 use camac_checked::Checked;
 use camac_event::Usage;
 use camac_func::DataMove;
 use camac_machine::Item;
-use camac_run::{FullRunner, Progress, Wanted};
+use camac_run::{FullRunner, Progress, Used, Wanted, setting_back_holds};
 use camac_word::{CrateNo, GlBit, Word24};
 use std::alloc::Global;
 
@@ -45,6 +50,8 @@ pub struct Session<'a> {
     // what the run did last
     last: Last,
     held: Held,
+    // how wide the register is that the next answer is read from: to look it up takes 60 instructions
+    width: u8,
 }
 
 /// A run before its first demand, or the allocator where there is no memory.
@@ -57,8 +64,12 @@ pub fn start<'a>(alloc: Global, checked: &'a Checked) -> Result<Loose<Session<'a
         Session {
             runner: FullRunner::start(checked),
             checked,
-            last: Last::Nothing,
+            last: Last {
+                deed: Deed::Nothing,
+                used: Used::new(),
+            },
             held: Held::new(),
+            width: 0,
         },
     ) {
         Ok(session) => Ok(Loose::of(session)),
@@ -93,6 +104,7 @@ pub fn step<'a>(
         SessionAsk::Numbers(number) => *told = numbers(&session, number, bytes),
         SessionAsk::Limit(most) => *told = limit(&mut session, most),
         SessionAsk::GoOn => *told = go_on(&mut session),
+        SessionAsk::Back => *told = back(&session, bytes),
         SessionAsk::Abandon => *told = abandon(&mut session, bytes),
         SessionAsk::Rewind => *told = rewind(&mut session),
     }
@@ -114,55 +126,93 @@ fn wants(session: &Session, told: &mut Told)
 {
     let wanted = session.runner.wants();
     *told = only_code(if wanted.is_none() { OVERRUN } else { OK });
-    tell_want(wanted, &mut told.want);
+    tell_want(session, &wanted, &mut told.want);
     while_paused(session, told);
 }
 
 #[inline(always)]
-fn tell_want(wanted: Option<Wanted>, want: &mut CamacWant)
-    ensures { want.new ≡ (asked wanted).want }
+fn tell_want(session: &Session, wanted: &Option<Wanted>, want: &mut CamacWant)
+    ensures { want.new ≡ (asked session.now.width session.now.runner wanted.now).want }
 {
     match wanted {
         None => *want = NO_WANT,
-        Some(wanted) => tell_operation(wanted, want),
+        Some(wanted) => tell_operation(&session.runner, wanted, session.width, want),
     }
 }
 
 #[inline(always)]
-pub fn tell_operation(wanted: Wanted, want: &mut CamacWant)
-    ensures { want.new ≡ want_in wanted }
+fn tell_operation(runner: &FullRunner, wanted: &Wanted, width: u8, want: &mut CamacWant)
+    ensures { want.new ≡ want_in width runner.now wanted.now }
 {
+    let waits = runner.waits_of(*wanted);
     match wanted {
         Wanted::Demand => {
             *want = CamacWant {
                 kind: DEMAND,
+                waits,
+                width,
                 ..NO_WANT
             }
         }
-        Wanted::Cycle(command) => *want = cycle_of(command),
+        Wanted::Cycle(command) => {
+            *want = CamacWant {
+                kind: CYCLE,
+                c: command.c.get() as u8,
+                n: command.n.get() as u8,
+                a: command.a.get() as u8,
+                f: command.f.get() as u8,
+                data: movement_of(command.mv),
+                waits,
+                width,
+                word: written_of(command.mv),
+            }
+        }
         Wanted::Lock(c) => {
             *want = CamacWant {
                 kind: LOCK,
                 c: c.get() as u8,
+                waits,
+                width,
                 ..NO_WANT
             }
         }
     }
 }
 
-#[inline(always)]
-fn cycle_of(command: Command) -> CamacWant
-    ensures { result ≡ want_in (Wanted.Cycle command) }
+/// What an operation is told as.
+pub fn want_of(session: &Session, wanted: &Wanted) -> CamacWant
+    ensures { result ≡ want_in (width_read session.now.checked.now.plan wanted.now) session.now.runner wanted.now }
 {
-    CamacWant {
-        kind: CYCLE,
-        c: command.c.get() as u8,
-        n: command.n.get() as u8,
-        a: command.a.get() as u8,
-        f: command.f.get() as u8,
-        data: movement_of(command.mv),
-        unused: 0,
-        word: written_of(command.mv),
+    let mut want = NO_WANT;
+    let width = width_read(session.checked.plan(), wanted);
+    tell_operation(&session.runner, wanted, width, &mut want);
+    want
+}
+
+// How wide the register is that an operation reads.
+#[inline(always)]
+fn width_read(plan: &Plan, wanted: &Wanted) -> u8
+    ensures { result ≡ width_read plan.now wanted.now }
+{
+    match wanted {
+        Wanted::Cycle(command) => match command.mv {
+            DataMove::In => plan
+                .allowed(command.c, command.n, command.a, command.f)
+                .unwrap_or(24),
+            _ => 0,
+        },
+        _ => 0,
+    }
+}
+
+// The same of what is wanted.
+#[inline(always)]
+fn width_wanted(session: &Session, wanted: &Option<Wanted>) -> u8
+    ensures { result ≡ width_wanted session.now.checked.now.plan wanted.now }
+{
+    match wanted {
+        None => 0,
+        Some(wanted) => width_read(session.checked.plan(), wanted),
     }
 }
 
@@ -190,34 +240,56 @@ fn written_of(mv: DataMove) -> u32
 fn next(session: &mut Session, answer: CamacAnswer, told: &mut Told)
     ensures { TellsNext answer session.old session.new told.new }
 {
-    take(session, answer, told);
+    let _ = take(session, answer, told);
 }
 
-// Takes an answer: the one body of `camac_next` and `camac_step`.
+// Takes an answer, and returns what is wanted then: the one body of `camac_next` and `camac_step`.
 #[inline(always)]
-fn take(session: &mut Session, answer: CamacAnswer, told: &mut Told)
-    ensures { TellsNext answer session.old session.new told.new }
+fn take(session: &mut Session, answer: CamacAnswer, told: &mut Told) -> Option<Wanted>
+    ensures tells { TellsNext answer session.old session.new told.new }
+    ensures wants { Wants session.new.runner result }
+    ensures safe { IfSome result (IsSafeRequest session.new.runner.checked.plan (held_in session.new.runner)) }
+    ensures waits { IfSome result (λ o. GoesOnUpTo session.new.runner (waits_of session.new.runner o)) }
 {
     if session.runner.is_paused() {
         *told = only_code(BUSY);
-        return;
+        return session.runner.wants();
     }
     let Some(answer) = answer_of(answer) else {
         *told = only_code(RANGE);
-        return;
+        return session.runner.wants();
     };
     if session.runner.fed() >= MOST_ANSWERS {
         *told = only_code(SPENT);
-        return;
+        return session.runner.wants();
     }
-    let progress = session.runner.next(answer);
-    if let Progress::Went { item, unlocks, .. } = &progress {
-        keep_held(&mut session.held, item, unlocks.as_slice());
-    }
-    session.last = Last::Answer(progress);
-    let words = session.runner.last_words().len() as u32;
-    tell(&session.last, words, told);
+    use_answer(session, answer, told);
+    let wanted = session.runner.wants();
+    session.width = width_wanted(session, &wanted);
     while_paused(session, told);
+    wanted
+}
+
+// Uses an answer, keeps and tells what it did.
+#[inline(always)]
+fn use_answer(session: &mut Session, answer: Answer, told: &mut Told)
+    requires awake { is_paused session.old.runner.pending ≡ false }
+    requires fed { session.old.runner.fed < 4294967295 }
+    ensures { Uses answer session.old session.new told.new }
+{
+    match session.runner.advance(answer, &mut session.last.used) {
+        None => {
+            session.last.deed = Deed::Answer;
+            let used = &session.last.used;
+            keep_held(&mut session.held, &used.item, used.unlocks.as_slice());
+            let words = session.runner.last_words().len() as u32;
+            tell(session.width, used, words, told);
+        }
+        Some(overrun) => {
+            session.last.deed = Deed::Nothing;
+            tell_overrun(overrun, told);
+        }
+    }
 }
 
 // The code is `BUSY` while the run pauses.
@@ -235,20 +307,31 @@ fn while_paused(session: &Session, told: &mut Told)
 fn next_and_wants(session: &mut Session, answer: CamacAnswer, told: &mut Told)
     ensures { TellsStep answer session.old session.new told.new }
 {
-    take(session, answer, told);
+    let wanted = take(session, answer, told);
     if told.code == OK {
-        tell_want(session.runner.wants(), &mut told.want);
-    } else {
-        // the contract says at each code what the run wants
-        let _ = session.runner.wants();
+        tell_want(session, &wanted, &mut told.want);
     }
 }
 
 fn ahead(session: &Session, bytes: &mut [u8]) -> Told
-    ensures { TellsAhead session.now.runner bytes.old bytes.new result }
+    ensures { TellsAhead session.now bytes.old bytes.new result }
 {
-    let ahead = session.runner.ahead();
-    let numbers = numbers_ahead(ahead.as_slice());
+    tell_operations(session, session.runner.ahead().as_slice(), bytes)
+}
+
+// What sets the crates back.
+fn back(session: &Session, bytes: &mut [u8]) -> Told
+    ensures { TellsBack session.now bytes.old bytes.new result }
+{
+    setting_back_holds();
+    tell_operations(session, session.runner.back().as_slice(), bytes)
+}
+
+fn tell_operations(session: &Session, wanted: &[Wanted], bytes: &mut [u8]) -> Told
+    requires { length wanted.now ≤ 64 }
+    ensures { TellsWords (numbers_ahead session.now.checked.now.plan session.now.runner wanted.now) bytes.old bytes.new result }
+{
+    let numbers = numbers_ahead(session, wanted);
     counted(write_numbers(numbers.as_slice(), bytes))
 }
 
@@ -344,21 +427,22 @@ fn go_on(session: &mut Session) -> Told
     let words = session.runner.last_words().len() as u32;
     tell_event(&event, words, &mut told.progress);
     release_held(&mut session.held, unlocks.len());
-    session.last = Last::Pause(unlocks, event);
+    session.last.deed = Deed::Pause;
+    session.last.used.unlocks = unlocks;
+    session.last.used.event = event;
+    let wanted = session.runner.wants();
+    session.width = width_wanted(session, &wanted);
     while_paused(session, &mut told);
     told
 }
 
 // Leaves the service in progress.
-#[tactic(auto, using(crate::proofs::Abandoned::stays_over, crate::proofs::Abandoned::leaves_first))]
 fn abandon(session: &mut Session, bytes: &mut [u8]) -> Told
-    ensures { LeavesUnless session.old.runner.overrun session.old session.new bytes.old bytes.new result }
+    ensures { LeavesService session.old session.new bytes.old bytes.new result }
 {
-    if session.runner.is_over() {
-        return only_code(OVERRUN);
-    }
     let unlocks = session.runner.abandon();
     session.held = Held::new();
+    session.width = 0;
     counted(write_crates(unlocks.as_slice(), bytes))
 }
 
@@ -372,8 +456,9 @@ fn rewind(session: &mut Session) -> Told
     let kept = session.runner.limit();
     session.runner = FullRunner::start(session.checked);
     session.runner.limit_steps(kept);
-    session.last = Last::Nothing;
+    session.last.deed = Deed::Nothing;
     session.held = Held::new();
+    session.width = 0;
     only_code(OK)
 }
 
@@ -387,38 +472,30 @@ fn answer_of(answer: CamacAnswer) -> Option<Answer>
 }
 
 #[inline(always)]
-fn tell(last: &Last, words: u32, told: &mut Told)
-    ensures { IfAnswer last.now (λ progress. told.new ≡ did progress words) }
+fn tell(width: u8, used: &Used, words: u32, told: &mut Told)
+    ensures { told.new ≡ did width (Progress.Went used.now.item used.now.unlocks used.now.event) words }
 {
-    match last {
-        Last::Nothing => {}
-        Last::Pause(_, _) => {}
-        Last::Answer(Progress::Overrun(overrun)) => {
-            *told = only_code(OVERRUN);
-            told.progress.kind = STOPPED;
-            told.progress.c = overrun.c.get() as u8;
-            told.progress.wait = overrun.wait;
-        }
-        Last::Answer(
-            Progress::Went {
-                item,
-                unlocks,
-                event,
-            },
-        ) => {
-            told.code = OK;
-            told.want = NO_WANT;
-            told.count = 0;
-            tell_item(item, &mut told.progress);
-            told.progress.unlocked = unlocked_of(unlocks.as_slice());
-            tell_event(event, words, &mut told.progress);
-        }
-    }
+    told.code = OK;
+    told.want = NO_WANT;
+    told.count = 0;
+    tell_item(width, &used.item, &mut told.progress);
+    told.progress.unlocked = unlocked_of(used.unlocks.as_slice());
+    tell_event(&used.event, words, &mut told.progress);
+}
+
+// A wait that is not permitted.
+fn tell_overrun(overrun: Overrun, told: &mut Told)
+    ensures { (width words : ℕ) → told.new ≡ did width (Progress.Overrun overrun) words }
+{
+    *told = only_code(OVERRUN);
+    told.progress.kind = STOPPED;
+    told.progress.c = overrun.c.get() as u8;
+    told.progress.wait = overrun.wait;
 }
 
 #[inline(always)]
-fn tell_item(item: &Item, progress: &mut CamacProgress)
-    ensures { progress.new ≡ item_in item.now }
+fn tell_item(width: u8, item: &Item, progress: &mut CamacProgress)
+    ensures { progress.new ≡ item_in width item.now }
 {
     *progress = NO_PROGRESS;
     match item {
@@ -433,6 +510,7 @@ fn tell_item(item: &Item, progress: &mut CamacProgress)
             progress.x = flag_of(done.reply.x);
             progress.q = flag_of(done.reply.q);
             progress.word = word_of(done);
+            progress.cut = cut_of(width, done);
         }
         Item::Lock(c, wait) => {
             progress.kind = LOCK;
@@ -456,6 +534,19 @@ fn word_of(done: &CycleDone) -> u32
     match done.command.mv {
         DataMove::In => done.reply.word.get(),
         _ => 0,
+    }
+}
+
+// Its bits above this width.
+#[inline(always)]
+fn cut_of(width: u8, done: &CycleDone) -> u32
+    ensures { result ≡ cut_in width done.now }
+{
+    if width < 24 {
+        let word = word_of(done);
+        word - word % (1 << width)
+    } else {
+        0
     }
 }
 

@@ -230,7 +230,7 @@ pub static OF_WARNINGS: [Row; 17] = [
     ),
     (
         "W12",
-        "one function is sent by both, so a channel is read twice, and another maybe never.",
+        "one function is sent by both: to a channel twice, and maybe never to another.",
         "correct an address, or use one register.",
     ),
     (

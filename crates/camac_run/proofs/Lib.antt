@@ -14,3 +14,4 @@ pub mod Early
 pub mod Abandoned
 pub mod Coming
 pub mod Steps
+pub mod Undone

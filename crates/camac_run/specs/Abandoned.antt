@@ -3,7 +3,6 @@ use Rattle.std.specs.Prelude.{◌≡◌, ℕ, List, [], Option, Some, None}
 use Rattle.camac_branch.specs.Branch.{Answer}
 use Rattle.camac_branch.specs.Crates.{branch_of}
 use Rattle.camac_branch.specs.Plan.{Layout}
-use Rattle.camac_branch.specs.declared.answer.Overrun.{Overrun}
 use Rattle.camac_lang.specs.Tree.{Script}
 use Rattle.camac_model.specs.Behaviour.{Piece}
 use Rattle.camac_run.specs.Holds.{HoldsAfter}
@@ -13,7 +12,7 @@ use Rattle.camac_machine.specs.MachineState.{context_in}
 use Rattle.camac_machine.specs.Rest.{Operation, onward}
 
 -- The run goes on as from the demand that called the service in progress: the crates are as they were there, and it leaves no event. The
--- locks that it held are to be released. Answers that were used stay so, and events count on.
+-- locks that it held are to be released. Answers that were used stay so, and events count on. So it does after a wait that was not permitted.
 pub record Leaves (old : RunnerState) (unlocks : List ℕ) (new : RunnerState) : Type 0 where
   pub goes :
       (answers : List Answer)
@@ -27,14 +26,13 @@ pub record Leaves (old : RunnerState) (unlocks : List ℕ) (new : RunnerState) :
   pub overrun : new.overrun ≡ None
   pub checked : new.checked ≡ old.checked
 
--- where a service is in progress, and no wait was refused; else nothing changes
-abbrev pub LeavesIf : Option Overrun → Option Operation → RunnerState → List ℕ → RunnerState → Type 0
-LeavesIf None (Some w) old unlocks new = Leaves old unlocks new
-LeavesIf None None old unlocks new = (unlocks ≡ []) × (new ≡ old)
-LeavesIf (Some o) w old unlocks new = (unlocks ≡ []) × (new ≡ old)
+-- where a service is in progress; else nothing changes
+abbrev pub LeavesIf : Option Operation → RunnerState → List ℕ → RunnerState → Type 0
+LeavesIf (Some w) old unlocks new = Leaves old unlocks new
+LeavesIf None old unlocks new = (unlocks ≡ []) × (new ≡ old)
 
 abbrev pub Abandons : RunnerState → List ℕ → RunnerState → Type 0
-Abandons old unlocks new = LeavesIf old.overrun old.pending old unlocks new
+Abandons old unlocks new = LeavesIf old.pending old unlocks new
 
 -- What was told up to a demand is what is told of a run without the service that was left: from there it goes on as if the demand and all
 -- answers since had not been.

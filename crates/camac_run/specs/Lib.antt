@@ -12,3 +12,5 @@ pub mod Locks
 pub mod Abandoned
 pub mod Ahead
 pub mod Sure
+pub mod Waits
+pub mod Back

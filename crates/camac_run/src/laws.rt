@@ -2,6 +2,7 @@
 
 ghost use Rattle.camac_run.specs.Abandoned.{AbandoningHolds};
 ghost use Rattle.camac_run.specs.Ahead.{AheadIsMade, BeginningsAreAhead};
+ghost use Rattle.camac_run.specs.Back.{SettingBackHolds};
 ghost use Rattle.camac_run.specs.Holds.{AllIsTold, GoingOnHolds, ResumingHolds, WantsAreWanted};
 ghost use Rattle.camac_run.specs.Headline.{RunsAlways, RunsByHeadline, LeavesFewEvents};
 ghost use Rattle.camac_run.specs.Requested.{RequestsAreSafe};
@@ -42,6 +43,11 @@ pub fn runner_holds_the_rest()
 #[tactic(auto, using(crate::proofs::Abandoned::abandoning_holds))]
 pub fn abandoning_holds()
     ensures { AbandoningHolds }
+{}
+
+/// What sets the crates back does so, and may be made.
+pub fn setting_back_holds()
+    ensures { SettingBackHolds }
 {}
 
 /// The run makes the operations that were told ahead, one for each answer, in their order, and no others; it wants each of them before its

@@ -3,6 +3,7 @@
 #![tactic(auto)]
 
 mod ahead;
+mod back;
 mod items;
 mod laws;
 mod leaving;
@@ -13,10 +14,12 @@ mod runner;
 mod service;
 
 pub use ahead::{AHEAD, Ahead};
+pub use back::Back;
 pub use camac_machine::Item;
 pub use items::Items;
 pub use laws::{
     abandoning_holds, ahead_is_made, requests_are_safe, runner_holds_the_rest, runs_by_headline,
+    setting_back_holds,
 };
 pub use log::{Log, run};
 pub use place::Place;

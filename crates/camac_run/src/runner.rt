@@ -10,19 +10,22 @@ ghost use Rattle.camac_model.specs.Run.{the_run};
 ghost use Rattle.camac_run.specs.Runner.{state_in, rest, last_words_in, event_in, GoesOn, KeepsLimit, NeverPauses, Progresses, Resumes, Stops, steps_of, words_of};
 ghost use Rattle.camac_run.specs.Abandoned.{Abandons};
 ghost use Rattle.camac_run.specs.Ahead.{IsAhead};
+ghost use Rattle.camac_run.specs.Back.{back_in};
 ghost use Rattle.camac_run.specs.Holds.{HoldsAfter};
 ghost use Rattle.camac_run.specs.Operation.{IsWaiting, Wants, operation};
 ghost use Rattle.camac_run.specs.Place.{IsPlace};
 ghost use Rattle.camac_run.specs.Requested.{IsSafeRequest, held_in};
 ghost use Rattle.camac_run.specs.Sure.{cycle_of};
+ghost use Rattle.camac_run.specs.Waits.{GoesOnUpTo, waits_in, waits_of};
 
 use crate::ahead::{Ahead, add_following};
+use crate::back::{Back, commands_back};
 use crate::leaving::leave_service;
 use crate::place::Place;
 use crate::progress::{Progress, Used, Wanted};
 use crate::service::service_for;
 use arrayvec::ArrayVec;
-use camac_branch::{Answer, Branch, Overrun, demand};
+use camac_branch::{Answer, Branch, Overrun, demand, locked};
 use camac_checked::Checked;
 use camac_event::Usage;
 use camac_lang::limits;
@@ -259,23 +262,35 @@ impl<'a, const V: usize, const DEPTH: usize, const CAP: usize> Runner<'a, V, DEP
         }
     }
 
-    /// Leaves the service in progress, as after a fault of the crates, without an event. The run goes on at the demand that called it: with the
-    /// crates and the number of events of then, and without the answers that it has used. Returns the crates whose lockout it held, in the
-    /// order in which to release them. Between services, and after a wait that was not permitted, nothing changes.
+    /// Leaves the service in progress, as after a fault of the crates or a wait that was not permitted, without an event. The run goes on at the demand
+    /// that called it: with the crates and the number of events of then, and without the answers that it has used. Returns the crates whose lockout it
+    /// held, in the order in which to release them. Between services nothing changes.
     pub fn abandon(&mut self) -> ArrayVec<CrateNo, 7>
         ensures { Abandons self.old result.items self.new }
     {
-        if self.overrun.is_some() {
-            return ArrayVec::new();
-        }
         match self.pending {
             None => ArrayVec::new(),
             Some(_) => {
                 leave_service(&mut self.machine, self.at_demand.copy());
                 self.pending = None;
                 self.has_event = false;
+                self.overrun = None;
                 self.machine.unlocks.take()
             }
+        }
+    }
+
+    /// The commands that set inhibit and demand output of each crate back, as they were at the demand of the service in progress.
+    pub fn back(&self) -> Back
+        ensures { result.items ≡ back_in self.now }
+    {
+        match self.pending {
+            None => Back::new(),
+            Some(_) => commands_back(
+                self.machine.checked.plan(),
+                &self.machine.branch,
+                &self.at_demand,
+            ),
         }
     }
 
@@ -285,6 +300,7 @@ impl<'a, const V: usize, const DEPTH: usize, const CAP: usize> Runner<'a, V, DEP
         ensures wants { Wants self.now result }
         ensures paused { is_paused self.now.pending ≡ true → result ≡ None }
         ensures safe { IfSome result (IsSafeRequest self.now.checked.plan (held_in self.now)) }
+        ensures waits { IfSome result (λ o. GoesOnUpTo self.now (waits_of self.now o)) }
     {
         if self.overrun.is_some() {
             return None;
@@ -292,6 +308,29 @@ impl<'a, const V: usize, const DEPTH: usize, const CAP: usize> Runner<'a, V, DEP
         match &self.pending {
             Some(pending) => operation(pending),
             None => Some(Wanted::Demand),
+        }
+    }
+
+    /// The longest wait that is permitted before an operation, as the crates are.
+    #[inline(always)]
+    pub fn waits_of(&self, wanted: Wanted) -> u8
+        ensures { result ≡ waits_of self.now wanted }
+    {
+        match wanted {
+            Wanted::Demand => 15,
+            Wanted::Cycle(command) => self.waits_in(command.c),
+            Wanted::Lock(c) => self.waits_in(c),
+        }
+    }
+
+    // The same in a crate.
+    fn waits_in(&self, c: CrateNo) -> u8
+        ensures { result ≡ waits_in self.now c }
+    {
+        if locked(&self.machine.branch, c) {
+            0
+        } else {
+            self.machine.checked.plan().waits(c).unwrap_or(0)
         }
     }
 

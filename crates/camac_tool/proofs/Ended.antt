@@ -12,6 +12,7 @@ use Rattle.camac_play.specs.declared.telling.Telling.TheVariants.{Listing}
 use Rattle.camac_response_times.specs.Setting.{ReadsSettings}
 use Rattle.camac_response_times.specs.declared.setting.Settings.{Settings}
 use Rattle.camac_engines.specs.Engine.{Answers, IsWritten}
+use Rattle.camac_engines.specs.Found.{HasJudged}
 use Rattle.camac_engines.specs.Response.{RespondsOn}
 use Rattle.camac_engines.specs.declared.fault.ToolFault.{ToolFault}
 use Rattle.camac_engines.specs.declared.fault.ToolFault.TheVariants.{Read, Write, Memory, TooLong}
@@ -21,7 +22,8 @@ use Rattle.camac_engines.specs.declared.response.Responded.{Responded}
 use Rattle.camac_tool.proofs.Runs.{ends_before}
 use Rattle.camac_tool.specs.Devices.{HasBeginning, RunsOnDevices}
 use Rattle.camac_tool.specs.Gathered.{device_of, given_to, held_in}
-use Rattle.camac_tool.specs.Jobs.{CanBeFound, HandsOn, IsGot, IsSettled, OrWriteFault, Replies, Responds, ResponseTells, RunTells, RunsTold, Tells, gathers}
+use Rattle.camac_tool.specs.Input.{IsJudgedIn}
+use Rattle.camac_tool.specs.Jobs.{HandsOn, IsGot, IsSettled, OrWriteFault, Replies, Responds, RunTells, RunsTold, Tells, gathers}
 use Rattle.camac_tool.specs.Run.{Runs, RunsFound, RunsJudged, StaysQuiet}
 use Rattle.camac_tool.specs.Status.{EndsStopped}
 use Rattle.camac_tool.specs.World.{World}
@@ -35,16 +37,16 @@ use Rattle.camac_tool.specs.declared.program.Question.TheVariants as question
 pub unread : (Says : Outcome → List ℕ → Type 0) (o p : Option (List ℕ)) (r : Result Done ToolFault) → r ≡ Err Read → Keeps o p → Tells Says o p r
 unread Says o p r is kept = rw is kept
 
--- what an engine answers, of all that may have been read
-module _ {T : Type 0} (WasRead : T → Type 0) (Says : T → Outcome → List ℕ → Type 0) (IsTooLong : Type 0) (o p : Option (List ℕ)) where
-  pub answered : (outcome : Outcome) → Answers WasRead Says IsTooLong o p (Ok outcome) → Tells (λ told text. (found : T) × Says found told text) o p (Ok (Answered outcome))
-  answered outcome h = (h.2.0, (h.0, h.2.1), h.2.2)
+-- what an engine answers, of what was read: it is that of the words
+module _ {T : Type 0} (WasRead Is : T → Type 0) (Says : T → Outcome → List ℕ → Type 0) (IsTooLong : Type 0) (o p : Option (List ℕ)) (is : (found : T) → WasRead found → Is found) where
+  abbrev Told : Outcome → List ℕ → Type 0
+  Told told text = (found : T) × Is found × Says found told text
 
-  pub stopped : (e : ToolFault) (r : Result Done ToolFault) → r ≡ Err e → Answers WasRead Says IsTooLong o p (Err e) → Tells (λ told text. (found : T) × Says found told text) o p r
-  stopped Write r is h = rw is (h.2.0, h.2.1, (h.0, h.2.2), h.2.3)
-  stopped TooLong r is h = rw is h.1
-  stopped Read r is h = rw is h
-  stopped Memory r is h = rw is h
+  pub stopped : (e : ToolFault) (r : Result Done ToolFault) → r ≡ Err e → Answers WasRead Says IsTooLong o p (Err e) → Tells Told o p r
+  stopped Write r same h = rw same (h.2.0, h.2.1, (h.0, is h.0 h.1, h.2.2), h.2.3)
+  stopped TooLong r same h = rw same h.1
+  stopped Read r same h = rw same h
+  stopped Memory r same h = rw same h
 
 pub written_stopped : (Says : Outcome → List ℕ → Type 0) (o p : Option (List ℕ)) (e : ToolFault) → IsWritten Says o p (Err e) → Tells Says o p (Err e)
 written_stopped Says o p Write h = h
@@ -64,19 +66,19 @@ module _ (Judges : Judged → Type 0) (IsLong : Type 0) (s : Settings) (o p : Op
   RespondsBy (Err TooLong) = IsLong × Keeps o p
   RespondsBy (Err _) = Keeps o p
 
-  pub response_stopped : (e : ToolFault) (r : Result Done ToolFault) → r ≡ Err e → RespondsBy (Err e) → (every within : List Text) → ReadsSettings every within (Ok s)
-      → ((j : Judged) → Judges j → CanBeFound j) → Responds every within o p r
-  response_stopped Write r is h every within read finds = rw is (h.2.0, h.2.1, (s, read, (h.0, finds h.0 h.1, h.2.2)), h.2.3)
-  response_stopped TooLong r is h every within read finds = rw is h.1
-  response_stopped Read r is h every within read finds = rw is h
-  response_stopped Memory r is h every within read finds = rw is h
+  pub response_stopped : (e : ToolFault) (r : Result Done ToolFault) → r ≡ Err e → RespondsBy (Err e) → (bytes_of : Text → Option (List ℕ)) (plan script : Text) (every within : List Text)
+      → ReadsSettings every within (Ok s) → ((j : Judged) → Judges j → IsJudgedIn bytes_of plan script j) → Responds bytes_of plan script every within o p r
+  response_stopped Write r is h bytes_of plan script every within read finds = rw is (h.2.0, h.2.1, (s, read, (h.0, finds h.0 h.1, h.2.2)), h.2.3)
+  response_stopped TooLong r is h bytes_of plan script every within read finds = rw is h.1
+  response_stopped Read r is h bytes_of plan script every within read finds = rw is h
+  response_stopped Memory r is h bytes_of plan script every within read finds = rw is h
 
-pub none_replied : (q : Question) (o : Option (List ℕ)) → Replies q o o (Err Memory)
-none_replied (question.Plan a plan) o = Keeps-refl o
-none_replied (question.Script a plan script) o = Keeps-refl o
-none_replied (question.Known line column turns plan script) o = Keeps-refl o
-none_replied (question.Response plan script every within) o = Keeps-refl o
-none_replied (question.Events file) o = Keeps-refl o
+pub none_replied : (bytes_of : Text → Option (List ℕ)) (q : Question) (o : Option (List ℕ)) → Replies bytes_of q o o (Err Memory)
+none_replied bytes_of (question.Plan a plan) o = Keeps-refl o
+none_replied bytes_of (question.Script a plan script) o = Keeps-refl o
+none_replied bytes_of (question.Known line column turns plan script) o = Keeps-refl o
+none_replied bytes_of (question.Response plan script every within) o = Keeps-refl o
+none_replied bytes_of (question.Events file) o = Keeps-refl o
 
 -- a device without what is held for it
 pub nothing_held : (o : Option (List ℕ)) → append_known o [] ≡ o
@@ -96,19 +98,19 @@ started contents g g' w same inner empty =
     ap (given_to contents) same ∙ ap (append_known (contents (device_of g))) empty ∙ nothing_held (contents (device_of g)) ∙ ap contents inner
 
 -- what was told and is held still is lost
-module _ (q : Question) (o o' given got : Option (List ℕ)) (held : List ℕ) (same : o' ≡ o) (kept : Keeps given (append_known got held)) where
-  pub not_flushed : (done : Result Done ToolFault) → Replies q o' given done → HandsOn (Replies q) o got (Err Write)
-  not_flushed done replies = (given, inr (refl, (done, subst (λ (x : Option (List ℕ)). Replies q x given done) same replies)), (held, kept))
+module _ (Replied : (o given : Option (List ℕ)) → Result Done ToolFault → Type 0) (o o' given got : Option (List ℕ)) (held : List ℕ) (same : o' ≡ o) (kept : Keeps given (append_known got held)) where
+  pub not_flushed : (done : Result Done ToolFault) → Replied o' given done → HandsOn Replied o got (Err Write)
+  not_flushed done replied = (given, inr (refl, (done, subst (λ (x : Option (List ℕ)). Replied x given done) same replied)), (held, kept))
 
-  pub flushed : held ≡ [] → (done : Done) → Replies q o' given (Ok done) → HandsOn (Replies q) o got (Ok done)
-  flushed empty done replies = (given, subst (λ (x : Option (List ℕ)). Replies q x given (Ok done)) same replies, subst (Keeps given) (ap (append_known got) empty ∙ nothing_held got) kept)
+  pub flushed : held ≡ [] → (done : Done) → Replied o' given (Ok done) → HandsOn Replied o got (Ok done)
+  flushed empty done replied = (given, subst (λ (x : Option (List ℕ)). Replied x given (Ok done)) same replied, subst (Keeps given) (ap (append_known got) empty ∙ nothing_held got) kept)
 
-  pub faulted : (fault : ToolFault) → Replies q o' given (Err fault) → HandsOn (Replies q) o got (Err fault)
-  faulted fault replies = (given, inl (subst (λ (x : Option (List ℕ)). Replies q x given (Err fault)) same replies), (held, kept))
+  pub faulted : (fault : ToolFault) → Replied o' given (Err fault) → HandsOn Replied o got (Err fault)
+  faulted fault replied = (given, inl (subst (λ (x : Option (List ℕ)). Replied x given (Err fault)) same replied), (held, kept))
 
 -- before a run nothing is told
-pub not_begun : (t : Telling) (o : Option (List ℕ)) (fault : ToolFault) → HandsOn (RunsTold t) o o (Err fault)
-not_begun t o fault = (o, inl (inl (Keeps-refl o)), beginning o o (Keeps-refl o))
+pub not_begun : (bytes_of : Text → Option (List ℕ)) (plan script answers : Text) (t : Telling) (o : Option (List ℕ)) (fault : ToolFault) → HandsOn (RunsTold bytes_of plan script answers t) o o (Err fault)
+not_begun bytes_of plan script answers t o fault = (o, inl (inl (Keeps-refl o)), beginning o o (Keeps-refl o))
 
 quiet : (o p : Option (List ℕ)) → Appends o p [] → Keeps o p
 quiet None p h = tt
@@ -124,45 +126,51 @@ settles Ends (Ok outcome) done (inl is) ends = rw is ends
 settles Ends (Ok outcome) done (inr is) ends = rw is (inr (refl, (Ok (Answered outcome), ends)))
 settles Ends (Err fault) done is ends = rw is (inl ends)
 
--- a run in a world, and one on devices
-module _ {I : Type 0} (w : World I) (t : Telling) (same : w.gathers ≡ gathers t) where
-  found_told : (w' : World I) (r : Result Outcome ToolFault) → RunsFound w w' t r → RunTells t w.outputs.listing w'.outputs.listing r
-  found_told w' r found = (
-    found.0,
-    (found.1.0, found.1.2),
-    (
-      w.answers,
-      w'.answers,
-      w.outputs.events,
-      w'.outputs.events,
-      subst (λ (b : Bool). RunsJudged b t found.0 w.answers w'.answers w.outputs w'.outputs r) same found.2,
-    ),
-  )
+-- a run in a world, and one on devices, of the words' inputs
+module _ (bytes_of : Text → Option (List ℕ)) (plan script answers : Text) {I : Type 0} (w : World I) (answered : Keeps (bytes_of answers) w.answers)
+    (judged : (w' : World I) (j : Judged) → HasJudged w.left w.plan w'.plan w.script w'.script j → IsJudgedIn bytes_of plan script j) where
+  module _ (t : Telling) (same : w.gathers ≡ gathers t) where
+    abbrev RunIsTold : (o p : Option (List ℕ)) → Result Done ToolFault → Type 0
+    RunIsTold = RunsTold bytes_of plan script answers t
 
-  run_told : (w' : World I) (r : Result Outcome ToolFault) → Runs w w' t r → RunsTold t w.outputs.listing w'.outputs.listing (done_of r)
-  run_told w' (Ok outcome) h = found_told w' (Ok outcome) h.runs
-  run_told w' (Err Write) h = inr (found_told w' (Err Write) h.runs)
-  run_told w' (Err Memory) h = inl (quiet _ _ h.runs.1.listing)
-  run_told w' (Err TooLong) h = inl (quiet _ _ h.runs.1.1.listing)
-  run_told w' (Err Read) h = by h.runs
+    found_told : (w' : World I) (r : Result Outcome ToolFault) → RunsFound w w' t r → RunTells bytes_of plan script answers t w.outputs.listing w'.outputs.listing r
+    found_told w' r found = (
+      found.0,
+      judged w' found.0 found.1,
+      (
+        w.answers,
+        w'.answers,
+        w.outputs.events,
+        w'.outputs.events,
+        answered,
+        subst (λ (b : Bool). RunsJudged b t found.0 w.answers w'.answers w.outputs w'.outputs r) same found.2,
+      ),
+    )
+
+    run_told : (w' : World I) (r : Result Outcome ToolFault) → Runs w w' t r → RunIsTold w.outputs.listing w'.outputs.listing (done_of r)
+    run_told w' (Ok outcome) h = found_told w' (Ok outcome) h.runs
+    run_told w' (Err Write) h = inr (found_told w' (Err Write) h.runs)
+    run_told w' (Err Memory) h = inl (quiet _ _ h.runs.1.listing)
+    run_told w' (Err TooLong) h = inl (quiet _ _ h.runs.1.1.listing)
+    run_told w' (Err Read) h = by h.runs
+      where
+        by : (StaysQuiet w w' ⊎ RunsFound w w' t (Err Read)) → RunIsTold w.outputs.listing w'.outputs.listing (Err Read)
+        by (inl still) = inl (quiet _ _ still.1.listing)
+        by (inr found) = inr (found_told w' (Err Read) found)
+
+    pub run_settled : (w' : World I) (r : Result Outcome ToolFault) (done : Result Done ToolFault) → Runs w w' t r → IsSettled r done → OrWriteFault (RunIsTold w.outputs.listing w'.outputs.listing) done
+    run_settled w' r done h settled = settles (RunIsTold w.outputs.listing w'.outputs.listing) r done settled (run_told w' r h)
+
+  pub run_handed : w.gathers ≡ true → (after : RunState → World I) (l e : Option (List ℕ)) (r : Result Outcome ToolFault) (done : Result Done ToolFault) → ((s : RunState) → (after s).outputs.listing ≡ s.listed)
+      → RunsOnDevices w after l e r → IsSettled r done → HandsOn (RunsTold bytes_of plan script answers Listing) w.outputs.listing l done
+  run_handed same after l e r done is (ran, given, runs, handed) settled = by handed.2
     where
-      by : (StaysQuiet w w' ⊎ RunsFound w w' t (Err Read)) → RunsTold t w.outputs.listing w'.outputs.listing (Err Read)
-      by (inl still) = inl (quiet _ _ still.1.listing)
-      by (inr found) = inr (found_told w' (Err Read) found)
+      told : RunsTold bytes_of plan script answers Listing w.outputs.listing given.listed (done_of ran)
+      told = subst (λ x. RunsTold bytes_of plan script answers Listing w.outputs.listing x (done_of ran)) (is given) (run_told Listing same (after given) ran runs)
 
-  pub run_settled : (w' : World I) (r : Result Outcome ToolFault) (done : Result Done ToolFault) → Runs w w' t r → IsSettled r done → OrWriteFault (RunsTold t w.outputs.listing w'.outputs.listing) done
-  run_settled w' r done h settled = settles (RunsTold t w.outputs.listing w'.outputs.listing) r done settled (run_told w' r h)
-
-module _ {I : Type 0} (w : World I) (same : w.gathers ≡ true) where
-  pub run_handed : (after : RunState → World I) (l e : Option (List ℕ)) (r : Result Outcome ToolFault) (done : Result Done ToolFault) → ((s : RunState) → (after s).outputs.listing ≡ s.listed)
-      → RunsOnDevices w after l e r → IsSettled r done → HandsOn (RunsTold Listing) w.outputs.listing l done
-  run_handed after l e r done is (ran, given, runs, handed) settled = by handed.2
-    where
-      told : RunsTold Listing w.outputs.listing given.listed (done_of ran)
-      told = subst (λ x. RunsTold Listing w.outputs.listing x (done_of ran)) (is given) (run_told w Listing same (after given) ran runs)
-
-      by : (((r ≡ ran) × Keeps given.listed l × Keeps given.recorded e) ⊎ (r ≡ Err Write)) → HandsOn (RunsTold Listing) w.outputs.listing l done
-      by (inl all) = (given.listed, settles (RunsTold Listing w.outputs.listing given.listed) ran done (subst (λ x. IsSettled x done) all.0 settled) told, is_got given.listed l done all.1)
+      by : (((r ≡ ran) × Keeps given.listed l × Keeps given.recorded e) ⊎ (r ≡ Err Write)) → HandsOn (RunsTold bytes_of plan script answers Listing) w.outputs.listing l done
+      by (inl all) =
+          (given.listed, settles (RunsTold bytes_of plan script answers Listing w.outputs.listing given.listed) ran done (subst (λ x. IsSettled x done) all.0 settled) told, is_got given.listed l done all.1)
       by (inr failed) = rw (subst (λ x. IsSettled x done) failed settled) (given.listed, inr (refl, (done_of ran, told)), handed.0)
 
 -- memory is out before a run

@@ -1,4 +1,4 @@
--- What is known of the file of a name, and how EVENTS is opened.
+-- What is known of the files of the system, and how EVENTS is opened.
 use Rattle.std.specs.Prelude.{◌≡◌, ◌⊎◌, ◌&&◌, ◌||◌, ◌<◌, ℕ, Bool, true, false, List, Option, Some, None, Result, Ok, Err, nat_eq, bit_and}
 use Rattle.std.specs.List.{starts_with}
 use Rattle.std.specs.Fs.{IsFile, file_type, metadata_len, metadata_mode, new_options, with_create, with_write}
@@ -8,9 +8,20 @@ use Rattle.camac_event.specs.Spelling.{header}
 use Rattle.camac_event.specs.declared.event.Version.TheVariants.{One, Two}
 use Rattle.camac_engines.specs.declared.fault.ToolFault.{ToolFault}
 use Rattle.camac_engines.specs.declared.fault.ToolFault.TheVariants.{Write}
-use Rattle.camac_tool.specs.declared.target.Earlier.{Earlier}
-use Rattle.camac_tool.specs.declared.target.Earlier.TheVariants.{Emptied, Refused}
-use Rattle.camac_tool.specs.declared.target.FileId.{FileId}
+use Rattle.camac_tool.specs.declared.host.Earlier.{Earlier}
+use Rattle.camac_tool.specs.declared.host.Earlier.TheVariants.{Emptied, Refused}
+use Rattle.camac_tool.specs.declared.host.FileId.{FileId}
+use Rattle.camac_tool.specs.declared.system.Input.{Input}
+use Rattle.camac_tool.specs.declared.system.Input.TheVariants.{Standard, File}
+
+-- what the reader in an input has left
+abbrev pub left_in : {S F : Type 0} → (S → Option (List ℕ)) → (F → Option (List ℕ)) → Input S F → Option (List ℕ)
+left_in standard file (Standard reader) = standard reader
+left_in standard file (File reader) = file reader
+
+abbrev pub is_standard : {S F : Type 0} → Input S F → Bool
+is_standard (Standard reader) = true
+is_standard (File reader) = false
 
 -- one file has one device and one number there; a file of which nothing is known may be any
 abbrev pub SaysSame : {E : Type 0} → FileId → Result FileId E → Result Bool ToolFault → Type 0

@@ -1,22 +1,50 @@
--- What an input of the program has left.
-use Rattle.std.specs.Prelude.{◌≡◌, ℕ, Bool, true, false, List, Option, Some, None}
+-- What the inputs have that words name, where their bytes are known.
+use Rattle.std.specs.Prelude.{◌≡◌, ◌≤◌, ℕ, Bool, true, false, List, length, codes, Option, Some, None, Ok, Err}
+use Rattle.std.specs.Io.KnownBytes.{Keeps}
+use Rattle.std.specs.Str.{bytes_eq}
+use Rattle.clap.specs.Words.{Text}
+use Rattle.camac_engines.specs.Found.{Found, IsJudged}
+use Rattle.camac_engines.specs.Plan.{PlanFound, plan_found}
+use Rattle.camac_engines.specs.Sample.{sample}
+use Rattle.camac_engines.specs.declared.judging.Judged.{Judged}
 use Rattle.camac_engines.specs.declared.plan.PlanSource.{PlanSource}
-use Rattle.camac_engines.specs.declared.plan.PlanSource.TheVariants.{Sample, Text}
+use Rattle.camac_engines.specs.declared.plan.PlanSource.TheVariants as source
+use Rattle.camac_engines.specs.declared.reading.TheConstants.{TEXT_LIMIT}
 use Rattle.camac_word.specs.Watched.{inner_of, has_failed}
-use Rattle.camac_tool.specs.declared.input.Input.{Input}
-use Rattle.camac_tool.specs.declared.input.Input.TheVariants.{Standard, File}
 
--- that of the reader in it
-abbrev pub left_in : {S F : Type 0} → (S → Option (List ℕ)) → (F → Option (List ℕ)) → Input S F → Option (List ℕ)
-left_in standard file (Standard reader) = standard reader
-left_in standard file (File reader) = file reader
+-- a text is all that an input has, and is within the limit
+abbrev pub IsTextOf : (limit : ℕ) → (known : Option (List ℕ)) → List ℕ → Type 0
+IsTextOf limit known text = (length text ≤ limit) × Keeps known (Some text)
 
-abbrev pub is_standard : {S F : Type 0} → Input S F → Bool
-is_standard (Standard reader) = true
-is_standard (File reader) = false
+-- what the sample plan says, or the plan of an input's text
+abbrev pub IsPlanIn : (is_sample : Bool) → (known : Option (List ℕ)) → PlanFound → Type 0
+IsPlanIn true known says = says ≡ Ok sample
+IsPlanIn false known says = (text : List ℕ) × IsTextOf TEXT_LIMIT known text × (says ≡ plan_found text)
 
--- a plan is read from its input, and the sample plan from none
+abbrev pub is_sample : Text → Bool
+is_sample word = bytes_eq word (codes "@sample")
+
+-- of each word the bytes of the input that it names
+module _ (bytes_of : Text → Option (List ℕ)) where
+  abbrev pub IsPlanOf : (plan : Text) → PlanFound → Type 0
+  IsPlanOf plan = IsPlanIn (is_sample plan) (bytes_of plan)
+
+  -- of a plan that is refused no script is read
+  abbrev pub IsFoundIn : (plan script : Text) → Found → Type 0
+  IsFoundIn plan script (Ok found) = IsPlanOf plan (Ok found.0) × IsTextOf TEXT_LIMIT (bytes_of script) found.1
+  IsFoundIn plan script (Err why) = IsPlanOf plan (Err why)
+
+  -- this is found of the two
+  abbrev pub IsJudgedIn : (plan script : Text) → Judged → Type 0
+  IsJudgedIn plan script j = (found : Found) × IsFoundIn plan script found × IsJudged found j
+
+-- the input that a plan is read from, by what it has left: the sample plan is read from none
+abbrev pub IsInputOf : {I : Type 0} → (left : I → Option (List ℕ)) → (known : Option (List ℕ)) → (is_sample : Bool) → Option I → Type 0
+IsInputOf left known true None = Unit {0}
+IsInputOf left known false (Some input) = Keeps known (left input)
+IsInputOf left known is_sample input = ⊥
+
 abbrev pub IsSourceOf : {I : Type 0} → Option I → PlanSource I → Type 0
-IsSourceOf None Sample = Unit {0}
-IsSourceOf (Some input) (Text watched) = (inner_of watched ≡ input) × (has_failed watched ≡ false)
+IsSourceOf None source.Sample = Unit {0}
+IsSourceOf (Some input) (source.Text watched) = (inner_of watched ≡ input) × (has_failed watched ≡ false)
 IsSourceOf input source = ⊥

@@ -1,59 +1,51 @@
-// What the program reads: a file, or standard input.
+// An input of the program, under the word that names it.
 
-ghost use Rattle.std.specs.Prelude.{◌≡◌, IfOk, IfErr, codes};
-ghost use Rattle.std.specs.Io.{ReadsAtMost};
-ghost use Rattle.std.specs.Io.KnownBytes.{ReadConsumes};
-ghost use Rattle.std.specs.Str.{bytes_eq};
-ghost use Rattle.camac_tool.specs.Input.{is_standard, left_in};
+ghost use Rattle.std.specs.Prelude.{◌≡◌, IfOk, IfErr};
+ghost use Rattle.std.specs.Io.KnownBytes.{Keeps};
+ghost use Rattle.camac_tool.specs.Input.{IsInputOf, IsSourceOf, is_sample};
 ghost use Rattle.camac_engines.specs.declared.fault.ToolFault.TheVariants.{Read as read-fault};
 
 use crate::failure::{Failure, Named};
-use camac_engines::ToolFault;
-use std::fs::Files;
-use std::io::{Error, ErrorKind, Input as StandardInput, Read};
-use std::{fs, io};
+use crate::host::Host;
+use camac_engines::{PlanSource, ToolFault};
+use camac_word::Watched;
 
-/// An input of the program.
-#[derive(Drop)]
-pub enum Input<S: Drop, F: Drop> {
-    Standard(S),
-    File(F),
-}
-
-/// The input that a word names: `@in` is standard input, and any other word a file.
-pub fn open<'f, 'a, R: Files + StandardInput>(
-    rt: &R,
+/// The input that a word names.
+pub fn open<'f, 'a, H: Host>(
+    host: &H,
     failure: &'f Failure<'a>,
     word: &'a str,
-) -> Result<Named<'f, 'a, Input<R::Reader, R::File>>, ToolFault>
-    ensures which { IfOk result (λ input. is_standard input.device ≡ bytes_eq word.now (codes "@in")) }
+) -> Result<Named<'f, 'a, H::Input>, ToolFault>
+    ensures bytes { IfOk result (λ input. Keeps (H.bytes_of host.now word.now) (H.Input.remaining input.device)) }
     ensures fault { IfErr result (λ fault. fault ≡ read-fault) }
 {
-    if word == "@in" {
-        return Ok(Named::new(Input::Standard(rt.reader()), word, failure));
-    }
-    match fs::open(rt, word) {
-        Ok(file) => Ok(Named::new(Input::File(file), word, failure)),
+    match host.open(word) {
+        Ok(input) => Ok(Named::new(input, word, failure)),
         Err(why) => Err(failure.read(word, why)),
     }
 }
 
-impl<S: Read + Drop, F: Read + Drop> Read for Input<S, F> {
-    ghost remaining = { λ i. left_in S.remaining F.remaining i };
+/// The input that a plan is read from; the sample plan is read from none.
+pub fn open_plan<'f, 'a, H: Host>(
+    host: &H,
+    failure: &'f Failure<'a>,
+    word: &'a str,
+) -> Result<Option<Named<'f, 'a, H::Input>>, ToolFault>
+    ensures input { IfOk result (λ input. IsInputOf (λ i. H.Input.remaining i.device) (H.bytes_of host.now word.now) (is_sample word.now) input) }
+    ensures fault { IfErr result (λ fault. fault ≡ read-fault) }
+{
+    if word == "@sample" {
+        return Ok(None);
+    }
+    Ok(Some(open(host, failure, word)?))
+}
 
-    fn read(&mut self, buf: &mut [u8]) -> io::Result<usize>
-        ensures bound { ReadsAtMost result buf.new }
-        ensures bytes { ReadConsumes (left_in S.remaining F.remaining self.old) (left_in S.remaining F.remaining self.new) result buf.new }
-    {
-        match self {
-            Input::Standard(reader) => match reader.read(buf) {
-                // the place of a closed stream is held by a folder
-                Err(why) if why.kind() == ErrorKind::IsADirectory => {
-                    Err(Error::new(why.kind(), "it is closed, or a folder"))
-                }
-                result => result,
-            },
-            Input::File(reader) => reader.read(buf),
-        }
+/// The source of a plan.
+pub fn source_of<I: Drop>(input: Option<I>) -> PlanSource<I>
+    ensures { IsSourceOf input result }
+{
+    match input {
+        None => PlanSource::Sample,
+        Some(input) => PlanSource::Text(Watched::new(input)),
     }
 }

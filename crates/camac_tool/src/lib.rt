@@ -6,13 +6,14 @@ mod answer_line;
 mod devices;
 mod failure;
 mod gathered;
+mod host;
 mod input;
 mod launch;
 pub mod laws;
-mod places;
 mod program;
 mod running;
 mod streams;
+mod system;
 mod target;
 
 pub use camac_engines::{

@@ -1,27 +1,26 @@
 // The program, from its words to its exit status.
 
-ghost use Rattle.std.specs.Prelude.{◌≡◌, IfOk, IfErr, codes, is_none, map, string_bytes};
-ghost use Rattle.std.specs.Str.{bytes_eq};
-ghost use Rattle.camac_engines.specs.declared.fault.ToolFault.TheVariants.{Read as read-fault};
+ghost use Rattle.std.specs.Prelude.{◌≡◌, IfOk, codes, map, string_bytes};
+ghost use Rattle.std.specs.Io.KnownBytes.{Keeps};
 ghost use Rattle.camac_play.specs.declared.telling.Telling.TheVariants.{Listing, Requests};
 ghost use Rattle.clap.specs.Words.{kind_of};
+ghost use Rattle.camac_tool.specs.Input.{IsInputOf, is_sample};
 ghost use Rattle.camac_tool.specs.Jobs.{DoesJob, EventsTell, ExplainsRule, HandsOn, IsSettled, OrWriteFault, PlanTells, Replies, Responds, RunsTold, ScriptTells, Tells};
 ghost use Rattle.camac_tool.specs.Status.{Ends, EndsAs, EndsJob, EndsMisuse, EndsUsage};
 ghost use Rattle.camac_tool.specs.declared.launch.ArgumentsFault.TheVariants.{Memory, NotText};
-ghost use Rattle.camac_tool.specs.Input.{IsSourceOf};
 ghost use Rattle.camac_word.specs.Watched.{inner_of};
 
 use crate::devices::run_on_devices;
 use crate::failure::{Failure, Named};
 use crate::gathered::Gathered;
-use crate::input::{Input, open};
+use crate::host::{Earlier, Host};
+use crate::input::{open, open_plan, source_of};
 use crate::launch::ArgumentsFault;
-use crate::places::hold_places;
 use crate::running::engine_drive;
-use crate::target::{Earlier, NewFile, keep_apart, settle};
+use crate::target::{NewFile, keep_apart, settle};
 use camac_engines::{
-    Ask, Outcome, PlanAsk, PlanSource, Responded, ToolFault, Turns, answer, answer_plan,
-    engine_events, engine_explain_rule, engine_response, status,
+    Ask, Outcome, PlanAsk, Responded, ToolFault, Turns, answer, answer_plan, engine_events,
+    engine_explain_rule, engine_response, status,
 };
 use camac_explain::Rule;
 use camac_response::{Misuse, read_settings};
@@ -29,9 +28,7 @@ use camac_tool_words::{Job, JobFault, read_words, setting_error};
 use camac_word::Watched;
 use clap::Error;
 use clap::error::ErrorKind;
-use std::fs::Files;
-use std::io::{Input as StandardInput, Write};
-use std::rt::Runtime;
+use std::io::{Eprint, Print, Write};
 
 /// The status of a usage fault.
 const USAGE: u8 = 2;
@@ -50,19 +47,19 @@ const OF_CHECK: [&str; 5] = ["--strict", "--write", "--keeps", "--json", "--form
 /// Does what the words after the program's name ask for. Returns the exit status: 0 or 1 by the outcome, 2 where the words ask for nothing
 /// that is there, 3 for a fault, and 141 where a pipe was written that its reader closed. What a job tells goes to `out`, which is returned.
 /// Help and version go to standard output, and end with 0. A fault is a line on standard error, and below it its file and the reason.
-pub fn exit_status<R: Runtime + AllocGlobal, W: Write + Drop>(
+pub fn exit_status<R: Host + Print + Eprint + AllocGlobal, W: Write + Drop>(
     rt: &R,
     words: &[String],
     out: W,
 ) -> (u8, W)
-    ensures { Ends (map string_bytes words.now) (W.contents out) (W.contents result.1) result.0 }
+    ensures { Ends (R.bytes_of rt.now) (map string_bytes words.now) (W.contents out) (W.contents result.1) result.0 }
 {
     let failure = Failure::none();
     let tool = Tool {
         rt,
         failure: &failure,
     };
-    let _places = match hold_places(rt) {
+    let _places = match rt.hold_places() {
         Ok(places) => places,
         Err(why) => return (failure.tell(rt, failure.read("/", why)), out),
     };
@@ -74,7 +71,7 @@ pub fn exit_status<R: Runtime + AllocGlobal, W: Write + Drop>(
 }
 
 /// The exit status where the arguments cannot be read, after one line on standard error: 2 where they are no text, 3 where memory ran out.
-pub fn unread_status<R: Runtime>(rt: &R, fault: ArgumentsFault) -> u8
+pub fn unread_status<R: Eprint>(rt: &R, fault: ArgumentsFault) -> u8
     ensures not_text { fault ≡ NotText → result ≡ 2 }
     ensures memory { fault ≡ Memory → result ≡ 3 }
 {
@@ -114,9 +111,9 @@ struct Tool<'r, 'f, 'a, R> {
     failure: &'f Failure<'a>,
 }
 
-impl<'r, 'f, 'a, R: Runtime + AllocGlobal> Tool<'r, 'f, 'a, R> {
+impl<'r, 'f, 'a, R: Host + Print + Eprint + AllocGlobal> Tool<'r, 'f, 'a, R> {
     fn serve<W: Write + Drop>(&self, job: Job<'a>, out: W) -> (u8, W)
-        ensures { EndsJob job.entry (W.contents out) (W.contents result.1) result.0 }
+        ensures { EndsJob (R.bytes_of self.now.rt.now) job.entry (W.contents out) (W.contents result.1) result.0 }
     {
         let is_swapped = is_swapped(&job);
         let (done, out) = self.do_job(job, Named::new(out, STANDARD_OUTPUT, self.failure));
@@ -127,7 +124,7 @@ impl<'r, 'f, 'a, R: Runtime + AllocGlobal> Tool<'r, 'f, 'a, R> {
     }
 
     fn do_job<W: Write + Drop>(&self, job: Job<'a>, out: W) -> (Result<Done<'a>, ToolFault>, W)
-        ensures { DoesJob job.entry (W.contents out) (W.contents result.1) result.0 }
+        ensures { DoesJob (R.bytes_of self.now.rt.now) job.entry (W.contents out) (W.contents result.1) result.0 }
     {
         match job {
             Job::Plan(plan) => self.gather(Question::Plan(PlanAsk::Lines, plan), out),
@@ -158,7 +155,7 @@ impl<'r, 'f, 'a, R: Runtime + AllocGlobal> Tool<'r, 'f, 'a, R> {
         script: &'a str,
         out: W,
     ) -> (Result<Done<'a>, ToolFault>, W)
-        ensures { HandsOn (Tells (ScriptTells ask.entry)) (W.contents out) (W.contents result.1) result.0 }
+        ensures { HandsOn (Tells (ScriptTells (R.bytes_of self.now.rt.now) plan.now script.now ask.entry)) (W.contents out) (W.contents result.1) result.0 }
     {
         self.gather(Question::Script(ask, plan, script), out)
     }
@@ -169,7 +166,7 @@ impl<'r, 'f, 'a, R: Runtime + AllocGlobal> Tool<'r, 'f, 'a, R> {
         question: Question<'a>,
         out: W,
     ) -> (Result<Done<'a>, ToolFault>, W)
-        ensures { HandsOn (Replies question.entry) (W.contents out) (W.contents result.1) result.0 }
+        ensures { HandsOn (Replies (R.bytes_of self.now.rt.now) question.entry) (W.contents out) (W.contents result.1) result.0 }
     {
         let mut out = match Gathered::new(self.rt.alloc(), out) {
             Ok(out) => Watched::new(out),
@@ -191,7 +188,7 @@ impl<'r, 'f, 'a, R: Runtime + AllocGlobal> Tool<'r, 'f, 'a, R> {
         question: Question<'a>,
         out: &mut Watched<W>,
     ) -> Result<Done<'a>, ToolFault>
-        ensures { Replies question.entry (W.contents (inner_of out.old)) (W.contents (inner_of out.new)) result }
+        ensures { Replies (R.bytes_of self.now.rt.now) question.entry (W.contents (inner_of out.old)) (W.contents (inner_of out.new)) result }
     {
         match question {
             Question::Plan(ask, plan) => self.ask_plan(ask, plan, out),
@@ -218,9 +215,9 @@ impl<'r, 'f, 'a, R: Runtime + AllocGlobal> Tool<'r, 'f, 'a, R> {
         plan: &'a str,
         out: &mut Watched<W>,
     ) -> Result<Done<'a>, ToolFault>
-        ensures { Tells (PlanTells ask) (W.contents (inner_of out.old)) (W.contents (inner_of out.new)) result }
+        ensures { Tells (PlanTells (R.bytes_of self.now.rt.now) plan.now ask) (W.contents (inner_of out.old)) (W.contents (inner_of out.new)) result }
     {
-        let mut plan = source_of(self.plan_input(plan)?);
+        let mut plan = source_of(open_plan(self.rt, self.failure, plan)?);
         let outcome = answer_plan(self.rt.alloc(), ask, &mut plan, out)?;
         Ok(Done::Answered(outcome))
     }
@@ -232,9 +229,9 @@ impl<'r, 'f, 'a, R: Runtime + AllocGlobal> Tool<'r, 'f, 'a, R> {
         script: &'a str,
         out: &mut Watched<W>,
     ) -> Result<Done<'a>, ToolFault>
-        ensures { Tells (ScriptTells ask.entry) (W.contents (inner_of out.old)) (W.contents (inner_of out.new)) result }
+        ensures { Tells (ScriptTells (R.bytes_of self.now.rt.now) plan.now script.now ask.entry) (W.contents (inner_of out.old)) (W.contents (inner_of out.new)) result }
     {
-        let mut plan = source_of(self.plan_input(plan)?);
+        let mut plan = source_of(open_plan(self.rt, self.failure, plan)?);
         let mut script = Watched::new(open(self.rt, self.failure, script)?);
         let outcome = answer(self.rt.alloc(), ask, &mut plan, &mut script, out)?;
         Ok(Done::Answered(outcome))
@@ -249,13 +246,13 @@ impl<'r, 'f, 'a, R: Runtime + AllocGlobal> Tool<'r, 'f, 'a, R> {
         within: &[&'a str],
         out: &mut Watched<W>,
     ) -> Result<Done<'a>, ToolFault>
-        ensures { Responds (map (λ w. w.now) every.now) (map (λ w. w.now) within.now) (W.contents (inner_of out.old)) (W.contents (inner_of out.new)) result }
+        ensures { Responds (R.bytes_of self.now.rt.now) plan.now script.now (map (λ w. w.now) every.now) (map (λ w. w.now) within.now) (W.contents (inner_of out.old)) (W.contents (inner_of out.new)) result }
     {
         let settings = match read_settings(self.rt.alloc(), every, within)? {
             Ok(settings) => settings,
             Err(misuse) => return Ok(Done::Misused(misuse)),
         };
-        let mut plan = source_of(self.plan_input(plan)?);
+        let mut plan = source_of(open_plan(self.rt, self.failure, plan)?);
         let mut script = Watched::new(open(self.rt, self.failure, script)?);
         match engine_response(self.rt.alloc(), &settings, &mut plan, &mut script, out)? {
             Responded::Told(outcome) => Ok(Done::Answered(outcome)),
@@ -268,7 +265,7 @@ impl<'r, 'f, 'a, R: Runtime + AllocGlobal> Tool<'r, 'f, 'a, R> {
         file: &'a str,
         out: &mut Watched<W>,
     ) -> Result<Done<'a>, ToolFault>
-        ensures { Tells EventsTell (W.contents (inner_of out.old)) (W.contents (inner_of out.new)) result }
+        ensures { Tells (EventsTell (R.bytes_of self.now.rt.now) file.now) (W.contents (inner_of out.old)) (W.contents (inner_of out.new)) result }
     {
         let mut input = Watched::new(open(self.rt, self.failure, file)?);
         let outcome = engine_events(self.rt.alloc(), &mut input, out)?;
@@ -297,13 +294,13 @@ impl<'r, 'f, 'a, R: Runtime + AllocGlobal> Tool<'r, 'f, 'a, R> {
         &self,
         plan: &'a str,
         script: &'a str,
-        given: &'a str,
+        answers: &'a str,
         events: &'a str,
         out: W,
     ) -> (Result<Done<'a>, ToolFault>, W)
-        ensures { HandsOn (RunsTold Listing) (W.contents out) (W.contents result.1) result.0 }
+        ensures { HandsOn (RunsTold (R.bytes_of self.now.rt.now) plan.now script.now answers.now Listing) (W.contents out) (W.contents result.1) result.0 }
     {
-        let (plan, script, answers) = match self.open_run(plan, script, given, events) {
+        let (plan, script, lines) = match self.open_run(plan, script, answers, events) {
             Ok(inputs) => inputs,
             Err(fault) => return (Err(fault), out),
         };
@@ -312,12 +309,12 @@ impl<'r, 'f, 'a, R: Runtime + AllocGlobal> Tool<'r, 'f, 'a, R> {
             self.rt.alloc(),
             &mut source_of(plan),
             &mut Watched::new(script),
-            answers,
+            lines,
             out,
             Named::new(file, events, self.failure),
         );
         if let Some(line) = &ran.refused {
-            line.tell(self.rt, given);
+            line.tell(self.rt, answers);
         }
         (settled(ran.outcome, &ran.records), ran.listing)
     }
@@ -330,7 +327,7 @@ impl<'r, 'f, 'a, R: Runtime + AllocGlobal> Tool<'r, 'f, 'a, R> {
         events: &'a str,
         out: W,
     ) -> (Result<Done<'a>, ToolFault>, W)
-        ensures { OrWriteFault (RunsTold Requests (W.contents out) (W.contents result.1)) result.0 }
+        ensures { OrWriteFault (RunsTold (R.bytes_of self.now.rt.now) plan.now script.now (codes "@in") Requests (W.contents out) (W.contents result.1)) result.0 }
     {
         let (plan, script, answers) = match self.open_run(plan, script, "@in", events) {
             Ok(inputs) => inputs,
@@ -359,13 +356,17 @@ impl<'r, 'f, 'a, R: Runtime + AllocGlobal> Tool<'r, 'f, 'a, R> {
         events: &'a str,
     ) -> Result<
         (
-            Option<Named<'f, 'a, Input<R::Reader, R::File>>>,
-            Named<'f, 'a, Input<R::Reader, R::File>>,
-            Named<'f, 'a, Input<R::Reader, R::File>>,
+            Option<Named<'f, 'a, R::Input>>,
+            Named<'f, 'a, R::Input>,
+            Named<'f, 'a, R::Input>,
         ),
         ToolFault,
-    > {
-        let plan = self.plan_input(plan)?;
+    >
+        ensures plan { IfOk result (λ inputs. IsInputOf (λ i. R.Input.remaining i.device) (R.bytes_of self.now.rt.now plan.now) (is_sample plan.now) inputs.0) }
+        ensures script { IfOk result (λ inputs. Keeps (R.bytes_of self.now.rt.now script.now) (R.Input.remaining inputs.1.device)) }
+        ensures answers { IfOk result (λ inputs. Keeps (R.bytes_of self.now.rt.now answers.now) (R.Input.remaining inputs.2.device)) }
+    {
+        let plan = open_plan(self.rt, self.failure, plan)?;
         let script = open(self.rt, self.failure, script)?;
         let answers = open(self.rt, self.failure, answers)?;
         keep_apart(
@@ -377,20 +378,6 @@ impl<'r, 'f, 'a, R: Runtime + AllocGlobal> Tool<'r, 'f, 'a, R> {
             &answers,
         )?;
         Ok((plan, script, answers))
-    }
-
-    // The input that a plan is read from; the sample plan is read from none.
-    fn plan_input(
-        &self,
-        word: &'a str,
-    ) -> Result<Option<Named<'f, 'a, Input<R::Reader, R::File>>>, ToolFault>
-        ensures which { IfOk result (λ input. is_none input ≡ bytes_eq word.now (codes "@sample")) }
-        ensures fault { IfErr result (λ fault. fault ≡ read-fault) }
-    {
-        if word == "@sample" {
-            return Ok(None);
-        }
-        Ok(Some(open(self.rt, self.failure, word)?))
     }
 
     // What standard error does not take is lost: there is no other place to tell it.
@@ -486,17 +473,8 @@ fn meant_by(words: &[String]) -> Option<(&'static str, &str)> {
     }
 }
 
-fn source_of<I: Drop>(input: Option<I>) -> PlanSource<I>
-    ensures { IsSourceOf input result }
-{
-    match input {
-        None => PlanSource::Sample,
-        Some(input) => PlanSource::Text(Watched::new(input)),
-    }
-}
-
 // Of a run that came to its end the event file is waited for.
-fn settled<'a, R: Files>(
+fn settled<'a, R: Host>(
     outcome: Result<Outcome, ToolFault>,
     events: &Named<'_, '_, NewFile<'_, R>>,
 ) -> Result<Done<'a>, ToolFault>

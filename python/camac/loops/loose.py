@@ -38,7 +38,9 @@ def wide_keeps(plan: File, text: bytes, bodies: Sequence[Body], program: Optiona
     together.
 
     Raises ProgramFault and OSError as `camac.check`."""
-    loops = [it for body in bodies for it in all_in(body.statements) if isinstance(it, Loop)]
+    loops = [it for body in bodies for it in body.every if isinstance(it, Loop) and it.keeps]
+    if not loops:
+        return
     unused = {keep.start for loop in loops for keep in loop.keeps if accepts(plan, edited(text, [_without(text, loop, keep)]), program)}
     least = least_ranges(plan, text, {keep.start for loop in loops for keep in loop.keeps} - unused, program)
     for loop in loops:
@@ -66,7 +68,7 @@ def dear_loops(plan: File, text: bytes, bodies: Sequence[Body], program: Optiona
     a turn costs.
 
     Raises ProgramFault and OSError as `camac.check`."""
-    loops = [(at, it) for at, body in enumerate(bodies) for it in all_in(body.statements) if isinstance(it, For) and _differs(it)]
+    loops = [(at, it) for at, body in enumerate(bodies) for it in body.every if isinstance(it, For) and _differs(it)]
     before = _bounds(plan, text, program) if loops else []
     for at, loop in loops:
         edit = put_before_block(text, loop, "each")

@@ -16,7 +16,7 @@ from camac.printed import read_headings
 from camac.program import verdict
 from camac.reader import read_script
 from camac.texts import GREATEST_TEXT
-from camac.tree import Assign, Body, For, Loop, Number, Range, Statement, all_in, blocks_of, parts_of
+from camac.tree import Assign, Body, For, Loop, Number, Range, Statement, blocks_of, parts_of
 
 # The most calls of the checker; the last ones are for headings.
 MOST_CALLS, LAST_CALLS = 200, 8
@@ -85,7 +85,7 @@ class _Search:
         self.bodies = read_script(text).bodies
         self.trials = Trials(plan, text, self.bodies, program)
         self.changes = Changes(text)
-        loops = [it for body in self.bodies for it in all_in(body.statements) if isinstance(it, Loop)]
+        loops = [it for body in self.bodies for it in body.every if isinstance(it, Loop)]
         self.given: Dict[Cause, Range] = {(loop, it.name): it.range for loop in loops for it in loop.keeps}
         # What no range can keep, how often ranges grew, and what is added at once to the variables that have a condition where they grow.
         self.lost: Set[Cause] = set()
@@ -177,7 +177,7 @@ class _Search:
         loop, name = cause
         steps = {0, WORD - 1, MOST}
         if not self.guarded[name]:
-            its = [one.value for it in all_in(self.body_of(loop).statements) for value in it.expressions for one in parts_of(value) if isinstance(one, Number)]
+            its = [one.value for it in self.body_of(loop).every for value in it.expressions for one in parts_of(value) if isinstance(one, Number)]
             steps.update(USUAL, (near for it in its for near in (it - 1, it, it + 1) if 0 <= near <= MOST))
         ends = sorted(steps)
         low = new[0] if new[0] == old[0] else ends[bisect.bisect_right(ends, new[0]) - 1]
@@ -189,7 +189,7 @@ class _Search:
         if about is None:
             return False
         place = about.end if isinstance(about, Body) else about.start
-        loops = [it for it in all_in(self.body_of(about).statements) if isinstance(it, Loop) and it.start <= place]
+        loops = [it for it in self.body_of(about).every if isinstance(it, Loop) and it.start <= place]
         causes = {(it, name) for it in loops if not (isinstance(it, For) and (it.is_each or it in self.found.each)) for name in sorted(it.written)}
         new = causes - self.given.keys() - self.found.kept.keys() - self.lost
         self.found.kept.update((it, NOTHING) for it in sorted(new, key=lambda it: (it[0].start, it[1])))
@@ -201,7 +201,7 @@ class _Search:
         if self.keeps_only or not isinstance(it, Statement) or it in self.found.changed:
             return False
         body = self.body_of(it)
-        around = [one for one in all_in(body.statements) if isinstance(one, Loop) and one.start <= it.start < one.end]
+        around = [one for one in body.every if isinstance(one, Loop) and one.start <= it.start < one.end]
         # A measure falls as it is written.
         change = None if isinstance(it, Assign) and any(it.name == one.name for one in around) else self.changes.at(it, stopped)
         if change is None:
@@ -215,7 +215,7 @@ class _Search:
         """Makes room for so much at once wherever a variable grows, and keeps it anew."""
         self.guarded[name] = step
         self.lost = {one for one in self.lost if one[1] != name}
-        its = [it for it in all_in(body.statements) if isinstance(it, Assign) and it.name == name and grows(it)]
+        its = [it for it in body.every if isinstance(it, Assign) and it.name == name and grows(it)]
         changed = self.found.changed
         changed.update((it, self.changes.guard(it, step)) for it in its if it not in changed or changed[it].step)
 
@@ -246,7 +246,7 @@ def _judged(statements: Iterable[Statement], chosen: Container[Statement]) -> Tu
 def turn_by_turn(body: Body) -> List[For]:
     """The loops of a body that may all be judged turn by turn and are not: `for` loops between two numbers that keep nothing. Where that is too much,
     those that judge most are left out."""
-    its = [it for it in all_in(body.statements) if isinstance(it, For) and it.turns and it.turns <= MOST_TURNS and not it.keeps and not it.is_each]
+    its = [it for it in body.every if isinstance(it, For) and it.turns and it.turns <= MOST_TURNS and not it.keeps and not it.is_each]
     chosen = set(its)
     its.sort(key=lambda it: _judged([it], chosen)[1])
     least, most = 0, len(its)

@@ -3,10 +3,9 @@ from typing import Dict, List, NamedTuple, Optional, Sequence, Tuple, Union
 
 from camac.drive import File
 from camac.edits import Edit, edited
-from camac.library import Verdict
 from camac.printed import read_explanation
-from camac.program import verdict
-from camac.tree import Body, Statement, all_in
+from camac.program import Verdict, verdict
+from camac.tree import Body, Statement
 
 # With BOUNDS headings are not looked at. Both say more of a refusal than its rule.
 CHECK, BOUNDS = "explain", "explain --bounds"
@@ -34,7 +33,7 @@ class Trials:
         self.at: Dict[int, Union[Statement, Body]] = {}
         for body in bodies:
             self.at[body.line + len(self.breaks)] = body
-            for it in all_in(body.statements):
+            for it in body.every:
                 self.breaks.append(Edit(it.start, it.start, "\n"))
                 self.at[it.line + len(self.breaks)] = it
 

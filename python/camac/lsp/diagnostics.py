@@ -3,13 +3,13 @@ import functools
 import pathlib
 from typing import Any, Dict, List, Optional
 
-from camac.bodies import parse_costs
 from camac.lsp.documents import Range, Text
 from camac.lsp.refusals import Placed, refusals
 from camac.lsp.workspace import Judge, Judged
 from camac.printed import read_explanation, read_responses, read_services
+from camac.program import advice_on
 from camac.toml_places import place_of
-from camac.warn import Code, Told, Warned, looks_for_all, warnings_of
+from camac.warn import Code, Warned, look_at, looks_for_all
 
 ERROR, WARNING = 1, 2
 UNNECESSARY = [1]
@@ -80,14 +80,13 @@ def warned(judged: Judged) -> List[Warned]:
     verdict = judged.ask("check")
     if not verdict.accepted:
         return []
-    its, told = judged.judge, Told(read_services(verdict.text), [], [])
-    if looks_for_all(its.program):
-        told = Told(told.services, parse_costs(judged.ask("costs").text), read_responses(judged.ask("response").text))
-    return warnings_of(its.file, judged.text.data, told, its.program)
+    its = judged.judge
+    responses = read_responses(judged.ask("response").text) if looks_for_all(its.program) else []
+    return look_at(its.file, judged.text.data, read_services(verdict.text), responses, its.program)[1]
 
 
 def of_warning(it: Warned, text: Text) -> Diagnostic:
-    its = shown(it.code.value, it.text, WARNING, line_range(text, it.line))
+    its = shown(it.code.value, "\n".join([it.text, *advice_on(it.code.value)[:-1]]), WARNING, line_range(text, it.line))
     if it.code in (Code.UNREACHED, Code.UNUSED_KEEP):
         its["tags"] = UNNECESSARY
     return its

@@ -9,11 +9,10 @@ from functools import cached_property
 from typing import Any, Callable, Dict, List, NamedTuple, Optional, Tuple, TypeVar
 from urllib.parse import unquote, urlsplit
 
-from camac.library import Verdict
 from camac.lsp.documents import Text
 from camac.names import Names
 from camac.printed import read_plan
-from camac.program import explain_plan, output_of, quickest, verdict
+from camac.program import Verdict, explain_plan, output_of, quickest, verdict
 from camac.texts import GREATEST_TEXT, SAMPLE, plan_text, read_regular
 from camac.toml_places import with_commands
 from camac.values import Plan

@@ -1,9 +1,11 @@
 """The picture of a simulation at several rates: of each service the share of its triggers that are answered, and how long look-at-mes wait."""
 import math
-from typing import List, NamedTuple, Optional, Sequence, Tuple
+from typing import TYPE_CHECKING, List, NamedTuple, Optional, Sequence, Tuple
 
 from camac.pictures.svg import NO_POINTER, Canvas, count, share, ticks
-from camac.simulate import Simulated, Simulation
+
+if TYPE_CHECKING:
+    from camac.simulate import Simulated, Simulation
 
 LEFT, WIDE, HIGH, PANEL = 64, 330, 150, 480
 ROW = HIGH + 74
@@ -59,7 +61,7 @@ class Plot:
             self.canvas.text(self.left + WIDE + 6, last + 4, it.label, "s10", NO_POINTER)
 
 
-def draw_rates(simulations: Sequence[Simulation], given: Simulation, cycle: float) -> Canvas:
+def draw_rates(simulations: "Sequence[Simulation]", given: "Simulation", cycle: float) -> Canvas:
     """Draws two plots for each service: over its rate the share that is answered, and the cycles that its look-at-mes wait. `given` is the
     simulation of the rates that were given; `cycle` are the seconds of a cycle."""
     canvas = Canvas("Look-at-mes that are answered, and how long they wait, over the rate")
@@ -79,7 +81,7 @@ def draw_rates(simulations: Sequence[Simulation], given: Simulation, cycle: floa
     return canvas
 
 
-def _draw_live(canvas: Canvas, y: float, its: Sequence[Simulated], given: Simulated, cycle: Optional[float]) -> None:
+def _draw_live(canvas: Canvas, y: float, its: "Sequence[Simulated]", given: "Simulated", cycle: Optional[float]) -> None:
     plot = Plot(canvas, (LEFT, y), [it.rate for it in its], 1)
     plot.draw_axes(given.rate, [(part / 4, f"{25 * part} %") for part in range(5)])
     lines = [Line([it.live() for it in its], "ours", "answered")]
@@ -88,7 +90,7 @@ def _draw_live(canvas: Canvas, y: float, its: Sequence[Simulated], given: Simula
     plot.draw(lines)
 
 
-def _draw_waits(canvas: Canvas, y: float, its: Sequence[Simulated], given: Simulated) -> None:
+def _draw_waits(canvas: Canvas, y: float, its: "Sequence[Simulated]", given: "Simulated") -> None:
     top = max([given.end or 0, *(it.quantile(1.0) for it in its)])
     plot = Plot(canvas, (PANEL + LEFT, y), [it.rate for it in its], 1.05 * top)
     plot.draw_axes(given.rate, [(value, f"{value:,}") for value in ticks(top)])
@@ -98,7 +100,7 @@ def _draw_waits(canvas: Canvas, y: float, its: Sequence[Simulated], given: Simul
     plot.draw(lines)
 
 
-def _draw_tips(canvas: Canvas, y: float, its: Sequence[Simulated]) -> None:
+def _draw_tips(canvas: Canvas, y: float, its: "Sequence[Simulated]") -> None:
     """Of each rate a column over each plot, whose tip has what was simulated."""
     step = WIDE / max(len(its) - 1, 1)
     for at, it in enumerate(its):

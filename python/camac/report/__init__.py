@@ -14,7 +14,6 @@ from camac.report.page import figure, header, page
 from camac.fits import Check
 from camac.runs import Inputs
 from camac.subcommands import check, costs, plan as read_plan, response
-from camac.surveys.summary import read_summary
 from camac.texts import plan_text, source_lines
 from camac.values import Body
 
@@ -54,6 +53,8 @@ def report(
     if bodies is not None:
         run.checks.append(_shares_check(bodies))
     if survey is not None:
+        from camac.surveys.summary import read_summary
+
         found, sha256 = read_summary(survey), hashlib.sha256(plan_text(inputs.plan)).hexdigest()
         run.checks.append(Check(f"crates and plan: {'; '.join([found.line(sha256), *found.differences])}", found.is_good(sha256)))
     facts = sections.Facts(inputs, told(program), plan, services, source_lines(inputs.script), bodies, responses, run)

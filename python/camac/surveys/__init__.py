@@ -1,12 +1,11 @@
 """A survey: asks the crates which commands they accept, and compares that with the plan. What is sent is in scripts that the program has judged,
 and none of it writes to a module."""
-import datetime
 import enum
 import itertools
+import time
 from typing import Callable, Iterator, List, NamedTuple, Optional, Sequence, Tuple, Union
 
-from camac.drive import Answer, Branch, File
-from camac.drivers import driver
+from camac.drive import Answer, Branch, File, branch_of
 from camac.functions import writes
 from camac.surveys.asking import Asked, Reach, Script, ask, declared_plan, service
 from camac.surveys.wiring import Wire
@@ -135,11 +134,11 @@ def survey(
     for functions that write (F16 to F23), and for the rest what `camac.call` raises."""
     if any(not 0 <= it < 32 or writes(it) for it in functions):
         raise ValueError("a survey sends F0 to F15 and F24 to F31: the others write")
-    branch = driver(branch, plan) if isinstance(branch, str) else branch
+    branch = branch_of(branch, plan)
     if not getattr(branch, "tells_x", True) and any(it >= 8 for it in functions):
         raise ValueError("this driver tells no X of functions that move no data: ask for F0 and F1 alone, or let it read to tell X (mcstd:LIBRARY,x)")
     its = declared_plan(plan, program)
-    at = now("seconds")
+    at = time.strftime("%Y-%m-%dT%H:%M:%SZ", time.gmtime())
     asked = []
     for number, crate in enumerate(its.crates, 1):
         for script in scripts(its, crate, functions, has_empty):
@@ -148,11 +147,6 @@ def survey(
             asked.append(ask(script, branch, program, timeout))
     answers = [cycle for it in asked for cycle in it.cycles()]
     return Survey(at, its, tuple(functions), has_empty, tuple(asked), tuple(_rows(its, answers)))
-
-
-def now(timespec: str = "milliseconds") -> str:
-    """The time, as records have it (UTC, ISO 8601)."""
-    return datetime.datetime.now(datetime.timezone.utc).isoformat(timespec=timespec).replace("+00:00", "Z")
 
 
 def _names(functions: Sequence[int]) -> str:

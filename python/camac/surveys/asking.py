@@ -2,7 +2,6 @@
 import os
 import tempfile
 import time
-from dataclasses import dataclass
 from typing import Iterable, List, NamedTuple, Optional, Tuple
 
 from camac.call import call
@@ -48,8 +47,7 @@ class Script(NamedTuple):
     commands: int
 
 
-@dataclass
-class Asked:
+class Asked(NamedTuple):
     """What came of a script: the operations that were made, with their answers and seconds, and how it ended: "" if all of it was made."""
 
     script: Script

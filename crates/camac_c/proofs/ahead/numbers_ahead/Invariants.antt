@@ -4,6 +4,6 @@ use Rattle.camac_c.proofs.ahead.numbers_ahead.Given as goal
 
 abbrev pub invariant-ahead : goal.invariant-ahead
 invariant-ahead l = record {
-  items : l.numbers.items ++ numbers_ahead (drop l.wanted-index l.ahead) ≡ numbers_ahead l.ahead;
-  len : length l.numbers.items ≡ 7 * l.wanted-index;
+  items : l.numbers.items ++ numbers_ahead l.session.checked.now.plan l.session.runner (drop l.wanted-index l.ahead) ≡ numbers_ahead l.session.checked.now.plan l.session.runner l.ahead;
+  len : length l.numbers.items ≡ 9 * l.wanted-index;
 }

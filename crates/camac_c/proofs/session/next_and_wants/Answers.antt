@@ -14,25 +14,27 @@ want_stays false told = refl
 
 pub returns-then-told-eq-OK : goal.returns-then-told-eq-OK
 returns-then-told-eq-OK c =
-    let next = c.take.new.told in let wanted = c.wants.result in
-    let pauses : Bool = is_paused c.take.new.session.runner.pending in
+    let next = c.take-wanted.new.told in let wanted = c.take-wanted.result in let s = c.take-wanted.new.session in
+    let pauses : Bool = is_paused s.runner.pending in
+    let its = c.take-wanted.ensures in
     record {
       next = next;
-      takes = c.take.ensures;
-      wants = while_paused pauses (asked wanted);
-      tells = (refl, (wanted, c.wants.ensures.wants, c.wants.ensures.safe, refl));
-      told_is = ap (λ (w : CamacWant). record next { want = w }) (c.tell_want.ensures ∙ sym (want_stays pauses (asked wanted)))
-          ∙ ap (λ (b : Bool). if b then record next { want = (while_paused pauses (asked wanted)).want } else next) (sym (ap (λ (n : ℕ). nat_eq n 0) c.if-told-eq-OK.true));
+      takes = its.tells;
+      wants = while_paused pauses (asked s.width s.runner wanted);
+      tells = (refl, (wanted, record { wants = its.wants; safe = its.safe; waits = its.waits }, refl));
+      told_is = ap (λ (w : CamacWant). record next { want = w }) (c.tell_want.ensures ∙ sym (want_stays pauses (asked s.width s.runner wanted)))
+          ∙ ap (λ (b : Bool). if b then record next { want = (while_paused pauses (asked s.width s.runner wanted)).want } else next) (sym (ap (λ (n : ℕ). nat_eq n 0) c.if-told-eq-OK.true));
     }
 
 pub returns-else-told-eq-OK : goal.returns-else-told-eq-OK
 returns-else-told-eq-OK c =
-    let next = c.take.new.told in let wanted = c.wants-else-told-eq-OK.result in
-    let wants : Told = while_paused (is_paused c.take.new.session.runner.pending) (asked wanted) in
+    let next = c.take-wanted.new.told in let wanted = c.take-wanted.result in let s = c.take-wanted.new.session in
+    let its = c.take-wanted.ensures in
+    let wants : Told = while_paused (is_paused s.runner.pending) (asked s.width s.runner wanted) in
     record {
       next = next;
-      takes = c.take.ensures;
+      takes = its.tells;
       wants = wants;
-      tells = (refl, (wanted, c.wants-else-told-eq-OK.ensures.wants, c.wants-else-told-eq-OK.ensures.safe, refl));
+      tells = (refl, (wanted, record { wants = its.wants; safe = its.safe; waits = its.waits }, refl));
       told_is = ap (λ (b : Bool). if b then record next { want = wants.want } else next) (sym (ne_eqb next.code 0 c.if-told-eq-OK.false));
     }

@@ -1,12 +1,10 @@
-use Rattle.std.proofs.Common.{◌≡◌, ℕ, None, false, refl, sym, subst, ap, ◌∙◌}
+use Rattle.std.proofs.Common.{◌≡◌, ℕ, false, refl, sym, subst, ap, ◌∙◌}
 use Rattle.std.specs.Borrow.{Bor}
 use Rattle.arrayvec.specs.ArrayVec.{ArrayVec}
 use Rattle.camac_branch.specs.Crates.{Crates, branch_of}
 use Rattle.camac_checked.specs.Checked.{CheckedScript}
 use Rattle.camac_machine.specs.MachineState.{context_in}
 use Rattle.camac_machine.specs.Rest.{onward}
-use Rattle.camac_run.proofs.Abandoned.{stays_over, stays_idle}
-use Rattle.camac_run.proofs.Operation.{not_some}
 use Rattle.camac_run.proofs.Sizes.{machine_fits}
 use Rattle.camac_run.proofs.Told.{sound_idle}
 use Rattle.camac_run.proofs.runner.Runner.abandon.Goals as goal
@@ -29,9 +27,8 @@ returns-in-Some g c =
     let m = c.leave_service.ensures in
     let new = c.leave_service.new.machine in
     let k = r.machine.checked.now in
-    let first : r.overrun ≡ None = not_some r.overrun (sym c.is_some.ensures ∙ c.if-is_some.false) in
     let branch : new.branch ≡ r.at_demand = m.branch ∙ c.copy.ensures in
-    rw (← c.self.view_is, c.in-Some.is, first) (record {
+    rw (← c.self.view_is, c.in-Some.is) (record {
       goes = λ answers. ap (λ (b : Bor CheckedScript). onward (context_in b.now) b.now.script.services (branch_of new.branch) answers) m.checked
           ∙ ap (λ (b : Crates). onward (context_in k) k.script.services (branch_of b) answers) branch;
       idle = refl;
@@ -43,14 +40,3 @@ returns-in-Some g c =
       overrun = refl;
       checked = ap (λ (b : Bor CheckedScript). b.now) m.checked;
     })
-
-pub returns-then-is_some : goal.returns-then-is_some
-returns-then-is_some g c =
-    let r = c.self.inside in
-    rw (← c.self.view_is) (stays_over r.overrun _ _ _ (sym c.is_some.ensures ∙ c.if-is_some.true) c.new.ensures)
-
-pub returns-in-None : goal.returns-in-None
-returns-in-None g c =
-    let r = c.self.inside in
-    let first : r.overrun ≡ None = not_some r.overrun (sym c.is_some.ensures ∙ c.if-is_some.false) in
-    rw (← c.self.view_is, c.in-None.is) (stays_idle r.overrun _ _ first c.new-in-None.ensures)

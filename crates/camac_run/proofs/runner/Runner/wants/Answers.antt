@@ -4,7 +4,8 @@ use Rattle.camac_run.specs.Requested.{IsSafeRequest, held_in}
 use Rattle.camac_run.specs.Runner.{RunnerState}
 use Rattle.camac_run.specs.Sound.{runner_state}
 use Rattle.camac_run.specs.declared.progress.Wanted.{Wanted}
-use Rattle.camac_run.proofs.Operation.{not_some, none_paused, can_send, wants_some, wants_none}
+use Rattle.camac_run.specs.Waits.{GoesOnUpTo, waits_of}
+use Rattle.camac_run.proofs.Operation.{not_some, none_paused, can_send, wants_some, wants_none, goes_up_to, idle_up_to}
 use Rattle.camac_run.proofs.runner.Runner.wants.Goals as goal
 
 pub returns-in-Some-clause-wants : goal.returns-in-Some-clause-wants
@@ -32,3 +33,15 @@ returns-in-None-clause-wants g c =
 
 pub returns-then-is_some-clause-wants : goal.returns-then-is_some-clause-wants
 returns-then-is_some-clause-wants g c = rw (← c.self.view_is) (inl (sym c.is_some.ensures ∙ c.if-is_some.true))
+
+pub returns-in-Some-clause-waits : goal.returns-in-Some-clause-waits
+returns-in-Some-clause-waits g c =
+    let r = c.self.inside in
+    subst (λ (x : RunnerState). IfSome c.operation.result (λ o. GoesOnUpTo x (waits_of x o))) c.self.view_is
+    (subst (λ (o : Option Wanted). IfSome o (λ x. GoesOnUpTo (runner_state r.machine r.pending r.fed r.events r.has_event r.overrun r.at_demand r.limit) (waits_of (runner_state r.machine r.pending r.fed r.events r.has_event r.overrun r.at_demand r.limit) x))) (sym c.operation.ensures)
+    (goes_up_to r.machine r.fed r.events r.has_event r.overrun r.at_demand r.limit r.pending c.in-Some.pending c.in-Some.is c.self.invariant.awaits))
+
+pub returns-in-None-clause-waits : goal.returns-in-None-clause-waits
+returns-in-None-clause-waits g c =
+    let r = c.self.inside in
+    rw (← c.self.view_is) (idle_up_to r.machine r.fed r.events r.has_event r.overrun r.at_demand r.limit r.pending c.in-None.is)

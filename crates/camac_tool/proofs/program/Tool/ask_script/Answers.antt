@@ -1,27 +1,22 @@
 use Rattle.std.proofs.Common.{◌∙◌, ap, Err}
 use Rattle.std.proofs.lemmas.Result.{err_from_is_err_and}
-use Rattle.std.proofs.KnownBytes.{Keeps-refl}
 use Rattle.camac_engines.specs.Ask.{TellsFound}
-use Rattle.camac_tool.specs.Jobs.{ScriptTells}
-use Rattle.camac_tool.proofs.Ended.{stopped, unread}
+use Rattle.camac_tool.specs.Input.{IsFoundIn}
+use Rattle.camac_tool.proofs.Ended.{stopped}
+use Rattle.camac_tool.proofs.Inputs.{found_read}
 use Rattle.camac_tool.proofs.program.Tool.ask_script.Goals as goal
-
-pub returns-in_err-plan_input : goal.returns-in_err-plan_input
-returns-in_err-plan_input g c =
-    let fault = err_from_is_err_and c.from_residual.result c.from_residual.ensures.1 in
-    unread (ScriptTells c.args.ask) _ _ c.from_residual.result (fault.1 ∙ ap Err (fault.2 ∙ c.in_err-plan_input.ensures.fault)) (Keeps-refl _)
-
-pub returns-in_err-open : goal.returns-in_err-open
-returns-in_err-open g c =
-    let fault = err_from_is_err_and c.from_residual-in_err-open.result c.from_residual-in_err-open.ensures.1 in
-    unread (ScriptTells c.args.ask) _ _ c.from_residual-in_err-open.result (fault.1 ∙ ap Err (fault.2 ∙ c.in_err-open.ensures.fault)) (Keeps-refl _)
 
 pub returns-in_err-outcome : goal.returns-in_err-outcome
 returns-in_err-outcome g c =
     let fault = err_from_is_err_and c.from_residual-in_err-outcome.result c.from_residual-in_err-outcome.ensures.1 in
-    stopped _ (TellsFound c.args.ask) _ _ _ c.in_err-outcome.field-0.0 c.from_residual-in_err-outcome.result (fault.1 ∙ ap Err fault.2) c.in_err-outcome.ensures.answers
+    let bytes_of = g.R.Host.bytes_of c.args.self.now.rt.now in
+    stopped _ (IsFoundIn bytes_of c.args.plan.now c.args.script.now) (TellsFound c.args.ask) _ _ _
+    (found_read bytes_of c.args.plan.now c.args.script.now _ c.in_ok-open_plan.field-0 _ _ c.new-script.result c.in_ok-open.field-0 _ c.in_ok-open_plan.ensures.input c.source_of-plan.ensures c.new-script.ensures.inner c.in_ok-open.ensures.bytes)
+    c.in_err-outcome.field-0.0 c.from_residual-in_err-outcome.result (fault.1 ∙ ap Err fault.2) c.in_err-outcome.ensures.answers
 
 pub returns : goal.returns
 returns g c =
     let told = c.in_ok-outcome.ensures.answers in
-    (told.2.0, (told.0, told.2.1), told.2.2)
+    let found =
+    found_read (g.R.Host.bytes_of c.args.self.now.rt.now) c.args.plan.now c.args.script.now _ c.in_ok-open_plan.field-0 _ _ c.new-script.result c.in_ok-open.field-0 _ c.in_ok-open_plan.ensures.input c.source_of-plan.ensures c.new-script.ensures.inner c.in_ok-open.ensures.bytes told.0 told.1 in
+    (told.2.0, (told.0, found, told.2.1), told.2.2)

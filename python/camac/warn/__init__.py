@@ -1,48 +1,17 @@
 """Warnings about an accepted script: what is probably not meant. docs/REFUSALS.md has each with an example."""
-import enum
-from typing import Iterator, List, NamedTuple, Optional, Sequence, Set, Tuple
+from typing import Iterator, List, Optional, Sequence, Set, Tuple
 
 from camac.bodies import services_of
 from camac.drive import File
-from camac.edits import Edit
 from camac.loops.loose import dear_loops, wide_keeps
 from camac.program import knows_command
 from camac.reader import read_script
-from camac.subcommands import check, costs, response
+from camac.subcommands import check, response
 from camac.texts import TextFile
-from camac.tree import Plain, Script, all_in
-from camac.values import Body, Harm, Response, Service
-
-
-class Code(enum.Enum):
-    """What a warning is about."""
-
-    UNREACHED = "W1"
-    EMPTY_SCAN = "W2"
-    UNKEPT = "W3"
-    UNUSED_KEEP = "W4"
-    NO_SERVICE = "W5"
-    HELD_UP = "W6"
-    EACH = "W7"
-    WIDE_KEEP = "W8"
-
-
-class Warned(NamedTuple):
-    """A warning: the line of the script, from 1, what it is about, a sentence, and the edits that fix it, if they are known."""
-
-    line: int
-    code: Code
-    text: str
-    edits: Tuple[Edit, ...] = ()
-
-
-class Told(NamedTuple):
-    """What the program says of an accepted script: its services, its bodies by `costs`, and its answers by `response`."""
-
-    services: List[Service]
-    bodies: List[Body]
-    responses: List[Response]
-
+from camac.tree import Plain, Script
+from camac.values import Harm, Response, Service
+from camac.warn.codes import Code as Code, Warned as Warned
+from camac.warn.silent import Silent, costs_with_arms
 
 # What is said of a service, whose name is first, and of the one that clears or hides its look-at-me.
 UNKEPT = {
@@ -55,7 +24,7 @@ SHORT = 10
 
 
 def warnings(plan: File, script: File, program: Optional[File] = None) -> List[Warned]:
-    """Returns what is probably not meant in an accepted script, by lines. If the program has no `costs` or no `response`, W1 to W3 are not looked
+    """Returns what is probably not meant in an accepted script, by lines. If the program has no `costs` or no `response`, W4 to W8 alone are looked
     for (`looks_for_all`).
 
     Raises as `camac.check`."""
@@ -66,46 +35,37 @@ def look(plan: File, script: File, program: Optional[File] = None) -> Tuple[List
     """Returns the services of an accepted script, and what `warnings` does: one judgement serves both."""
     script = script if isinstance(script, TextFile) else TextFile(script)
     if looks_for_all(program):
-        bodies = costs(plan, script, program)
-        told = Told(services_of(bodies), bodies, response(plan, script, program=program))
-    else:
-        told = Told(check(plan, script, program), [], [])
-    return told.services, warnings_of(plan, script.text(), told, program)
+        return look_at(plan, script.text(), [], response(plan, script, program=program), program)
+    return look_at(plan, script.text(), check(plan, script, program), [], program)
 
 
-def warnings_of(plan: File, text: bytes, told: Told, program: Optional[File] = None) -> List[Warned]:
-    """What `warnings` returns of an accepted script that is given as its text."""
-    services = told.services
-    if not services:
-        return [Warned(1, Code.NO_SERVICE, "this script has no service, so a run of it makes no cycle")]
+def look_at(
+    plan: File, text: bytes, services: List[Service], responses: Sequence[Response], program: Optional[File] = None
+) -> Tuple[List[Service], List[Warned]]:
+    """What `look` returns of an accepted script that is given as its text, with the answers of `check`, which is not needed where the program has
+    `costs`, and of `response`."""
     its = read_script(text)
-    found = [*_of_costs(told.bodies), *_unkept(its, told.responses), *_held_up(its, services), *_loose(plan, text, its, program)]
-    return sorted(found, key=lambda it: (it.line, it.code.value))
+    bodies = costs_with_arms(plan, text, its, program) if looks_for_all(program) else []
+    services = services_of(bodies) if bodies else services
+    if not services:
+        return [], [Warned(1, Code.NO_SERVICE, "this script has no service, so a run of it makes no cycle")]
+    found = [*Silent(plan, text, its, bodies, program).found(), *_unkept(its, responses), *_held_up(its, services), *_loose(plan, text, its, program)]
+    return services, sorted(found, key=lambda it: (it.line, it.code.value))
 
 
 def looks_for_all(program: Optional[File] = None) -> bool:
-    """Whether the program has `costs` and `response`, which W1 to W3 need."""
+    """Whether the program has `costs` and `response`, which W1 to W3 and W9 to W17 need."""
     return knows_command("costs", program) and knows_command("response", program)
-
-
-def _of_costs(bodies: List[Body]) -> Iterator[Warned]:
-    """Statements that are never reached, the first of each block, and scans without a cycle."""
-    for body in bodies:
-        was_reached = True
-        for row in body.rows:
-            if not row.times and was_reached:
-                yield Warned(row.line, Code.UNREACHED, f"`{row.word}` is never reached")
-            elif row.times and row.word == "cfmad" and not row.each.cycles:
-                yield Warned(row.line, Code.EMPTY_SCAN, "this scan makes no cycle: its first address is after its last one, or `max` is 0")
-            was_reached = row.times > 0
 
 
 def _unkept(script: Script, responses: Sequence[Response]) -> Iterator[Warned]:
     """What services do to look-at-mes, so that `camac response` has no number. A script that initialises crates alone keeps nothing of it."""
+    if not any(it.unkept for it in responses):
+        return
     starting: Set[str] = set()
     # A body calls procedures that end before it, so each is looked at once.
     for it in script.bodies:
-        if any(isinstance(one, Plain) and (one.word == "cccz" or one.word == "call" and one.name in starting) for one in all_in(it.statements)):
+        if any(isinstance(one, Plain) and (one.word == "cccz" or one.word == "call" and one.name in starting) for one in it.every):
             starting.add(it.name)
     if any(it.name not in starting for it in responses):
         yield from (Warned(it.line, Code.UNKEPT, UNKEPT[it.why].format(it.name, it.other)) for its in responses for it in its.unkept)

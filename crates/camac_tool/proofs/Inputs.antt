@@ -1,0 +1,54 @@
+-- What an engine has read is what the words' inputs have.
+use Rattle.std.proofs.Common.{◌≡◌, ◌++◌, ℕ, Bool, true, false, List, Option, None, Some, sym, ap, subst, ◌∙◌, append-nil}
+use Rattle.std.specs.Prelude.{Ok, Err}
+use Rattle.std.specs.Io.KnownBytes.{Keeps}
+use Rattle.clap.specs.Words.{Text}
+use Rattle.camac_engines.specs.Found.{Found, HasJudged, HasRead}
+use Rattle.camac_engines.specs.Plan.{PlanFound, Says}
+use Rattle.camac_engines.specs.Reading.{WasRead}
+use Rattle.camac_engines.specs.declared.judging.Judged.{Judged}
+use Rattle.camac_engines.specs.declared.plan.PlanSource.{PlanSource}
+use Rattle.camac_engines.specs.declared.plan.PlanSource.TheVariants as source
+use Rattle.camac_engines.specs.declared.reading.TheConstants.{TEXT_LIMIT}
+use Rattle.camac_tool.specs.Input.{IsFoundIn, IsInputOf, IsJudgedIn, IsPlanIn, IsSourceOf, IsTextOf, is_sample}
+use Rattle.camac_word.specs.Watched.{inner_of}
+use Rattle.camac_word.specs.declared.watched.Watched.{Watched}
+
+-- what was left was all that is known, and nothing is left now
+pub read_text : (limit : ℕ) (known old new : Option (List ℕ)) (text : List ℕ) → Keeps known old → WasRead limit old new text → IsTextOf limit known text
+read_text limit None old new text kept read = (read.0, tt)
+read_text limit (Some xs) None new text kept read = absurd kept
+read_text limit (Some xs) (Some ys) None text kept read = absurd read.1
+read_text limit (Some xs) (Some ys) (Some zs) text kept read =
+    (read.0, sym (append-nil text) ∙ ap (λ (l : List ℕ). text ++ l) (sym read.2) ∙ sym read.1 ∙ kept)
+
+-- of the input that was opened
+pub kept_in : {I : Type 0} (known : Option (List ℕ)) (left : I → Option (List ℕ)) (w : Watched I) (opened : I) → inner_of w ≡ opened → Keeps known (left opened) → Keeps known (left (inner_of w))
+kept_in known left w opened is kept = subst (λ x. Keeps known (left x)) (sym is) kept
+
+pub read_in : {I : Type 0} (limit : ℕ) (known : Option (List ℕ)) (left : I → Option (List ℕ)) (w : Watched I) (opened : I) (new : Option (List ℕ)) (text : List ℕ) → inner_of w ≡ opened → Keeps known (left opened)
+    → WasRead limit (left (inner_of w)) new text → IsTextOf limit known text
+read_in limit known left w opened new text is kept read = read_text limit known (left (inner_of w)) new text (kept_in known left w opened is kept) read
+
+pub plan_read : {I : Type 0} (left : I → Option (List ℕ)) (known : Option (List ℕ)) (b : Bool) (input : Option I) (old new : PlanSource I) (says : PlanFound) → IsInputOf left known b input → IsSourceOf input old
+    → Says left old new says → IsPlanIn b known says
+plan_read left known true None source.Sample source.Sample says i s h = h
+plan_read left known true None source.Sample (source.Text w) says i s h = absurd h
+plan_read left known true None (source.Text w) new says i s h = absurd s
+plan_read left known true (Some x) old new says i s h = absurd i
+plan_read left known false None old new says i s h = absurd i
+plan_read left known false (Some x) source.Sample new says i s h = absurd s
+plan_read left known false (Some x) (source.Text w) source.Sample says i s h = absurd h
+plan_read left known false (Some x) (source.Text w) (source.Text v) says i s h =
+    (h.0, read_in TEXT_LIMIT known left w x (left (inner_of v)) h.0 s.0 i h.1, h.2)
+
+-- of a plan that is read from the input of its word, and a script from that of its own
+module _ (bytes_of : Text → Option (List ℕ)) (plan script : Text) {I : Type 0} (left : I → Option (List ℕ)) (input : Option I) (old new : PlanSource I) (w : Watched I) (opened : I) (t : Option (List ℕ))
+    (is_input : IsInputOf left (bytes_of plan) (is_sample plan) input) (is_source : IsSourceOf input old) (is : inner_of w ≡ opened) (kept : Keeps (bytes_of script) (left opened)) where
+  pub found_read : (found : Found) → HasRead left old new (left (inner_of w)) t found → IsFoundIn bytes_of plan script found
+  found_read (Ok found) h =
+      (plan_read left (bytes_of plan) (is_sample plan) input old new (Ok found.0) is_input is_source h.0, read_in TEXT_LIMIT (bytes_of script) left w opened t found.1 is kept h.1)
+  found_read (Err why) h = plan_read left (bytes_of plan) (is_sample plan) input old new (Err why) is_input is_source h.0
+
+  pub judged_read : (j : Judged) → HasJudged left old new (left (inner_of w)) t j → IsJudgedIn bytes_of plan script j
+  judged_read j h = (h.0, found_read h.0 h.1, h.2)

@@ -1,0 +1,55 @@
+// What the program wants of its system: the inputs that words name, and EVENTS.
+
+ghost use Rattle.std.specs.Prelude.{IfOk, List, ℕ, Option};
+ghost use Rattle.std.specs.Io.KnownBytes.{Keeps};
+
+use std::io;
+use std::io::{Read, Write};
+
+/// By what the system knows a file: its device, and its number there.
+#[derive(Clone, Copy, PartialEq, Eq)]
+pub struct FileId {
+    pub device: u64,
+    pub number: u64,
+}
+
+/// What becomes of an EVENTS that holds bytes. It is emptied only if it is an event file.
+#[derive(Clone, Copy, PartialEq, Eq)]
+pub enum Earlier {
+    Emptied,
+    Refused,
+}
+
+/// The system that the program is run on. All that the program does with files and standard input it does by this.
+pub trait Host {
+    type Places: Drop;
+
+    type Input: Read + Drop;
+
+    type Events: Write + Drop;
+
+    /// Of each word the bytes of the input that it names, where they are known.
+    ghost bytes_of: { Self → List ℕ → Option (List ℕ) };
+
+    /// Takes the places of standard streams that are closed, for as long as the result lives.
+    fn hold_places(&self) -> io::Result<Self::Places>;
+
+    /// The input that a word names: `@in` is standard input, and any other word a file.
+    fn open(&self, word: &str) -> io::Result<Self::Input>
+        ensures { IfOk result (λ input. Keeps (bytes_of self.now word.now) (Self.Input.remaining input)) };
+
+    /// Opens EVENTS, and empties it.
+    fn make(&self, name: &str, earlier: Earlier) -> io::Result<Self::Events>;
+
+    /// Waits until EVENTS is on its disk, where it is a regular file.
+    fn sync(&self, events: &Self::Events) -> io::Result<()>;
+
+    /// The file of a name, if there is one that can be the same as another.
+    fn find(&self, name: &str) -> io::Result<Option<FileId>>;
+
+    /// The file of a name.
+    fn id_at(&self, name: &str) -> io::Result<FileId>;
+
+    /// The file that an input reads.
+    fn id_of(&self, input: &Self::Input) -> io::Result<FileId>;
+}

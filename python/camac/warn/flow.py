@@ -1,0 +1,176 @@
+"""What may have set each name of a body where it is used, and what it then is: one pass over its statements, in the order of the text."""
+import enum
+import operator
+from typing import AbstractSet, Callable, Dict, FrozenSet, List, Mapping, Sequence, Set, Tuple, Union
+
+from camac.tree import (
+    Assign, Body, Cycle, Expression, For, If, Lock, Loop, Name, Number, Plain, SetRegister, Statement, Transfer, While, names_in, written_by,
+)
+from camac.values import Row
+
+# The flags q and x, which each cycle sets, are one name here. No variable has it.
+FLAGS = "q"
+# Of a quotient by so much or less the checker is not asked whether it is one number: few registers are so narrow.
+SMALL = 15
+OPERATIONS: Dict[str, Callable[[int, int], int]] = {"+": operator.add, "-": operator.sub, "*": operator.mul, "/": operator.floordiv, "%": operator.mod}
+
+
+class Some(enum.Enum):
+    """What an expression is that is no one number: surely, or as far as the flow tells."""
+
+    MANY = 0
+    OPEN = 1
+
+
+Value = Union[int, Some]
+
+
+class Turn:
+    """What a name holds when a turn of a loop begins: what it held before the loop, or what a turn left. It is known once the loop is passed."""
+
+    def __init__(self, settings: "Settings") -> None:
+        self.settings = settings
+        self.value: Value = Some.MANY
+
+
+# What may have set a name: a statement, or nothing, so that it is 0. In a procedure the call gives its parameters, and an earlier cycle the flags.
+Setting = Union[Statement, Turn, None]
+Settings = FrozenSet[Setting]
+GIVEN, EARLIER = Plain(0, 0, "call"), Plain(0, 0, "call")
+
+
+def whole(settings: AbstractSet[Setting]) -> Set[Setting]:
+    """These settings, with those that the turns among them stand for."""
+    found: Set[Setting] = set()
+    left = list(settings)
+    while left:
+        it = left.pop()
+        if it not in found:
+            found.add(it)
+            left += it.settings if isinstance(it, Turn) else ()
+    return found
+
+
+def is_set(settings: AbstractSet[Setting]) -> bool:
+    return any(isinstance(it, Statement) for it in settings)
+
+
+def is_put(it: Statement) -> bool:
+    return isinstance(it, Plain) and it.word == "put"
+
+
+class Flow:
+    """The pass over a body, with its rows of `camac costs`. `flows` has the procedures before it.
+
+    row     of each statement its row, and in `other` of each `if` that of its `else`
+    used    what may have set what is used
+    unset   the uses of names before which no statement sets them, on any way
+    value   of each assignment and `put` what it is"""
+
+    def __init__(self, body: Body, rows: Sequence[Row], flows: "Mapping[str, Flow]") -> None:
+        self.rows, self.at, self.flows, self.makes_cycles = rows, 0, flows, False
+        self.now: Dict[str, Settings] = dict.fromkeys(body.variables, frozenset((None if body.is_service else GIVEN,)))
+        self.now[FLAGS] = frozenset((None if body.is_service else EARLIER,))
+        self.row: Dict[Statement, Row] = {}
+        self.other: Dict[If, Row] = {}
+        self.used: Set[Setting] = set()
+        self.value: Dict[Statement, Value] = {}
+        self.uses: List[Tuple[Statement, str, Settings]] = []
+        self.block(body.statements)
+        self.used = whole(self.used)
+        self.unset = [(it, name) for it, name, settings in self.uses if not is_set(whole(settings))]
+
+    def next_row(self) -> Row:
+        self.at += 1
+        return self.rows[self.at - 1]
+
+    def block(self, statements: Sequence[Statement]) -> None:
+        for it in statements:
+            self.row[it] = self.next_row()
+            if isinstance(it, Loop):
+                self.loop(it)
+                continue
+            self.use(it)
+            if isinstance(it, If):
+                self.branch(it)
+            elif isinstance(it, Lock):
+                self.block(it.body)
+            elif not isinstance(it, SetRegister):
+                self.make(it)
+
+    def use(self, it: Statement) -> None:
+        """The names in the expressions of a statement, and the flags in its condition."""
+        names = [name for one in it.expressions for name in names_in(one)]
+        if isinstance(it, (If, While)) and not all(part.sides for part in it.parts):
+            names.append(FLAGS)
+        elif isinstance(it, Assign) or is_put(it):
+            self.value[it] = self.value_of(it.expressions[0])
+        for name in names:
+            its = self.now[name]
+            self.used |= its
+            if not is_set(its) and self.row[it].times:
+                self.uses.append((it, name, its))
+
+    def value_of(self, it: Expression) -> Value:
+        if isinstance(it, Number):
+            return it.value
+        if isinstance(it, Name):
+            return self.set_to(self.now[it.name])
+        left, right = self.value_of(it.left), self.value_of(it.right)
+        if isinstance(left, int) and isinstance(right, int):
+            return OPERATIONS[it.sign](left, right)
+        if it.sign == "/" and isinstance(right, int) and right > SMALL:
+            return Some.OPEN
+        return Some.MANY if Some.MANY in (left, right) else Some.OPEN
+
+    def set_to(self, settings: AbstractSet[Setting]) -> Value:
+        """What a name is that one of these may have set."""
+        found: Set[Value] = set()
+        for it in settings:
+            found.add(0 if it is None else it.value if isinstance(it, Turn) else self.value.get(it, Some.MANY))
+            if Some.MANY in found or len(found - {Some.OPEN}) > 1:
+                return Some.MANY
+        return Some.OPEN if Some.OPEN in found else found.pop()
+
+    def make(self, it: Statement) -> None:
+        """A statement without a block that sets no register."""
+        if isinstance(it, Plain) and it.word == "call":
+            its = self.flows[it.name]
+            if EARLIER in its.used:
+                self.used |= self.now[FLAGS]
+            if its.makes_cycles:
+                self.now[FLAGS] |= {it}
+                self.makes_cycles = True
+        elif isinstance(it, (Cycle, Transfer)) or isinstance(it, Plain) and it.word != "put":
+            self.now[FLAGS] = frozenset((it,))
+            self.makes_cycles = True
+        name = written_by(it)
+        if name is not None:
+            self.now[name] = frozenset((it,))
+
+    def branch(self, it: If) -> None:
+        before = dict(self.now)
+        self.block(it.body)
+        after, self.now = self.now, before
+        if self.at < len(self.rows) and self.rows[self.at].word == "else" and self.rows[self.at].depth == self.row[it].depth:
+            self.other[it] = self.next_row()
+        self.block(it.other)
+        for name, its in after.items():
+            if its is not self.now[name]:
+                self.now[name] |= its
+
+    def loop(self, it: Loop) -> None:
+        if isinstance(it, For):
+            self.use(it)
+        turns = {name: Turn(self.now[name]) for name in (*it.written, it.name, FLAGS)}
+        self.now.update((name, frozenset((turn,))) for name, turn in turns.items())
+        now = dict(self.now)
+        if isinstance(it, For):
+            self.now[it.name] = frozenset((it,))
+        else:
+            self.use(it)
+        self.block(it.body)
+        for name, turn in turns.items():
+            turn.settings |= self.now[name]
+            turn.value = self.set_to(turn.settings - {turn})
+        self.now = now
