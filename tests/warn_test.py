@@ -15,6 +15,7 @@ from camac.edits import edited
 from camac.warn import Code
 
 ACCEPTED = re.compile(r"^```camac accepted([^\n]*)\n(.*?)^```$", re.M | re.S)
+PAGE = (TOP / "docs/REFUSALS.md").read_text()
 READ = "cdreg r 1 1 5 0\ncfsa 0 r -> v"
 # Two modules that may call.
 TWO = """[[type]]
@@ -38,6 +39,11 @@ OF_BOUNDS = {*list(Code)[: list(Code).index(Code.DROPPED)]} - {Code.UNKEPT}
 ODD = CLEARED.replace("event 0", "event 1").replace("cclc adc", "put 1")
 
 
+def advice(code):
+    """Why and what helps, as the page has it."""
+    return [f"{word}: {text}" for word, text in re.findall(r"(?m)^- \*\*(Why|Fix):\*\* (.*)$", PAGE.partition(f"### {code}: ")[2].partition("\n### ")[0])]
+
+
 class Warnings(Case):
     def setUp(self):
         super().setUp()
@@ -52,8 +58,7 @@ class Warnings(Case):
 
     def test_page(self):
         """It has a line that shows each code."""
-        page = (TOP / "docs/REFUSALS.md").read_text()
-        (odd,) = re.findall(r"(?ms)^```camac accepted odd.script on (\S+)\n(.*?)^```", page)
+        (odd,) = re.findall(r"(?ms)^```camac accepted odd.script on (\S+)\n(.*?)^```", PAGE)
         shown = [(line, code) for line, it in enumerate(odd[1].splitlines(), 1) for code in re.findall(r"W\d+", it)]
         found = {(it.line, it.code.value) for it in camac.warnings(TOP / odd[0], self.write("a.script", odd[1]))}
         self.assertEqual(found, set(shown))
@@ -326,7 +331,7 @@ class Command(Case):
         status, printed = self.command("--json", "@sample", "odd", "bad")
         odd, bad = json.loads(printed)
         self.assertEqual((status, odd["accepted"], odd["found"][0]["code"], odd["services"][0]["words"]), (1, True, "W3", 1))
-        self.assertEqual(odd["found"][0]["explanation"], [*RULES[Code.UNKEPT].advice(), "More: docs/REFUSALS.md, W3"])
+        self.assertEqual(odd["found"][0]["explanation"], [*advice("W3"), "More: docs/REFUSALS.md, W3"])
         explanation = bad["found"][0].pop("explanation")
         self.assertEqual((explanation[0], explanation[-1]), ("    4 | put w", "More: docs/REFUSALS.md, S5"))
         self.assertEqual(bad, {"file": "bad", "accepted": False, "found": [{"kind": "refused", "line": 4, "code": "S5", "text": "name not declared", "column": 5}], "services": []})
@@ -342,7 +347,7 @@ class Command(Case):
         status, printed = self.command("--format", "github", "@sample", "100%,a:b", "bad", "none")
         odd, bad, none = printed.splitlines()
         calling = "this service does not clear its look-at-me on every way: write `cclc adc`"
-        self.assertEqual((status, odd), (3, "%0A".join([f"::warning file=100%25%2Ca%3Ab,line=2,title=warning W3::{calling}", *RULES[Code.UNKEPT].advice(), "More: docs/REFUSALS.md, W3"])))
+        self.assertEqual((status, odd), (3, "%0A".join([f"::warning file=100%25%2Ca%3Ab,line=2,title=warning W3::{calling}", *advice("W3"), "More: docs/REFUSALS.md, W3"])))
         self.assertTrue(bad.startswith("::error file=bad,line=4,col=5,title=refused S5::name not declared%0A    4 | put w  # 5%25%0A"), bad)
         self.assertEqual(none, "::error file=none,title=fault::No such file or directory")
 
