@@ -48,6 +48,9 @@ class Simulated:
         self.waiting: Optional[float] = None
         self.waits: List[float] = []
 
+    def __eq__(self, other: object) -> bool:
+        return isinstance(other, Simulated) and vars(self) == vars(other)
+
     def live(self) -> float:
         """The share of the triggers that were answered; one that waits at the end counts as answered if others were."""
         if not self.waits:
