@@ -19,7 +19,6 @@ import unittest
 from support import of_c
 from support.live import PROGRAM, TOP, Case
 from support.lsp import SCRIPT, Client, applied, span
-from camac.warn.codes import RULES, Code
 from camac.language import WORDS
 from camac.layout import begins
 from camac.lsp.documents import Text
@@ -370,7 +369,7 @@ class Shown(Served):
         self.assertEqual([(it[0], it[3]) for it in self.shown(uri, 2)], [(9, "W3"), (13, "W16")])
         self.assertEqual(self.warned(uri, 2), [(9, "W3"), (13, "W16")])
         (it,) = [it for it in self.client.diagnostics[uri][1] if it["code"] == "W16"]
-        self.assertEqual(it["message"].partition("\n")[2], "\n".join(RULES[Code.DECIDED].advice()))
+        self.assertEqual([line.partition(":")[0] for line in it["message"].split("\n")[1:]], ["Why", "Fix"])
         self.client.change(uri, 3, right.replace("  put v\n", "  put v\n  cclc adc\n").replace("within 6", "within 9"))
         self.client.until(lambda: self.client.diagnostics[uri] == (3, []))
 

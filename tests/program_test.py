@@ -111,7 +111,7 @@ class Usage(Case):
 
     def test_words_of_explain(self):
         """A word of a letter and digits that is no code, and a place that is none, are told before a file is read."""
-        for word in ("E19", "E20", "E22", "P10", "S0", "L5", "A3", "v8", "W9", "G1", "e19", "E012", "E1234567890"):
+        for word in ("E19", "E20", "E22", "P10", "S0", "L5", "A3", "v8", "W99", "G1", "e19", "E012", "E1234567890"):
             self.assertEqual(self.call("explain", word), (2, b"", f"fault {word}: no such code\n".encode()))
         for word in ("E", "E12x", "12", "./E12"):
             self.assertEqual(self.call("explain", word), (3, b"", lacks(word)))

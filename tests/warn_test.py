@@ -13,7 +13,6 @@ from support.seconds import is_within
 import camac
 from camac.edits import edited
 from camac.warn import Code
-from camac.warn.codes import RULES
 
 ACCEPTED = re.compile(r"^```camac accepted([^\n]*)\n(.*?)^```$", re.M | re.S)
 READ = "cdreg r 1 1 5 0\ncfsa 0 r -> v"
@@ -52,11 +51,8 @@ class Warnings(Case):
         return [(it.line, it.code.value) for it in found if it.code in (wanted or OF_BOUNDS)]
 
     def test_page(self):
-        """It has a section for each code, where the editors' links lead, with the texts of the package, and a line that shows it."""
+        """It has a line that shows each code."""
         page = (TOP / "docs/REFUSALS.md").read_text()
-        found = re.findall(r"(?m)^### (W\d+): (.*)\n\n- \*\*Why:\*\* (.*)\n- \*\*Fix:\*\* (.*)$", page)
-        self.assertEqual(found, [(code.value, *rule) for code, rule in RULES.items()])
-        self.assertEqual([*RULES], [*Code])
         (odd,) = re.findall(r"(?ms)^```camac accepted odd.script on (\S+)\n(.*?)^```", page)
         shown = [(line, code) for line, it in enumerate(odd[1].splitlines(), 1) for code in re.findall(r"W\d+", it)]
         found = {(it.line, it.code.value) for it in camac.warnings(TOP / odd[0], self.write("a.script", odd[1]))}

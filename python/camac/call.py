@@ -1,8 +1,7 @@
 """One call of one service: the start of a cold crate, or a stop, by a checked script of its own."""
 from typing import Optional, Union
 
-from camac.drive import Answer, Branch, File, drive
-from camac.drivers import driver
+from camac.drive import Answer, Branch, File, branch_of, drive
 from camac.subcommands import check
 from camac.values import RunEnd
 
@@ -20,7 +19,7 @@ def call(
     bits = {it.name: it.gl for it in check(plan, script, program)}
     if service not in bits:
         raise ValueError(f"the script has no service {service!r}, but {', '.join(bits) or 'none'}")
-    once = _Once(driver(branch, plan) if isinstance(branch, str) else branch, bits[service])
+    once = _Once(branch_of(branch, plan), bits[service])
     if events is not None:
         return drive(plan, script, once, events, program=program, timeout=timeout)
     import tempfile

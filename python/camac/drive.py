@@ -163,6 +163,16 @@ def find_program(program: Optional[File] = None) -> File:
     raise FileNotFoundError("the program camac is not in PATH, and CAMAC_PROGRAM is not set")
 
 
+def branch_of(branch: Union[Branch, str], plan: File) -> Branch:
+    """A branch, or the one that a name stands for."""
+    if not isinstance(branch, str):
+        return branch
+    # Drivers need what this module declares, as the record does.
+    from camac.drivers import driver
+
+    return driver(branch, plan)
+
+
 def drive(
     plan: File,
     script: File,
@@ -191,11 +201,7 @@ def drive(
     ValueError, with nothing started, for a timeout out of its range."""
     if timeout is not None and not 0 <= timeout <= GREATEST_TIMEOUT:
         raise ValueError(f"a timeout is 0 to {GREATEST_TIMEOUT} seconds, not {timeout}")
-    if isinstance(branch, str):
-        # Drivers need what this module declares, as the record does.
-        from camac.drivers import driver
-
-        branch = driver(branch, plan)
+    branch = branch_of(branch, plan)
     if record is not None:
         from camac.record import Played, recorded
 

@@ -100,7 +100,8 @@ class Spectrum:
         """The number that is there most often, the least of several; of wide bins where that of the greatest count begins. None of an empty spectrum."""
         if not self.counts:
             return None
-        return min(self.counts, key=lambda at: (-self.counts[at], at)) << self.shift
+        most = max(self.counts.values())
+        return min(at for at, count in self.counts.items() if count == most) << self.shift
 
 
 class Series:

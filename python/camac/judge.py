@@ -3,7 +3,7 @@ from typing import TYPE_CHECKING, Callable, Dict, List, NamedTuple, Optional, Se
 
 from camac.drive import File, ProgramFault, Refused, UsageFault, one_line
 from camac.printed import read_explanation
-from camac.program import lines_of, output_of
+from camac.program import advice_on, lines_of, output_of
 from camac.texts import TextFile
 from camac.values import Service
 from camac.warn import look, looks_for_all
@@ -110,7 +110,7 @@ def _judge_script(plan: TextFile, name: str, program: Optional[File], writes: bo
         script.text()
         accepted, warned = look(plan, script, program)
         services.extend(accepted)
-        return [Found("warning", it.line, it.code.value, it.text, it.explanation()) for it in warned]
+        return [Found("warning", it.line, it.code.value, it.text, advice_on(it.code.value, program)) for it in warned]
 
     files = [plan, script]
     found = (_faults(write, files, program) if writes else []) or _faults(judged, files, program)

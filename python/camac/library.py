@@ -13,7 +13,7 @@ from typing import TYPE_CHECKING, Any, Callable, Iterable, Iterator, List, Mappi
 
 from camac import native
 from camac.contradictions import seen_of
-from camac.drive import Answer, Branch, File, Lockouts, ProgramFault, Refused, UsageFault, file_fault
+from camac.drive import Answer, Branch, File, Lockouts, ProgramFault, Refused, UsageFault, branch_of, file_fault
 from camac.events import FORMS, HEADER, NEW_FILE
 from camac.signals import Signals
 from camac.values import Ending, RunEnd
@@ -462,11 +462,7 @@ def play(
 
     Returns how the run ended, and raises what `camac.drive` raises, with the texts of the program: what the branch raises, Refused,
     ProgramFault. The lockouts that are held then are released by `branch.unlock`, however the run ends, by a signal too, as `camac.drive` says."""
-    if isinstance(branch, str):
-        # Drivers need what this module declares, as the record does.
-        from camac.drivers import driver
-
-        branch = driver(branch, plan)
+    branch = branch_of(branch, plan)
     if record is not None:
         from camac.record import Played, recorded
 

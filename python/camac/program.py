@@ -122,6 +122,15 @@ def _judge(status: int, printed: str, errors: str) -> None:
         raise fault_of(errors.rstrip("\n"), status)
 
 
+@functools.lru_cache(maxsize=None)
+def advice_on(code: str, program: Optional[File] = None) -> Tuple[str, ...]:
+    """What `camac explain` says of a code behind its first line; nothing where no program is there, or one that does not know it."""
+    try:
+        return tuple(output_of("explain", code, program=find_program(None if program == IN_PROCESS else program)).splitlines()[1:])
+    except (FileNotFoundError, UsageFault):
+        return ()
+
+
 def version(program: Optional[File] = None) -> str:
     """The version, as the program prints it: "camac 0.2.0"."""
     if find("check", program) == IN_PROCESS:

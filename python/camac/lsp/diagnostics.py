@@ -7,9 +7,9 @@ from camac.lsp.documents import Range, Text
 from camac.lsp.refusals import Placed, refusals
 from camac.lsp.workspace import Judge, Judged
 from camac.printed import read_explanation, read_responses, read_services
+from camac.program import advice_on
 from camac.toml_places import place_of
 from camac.warn import Code, Warned, look_at, looks_for_all
-from camac.warn.codes import RULES
 
 ERROR, WARNING = 1, 2
 UNNECESSARY = [1]
@@ -86,7 +86,7 @@ def warned(judged: Judged) -> List[Warned]:
 
 
 def of_warning(it: Warned, text: Text) -> Diagnostic:
-    its = shown(it.code.value, "\n".join([it.text, *RULES[it.code].advice()]), WARNING, line_range(text, it.line))
+    its = shown(it.code.value, "\n".join([it.text, *advice_on(it.code.value)[:-1]]), WARNING, line_range(text, it.line))
     if it.code in (Code.UNREACHED, Code.UNUSED_KEEP):
         its["tags"] = UNNECESSARY
     return its

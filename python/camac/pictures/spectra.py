@@ -3,6 +3,7 @@
 The panels of a group have one axis. Each is a picture of its own, so that a page can set as many beside each other as it has room for."""
 import itertools
 import math
+import operator
 from typing import Dict, List, Mapping, NamedTuple, Optional, Sequence, Tuple, Union
 
 from camac.functions import writes
@@ -281,7 +282,7 @@ def _draw_counts(canvas: Canvas, it: Shown, counts: Sequence[int], over: Sequenc
 
 def _packed(counts: Sequence[float]) -> str:
     """Numbers as a page has them: so many zeros as one number below 0."""
-    its = ((is_zero, [*some]) for is_zero, some in itertools.groupby(counts, lambda it: not it))
+    its = ((is_zero, [*some]) for is_zero, some in itertools.groupby(counts, operator.not_))
     return " ".join(str(-len(some)) if is_zero else " ".join(f"{it:.6g}" if isinstance(it, float) else str(it) for it in some) for is_zero, some in its)
 
 

@@ -5,8 +5,7 @@ import itertools
 import time
 from typing import Callable, Iterator, List, NamedTuple, Optional, Sequence, Tuple, Union
 
-from camac.drive import Answer, Branch, File
-from camac.drivers import driver
+from camac.drive import Answer, Branch, File, branch_of
 from camac.functions import writes
 from camac.surveys.asking import Asked, Reach, Script, ask, declared_plan, service
 from camac.surveys.wiring import Wire
@@ -135,7 +134,7 @@ def survey(
     for functions that write (F16 to F23), and for the rest what `camac.call` raises."""
     if any(not 0 <= it < 32 or writes(it) for it in functions):
         raise ValueError("a survey sends F0 to F15 and F24 to F31: the others write")
-    branch = driver(branch, plan) if isinstance(branch, str) else branch
+    branch = branch_of(branch, plan)
     if not getattr(branch, "tells_x", True) and any(it >= 8 for it in functions):
         raise ValueError("this driver tells no X of functions that move no data: ask for F0 and F1 alone, or let it read to tell X (mcstd:LIBRARY,x)")
     its = declared_plan(plan, program)

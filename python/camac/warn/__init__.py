@@ -1,5 +1,5 @@
 """Warnings about an accepted script: what is probably not meant. docs/REFUSALS.md has each with an example."""
-from typing import Iterator, List, NamedTuple, Optional, Sequence, Set, Tuple
+from typing import Iterator, List, Optional, Sequence, Set, Tuple
 
 from camac.bodies import services_of
 from camac.drive import File

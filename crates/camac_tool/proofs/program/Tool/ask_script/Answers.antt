@@ -18,5 +18,5 @@ pub returns : goal.returns
 returns g c =
     let told = c.in_ok-outcome.ensures.answers in
     let found =
-      found_read (g.R.Host.bytes_of c.args.self.now.rt.now) c.args.plan.now c.args.script.now _ c.in_ok-open_plan.field-0 _ _ c.new-script.result c.in_ok-open.field-0 _ c.in_ok-open_plan.ensures.input c.source_of-plan.ensures c.new-script.ensures.inner c.in_ok-open.ensures.bytes told.0 told.1 in
+    found_read (g.R.Host.bytes_of c.args.self.now.rt.now) c.args.plan.now c.args.script.now _ c.in_ok-open_plan.field-0 _ _ c.new-script.result c.in_ok-open.field-0 _ c.in_ok-open_plan.ensures.input c.source_of-plan.ensures c.new-script.ensures.inner c.in_ok-open.ensures.bytes told.0 told.1 in
     (told.2.0, (told.0, found, told.2.1), told.2.2)

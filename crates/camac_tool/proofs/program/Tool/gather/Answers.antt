@@ -1,4 +1,4 @@
-use Rattle.std.proofs.Common.{◌∙◌, sym, subst, inl}
+use Rattle.std.proofs.Common.{sym, subst, inl}
 use Rattle.std.proofs.KnownBytes.{Keeps-refl}
 use Rattle.camac_tool.specs.Gathered.{device_of, given_to, held_in}
 use Rattle.camac_tool.specs.Jobs.{Replies}

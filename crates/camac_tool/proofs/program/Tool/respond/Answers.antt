@@ -19,7 +19,7 @@ pub returns-in-Told : goal.returns-in-Told
 returns-in-Told g c =
     let told = rw c.in-Told.is at c.in_ok-outcome.ensures.responds in
     let judged =
-      judged_read (g.R.Host.bytes_of c.args.self.now.rt.now) c.args.plan.now c.args.script.now _ c.in_ok-open_plan.field-0 _ _ c.new-script.result c.in_ok-open.field-0 _ c.in_ok-open_plan.ensures.input c.source_of-plan.ensures c.new-script.ensures.inner c.in_ok-open.ensures.bytes told.0 told.1 in (
+    judged_read (g.R.Host.bytes_of c.args.self.now.rt.now) c.args.plan.now c.args.script.now _ c.in_ok-open_plan.field-0 _ _ c.new-script.result c.in_ok-open.field-0 _ c.in_ok-open_plan.ensures.input c.source_of-plan.ensures c.new-script.ensures.inner c.in_ok-open.ensures.bytes told.0 told.1 in (
       told.2.0,
       (
         c.in-Ok.settings,
@@ -33,5 +33,5 @@ pub returns : goal.returns
 returns g c =
     let told = rw c.in-Misused.is at c.in_ok-outcome.ensures.responds in
     let judged =
-      judged_read (g.R.Host.bytes_of c.args.self.now.rt.now) c.args.plan.now c.args.script.now _ c.in_ok-open_plan.field-0 _ _ c.new-script.result c.in_ok-open.field-0 _ c.in_ok-open_plan.ensures.input c.source_of-plan.ensures c.new-script.ensures.inner c.in_ok-open.ensures.bytes told.0 told.1 in
+    judged_read (g.R.Host.bytes_of c.args.self.now.rt.now) c.args.plan.now c.args.script.now _ c.in_ok-open_plan.field-0 _ _ c.new-script.result c.in_ok-open.field-0 _ c.in_ok-open_plan.ensures.input c.source_of-plan.ensures c.new-script.ensures.inner c.in_ok-open.ensures.bytes told.0 told.1 in
     (inr (c.in-Ok.settings, (subst (ReadsSettings (map (λ w. w.now) c.args.every.now) (map (λ w. w.now) c.args.within.now)) c.in-Ok.is c.in_ok-settings.ensures), (told.0, judged, told.2.0)), told.2.1)
