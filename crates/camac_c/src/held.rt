@@ -13,7 +13,6 @@ use camac_word::CrateNo;
 pub type Held = ArrayVec<CrateNo, 7>;
 
 /// Keeps the lockout that an answer took, and leaves those that were released after it, the last first.
-#[inline(always)]
 pub fn keep_held(held: &mut Held, item: &Item, unlocks: &[CrateNo])
     ensures { held.new.items ≡ held_after item.now (length unlocks.now) held.old.items }
 {

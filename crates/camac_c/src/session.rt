@@ -190,7 +190,6 @@ pub fn want_of(session: &Session, wanted: &Wanted) -> CamacWant
 }
 
 // How wide the register is that an operation reads.
-#[inline(always)]
 fn width_read(plan: &Plan, wanted: &Wanted) -> u8
     ensures { result ≡ width_read plan.now wanted.now }
 {
