@@ -110,7 +110,7 @@ def _judge_script(plan: TextFile, name: str, program: Optional[File], writes: bo
         script.text()
         accepted, warned = look(plan, script, program)
         services.extend(accepted)
-        return [Found("warning", it.line, it.code.value, it.text, advice_on(it.code.value, program)) for it in warned]
+        return [Found("warning", it.line, it.code.value, it.text) for it in warned]
 
     files = [plan, script]
     found = (_faults(write, files, program) if writes else []) or _faults(judged, files, program)
@@ -162,6 +162,15 @@ def _place_in_plan(plan: TextFile, sentence: str) -> Tuple[int, int]:
     text = plan.text().decode("utf-8", "replace")
     start = place_of(text, sentence).start
     return text.count("\n", 0, start) + 1, start - text.rfind("\n", 0, start)
+
+
+def advised(judged: Sequence[Judged], program: Optional[File] = None) -> List[Judged]:
+    """The same, with what `camac explain` says of each warning: the program is called once for a code."""
+
+    def of(it: Found) -> Found:
+        return it._replace(explanation=advice_on(it.code, program)) if it.kind == "warning" and it.code else it
+
+    return [it._replace(found=[of(one) for one in it.found]) for it in judged]
 
 
 def text_of(judged: Sequence[Judged], form: str) -> str:

@@ -37,6 +37,8 @@ class _Version(argparse.Action):
 def do(args: argparse.Namespace) -> int:
     program = quickest()
     judged = judge.judge(args.plan, args.scripts, program, args.write, args.keeps)
+    if args.format != "text":
+        judged = judge.advised(judged, program)
     if args.format == "sarif":
         from camac.sarif import sarif
 
