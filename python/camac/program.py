@@ -122,11 +122,10 @@ def _judge(status: int, printed: str, errors: str) -> None:
         raise fault_of(errors.rstrip("\n"), status)
 
 
-@functools.lru_cache(maxsize=None)
 def advice_on(code: str, program: Optional[File] = None) -> Tuple[str, ...]:
     """What `camac explain` says of a code behind its first line; nothing where no program is there, or one that does not know it."""
     try:
-        return tuple(output_of("explain", code, program=find_program(None if program == IN_PROCESS else program)).splitlines()[1:])
+        return tuple(_asked_once(os.fsdecode(find_program(None if program == IN_PROCESS else program)), ("explain", code)).splitlines()[1:])
     except (FileNotFoundError, UsageFault):
         return ()
 
@@ -169,20 +168,20 @@ def accepts(plan: File, script: bytes, program: Optional[File] = None) -> bool:
 
 
 @functools.lru_cache(maxsize=None)
-def _help(program: str, words: Tuple[str, ...]) -> str:
+def _asked_once(program: str, words: Tuple[str, ...]) -> str:
     return output_of(*words, program=program)
 
 
 def knows_command(command: str, program: Optional[File] = None) -> bool:
     """Whether the program has this subcommand. Its help is asked once."""
     found = find(command, program)
-    return command in COMMANDS if found == IN_PROCESS else f"\n  {command} " in _help(found, ("--help",))
+    return command in COMMANDS if found == IN_PROCESS else f"\n  {command} " in _asked_once(found, ("--help",))
 
 
 def knows_option(command: str, option: str, program: Optional[File] = None) -> bool:
     """Whether a subcommand of the program has this option. Its help is asked once."""
     found = find(command, program)
-    return found != IN_PROCESS and option in _help(found, ("help", command)).split()
+    return found != IN_PROCESS and option in _asked_once(found, ("help", command)).split()
 
 
 def settings(numbers: Optional[Mapping[str, int]]) -> List[str]:
