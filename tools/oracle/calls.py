@@ -3,6 +3,7 @@ from __future__ import annotations
 
 import os
 import pathlib
+import re
 import signal
 from types import FrameType
 from typing import Dict, List, Optional
@@ -10,6 +11,8 @@ from typing import Dict, List, Optional
 from oracle.reader.engines import Inputs, Told, words_of
 
 SECONDS = 60
+# What is told of a refused answer; of the sentence the column alone is judged.
+TOLD = re.compile(rb"  .*/answers: (column \d+): found .+; expected .+: `x q word wait gl`, as `1 1 123fff 0 000004`\n")
 
 
 class Hung(Exception):
@@ -54,7 +57,7 @@ class Program:
         child = os.posix_spawn(self.program, [self.program, *words], os.environ, file_actions=actions)
         status = self.wait(child)
         written = events.read_bytes() if events.exists() else None
-        return Told(status, out.read_bytes(), err.read_bytes(), written)
+        return Told(status, out.read_bytes(), TOLD.sub(rb"\1\n", err.read_bytes()), written)
 
     def wait(self, child: int) -> int:
         """The status of a child that was started here; a signal that ended it counts as 128 more."""

@@ -23,12 +23,18 @@ class Answer(NamedTuple):
         return f"{self.x} {self.q} {self.word:06x} {self.wait:x} {self.gl:06x}"
 
 
+def column_of(line: bytes) -> int:
+    """Where a line stops being an answer, from 1: at the first byte that none has there, or behind its last one."""
+    fits = [{32} if it in SPACES else FLAG if it < SPACES[1] else HEXADECIMAL for it in range(SIZE)]
+    return next((it for it, byte in enumerate(line[:SIZE]) if byte not in fits[it]), min(len(line), SIZE)) + 1
+
+
 class Answers:
-    """The answers of a text, one at a time. `limit` is how many lines a run takes."""
+    """The answers of a text, one at a time. `limit` is how many lines a run takes; `column` is where a refused one stops being an answer."""
 
     def __init__(self, text: bytes, limit: int = LIMIT) -> None:
         self.text, self.limit = text, limit
-        self.at = self.line = 0
+        self.at = self.line = self.column = 0
 
     def next(self) -> Optional[Answer]:
         """The answer of the next line, or None at the end. A1, A2 or A4 if the line is none."""
@@ -40,6 +46,7 @@ class Answers:
         end = self.text.find(b"\n", self.at)
         end = len(self.text) if end < 0 else end
         line, self.at = self.text[self.at : end], end + 1
+        self.column = column_of(line)
         if len(line) != SIZE or any(line[it] != 32 for it in SPACES):
             raise Refused("A1", self.line)
         fields = line[:1], line[2:3], line[4:10], line[11:12], line[13:]

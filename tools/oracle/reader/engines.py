@@ -109,7 +109,10 @@ def is_begun(run: Run) -> bool:
 
 
 def tell_run(inputs: Inputs) -> Told:
-    return listed(played(inputs))
+    """A run whose answers are refused tells the column, too."""
+    run = played(inputs)
+    err = f"column {run.answers.column}\n" if reached_by(run) in ("A1", "A2") else ""
+    return listed(run)._replace(err=err.encode())
 
 
 def tell_drive(inputs: Inputs) -> Told:
