@@ -3,12 +3,11 @@ from typing import Iterator, List, Optional, Sequence, Set, Tuple
 
 from camac.bodies import services_of
 from camac.drive import File
-from camac.loops.loose import dear_loops, wide_keeps
 from camac.program import knows_command
 from camac.reader import read_script
 from camac.subcommands import check, response
 from camac.texts import TextFile
-from camac.tree import Plain, Script
+from camac.tree import Loop, Plain, Script
 from camac.values import Harm, Response, Service
 from camac.warn.codes import Code as Code, Warned as Warned
 from camac.warn.silent import Silent, costs_with_arms
@@ -84,6 +83,11 @@ def _held_up(script: Script, services: List[Service]) -> Iterator[Warned]:
 
 def _loose(plan: File, text: bytes, script: Script, program: Optional[File]) -> Iterator[Warned]:
     """Loops that keep more than they need, and loops that would cost less turn by turn."""
+    if not any(isinstance(it, Loop) for body in script.bodies for it in body.every):
+        return
+    # It takes as long to load as all other warnings.
+    from camac.loops.loose import dear_loops, wide_keeps
+
     for wide in wide_keeps(plan, text, script.bodies, program):
         if wide.least is None:
             yield Warned(wide.line, Code.UNUSED_KEEP, f"this kept bound of `{wide.name}` is not needed: the script is accepted without it", wide.edits)
