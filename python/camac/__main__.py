@@ -20,7 +20,7 @@ A picture is an SVG file, a report one HTML file; both open in a browser. docs/D
 variable CAMAC_PROGRAM names."""
 
 
-def parser(words: List[str]) -> argparse.ArgumentParser:
+def make_parser(words: List[str]) -> argparse.ArgumentParser:
     raw = argparse.RawDescriptionHelpFormatter
     top = argparse.ArgumentParser(prog="python3 -m camac", description=DESCRIPTION, epilog=STATUS, formatter_class=raw)
     made = functools.partial(argparse.ArgumentParser, formatter_class=raw)
@@ -32,15 +32,15 @@ def parser(words: List[str]) -> argparse.ArgumentParser:
 
 def parse(words: List[str]) -> argparse.Namespace:
     """Reads the words of the command line; ends with status 2 if they are not understood."""
-    its = parser(words)
-    args = its.parse_args(words)
+    parser = make_parser(words)
+    args = parser.parse_args(words)
     if "read" in args:
-        args.read(args, its)
+        args.read(args, parser)
     inputs = getattr(args, "files", []) + getattr(args, "scripts", []) + [getattr(args, name, "") or "" for name in INPUTS]
-    refuse_pipes(its, inputs, args.command == "fmt" or getattr(args, "what", "") == "listing")
+    refuse_pipes(parser, inputs, args.command == "fmt" or getattr(args, "what", "") == "listing")
     for out in (args.out, getattr(args, "write_record", None)):
         if out and is_one_of(out, inputs):
-            its.error(LOST.format(out))
+            parser.error(LOST.format(out))
     return args
 
 

@@ -18,17 +18,17 @@ NUMBER = "{:>7}  "
 
 
 def add_to(commands: Any) -> None:
-    it = commands.add_parser("annotate", help="Lists a run with each answer line beside its operation")
+    parser = commands.add_parser("annotate", help="Lists a run with each answer line beside its operation")
     for name in ("plan", "script", "answers"):
-        it.add_argument(name, metavar=name.upper())
-    it.add_argument("-o", "--out", metavar="TEXT", help="the file to write; else standard output")
-    add_every(it)
-    add_overwrite(it)
-    it.set_defaults(do=make_annotated, read=read)
+        parser.add_argument(name, metavar=name.upper())
+    parser.add_argument("-o", "--out", metavar="TEXT", help="the file to write; else standard output")
+    add_every(parser)
+    add_overwrite(parser)
+    parser.set_defaults(do=make_annotated, read=read)
 
 
-def read(args: argparse.Namespace, its: argparse.ArgumentParser) -> None:
-    args.every = read_every(args.every, its)
+def read(args: argparse.Namespace, parser: argparse.ArgumentParser) -> None:
+    args.every = read_every(args.every, parser)
 
 
 def make_annotated(args: argparse.Namespace) -> int:
@@ -53,18 +53,18 @@ def annotate(
     with open(answers, "rb") as file, tempfile.NamedTemporaryFile(suffix=".events") as events:
         numbers, services = itertools.count(1), 0
         lines, again = itertools.tee(lines_of("run", "--", plan, script, answers, events.name, program=program))
-        for line, it in zip(lines, parse_listing(again)):
-            if isinstance(it, RunEnd) and it.is_refused_script():
+        for line, item in zip(lines, parse_listing(again)):
+            if isinstance(item, RunEnd) and item.is_refused_script():
                 raise Refused(line)
-            if isinstance(it, Demand) and it.service:
+            if isinstance(item, Demand) and item.service:
                 services += 1
                 line += f"   (service {services})"
-            begin, right = f"{'':>7}  {'no answer' if isinstance(it, Unlock) else '':<{ANSWER}}", "" if isinstance(it, (Demand, RunEnd)) else "  "
-            if not isinstance(it, Unlock) and (not isinstance(it, RunEnd) or STATUS[it.how]):
+            begin, right = f"{'':>7}  {'no answer' if isinstance(item, Unlock) else '':<{ANSWER}}", "" if isinstance(item, (Demand, RunEnd)) else "  "
+            if not isinstance(item, Unlock) and (not isinstance(item, RunEnd) or STATUS[item.how]):
                 answer = file.readline()
-                seen.take(it, answer)
+                seen.take(item, answer)
                 begin = f"{NUMBER.format(next(numbers))}{answer.decode('utf-8', 'replace').rstrip():<{ANSWER}}"
-            yield f"{begin}  {right}{line}", it
+            yield f"{begin}  {right}{line}", item
         left = sum(1 for _ in file)
         if left:
             count = "1 answer line was" if left == 1 else f"{left} answer lines were"

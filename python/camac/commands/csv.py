@@ -15,12 +15,12 @@ LISTING = "number,operation,service,pattern,crate,station,sub_address,function,m
 
 
 def add_to(commands: Any) -> None:
-    it = commands.add_parser("csv", help="Makes a table of a listing; `export` makes those of events")
-    it.add_argument("what", choices=("listing",), metavar="KIND", help="listing")
-    it.add_argument("file", metavar="FILE", help="what `camac run` printed, - for standard input")
-    it.add_argument("-o", "--out", metavar="CSV", help="the file to write; else standard output")
-    add_overwrite(it)
-    it.set_defaults(do=make_csv)
+    parser = commands.add_parser("csv", help="Makes a table of a listing; `export` makes those of events")
+    parser.add_argument("what", choices=("listing",), metavar="KIND", help="listing")
+    parser.add_argument("file", metavar="FILE", help="what `camac run` printed, - for standard input")
+    parser.add_argument("-o", "--out", metavar="CSV", help="the file to write; else standard output")
+    add_overwrite(parser)
+    parser.set_defaults(do=make_csv)
 
 
 def make_csv(args: argparse.Namespace) -> int:
@@ -45,11 +45,11 @@ def write_listing(lines: Iterable[str], out: TextIO) -> None:
 
 def _rows(items: Iterator[Item]) -> Iterator[List[object]]:
     service = None
-    for number, it in enumerate((it for it in items if not isinstance(it, RunEnd)), 1):
-        its: Dict[str, object] = it._asdict()
-        if isinstance(it, Demand):
-            service = it.service
-        elif isinstance(it, Cycle):
-            its.update(it.command._asdict(), move=it.move.value, word=None if it.move is Move.NONE else it.word)
-        its.update(number=number, operation=type(it).__name__.lower(), service=service)
-        yield [its.get(name) for name in LISTING.split(",")]
+    for number, item in enumerate((it for it in items if not isinstance(it, RunEnd)), 1):
+        row: Dict[str, object] = item._asdict()
+        if isinstance(item, Demand):
+            service = item.service
+        elif isinstance(item, Cycle):
+            row.update(item.command._asdict(), move=item.move.value, word=None if item.move is Move.NONE else item.word)
+        row.update(number=number, operation=type(item).__name__.lower(), service=service)
+        yield [row.get(name) for name in LISTING.split(",")]

@@ -26,18 +26,18 @@ QUANTITIES = ("cycles", "words", "steps", "start", "end")
 
 
 def add_to(commands: Any) -> None:
-    it = commands.add_parser("diff", help="Compares what services may take before and after a change", description=ABOUT, epilog=STATUS)
-    it.add_argument("old", metavar="OLD", help="a script, or with --script a plan")
-    it.add_argument("new", metavar="NEW", help="the same after the change")
-    other = it.add_mutually_exclusive_group(required=True)
+    parser = commands.add_parser("diff", help="Compares what services may take before and after a change", description=ABOUT, epilog=STATUS)
+    parser.add_argument("old", metavar="OLD", help="a script, or with --script a plan")
+    parser.add_argument("new", metavar="NEW", help="the same after the change")
+    other = parser.add_mutually_exclusive_group(required=True)
     other.add_argument("--plan", metavar="PLAN", help="OLD and NEW are scripts on this plan")
     other.add_argument("--script", metavar="SCRIPT", help="OLD and NEW are plans of this script")
-    add_every(it)
-    it.set_defaults(do=do, out=None, read=read)
+    add_every(parser)
+    parser.set_defaults(do=do, out=None, read=read)
 
 
-def read(args: argparse.Namespace, its: argparse.ArgumentParser) -> None:
-    args.every = read_every(args.every, its)
+def read(args: argparse.Namespace, parser: argparse.ArgumentParser) -> None:
+    args.every = read_every(args.every, parser)
 
 
 def do(args: argparse.Namespace) -> int:
@@ -83,8 +83,8 @@ class Change(NamedTuple):
 
     def line(self) -> str:
         if self.before is None or self.after is None:
-            its = self.after or self.before
-            numbers = " ".join(f"{name} {_shown(value)}" for name, value in zip(QUANTITIES, its or ()))
+            values = self.after or self.before
+            numbers = " ".join(f"{name} {_shown(value)}" for name, value in zip(QUANTITIES, values or ()))
             return f"{'+' if self.after else '-'} service {self.name} {numbers}"
         pairs = zip(QUANTITIES, self.before, self.after)
         numbers = " ".join(f"{name} {_shown(old)}" + ("" if old == new else f" -> {_shown(new)}") for name, old, new in pairs)
@@ -114,20 +114,20 @@ Command = Tuple[int, int, str, int, int, Optional[int]]
 
 def commands_of(plan: File, program: Optional[File] = None) -> Set[Command]:
     """The commands that may be sent to the modules of a plan. Raises as `camac.plan`."""
-    its = with_commands(read_plan(plan, program), plan_text(plan).decode("utf-8", "replace"))
+    declared = with_commands(read_plan(plan, program), plan_text(plan).decode("utf-8", "replace"))
     return {
         (crate.number, station.number, station.type, function, sub, one.width)
-        for crate in its.crates
+        for crate in declared.crates
         for station in crate.stations
-        for (function, sub), one in its.types[station.type].declared().items()
+        for (function, sub), one in declared.types[station.type].declared().items()
     }
 
 
 def command_lines(before: Set[Command], after: Set[Command]) -> Iterator[str]:
     """The commands that a plan gains and loses, those that differ in their sub-address alone on one line."""
-    for sign, its in (("-", before - after), ("+", after - before)):
+    for sign, commands in (("-", before - after), ("+", after - before)):
         places: Dict[Tuple[int, int, str, int, Optional[int]], List[int]] = {}
-        for crate, station, name, function, sub, width in sorted(its, key=lambda it: it[:5]):
+        for crate, station, name, function, sub, width in sorted(commands, key=lambda it: it[:5]):
             places.setdefault((crate, station, name, function, width), []).append(sub)
         for (crate, station, name, function, width), subs in places.items():
             bits = f" width {width or 24}" if functions.reads(function) or functions.writes(function) else ""

@@ -15,25 +15,25 @@ failed."""
 
 
 def add_to(commands: Any) -> None:
-    it = commands.add_parser("export", help="Writes the events of a file as columns with names", epilog=ABOUT)
-    it.add_argument("file", metavar="EVENTS", help="an event file")
-    it.add_argument("-o", "--out", required=True, metavar="FILE", help="the file to write; its ending is .h5, .npz or .csv")
-    it.add_argument("--plan", metavar="PLAN", help="the plan of the run, with --script")
-    it.add_argument("--script", metavar="SCRIPT", help="its script: it names the services, and the words whose place it fixes")
-    it.add_argument("--words", metavar="TOML", help="what the words of events are")
-    it.add_argument("--record", metavar="JSON", help="the record of the run, which has plan and script")
-    it.add_argument("--overwrite", action="store_true", help="replaces files that hold bytes")
-    it.set_defaults(do=do, its=it)
+    parser = commands.add_parser("export", help="Writes the events of a file as columns with names", epilog=ABOUT)
+    parser.add_argument("file", metavar="EVENTS", help="an event file")
+    parser.add_argument("-o", "--out", required=True, metavar="FILE", help="the file to write; its ending is .h5, .npz or .csv")
+    parser.add_argument("--plan", metavar="PLAN", help="the plan of the run, with --script")
+    parser.add_argument("--script", metavar="SCRIPT", help="its script: it names the services, and the words whose place it fixes")
+    parser.add_argument("--words", metavar="TOML", help="what the words of events are")
+    parser.add_argument("--record", metavar="JSON", help="the record of the run, which has plan and script")
+    parser.add_argument("--overwrite", action="store_true", help="replaces files that hold bytes")
+    parser.set_defaults(do=do, parser=parser)
 
 
 def do(args: argparse.Namespace) -> int:
     given = Given(args.file, args.plan, args.script, args.words, args.record)
     if os.path.splitext(args.out)[1] not in ENDINGS:
-        args.its.error(f"the file to write ends in {', '.join(ENDINGS)}, not {args.out!r}")
+        args.parser.error(f"the file to write ends in {', '.join(ENDINGS)}, not {args.out!r}")
     if (args.plan is None) != (args.script is None):
-        args.its.error("--plan and --script belong together")
+        args.parser.error("--plan and --script belong together")
     for out in files_of(args.out):
         if is_one_of(out, [os.fsdecode(it) for it in given if it is not None]):
-            args.its.error(f"{out} is an input: it would be lost")
+            args.parser.error(f"{out} is an input: it would be lost")
     export(given, args.out, args.overwrite)
     return 0

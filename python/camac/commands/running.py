@@ -22,13 +22,13 @@ GREATEST_EVERY = 4_294_967_295
 Parse = Callable[[List[str]], argparse.Namespace]
 
 
-def refuse_pipes(its: argparse.ArgumentParser, inputs: Sequence[str], takes_pipes: bool = False) -> None:
+def refuse_pipes(parser: argparse.ArgumentParser, inputs: Sequence[str], takes_pipes: bool = False) -> None:
     """Ends with status 2 if an input can be read only once."""
     if is_standard_input(inputs):
-        its.error("@in cannot be an input here: it is read more than once")
+        parser.error("@in cannot be an input here: it is read more than once")
     pipes = [it for it in inputs if os.path.exists(it) and not os.path.isfile(it) and not os.path.isdir(it)]
     if pipes and not takes_pipes:
-        its.error(f"{pipes[0]} is no file, and cannot be an input here: it is read more than once")
+        parser.error(f"{pipes[0]} is no file, and cannot be an input here: it is read more than once")
 
 
 def main(parse: Parse, words: Optional[List[str]] = None) -> int:
@@ -80,21 +80,21 @@ def add_every(to: argparse.ArgumentParser) -> None:
     to.add_argument("--every", action="append", default=[], metavar="SERVICE=CYCLES", help=text)
 
 
-def read_every(words: Sequence[str], its: argparse.ArgumentParser) -> Dict[str, int]:
+def read_every(words: Sequence[str], parser: argparse.ArgumentParser) -> Dict[str, int]:
     """Reads the values of --every; ends with status 2 if they are not understood."""
     form = f"SERVICE=CYCLES with 1 to {GREATEST_EVERY:,} cycles"
-    return read_pairs("--every", words, its, form, lambda it: re.fullmatch("[0-9]{1,10}", it) and 1 <= int(it) <= GREATEST_EVERY and int(it))
+    return read_pairs("--every", words, parser, form, lambda it: re.fullmatch("[0-9]{1,10}", it) and 1 <= int(it) <= GREATEST_EVERY and int(it))
 
 
-def read_pairs(option: str, words: Sequence[str], its: argparse.ArgumentParser, form: str, read: Callable[[str], Any]) -> Dict[str, Any]:
+def read_pairs(option: str, words: Sequence[str], parser: argparse.ArgumentParser, form: str, read: Callable[[str], Any]) -> Dict[str, Any]:
     """Reads the values NAME=VALUE of an option; ends with status 2 if a name is there twice, or `read` gives nothing for a value."""
     found: Dict[str, Any] = {}
     for word in words:
         name, _, value = word.partition("=")
         if not name or not read(value):
-            its.error(f"{option} is {form}, not {word!r}")
+            parser.error(f"{option} is {form}, not {word!r}")
         if name in found:
-            its.error(f"{option} {name} is there twice")
+            parser.error(f"{option} {name} is there twice")
         found[name] = read(value)
     return found
 

@@ -33,19 +33,19 @@ READ = "A read may take a word out of a memory, or count an address on."
 
 
 def add_to(commands: Any) -> None:
-    it = commands.add_parser("survey", prog="camac-survey", help="Asks the crates what they accept, and compares that with the plan", epilog=ABOUT)
-    it.add_argument("plan", metavar="PLAN", help="a plan: a TOML file, or @sample, the built-in plan")
-    it.add_argument("--driver", required=True, metavar="DRIVER", help=drivers.FORMS)
-    it.add_argument("--only", metavar="FUNCTIONS", help="sends these functions alone, as F8,F27")
-    it.add_argument("--also", metavar="FUNCTIONS", help="sends these, too, as F2,F10: they change what is in a module")
-    it.add_argument("--empty", action="store_true", help="sends F8 and F27 to the stations that the plan leaves empty, too")
-    it.add_argument("--wiring", action="store_true", help="has each look-at-me raised, by F25 or by you, and compares the bits of graded-L that come; it asks before each")
+    parser = commands.add_parser("survey", prog="camac-survey", help="Asks the crates what they accept, and compares that with the plan", epilog=ABOUT)
+    parser.add_argument("plan", metavar="PLAN", help="a plan: a TOML file, or @sample, the built-in plan")
+    parser.add_argument("--driver", required=True, metavar="DRIVER", help=drivers.FORMS)
+    parser.add_argument("--only", metavar="FUNCTIONS", help="sends these functions alone, as F8,F27")
+    parser.add_argument("--also", metavar="FUNCTIONS", help="sends these, too, as F2,F10: they change what is in a module")
+    parser.add_argument("--empty", action="store_true", help="sends F8 and F27 to the stations that the plan leaves empty, too")
+    parser.add_argument("--wiring", action="store_true", help="has each look-at-me raised, by F25 or by you, and compares the bits of graded-L that come; it asks before each")
     text = "tests the driver instead, at a register that F16 writes and F0 reads, as 1,6,0; Z and C go to its crate, and clear its modules"
-    it.add_argument("--driver-test", metavar="CRATE,STATION,SUB_ADDRESS", help=text)
-    it.add_argument("--keep", metavar="FOLDER", help="writes each plan, script and its answers there, which camac run plays again")
-    it.add_argument("-o", "--out", metavar="JSON", help="a file of what was found, for the record of a run and for a report")
-    add_overwrite(it)
-    it.set_defaults(do=do, its=it)
+    parser.add_argument("--driver-test", metavar="CRATE,STATION,SUB_ADDRESS", help=text)
+    parser.add_argument("--keep", metavar="FOLDER", help="writes each plan, script and its answers there, which camac run plays again")
+    parser.add_argument("-o", "--out", metavar="JSON", help="a file of what was found, for the record of a run and for a report")
+    add_overwrite(parser)
+    parser.set_defaults(do=do, parser=parser)
 
 
 def do(args: argparse.Namespace) -> int:
@@ -62,16 +62,16 @@ def do(args: argparse.Namespace) -> int:
     if register:
         return _test(args, branch, register)
     _print(_told_before(plan, functions, args.empty))
-    its = survey(args.plan, branch, functions=functions, has_empty=args.empty, tell=_tell)
+    surveyed = survey(args.plan, branch, functions=functions, has_empty=args.empty, tell=_tell)
     if args.wiring:
-        its = its._replace(wires=tuple(wires(args.plan, branch, _agrees)))
-    _print([*_table(its), *_ends(its)])
-    _keep(args.keep, its.scripts())
+        surveyed = surveyed._replace(wires=tuple(wires(args.plan, branch, _agrees)))
+    _print([*_table(surveyed), *_ends(surveyed)])
+    _keep(args.keep, surveyed.scripts())
     if args.out:
         sha256 = hashlib.sha256(plan_text(args.plan)).hexdigest()
         with output(args.out, rule) as out:
-            out.write(summary(its, sha256).text())
-    return REFUSED if its.differences() else DONE
+            out.write(summary(surveyed, sha256).text())
+    return REFUSED if surveyed.differences() else DONE
 
 
 def _test(args: argparse.Namespace, branch: Branch, register: Tuple[int, int, int]) -> int:
@@ -87,7 +87,7 @@ def _register(args: argparse.Namespace) -> Optional[Tuple[int, int, int]]:
         return None
     found = re.findall(r"^([1-7]),([1-9]|1[0-9]|2[0-3]),([0-9]|1[0-5])\Z", args.driver_test)
     if not found or args.out or args.wiring:
-        args.its.error("--driver-test is CRATE,STATION,SUB_ADDRESS, as 1,6,0, without --wiring and -o")
+        args.parser.error("--driver-test is CRATE,STATION,SUB_ADDRESS, as 1,6,0, without --wiring and -o")
     crate, station, sub_address = map(int, found[0])
     return crate, station, sub_address
 
@@ -121,7 +121,7 @@ def _read(args: argparse.Namespace, text: Optional[str]) -> Optional[List[int]]:
     words = text.split(",")
     numbers = [int(it[1:]) for it in words if re.fullmatch("F[0-9]{1,2}", it)]
     if len(numbers) < len(words) or any(it > 31 or writes(it) for it in numbers):
-        args.its.error(f"functions are F0 to F15 and F24 to F31, as F8,F27, not {text!r}; F16 to F23 write, and a survey writes nothing")
+        args.parser.error(f"functions are F0 to F15 and F24 to F31, as F8,F27, not {text!r}; F16 to F23 write, and a survey writes nothing")
     return numbers
 
 
@@ -129,9 +129,9 @@ def _keep(folder: Optional[str], asked: Iterable[Asked]) -> None:
     """Writes scripts and their answers into a folder, if one is named."""
     if folder is None:
         return
-    for it in asked:
-        for end, text in (("toml", it.script.plan), ("script", it.script.text), ("answers", it.answers())):
-            with output(os.path.join(folder, f"{it.script.name}.{end}"), nothing) as out:
+    for question in asked:
+        for end, text in (("toml", question.script.plan), ("script", question.script.text), ("answers", question.answers())):
+            with output(os.path.join(folder, f"{question.script.name}.{end}"), nothing) as out:
                 out.write(text)
 
 
@@ -152,9 +152,9 @@ def _told_before(plan: Plan, functions: Sequence[int], has_empty: bool) -> List[
     return [row for it in lines + ([READ] if any(map(reads, others)) else []) for row in _wrapped(it, "", 2)]
 
 
-def _lines_of(its: Sequence[Finding]) -> Iterator[str]:
+def _lines_of(findings: Sequence[Finding]) -> Iterator[str]:
     """What a test of a driver found, by the rules of docs/LIVE.md."""
-    for rule, found in itertools.groupby(sorted(its, key=lambda it: RULES.index(it.rule)), key=lambda it: it.rule):
+    for rule, found in itertools.groupby(sorted(findings, key=lambda it: RULES.index(it.rule)), key=lambda it: it.rule):
         yield rule
         for it in found:
             yield from _wrapped(f"{it.kept.value:<11}{it.text}", "  ", 13)
@@ -164,17 +164,17 @@ def _named(functions: Iterable[int]) -> str:
     return ", ".join(f"F{it} ({name(it)})" for it in functions)
 
 
-def _row(it: Row) -> str:
-    is_probe = it.declared is not None and it.declared.is_probe
-    bits = f"{it.bits} of {it.declared.width}" if it.declared and it.x and reads(it.function) and not is_probe else "-"
-    command = f"F{it.function:<3}{it.sub_addresses()}" + (", probe" if is_probe else "")
-    return f"  {command:<23}{it.x:>3}{it.q:>3}  {bits:<11}{it.found.value}"
+def _row(row: Row) -> str:
+    is_probe = row.declared is not None and row.declared.is_probe
+    bits = f"{row.bits} of {row.declared.width}" if row.declared and row.x and reads(row.function) and not is_probe else "-"
+    command = f"F{row.function:<3}{row.sub_addresses()}" + (", probe" if is_probe else "")
+    return f"  {command:<23}{row.x:>3}{row.q:>3}  {bits:<11}{row.found.value}"
 
 
-def _table(its: Survey) -> Iterator[str]:
+def _table(surveyed: Survey) -> Iterator[str]:
     """The answers by station. Commands that are neither declared nor accepted are left out."""
     crate = 0
-    for (at, station), rows in its.stations():
+    for (at, station), rows in surveyed.stations():
         shown = [it for it in rows if it.found is not Found.NOTHING]
         if at != crate:
             crate = at
@@ -183,15 +183,15 @@ def _table(its: Survey) -> Iterator[str]:
         if shown or rows[0].type:
             yield f" station {station}, {rows[0].type or 'which the plan leaves empty'}"
         yield from map(_row, shown)
-    for it in its.wires:
+    for it in surveyed.wires:
         yield from _wrapped(it.line(), "", 2) if it.is_raised else ()
 
 
-def _ends(its: Survey) -> Iterator[str]:
+def _ends(surveyed: Survey) -> Iterator[str]:
     """What differs, what was not tried, and the sums."""
-    for title, lines in (("differs", its.differences()), ("not tried", its.not_tried())):
+    for title, lines in (("differs", surveyed.differences()), ("not tried", surveyed.not_tried())):
         if lines:
             yield title
             yield from (row for line in lines for row in _wrapped(line))
-    agree, more, differ = (its.count(it) for it in (Found.AGREES, Found.MORE, Found.DIFFERS))
-    yield f"surveyed at {its.at}: sent {its.sent():,}, agree {agree:,}, differ {differ:,}, not declared {more:,}"
+    agree, more, differ = (surveyed.count(it) for it in (Found.AGREES, Found.MORE, Found.DIFFERS))
+    yield f"surveyed at {surveyed.at}: sent {surveyed.sent():,}, agree {agree:,}, differ {differ:,}, not declared {more:,}"

@@ -20,16 +20,16 @@ Status: 1 plan or script is refused; 2 usage; 3 a file or the program failed, or
 
 
 def add_to(commands: Any) -> None:
-    it = commands.add_parser("watch", help="Shows a live run in a browser", epilog=ABOUT)
-    it.add_argument("events", metavar="EVENTS|FOLDER", help="an event file, which may grow, and need not be there yet; or a folder with records of runs")
-    it.add_argument("--port", type=int, default=8080, metavar="PORT", help="the port on 127.0.0.1 (8080); 0 is any that is free")
-    it.add_argument("--plan", metavar="PLAN", help="the plan of the run, with --script")
-    it.add_argument("--script", metavar="SCRIPT", help="its script")
-    it.add_argument("--words", metavar="TOML", help="what the words of events are")
-    it.add_argument("--record", metavar="JSON", help="the record of the run, which has plan and script; it need not be there yet")
-    it.add_argument("--over", metavar="EVENTS", help="draws the spectra of another run of this script as lines over these, as draw words does")
-    it.add_argument("--alarm", action="append", default=[], metavar="ALARM", help="what the page tells in red, and by a sound if you like; as often as you like")
-    it.set_defaults(do=do, its=it, out=None)
+    parser = commands.add_parser("watch", help="Shows a live run in a browser", epilog=ABOUT)
+    parser.add_argument("events", metavar="EVENTS|FOLDER", help="an event file, which may grow, and need not be there yet; or a folder with records of runs")
+    parser.add_argument("--port", type=int, default=8080, metavar="PORT", help="the port on 127.0.0.1 (8080); 0 is any that is free")
+    parser.add_argument("--plan", metavar="PLAN", help="the plan of the run, with --script")
+    parser.add_argument("--script", metavar="SCRIPT", help="its script")
+    parser.add_argument("--words", metavar="TOML", help="what the words of events are")
+    parser.add_argument("--record", metavar="JSON", help="the record of the run, which has plan and script; it need not be there yet")
+    parser.add_argument("--over", metavar="EVENTS", help="draws the spectra of another run of this script as lines over these, as draw words does")
+    parser.add_argument("--alarm", action="append", default=[], metavar="ALARM", help="what the page tells in red, and by a sound if you like; as often as you like")
+    parser.set_defaults(do=do, parser=parser, out=None)
 
 
 def do(args: argparse.Namespace) -> int:
@@ -39,18 +39,18 @@ def do(args: argparse.Namespace) -> int:
     from camac.watch import Server, Watch
 
     if not 0 <= args.port <= 65_535:
-        args.its.error(f"--port is 0 to 65,535, not {args.port}")
+        args.parser.error(f"--port is 0 to 65,535, not {args.port}")
     if (args.plan is None) != (args.script is None):
-        args.its.error("--plan and --script belong together")
-    refuse_pipes(args.its, [it for it in (args.plan, args.script, args.words) if it is not None])
+        args.parser.error("--plan and --script belong together")
+    refuse_pipes(args.parser, [it for it in (args.plan, args.script, args.words) if it is not None])
     try:
         alarms = [read_alarm(it) for it in args.alarm]
     except ValueError as why:
-        args.its.error(str(why))
+        args.parser.error(str(why))
     watch: Union[Watch, RunList]
     if os.path.isdir(args.events):
         if args.plan or args.record:
-            args.its.error("a folder has its records; --plan, --script and --record are of an event file")
+            args.parser.error("a folder has its records; --plan, --script and --record are of an event file")
         watch = RunList(args.events, args.words, lambda given: Watch(given, alarms, args.over))
     else:
         watch = Watch(Given(args.events, args.plan, args.script, args.words, args.record), alarms, args.over)
