@@ -36,21 +36,21 @@ class Partition(NamedTuple):
             file.seek(self.begin)
             data = file.read(self.end - self.begin)
         found = whole_records(numpy, data, self.number)
-        its = found[0] if found and found[1] == len(data) else arrays_of([*read_from(io.BytesIO(), TWO, data, self.number, self.begin)], True)
-        if self.after not in (None, self.number + len(its.gl)):
+        events = found[0] if found and found[1] == len(data) else arrays_of([*read_from(io.BytesIO(), TWO, data, self.number, self.begin)], True)
+        if self.after not in (None, self.number + len(events.gl)):
             raise EventFileFault("V4", self.end + 4)
-        return its
+        return events
 
     def events(self) -> EventArrays:
         """Those that pass the gates."""
-        its = self.read()
+        events = self.read()
         for name, low, last in self.gates:
-            counts, found = numpy.diff(its.first), [self.words.values_of(it, its) for it in _named(self.words, name)]
+            counts, found = numpy.diff(events.first), [self.words.values_of(it, events) for it in _named(self.words, name)]
             at = numpy.concatenate([numpy.zeros(0, "i8"), *(at[(low <= numbers) & (numbers <= last)] for at, numbers in found)])
-            passed = numpy.isin(numpy.arange(len(counts)), numpy.searchsorted(its.first, at, "right") - 1)
+            passed = numpy.isin(numpy.arange(len(counts)), numpy.searchsorted(events.first, at, "right") - 1)
             first = numpy.concatenate([[0], numpy.cumsum(counts[passed])])
-            its = EventArrays(its.gl[passed], None, None, first, its.words[numpy.repeat(passed, counts)])
-        return its
+            events = EventArrays(events.gl[passed], None, None, first, events.words[numpy.repeat(passed, counts)])
+        return events
 
 
 class Runs(NamedTuple):
@@ -69,9 +69,9 @@ class Runs(NamedTuple):
         self.greatest(name)
         def of(part: Partition) -> Array:
             events = part.events()
-            its = [(it, *part.words.values_of(it, events)) for it in _named(part.words, name)]
-            order = numpy.concatenate([numpy.zeros(0, "i8"), *(at for _, at, _ in its)]).argsort(kind="stable")
-            return numpy.concatenate([numpy.zeros(0, "u4"), *(it.value(numbers) for it, _, numbers in its)])[order]
+            found = [(it, *part.words.values_of(it, events)) for it in _named(part.words, name)]
+            order = numpy.concatenate([numpy.zeros(0, "i8"), *(at for _, at, _ in found)]).argsort(kind="stable")
+            return numpy.concatenate([numpy.zeros(0, "u4"), *(it.value(numbers) for it, _, numbers in found)])[order]
         return _over(sum(self.partitions, ()), of, numpy.append)
 
     def histogram(self, name: str, low: int = 0, last: Optional[int] = None) -> Array:
@@ -89,7 +89,7 @@ class Runs(NamedTuple):
         """By run and service the events in a second of the time that its record has measured; NaN where it has none."""
         counts = [_over(parts, lambda it: numpy.bincount(it.events().gl, minlength=GREATEST_GL + 1), numpy.add) for parts in self.partitions]
         seconds = [(it.record.seconds() if it.record else 0) or float("nan") for it in self.about]
-        return {it.events_file: {of.name: int(its[of.gl]) / time for of in it.services} for it, its, time in zip(self.about, counts, seconds)}
+        return {it.events_file: {of.name: int(by_gl[of.gl]) / time for of in it.services} for it, by_gl, time in zip(self.about, counts, seconds)}
 
     def greatest(self, name: str) -> int:
         """The greatest number that words of this name hold. Raises KeyError if there are none."""
@@ -118,8 +118,8 @@ def _partitions(path: str, words: Words, size: int) -> Iterator[Partition]:
     with open(path, "rb") as file:
         is_new, end = file.read(HEADER) == NEW_FILE, file.seek(0, 2)
         begins = {(HEADER, 1)}.union(*(_next_record(file, at) for at in range(HEADER + size, end, size))) if is_new else {(0, 1)}
-    its: List[Tuple[int, Optional[int]]] = [*sorted(begins), (end, None)]
-    for (begin, number), (behind, after) in zip(its, its[1:]):
+    starts: List[Tuple[int, Optional[int]]] = [*sorted(begins), (end, None)]
+    for (begin, number), (behind, after) in zip(starts, starts[1:]):
         yield Partition(path, words, begin, behind, number or 1, after)
 
 

@@ -59,12 +59,12 @@ def groups(events: Events, number: int) -> List[Group]:
     kinds = events.gl.astype("i8") << 32 | counts
     is_one, numbers = (kinds == kinds[:1]).all(), numpy.arange(number, number + len(kinds))
     for kind in (kinds[:1] if is_one else numpy.unique(kinds)).tolist():
-        its = slice(None) if is_one else numpy.flatnonzero(kinds == kind)
-        at = events.first[:-1][its]
-        usage = (events.cycles[its], events.missed[its]) if events.cycles is not None and events.missed is not None else ([], [])
+        index = slice(None) if is_one else numpy.flatnonzero(kinds == kind)
+        at = events.first[:-1][index]
+        usage = (events.cycles[index], events.missed[index]) if events.cycles is not None and events.missed is not None else ([], [])
         size = kind & 0xFFFF
         words = [*events.words.reshape(-1, size).T.copy()] if size and is_one else [events.words[at + place] for place in range(size)]
-        found.append(Group(kind >> 32, size, numbers[its], *usage, words))
+        found.append(Group(kind >> 32, size, numbers[index], *usage, words))
     return found
 
 
@@ -157,8 +157,8 @@ def whole_records(numpy: Any, data: Any, number: int) -> Optional[Tuple[EventArr
     heads = alike[:, :head] if is_alike else numbers[starts[:, None] + numpy.arange(head)]
     ends = starts + head + (heads[:, 3] & 0xFFFF)
     # The rest of the last record may not be read yet.
-    its = slice(None) if is_alike else ends <= len(numbers)
-    starts, heads, ends = starts[its], heads[its], ends[its]
+    kept = slice(None) if is_alike else ends <= len(numbers)
+    starts, heads, ends = starts[kept], heads[kept], ends[kept]
     if not len(starts):
         return None
     gl, cycles, missed, counts = heads[:, 0] & 0xFFFF, heads[:, 2].copy(), heads[:, 3] >> 16, heads[:, 3] & 0xFFFF

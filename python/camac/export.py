@@ -52,7 +52,7 @@ class About(NamedTuple):
     def value(self) -> Dict[str, Any]:
         """As JSON has it."""
         texts = {"plan": self.plan, "script": self.script, "words": self.words_text}
-        values = {name: its.value() for name, its in texts.items() if its}
+        values = {name: text.value() for name, text in texts.items() if text}
         record = {"record": json.loads(self.record.text())} if self.record else {}
         return {"form": FORM, "events": self.events, "services": {str(it.gl): it.name for it in self.services}, **values, **record}
 
@@ -81,9 +81,9 @@ def learn(given: Given, program: Optional[File] = None) -> About:
         about = about._replace(record=record, plan=record.plan, script=record.script)
     if given.plan is not None and given.script is not None:
         plan, script = texts_of(given.plan, given.script)
-        for mine, its in ((plan, about.plan), (script, about.script)):
-            if its is not None and mine.sha256 != its.sha256:
-                raise ValueError(f"{mine.name} is not the one of the record, {its.name}")
+        for mine, recorded in ((plan, about.plan), (script, about.script)):
+            if recorded is not None and mine.sha256 != recorded.sha256:
+                raise ValueError(f"{mine.name} is not the one of the record, {recorded.name}")
         about = about._replace(plan=plan, script=script)
     if about.plan and about.script:
         services, sources = _judge(about.plan, about.script, program)
@@ -165,10 +165,10 @@ def _sources(numpy: Any, events: EventArrays, at: Array, sources: Words) -> Arra
     count alone."""
     always = numpy.zeros((GREATEST_GL + 1, GREATEST_COUNT + 1), "u2" if len(sources.fields) < 1 << 16 else "u4")
     counted, count_of = always.copy(), numpy.full(GREATEST_GL + 1, MISSING)
-    for number, its in enumerate(sources.fields, 1):
-        (always if its.count is None else counted)[its.gl, its.places[0] : its.places[1] + 1] = number
-        if its.count is not None:
-            count_of[its.gl] = its.count
+    for number, field in enumerate(sources.fields, 1):
+        (always if field.count is None else counted)[field.gl, field.places[0] : field.places[1] + 1] = number
+        if field.count is not None:
+            count_of[field.gl] = field.count
     counts = numpy.diff(events.first)
     found = always.take(at)
     if (count_of != MISSING).any():
@@ -182,9 +182,9 @@ def _named(numpy: Any, events: EventArrays, words: Words, taken: Set[str]) -> It
     for title, fields in words.by_name().items():
         is_plain = all(it.is_plain for it in fields)
         values = numpy.full(len(events.words), MISSING, "i4") if is_plain else numpy.full(len(events.words), numpy.nan)
-        for its in fields:
-            at, numbers = words.values_of(its, events)
-            values[at] = numbers if is_plain else its.value(numbers.astype("f8"))
+        for field in fields:
+            at, numbers = words.values_of(field, events)
+            values[at] = numbers if is_plain else field.value(numbers.astype("f8"))
         # A name that may be in a path of HDF5, and that no other column has.
         plain = "".join(it if it.isprintable() and it not in "/." else "_" for it in title)
         name = next(it for it in itertools.chain([plain], (f"{plain}_{number}" for number in itertools.count(2))) if it not in taken)
@@ -270,16 +270,16 @@ def _write_npz(reading: Reading, about: About, outs: Sequence[BinaryIO]) -> None
     with contextlib.ExitStack() as opened, zipfile.ZipFile(outs[0], "w", allowZip64=True) as archive:
         files: Dict[str, Tuple[Any, Series]] = {}
         for series in reading.series(about):
-            for it in series:
-                name = f"{it.table}/{it.name}"
+            for column in series:
+                name = f"{column.table}/{column.name}"
                 if name not in files:
-                    files[name] = opened.enter_context(tempfile.TemporaryFile()), it._replace(values=it.values[:0])
-                files[name][0].write(it.values.tobytes())
+                    files[name] = opened.enter_context(tempfile.TemporaryFile()), column._replace(values=column.values[:0])
+                files[name][0].write(column.values.tobytes())
         values = {**about.value(), "columns": {name: _about(it) for name, (_, it) in files.items()}, "sources": about.source_names()}
         with archive.open("about.npy", "w") as out:
             numpy.save(out, numpy.array(json.dumps(values)))
-        for name, (file, it) in files.items():
-            head = {"descr": it.values.dtype.str, "fortran_order": False, "shape": (file.tell() // it.values.dtype.itemsize,)}
+        for name, (file, column) in files.items():
+            head = {"descr": column.values.dtype.str, "fortran_order": False, "shape": (file.tell() // column.values.dtype.itemsize,)}
             file.seek(0)
             with archive.open(f"{name}.npy", "w", force_zip64=True) as out:
                 numpy.lib.format.write_array_header_1_0(out, head)
@@ -300,29 +300,29 @@ def _write_h5(reading: Reading, about: About, outs: Sequence[BinaryIO]) -> None:
             file["sources"] = about.source_names()
             for name, values in about.value().items():
                 if "sha256" in values:
-                    its = {name: values.get("text", values.get("base64")), f"{name}_name": values["name"], f"{name}_sha256": values["sha256"]}
+                    texts = {name: values.get("text", values.get("base64")), f"{name}_name": values["name"], f"{name}_sha256": values["sha256"]}
                 else:
-                    its = {name: values if isinstance(values, str) else json.dumps(values)}
+                    texts = {name: values if isinstance(values, str) else json.dumps(values)}
                 # A name of a file may hold bytes that are no text.
-                file.attrs.update({name: text.encode("utf-8", "replace").decode() for name, text in its.items()})
+                file.attrs.update({name: text.encode("utf-8", "replace").decode() for name, text in texts.items()})
         with open(path, "rb") as made:
             shutil.copyfileobj(made, outs[0], COPIED)
 
 
-def _append(file: Any, it: Series) -> None:
+def _append(file: Any, column: Series) -> None:
     """Adds values to a column of a file of HDF5."""
-    name = f"{it.table}/{it.name}"
+    name = f"{column.table}/{column.name}"
     if name not in file:
-        data = file.create_dataset(name, (0,), it.values.dtype, maxshape=(None,), chunks=(CHUNK,), compression="gzip", compression_opts=1, shuffle=True)
-        data.attrs.update(_about(it))
+        data = file.create_dataset(name, (0,), column.values.dtype, maxshape=(None,), chunks=(CHUNK,), compression="gzip", compression_opts=1, shuffle=True)
+        data.attrs.update(_about(column))
     data = file[name]
     before = len(data)
-    data.resize((before + len(it.values),))
-    data[before:] = it.values
+    data.resize((before + len(column.values),))
+    data[before:] = column.values
 
 
-def _about(its: Series) -> Dict[str, str]:
-    return {"name": its.title or its.name, "unit": its.unit, "meaning": its.meaning}
+def _about(column: Series) -> Dict[str, str]:
+    return {"name": column.title or column.name, "unit": column.unit, "meaning": column.meaning}
 
 
 def _needed(module: str) -> Any:

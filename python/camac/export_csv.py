@@ -41,22 +41,22 @@ class Table(NamedTuple):
             yield [event.number, event.gl, place, word, *([sources.get(place, "")] if self.sources.fields else [])]
 
 
-def write_events(pieces: Iterable[Events], its: Table, to_events: BinaryIO, to_words: BinaryIO) -> None:
+def write_events(pieces: Iterable[Events], table: Table, to_events: BinaryIO, to_words: BinaryIO) -> None:
     """Writes both tables of the events of a file."""
-    plain = {name: all(it.is_plain for it in fields) for name, fields in its.words.by_name().items()}
+    plain = {name: all(it.is_plain for it in fields) for name, fields in table.words.by_name().items()}
     number, first = 1, 0
-    for out, head in zip((to_events, to_words), its.heads()):
+    for out, head in zip((to_events, to_words), table.heads()):
         out.write(_text([head]).encode())
     for piece in (some for piece in pieces for some in _parts(piece)):
         if isinstance(piece, EventArrays) and not plain:
-            _write_arrays(piece, its, number, first, to_events, to_words)
+            _write_arrays(piece, table, number, first, to_events, to_words)
             number, first = number + len(piece.gl), first + len(piece.words)
             continue
         rows: List[List[object]] = []
         for event in as_events(piece, number):
-            usage = [event.cycles, event.missed] if its.has_cycles else []
+            usage = [event.cycles, event.missed] if table.has_cycles else []
             rows.append([event.number, event.gl, *usage, first, len(event.words)])
-            to_words.write(_text(its.rows(event, plain) if plain else its.first_columns(event)).encode())
+            to_words.write(_text(table.rows(event, plain) if plain else table.first_columns(event)).encode())
             first += len(event.words)
         to_events.write(_text(rows).encode())
         number += len(rows)
@@ -68,34 +68,34 @@ def _parts(piece: Events) -> Iterator[Events]:
         yield piece
         return
     for low in range(0, len(piece.gl), MANY):
-        its = slice(low, low + MANY)
-        cycles, missed = (it if it is None else it[its] for it in (piece.cycles, piece.missed))
+        part = slice(low, low + MANY)
+        cycles, missed = (it if it is None else it[part] for it in (piece.cycles, piece.missed))
         first = piece.first[low : low + MANY + 1]
-        yield EventArrays(piece.gl[its], cycles, missed, first - first[0], piece.words[first[0] : first[-1]])
+        yield EventArrays(piece.gl[part], cycles, missed, first - first[0], piece.words[first[0] : first[-1]])
 
 
-def _write_arrays(piece: EventArrays, its: Table, number: int, first: int, to_events: BinaryIO, to_words: BinaryIO) -> None:
+def _write_arrays(piece: EventArrays, table: Table, number: int, first: int, to_events: BinaryIO, to_words: BinaryIO) -> None:
     """Writes both tables of events whose words have no names of the user's."""
     numpy = importlib.import_module("numpy")
     counts = numpy.diff(piece.first)
     numbers = numpy.arange(number, number + len(counts))
-    usage = [piece.cycles, piece.missed] if its.has_cycles else []
+    usage = [piece.cycles, piece.missed] if table.has_cycles else []
     to_events.write(_rows(numpy, [numbers, piece.gl, *usage, piece.first[:-1] + first, counts]))
     if len(piece.words):
         places = numpy.arange(len(piece.words)) - numpy.repeat(piece.first[:-1], counts)
         of_event = [numpy.repeat(_digits(numpy, it), counts, axis=0) for it in (numbers, piece.gl)]
-        sources = [_sources(numpy, piece.gl, counts, places, its)] if its.sources.fields else []
+        sources = [_sources(numpy, piece.gl, counts, places, table)] if table.sources.fields else []
         to_words.write(_rows(numpy, [*of_event, _digits(numpy, numpy.arange(1, counts.max() + 1))[places], piece.words, *sources]))
 
 
-def _sources(numpy: Any, gl: Array, counts: Array, places: Array, its: Table) -> Array:
+def _sources(numpy: Any, gl: Array, counts: Array, places: Array, table: Table) -> Array:
     """The texts of the sources of all words, whose places are from 0, in rows of bytes."""
     kinds, kind = numpy.unique(gl.astype("i8") << 32 | counts, return_inverse=True)
     texts: List[bytes] = []
     starts = []
     for one in kinds.tolist():
         starts.append(len(texts))
-        texts += [_text([["", *row[4:]]])[1:-1].encode() for row in its.first_columns(Event(0, one >> 32, 0, 0, (0,) * (one & 0xFFFFFFFF)))]
+        texts += [_text([["", *row[4:]]])[1:-1].encode() for row in table.first_columns(Event(0, one >> 32, 0, 0, (0,) * (one & 0xFFFFFFFF)))]
     rows = numpy.array(texts, "S")
     rows = rows.view("u1").reshape(len(texts), rows.itemsize)
     return numpy.where(rows, rows, NOTHING).astype("u1")[numpy.repeat(numpy.array(starts)[kind], counts) + places]

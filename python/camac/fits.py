@@ -41,8 +41,8 @@ class Fit:
 
     def text(self) -> str:
         """What was found, in a line."""
-        its = f"events that this script can make, {self.count - self.misfits:,} of {self.count:,}"
-        return its if self.first is None else f"{its}: another script or plan made them; event {self.first[0]:,} {self.first[1]}"
+        text = f"events that this script can make, {self.count - self.misfits:,} of {self.count:,}"
+        return text if self.first is None else f"{text}: another script or plan made them; event {self.first[0]:,} {self.first[1]}"
 
 
 class Check(NamedTuple):

@@ -33,11 +33,11 @@ class _Bit:
         self.cycles, self.words = (Spectrum(end) for end in ends)
         self.count = self.missed = 0
 
-    def take(self, its: Group) -> None:
-        self.count += len(its.numbers)
-        self.words.add_all(its.numbers * 0 + its.size if is_array(its.numbers) else [its.size] * len(its.numbers))
-        self.cycles.add_all(its.cycles)
-        self.missed += sums(its.missed).total if len(its.missed) else 0
+    def take(self, group: Group) -> None:
+        self.count += len(group.numbers)
+        self.words.add_all(group.numbers * 0 + group.size if is_array(group.numbers) else [group.size] * len(group.numbers))
+        self.cycles.add_all(group.cycles)
+        self.missed += sums(group.missed).total if len(group.missed) else 0
 
 
 class Counts:
@@ -55,15 +55,15 @@ class Counts:
         self.last: Deque[Event] = collections.deque(maxlen=SHOWN_EVENTS)
 
     def take(self, events: Events) -> None:
-        its = groups(events, self.events + 1)
+        grouped = groups(events, self.events + 1)
         self.last.extend(as_events(events, self.events + 1, SHOWN_EVENTS))
-        self.events += sum(len(it.numbers) for it in its)
-        for it in its:
-            if it.gl not in self.bits:
-                self.bits[it.gl] = _Bit(self.ends)
-            self.bits[it.gl].take(it)
-        self.fit.take(its)
-        self.channels.take(its)
+        self.events += sum(len(it.numbers) for it in grouped)
+        for group in grouped:
+            if group.gl not in self.bits:
+                self.bits[group.gl] = _Bit(self.ends)
+            self.bits[group.gl].take(group)
+        self.fit.take(grouped)
+        self.channels.take(grouped)
 
     def list_channels(self) -> List[Channel]:
         return self.channels.listed(self.bits)
@@ -117,26 +117,26 @@ class Follower:
         """Takes the whole records that came since. Returns whether there may be more at once. From the place of a fault it is read anew each time."""
         try:
             with open_regular(self.path) as file:
-                its = os.fstat(file.fileno())
-                if self.place and (its.st_dev, its.st_ino) != self.identity:
+                status = os.fstat(file.fileno())
+                if self.place and (status.st_dev, status.st_ino) != self.identity:
                     self.restart("another file has taken the place of the file")
-                elif its.st_size < self.place:
+                elif status.st_size < self.place:
                     self.restart("the file was cut")
                 elif self.place:
                     file.seek(self.place - len(self.tail))
                     if file.read(len(self.tail)) != self.tail:
                         self.restart("the file was written over")
-                self.identity = its.st_dev, its.st_ino
+                self.identity = status.st_dev, status.st_ino
                 file.seek(self.place)
                 data = file.read(MOST_BYTES)
-                age = time.time() - its.st_mtime
+                age = time.time() - status.st_mtime
         except OSError as why:
             self.state = State(f"{why.strerror or why}: {os.fsdecode(self.path)}", self.place > 0 or why.errno != errno.ENOENT)
             return False
         self.take(data, age)
         is_more = len(data) == MOST_BYTES and not self.fault
         self.mark(not is_more)
-        self.tell(self.place / max(its.st_size, 1))
+        self.tell(self.place / max(status.st_size, 1))
         return is_more
 
     def take(self, data: bytes, age: float) -> None:
@@ -193,9 +193,9 @@ class Follower:
 
     def since(self, mark: Mark, make_counts: Callable[[], Counts]) -> "Follower":
         """Follows the same file from a moment on."""
-        its = Follower(self.path, make_counts, self.clock)
-        its.form, its.identity, its.place, its.tail, its.counts.events = self.form, self.identity, mark.place, mark.tail, mark.events
-        return its
+        later = Follower(self.path, make_counts, self.clock)
+        later.form, later.identity, later.place, later.tail, later.counts.events = self.form, self.identity, mark.place, mark.tail, mark.events
+        return later
 
     def tell(self, part: float) -> None:
         if self.fault:
@@ -214,10 +214,10 @@ class Follower:
     def rates(self, seconds: float) -> List[Tuple[float, float]]:
         """The rates of the last seconds, at most FINE of them: how long ago each ended, and its events a second."""
         found, begin, now = [], self.marks[0], self.marks[-1].time
-        for it in self.marks[1:]:
-            if it.time - begin.time >= seconds / FINE:
-                found.append((now - it.time, (it.events - begin.events) / (it.time - begin.time)))
-                begin = it
+        for mark in self.marks[1:]:
+            if mark.time - begin.time >= seconds / FINE:
+                found.append((now - mark.time, (mark.events - begin.events) / (mark.time - begin.time)))
+                begin = mark
         return [it for it in found if it[0] <= seconds]
 
     def age(self) -> Optional[float]:

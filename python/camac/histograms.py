@@ -58,14 +58,14 @@ class Spectrum:
         self.overflow += len(numbers) - len(inside)
         self._counts.update(inside)
 
-    def _note(self, its: Sums) -> None:
+    def _note(self, taken: Sums) -> None:
         """Takes the sums of numbers. An axis without an end doubles, if it does not hold the greatest."""
-        self.count += its.entries
-        self.total += its.total
-        self.squares += its.squares
-        self.least = its.least if self.least is None else min(self.least, its.least)
-        self.greatest = its.greatest if self.greatest is None else max(self.greatest, its.greatest)
-        while self.is_open and its.greatest >= self.end:
+        self.count += taken.entries
+        self.total += taken.total
+        self.squares += taken.squares
+        self.least = taken.least if self.least is None else min(self.least, taken.least)
+        self.greatest = taken.greatest if self.greatest is None else max(self.greatest, taken.greatest)
+        while self.is_open and taken.greatest >= self.end:
             self.end *= 2
             if self.end >> self.shift > self.most:
                 self.shift += 1
@@ -127,8 +127,8 @@ class Series:
         while int(services[-1]) > self.per * self.MOST:
             self.per *= 2
             columns, self.columns = self.columns, {}
-            for at, its in columns.items():
-                self._add({at // 2: its})
+            for at, column in columns.items():
+                self._add({at // 2: column})
         if self.full is not None:
             last, self.last = self.last, int(numbers[-1])
             numbers = differences(numbers, last, self.full)

@@ -34,8 +34,8 @@ def sums(numbers: Numbers) -> Sums:
 
 
 def listed(numbers: Numbers) -> Sequence[int]:
-    its: Sequence[int] = numbers.tolist() if is_array(numbers) else numbers
-    return its
+    plain: Sequence[int] = numbers.tolist() if is_array(numbers) else numbers
+    return plain
 
 
 def whole(numbers: Numbers) -> Numbers:
@@ -69,9 +69,9 @@ def places(numbers: Numbers) -> Numbers:
 def sums_of(counts: Numbers) -> Sums:
     """As `sums`, of numbers whose counts by number are given."""
     numpy = importlib.import_module("numpy")
-    its = counts.nonzero()[0]
-    products = counts[its] * its
-    return Sums(int(counts.sum()), int(products.sum()), int(numpy.dot(products, its)), int(its[0]), int(its[-1]))
+    numbers = counts.nonzero()[0]
+    products = counts[numbers] * numbers
+    return Sums(int(counts.sum()), int(products.sum()), int(numpy.dot(products, numbers)), int(numbers[0]), int(numbers[-1]))
 
 
 def added(one: Numbers, other: Numbers, shift: int) -> Numbers:
@@ -92,11 +92,11 @@ def each(numbers: Numbers, low: int, mask: int) -> Numbers:
 
 def greatest(most: int, numbers: Numbers, others: Numbers) -> List[int]:
     """Where the greatest numbers are, in order, of those alike by their other number, then the first ones: so many at most."""
-    its = whole(numbers), whole(others)
-    if not is_array(its[0]):
+    both = whole(numbers), whole(others)
+    if not is_array(both[0]):
         return sorted(k for _, _, k in heapq.nsmallest(most, zip(map(operator.neg, numbers), map(operator.neg, others), itertools.count())))
     numpy = importlib.import_module("numpy")
-    keys = its[0].astype("u8") << 32 | its[1]
+    keys = both[0].astype("u8") << 32 | both[1]
     least = numpy.partition(keys, -most)[-most] if len(keys) > most else 0
     found = (keys > least).nonzero()[0].tolist()
     return sorted(found + (keys == least).nonzero()[0][: most - len(found)].tolist())
@@ -112,16 +112,16 @@ def join(parts: List[Numbers]) -> Numbers:
 def order(places: Numbers, numbers: Numbers) -> Tuple[Numbers, Numbers]:
     """The numbers in the order of their places."""
     if is_array(numbers):
-        its = places.argsort(kind="stable")
-        return places[its], numbers[its]
+        index = places.argsort(kind="stable")
+        return places[index], numbers[index]
     pairs = sorted(zip(places, numbers), key=operator.itemgetter(0))
     return [at for at, _ in pairs], [number for _, number in pairs]
 
 
-def chosen(numbers: Numbers, its: Numbers, parts: Sequence[Numbers]) -> List[Numbers]:
+def chosen(numbers: Numbers, these: Numbers, parts: Sequence[Numbers]) -> List[Numbers]:
     """Of each part what stands where a number is one of these."""
-    wanted = its if is_array(numbers) else {*its}
-    return _where(importlib.import_module("numpy").isin(numbers, its) if is_array(numbers) else [it in wanted for it in numbers], parts)
+    wanted = these if is_array(numbers) else {*these}
+    return _where(importlib.import_module("numpy").isin(numbers, these) if is_array(numbers) else [it in wanted for it in numbers], parts)
 
 
 def within(numbers: Numbers, low: int, last: int, part: Numbers) -> Numbers:
@@ -149,8 +149,8 @@ def met(*sides: Tuple[Numbers, Numbers]) -> Tuple[Numbers, Numbers]:
         _, left, right = numpy.intersect1d(one, other, assume_unique=True, return_indices=True)
         return sides[0][1][first[left]], sides[1][1][second[right]]
     across, up = (dict(zip(reversed(events), reversed(numbers))) for events, numbers in sides)
-    its = [at for at in across if at in up]
-    return [across[at] for at in its], [up[at] for at in its]
+    common = [at for at in across if at in up]
+    return [across[at] for at in common], [up[at] for at in common]
 
 
 def split(tags: Numbers, parts: Iterable[Numbers]) -> Dict[int, List[Numbers]]:
