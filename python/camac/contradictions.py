@@ -27,15 +27,15 @@ class Contradictions:
         self.bits = [0] * 25
         self.last: Optional[Tuple[List[int], int]] = None
 
-    def take(self, it: Item, line: bytes) -> None:
+    def take(self, item: Item, line: bytes) -> None:
         """Takes an operation of a listing, with the line of its answer."""
-        if isinstance(it, Cycle):
-            self.answer(it.command, (it.x, it.q, it.word, it.wait, 0))
-        elif isinstance(it, Lock):
-            self.answer((it.crate,), (0, 0, 0, it.wait, 0))
-        elif isinstance(it, Demand):
+        if isinstance(item, Cycle):
+            self.answer(item.command, (item.x, item.q, item.word, item.wait, 0))
+        elif isinstance(item, Lock):
+            self.answer((item.crate,), (0, 0, 0, item.wait, 0))
+        elif isinstance(item, Demand):
             self.answer((), (0, 0, 0, 0, int(line[13:19] or b"0", 16)))
-            self.call(self.of.get(it.service or "", 0))
+            self.call(self.of.get(item.service or "", 0))
 
     def counts_of(self, command: Tuple[int, ...]) -> List[int]:
         """The counts of a command: by the bits of its words, and by NO_X."""
@@ -89,20 +89,20 @@ class Contradictions:
             if n not in CONTROLLERS:
                 width = plan.width(c, n, a, f) if reads(f) else 24
                 stations.update({(c, n, 0): counts[NO_X], (c, n, width): sum(counts[width + 1 : NO_X])})
-        its = []
+        found = []
         for (c, n, width), count in sorted(stations.items()):
             what = f"word above {width} bit{'s' if width > 1 else ''}" if width else "cycle with X = 0"
-            its.append(Contradiction(f"crate {c} station {n}", what, count))
-        its += [Contradiction(f"GL {bit}", "demand", self.bits[bit]) for bit in sorted({*range(1, 25)} - {gl for gl, _, _ in plan.demands()})]
+            found.append(Contradiction(f"crate {c} station {n}", what, count))
+        found += [Contradiction(f"GL {bit}", "demand", self.bits[bit]) for bit in sorted({*range(1, 25)} - {gl for gl, _, _ in plan.demands()})]
         rated = [(it.of, it.late.sooner) for it in self.watch.stretches if it.of.every is not None]
-        its += [Contradiction(of.name, f"call sooner than every {of.every:,} cycles", count) for of, count in rated]
-        return tuple(it for it in its if it.times)
+        found += [Contradiction(of.name, f"call sooner than every {of.every:,} cycles", count) for of, count in rated]
+        return tuple(it for it in found if it.times)
 
 
 def seen_of(branch: "Branch") -> Contradictions:
     """What counts the run of a branch: its own, where it has one."""
-    its = getattr(branch, "seen", None)
-    return its if isinstance(its, Contradictions) else Contradictions()
+    seen = getattr(branch, "seen", None)
+    return seen if isinstance(seen, Contradictions) else Contradictions()
 
 
 def plan_of(plan: "File", program: "Optional[File]") -> Optional[Plan]:

@@ -31,8 +31,8 @@ def driver(name: str, plan: File, patience: Optional[float] = None) -> Branch:
     if name == "mock":
         from camac.mock import Declared, MockBranch
 
-        its = read_plan(plan)
-        return MockBranch.of_plan(its, {(c.number, it.number): Declared(its.types[it.type].declarations) for c in its.crates for it in c.stations})
+        read = read_plan(plan)
+        return MockBranch.of_plan(read, {(c.number, it.number): Declared(read.types[it.type].declarations) for c in read.crates for it in c.stations})
     found = run_python(name).get("branch")
     if isinstance(found, type) or (callable(found) and not hasattr(found, "cycle")):
         found = _called(name, found, plan, *([] if patience is None else [patience]))

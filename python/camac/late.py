@@ -80,9 +80,9 @@ class Watch:
         place = self.places.get(gl, len(self.stretches))
         for it in self.stretches[:place]:
             it.begin(self.cycles)
-        for its in self.stretches[place : place + 1]:
-            is_broken = any([it.call(its.of, self.cycles, number) for it in self.stretches[place:]])
-            its.late.sooner += is_broken and its.of.every is not None
+        for stretch in self.stretches[place : place + 1]:
+            is_broken = any([it.call(stretch.of, self.cycles, number) for it in self.stretches[place:]])
+            stretch.late.sooner += is_broken and stretch.of.every is not None
 
     def end(self, gl: int, cycles: int, number: int) -> None:
         """The service of this bit came to its end, after so many cycles of its own."""

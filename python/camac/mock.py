@@ -233,20 +233,20 @@ class Declared(Module):
         self.words: Dict[int, int] = {}
 
     def cycle(self, a: int, f: int, data: Optional[int]) -> Reply:
-        its = self.declared.get((f, a))
-        if its is None:
+        declaration = self.declared.get((f, a))
+        if declaration is None:
             return NOT_ACCEPTED
-        if its.is_probe:
+        if declaration.is_probe:
             return Reply(q=0)
         if f in (8, 10, 24, 26):
             return super().cycle(0, f, data)
         if f == 27:
             return Reply(q=self.random.randint(0, 1))
-        if its.clears:
+        if declaration.clears:
             self.clear()
         if data is not None:
             self.words[a] = data
-        return Reply(word=self.words[a] if a in self.words else self.random.getrandbits(its.width or 24)) if f < 8 else Reply()
+        return Reply(word=self.words[a] if a in self.words else self.random.getrandbits(declaration.width or 24)) if f < 8 else Reply()
 
 
 class Auxiliary:
@@ -299,15 +299,15 @@ class MockBranch:
         disabled. So nothing calls before a start has enabled it.
 
         Raises ValueError if the plan has no such station, and what `camac.plan` raises."""
-        its = plan if isinstance(plan, Plan) else read_plan(plan)
-        stations = {(crate.number, it.number): it.gl for crate in its.crates for it in crate.stations}
+        listed = plan if isinstance(plan, Plan) else read_plan(plan)
+        stations = {(crate.number, it.number): it.gl for crate in listed.crates for it in crate.stations}
         for place in modules:
             if place not in stations:
                 raise ValueError(f"the plan has no station {place[1]} in a crate {place[0]}")
         gl = {place: bit for place, bit in stations.items() if bit and place in modules}
-        auxiliaries = {it.number: Auxiliary(it.waits, seed=it.number) for it in its.crates if it.waits}
+        auxiliaries = {it.number: Auxiliary(it.waits, seed=it.number) for it in listed.crates if it.waits}
         branch = cls(modules, gl, triggers, auxiliaries)
-        for crate in its.crates if is_cold else ():
+        for crate in listed.crates if is_cold else ():
             branch.initialise(crate.number)
         return branch
 
@@ -427,19 +427,19 @@ class Faulty:
 
     def cycle(self, c: int, n: int, a: int, f: int, data: Optional[int]) -> Answer:
         self.answers()
-        its = self.branch.cycle(c, n, a, f, data)
+        answer = self.branch.cycle(c, n, a, f, data)
         if self.comes("long_wait"):
-            its = its._replace(wait=15)
+            answer = answer._replace(wait=15)
         if n in CONTROLLERS:
-            return its
+            return answer
         if self.comes("no_x"):
-            return its._replace(x=0, q=0, word=0)
+            return answer._replace(x=0, q=0, word=0)
         if self.comes("no_q"):
-            its = its._replace(q=0)
+            answer = answer._replace(q=0)
         if f >= 8:
-            return its
+            return answer
         wrong = 1 << self.random.randrange(24) if self.comes("flip") else 0
-        return its._replace(word=(its.word | self.stuck_1) & ~self.stuck_0 ^ wrong)
+        return answer._replace(word=(answer.word | self.stuck_1) & ~self.stuck_0 ^ wrong)
 
     def lock(self, c: int) -> Answer:
         self.answers()

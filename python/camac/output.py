@@ -32,23 +32,23 @@ def bytes_output(path: Optional[str], rule: Rule) -> Iterator[BinaryIO]:
     block fails it is removed, and what was there stays.
 
     Raises OSError with the name if it cannot be written, what the rule raises, and BrokenPipeError if the reader of a pipe closed it."""
-    its: ContextManager[BinaryIO]
+    opened: ContextManager[BinaryIO]
     if path is None:
         if sys.stdout is None:
             raise OSError(errno.EBADF, os.strerror(errno.EBADF), STANDARD_OUTPUT)
-        its = _buffered(os.dup(1), STANDARD_OUTPUT)
+        opened = _buffered(os.dup(1), STANDARD_OUTPUT)
     elif (there := _open_as_it_is(path)) is None:
-        its = _replacement(path, rule)
+        opened = _replacement(path, rule)
     else:
-        its = _buffered(there, path)
-    with its as file:
+        opened = _buffered(there, path)
+    with opened as file:
         yield file
 
 
 def refuse_loss(path: str, rule: Rule) -> None:
     """Raises OSError if a file may not be written, or what the rule raises. What would be written into is not looked at."""
-    its = _stat(path)
-    if its is None or _is_replaced(its):
+    status = _stat(path)
+    if status is None or _is_replaced(status):
         _look(path, rule)
 
 
@@ -84,8 +84,8 @@ class Original(NamedTuple):
 
     def refuse_change(self, path: str) -> None:
         """The rule that the file is still the one that was read."""
-        its = _stat(path)
-        if its is None or _identity(its) != self.identity or read_original(path) != self:
+        status = _stat(path)
+        if status is None or _identity(status) != self.identity or read_original(path) != self:
             raise OSError(errno.ESTALE, "the script changed while it was judged", path)
 
     def replace(self, text: bytes) -> None:
@@ -103,8 +103,8 @@ def read_original(file: str) -> Original:
 
 def holds_bytes(path: Any) -> bool:
     """Whether a regular file is there that is not empty: what would be lost, were it written over. Raises OSError if that cannot be known."""
-    its = _stat(path)
-    return its is not None and stat.S_ISREG(its.st_mode) and its.st_size > 0
+    status = _stat(path)
+    return status is not None and stat.S_ISREG(status.st_mode) and status.st_size > 0
 
 
 def is_one_of(out: str, inputs: Sequence[str]) -> bool:
@@ -119,8 +119,8 @@ def write_made(path: str, text: str, may_replace: bool) -> None:
         out.write(text)
 
 
-def _identity(its: os.stat_result) -> Tuple[int, ...]:
-    return its.st_dev, its.st_ino, its.st_size, its.st_mtime_ns
+def _identity(status: os.stat_result) -> Tuple[int, ...]:
+    return status.st_dev, status.st_ino, status.st_size, status.st_mtime_ns
 
 
 def _stat(path: str) -> Optional[os.stat_result]:
@@ -131,16 +131,16 @@ def _stat(path: str) -> Optional[os.stat_result]:
         return None
 
 
-def _is_replaced(its: os.stat_result) -> bool:
+def _is_replaced(status: os.stat_result) -> bool:
     """Whether this is a file that another one takes the place of, and nothing that is written into."""
-    return stat.S_ISREG(its.st_mode) and _stream_of(its) is None
+    return stat.S_ISREG(status.st_mode) and _stream_of(status) is None
 
 
 def _look(path: str, rule: Rule) -> None:
     """Raises OSError if what is there is no file that may be written, or what the rule raises."""
-    its = _stat(path)
-    if its is not None:
-        if not stat.S_ISREG(its.st_mode):
+    status = _stat(path)
+    if status is not None:
+        if not stat.S_ISREG(status.st_mode):
             raise OSError(errno.EINVAL, "it is no regular file", path)
         os.close(os.open(path, os.O_WRONLY))
     rule(path)
@@ -148,18 +148,18 @@ def _look(path: str, rule: Rule) -> None:
 
 def _open_as_it_is(path: str) -> Optional[int]:
     """Opens what is there and is no regular file, or is the file of a standard stream; None if a file is to be made."""
-    its = _stat(path)
-    if its is None or _is_replaced(its):
+    status = _stat(path)
+    if status is None or _is_replaced(status):
         return None
-    stream = _stream_of(its)
+    stream = _stream_of(status)
     return os.open(path, os.O_WRONLY) if stream is None else os.dup(stream)
 
 
-def _stream_of(its: os.stat_result) -> Optional[int]:
+def _stream_of(status: os.stat_result) -> Optional[int]:
     """The standard stream to write that a file is behind."""
     for stream in (1, 2):
         with contextlib.suppress(OSError):
-            if os.path.samestat(its, os.fstat(stream)):
+            if os.path.samestat(status, os.fstat(stream)):
                 return stream
     return None
 
@@ -199,7 +199,7 @@ def _replacement(path: str, rule: Rule) -> Iterator[BinaryIO]:
 def _is_made_alike(new: str, place: str) -> bool:
     """Gives a new file the mode, owner and group of the one in its place, else the mode of new ones. Whether it may take that place: no link leads to
     the old file by another name, and the new one could be made like it."""
-    old, its = _stat(place), os.stat(new)
+    old, made = _stat(place), os.stat(new)
     # A disk without modes refuses to set one, and a user may not give a file away.
     with contextlib.suppress(OSError):
         if old is None:
@@ -207,7 +207,7 @@ def _is_made_alike(new: str, place: str) -> bool:
             os.umask(umask)
             os.chmod(new, 0o666 & ~umask)
             return True
-        if (old.st_uid, old.st_gid) != (its.st_uid, its.st_gid):
+        if (old.st_uid, old.st_gid) != (made.st_uid, made.st_gid):
             os.chown(new, old.st_uid, old.st_gid)
         os.chmod(new, stat.S_IMODE(old.st_mode))
         return old.st_nlink == 1

@@ -39,8 +39,8 @@ def _proof(file: str) -> Proof:
     # A library is in lib, or one deeper.
     for top in (os.path.dirname(folder), os.path.dirname(os.path.dirname(folder))):
         note = _read(os.path.join(top, NOTE))
-        for its in (note.get("program", ""), note.get("library", "")):
-            its_digest, _, word = its.partition(" ")
+        for line in (note.get("program", ""), note.get("library", "")):
+            its_digest, _, word = line.partition(" ")
             if its_digest == digest and word in (PROVED, NOT_PROVED):
                 return Proof(file, word, note.get("sources", "-"), note.get("kit", "-"))
     return Proof(file, NOT_KNOWN)
@@ -62,5 +62,5 @@ def told(program: Optional[File] = None) -> str:
 
 def lines(program: Optional[File] = None) -> str:
     """The same with its file, and the sums of its sources and of the kit that built it."""
-    its = proof(program)
-    return f"{told(program)}\n{its.file}\nsources {its.sources}\nkit {its.kit}\n"
+    found = proof(program)
+    return f"{told(program)}\n{found.file}\nsources {found.sources}\nkit {found.kit}\n"

@@ -85,10 +85,10 @@ class Source(NamedTuple):
     @classmethod
     def read(cls, fields: Any) -> "Source":
         data = base64.b64decode(fields["base64"]) if "base64" in fields else fields["text"].encode()
-        its = cls(fields["name"], data)
-        if its.sha256 != fields["sha256"]:
-            raise ValueError(f"the text of {its.name} is not the one of its SHA-256")
-        return its
+        source = cls(fields["name"], data)
+        if source.sha256 != fields["sha256"]:
+            raise ValueError(f"the text of {source.name} is not the one of its SHA-256")
+        return source
 
 
 class Record(NamedTuple):
@@ -167,7 +167,7 @@ def parse_record(data: bytes) -> Record:
     fields = json.loads(data)
     if not isinstance(fields, dict) or fields.get("form") != FORM:
         raise ValueError(f"its `form` is not {FORM!r}")
-    events, measured, its = fields["events"], fields["measured_seconds"] or {}, fields.get("contradictions")
+    events, measured, rows = fields["events"], fields["measured_seconds"] or {}, fields.get("contradictions")
     if not all(isinstance(it, str) for it in (fields["title"], *fields["verdict"], *fields["response"], *fields["versions"].values())):
         raise TypeError
     return Record(
@@ -183,7 +183,7 @@ def parse_record(data: bytes) -> Record:
         services=measured.get("services"),
         versions=fields["versions"],
         survey=_parse_survey(fields["survey"]) if fields.get("survey") else None,
-        contradictions=None if its is None else tuple(Contradiction(str(it["place"]), str(it["what"]), operator.index(it["times"])) for it in its),
+        contradictions=None if rows is None else tuple(Contradiction(str(it["place"]), str(it["what"]), operator.index(it["times"])) for it in rows),
     )
 
 
@@ -242,7 +242,7 @@ def record_checks(events: File, plan_of: Optional[Source], script: Optional[Sour
     if record is None or plan_of is None or script is None:
         return []
     pairs = (("plan", record.plan, plan_of), ("script", record.script, script))
-    wrong = [f"{mine.name} is not the {kind} {its.name} of SHA-256 {its.sha256[:12]}" for kind, its, mine in pairs if its.sha256 != mine.sha256]
+    wrong = [f"{mine.name} is not the {kind} {kept.name} of SHA-256 {kept.sha256[:12]}" for kind, kept, mine in pairs if kept.sha256 != mine.sha256]
     return [Check(f"plan and script are those of the record beside the events{''.join(f'; {it}' for it in wrong)}", not wrong)]
 
 
@@ -250,9 +250,9 @@ def recorded(asked: Union[File, Recording], of: Played, branch: Branch, play: Ca
     """Plays a run, and writes its record: before it begins, while it goes on, and at its end.
 
     Raises what `describe` and the run raise, and ProgramFault if the record cannot be written; a file that holds bytes is none."""
-    its = asked if isinstance(asked, Recording) else Recording(asked)
-    record = describe(of, its.number, its.title, its.survey, its.every)._replace(begin=now())
-    writer = _Writer(its.file, record, of)
+    recording = asked if isinstance(asked, Recording) else Recording(asked)
+    record = describe(of, recording.number, recording.title, recording.survey, recording.every)._replace(begin=now())
+    writer = _Writer(recording.file, record, of)
     watched = _Watched(branch, record, writer)
     with Signals() as signals:
         writer.write()

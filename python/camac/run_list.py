@@ -19,10 +19,10 @@ PATIENCE = 60
 def stamp(file: Optional[File]) -> Optional[Tuple[int, ...]]:
     """What changes where a file is written anew; None where none is there."""
     try:
-        its = os.stat(file or "")
+        status = os.stat(file or "")
     except FileNotFoundError:
         return None
-    return its.st_ino, its.st_mtime_ns, its.st_size
+    return status.st_ino, status.st_mtime_ns, status.st_size
 
 
 @functools.lru_cache(4096)
@@ -45,7 +45,7 @@ class RunList:
     def records(self) -> Dict[str, Record]:
         """The records by the names of their files, the last one first."""
         paths = ((it, os.path.join(self.folder, it)) for it in sorted(os.listdir(self.folder)) if it.endswith(".json"))
-        found = {name: its for name, its in ((name, _read(path, stamp(path))) for name, path in paths) if its}
+        found = {name: record for name, record in ((name, _read(path, stamp(path))) for name, path in paths) if record}
         return dict(sorted(found.items(), key=lambda it: it[1].begin or it[1].told or "", reverse=True))
 
     def follow(self, stop: threading.Event) -> None:
@@ -60,20 +60,20 @@ class RunList:
         with self.lock:
             if name not in self.opened:
                 events, path = (os.path.join(self.folder, it) for it in (os.path.basename(record.events), name))
-                its = self.opened[name] = self.make(Given(events, words=self.words, record=path))
-                threading.Thread(target=its.follow, args=(self.stop,), daemon=True).start()
+                opened = self.opened[name] = self.make(Given(events, words=self.words, record=path))
+                threading.Thread(target=opened.follow, args=(self.stop,), daemon=True).start()
             return self.opened[name]
 
     def parts(self, _look: object) -> Dict[str, str]:
-        return {"runs": "".join(f"<li>{self.row(name, its)}</li>" for name, its in self.records().items()) or "There is no record of a run in this folder."}
+        return {"runs": "".join(f"<li>{self.row(*it)}</li>" for it in self.records().items()) or "There is no record of a run in this folder."}
 
-    def row(self, name: str, its: Record) -> str:
+    def row(self, name: str, record: Record) -> str:
         """A run in a line: its page, its state, its number and title."""
-        link = f'<a href="{urllib.parse.quote(os.fsencode(name), safe="")}/">{escape(name)}</a>' if its.events else escape(name)
+        link = f'<a href="{urllib.parse.quote(os.fsencode(name), safe="")}/">{escape(name)}</a>' if record.events else escape(name)
         age = time.time() - (stamp(os.path.join(self.folder, name)) or (0, 0))[1] / 1e9
-        state, is_good = (its.line, its.how == "ended") if its.line is not None else ("goes on", True) if age < PATIENCE else (f"not told for {age / 60:,.0f} min", False)
-        texts = [f"run {its.number}" if its.number is not None else "", its.title, f"begun {its.begin[:19]}Z" if its.begin else ""]
-        texts += [f"live {share(its.demands or 0, its.seconds())}"] if its.seconds() > 0 else []
+        state, is_good = (record.line, record.how == "ended") if record.line is not None else ("goes on", True) if age < PATIENCE else (f"not told for {age / 60:,.0f} min", False)
+        texts = [f"run {record.number}" if record.number is not None else "", record.title, f"begun {record.begin[:19]}Z" if record.begin else ""]
+        texts += [f"live {share(record.demands or 0, record.seconds())}"] if record.seconds() > 0 else []
         return f'{link}: <b class="{"good" if is_good else "bad"}">{escape(state)}</b>, {escape(", ".join(filter(None, texts)))}'
 
     def page(self) -> str:

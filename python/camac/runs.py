@@ -120,8 +120,8 @@ class Asked(NamedTuple):
 
     def gated(self) -> str:
         """Of which events the words are, as the end of a title."""
-        its = " and ".join(f"{it.column.name} from {it.low:,} to {it.last:,}" for it in self.gates)
-        return its and f", of events with {its}"
+        cuts = " and ".join(f"{it.column.name} from {it.low:,} to {it.last:,}" for it in self.gates)
+        return cuts and f", of events with {cuts}"
 
 
 class Cut(NamedTuple):
@@ -133,8 +133,8 @@ class Cut(NamedTuple):
 
     def select(self, names: Words, of: Sequence[Group]) -> List[Group]:
         """The events that have such a number."""
-        its = [it for it in names.numbers(of, {self.column.field}) if it.column == self.column]
-        passed = join([within(it.numbers, self.low, self.last, it.events) for it in its]) if its else []
+        gathered = [it for it in names.numbers(of, {self.column.field}) if it.column == self.column]
+        passed = join([within(it.numbers, self.low, self.last, it.events) for it in gathered]) if gathered else []
         found = []
         for it in of:
             numbers, cycles, missed, *words = chosen(it.numbers, passed, [it.numbers, it.cycles, it.missed, *it.words])
@@ -180,9 +180,9 @@ class Channels(Dict[Column, Channel]):
             if column not in self:
                 self[column] = Channel(column)
             self[column].add_all(events, numbers)
-            for its, spectrum in self.regions.items():
-                if its.column == column:
-                    spectrum.add_all(scaled(within(numbers, its.low, its.last, numbers), its.low, 1))
+            for cut, spectrum in self.regions.items():
+                if cut.column == column:
+                    spectrum.add_all(scaled(within(numbers, cut.low, cut.last, numbers), cut.low, 1))
             if column in pair:
                 sides[column] = events, numbers
         across, up = met(*(sides[it] for it in pair)) if pair and len(sides) == len({*pair}) else ([], [])
@@ -265,8 +265,8 @@ class Run:
         if not isinstance(events, EventArrays):
             self.has_cycles &= all(it.cycles is not None for it in events)
             rows = zip(*((it.gl, it.cycles or 0, it.missed or 0, len(it.words)) for it in events))
-            for numbers, its in zip((self.gl, self.cycles, self.no_x, self.words), rows):
-                numbers.extend(its)
+            for numbers, values in zip((self.gl, self.cycles, self.no_x, self.words), rows):
+                numbers.extend(values)
             return
         counts = events.first[1:] - events.first[:-1]
         for numbers, column in ((self.gl, events.gl), (self.cycles, events.cycles), (self.no_x, events.missed), (self.words, counts)):
@@ -322,16 +322,16 @@ def collect(
                 text = f"no service ended later after its look-at-me than its bound, of {kept:,} in whose stretch the rates were kept"
                 made.checks.append(Check(text, is_within))
     its_columns = (getattr(made, name) for name in ("gl", "cycles", "words", "waits", "no_q", "of_transfers", "no_x"))
-    made.seen = {gl: SeenOfBit(_seen_of(its[0]), _seen_of(its[1]), *map(total, its[2:])) for gl, its in by_bit(*its_columns)}
+    made.seen = {gl: SeenOfBit(_seen_of(columns[0]), _seen_of(columns[1]), *map(total, columns[2:])) for gl, columns in by_bit(*its_columns)}
     return made
 
 
 def by_bit(bits: Numbers, *columns: Numbers) -> Iterator[Tuple[int, List[Numbers]]]:
     """The numbers of columns by the bits of their services."""
-    bits, *its = map(whole, (bits, *columns))
+    bits, *wholes = map(whole, (bits, *columns))
     found = kinds(bits)
     for gl in found:
-        yield gl, its if len(found) == 1 else chosen(bits, [gl], its)
+        yield gl, wholes if len(found) == 1 else chosen(bits, [gl], wholes)
 
 
 def _seen_of(numbers: Sequence[int]) -> Seen:
@@ -381,18 +381,18 @@ class _Collector:
 
     def close(self) -> None:
         """The service in progress came to its end."""
-        it, run = self.open, self.run
+        service, run = self.open, self.run
         self.open = None
-        if it is None:
+        if service is None:
             return
-        self.seen.cycles = it.cycles
+        self.seen.cycles = service.cycles
         for name in ("gl", "cycles", "waits", "no_q", "of_transfers", "no_x", "locked"):
-            getattr(run, name).append(getattr(it, name))
-        if it.cycles > self.longest.get(it.gl, -1):
-            self.longest[it.gl] = it.cycles
-            run.kept[Why.LONGEST, it.gl] = it.kept(len(run.gl))
-        if it.no_x and (Why.MISSED, 0) not in run.kept:
-            run.kept[Why.MISSED, 0] = it.kept(len(run.gl))
+            getattr(run, name).append(getattr(service, name))
+        if service.cycles > self.longest.get(service.gl, -1):
+            self.longest[service.gl] = service.cycles
+            run.kept[Why.LONGEST, service.gl] = service.kept(len(run.gl))
+        if service.no_x and (Why.MISSED, 0) not in run.kept:
+            run.kept[Why.MISSED, 0] = service.kept(len(run.gl))
 
     def take_cycle(self, service: InProgress, sent: Sent, item: Cycle) -> None:
         command, move, word, x, q, wait = item

@@ -26,19 +26,19 @@ def sarif(judged: Sequence[Judged], version: str) -> str:
     return json.dumps({"$schema": SCHEMA, "version": "2.1.0", "runs": [run]}, indent=2) + "\n"
 
 
-def _rule(it: Found) -> str:
-    return it.code or it.kind
+def _rule(found: Found) -> str:
+    return found.code or found.kind
 
 
-def _result(of: Judged, it: Found, rules: List[str]) -> Dict[str, Any]:
+def _result(of: Judged, found: Found, rules: List[str]) -> Dict[str, Any]:
     place: Dict[str, Any] = {"artifactLocation": {"uri": uri_of(of.file)}}
-    if it.line is not None:
-        place["region"] = {"startLine": it.line} if it.column is None else {"startLine": it.line, "startColumn": it.column}
+    if found.line is not None:
+        place["region"] = {"startLine": found.line} if found.column is None else {"startLine": found.line, "startColumn": found.column}
     return {
-        "ruleId": _rule(it),
-        "ruleIndex": rules.index(_rule(it)),
-        "level": LEVEL_OF[LEVELS[it.kind]],
-        "message": {"text": "\n".join([it.text, *it.explanation])},
+        "ruleId": _rule(found),
+        "ruleIndex": rules.index(_rule(found)),
+        "level": LEVEL_OF[LEVELS[found.kind]],
+        "message": {"text": "\n".join([found.text, *found.explanation])},
         "locations": [{"physicalLocation": place}],
     }
 

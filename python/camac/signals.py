@@ -51,15 +51,15 @@ class Signals:
         # In another thread the first one that is set raises ValueError.
         with contextlib.suppress(ValueError), _blocked():
             for number in ENDS:
-                its = signal.getsignal(number)
-                if its is signal.SIG_DFL or callable(its):
+                handler = signal.getsignal(number)
+                if handler is signal.SIG_DFL or callable(handler):
                     self.before[number] = signal.signal(number, self._come)
         return self
 
     def __exit__(self, _kind: Optional[Type[BaseException]], error: Optional[BaseException], _trace: Optional[TracebackType]) -> None:
         with _blocked():
-            for number, its in self.before.items():
-                signal.signal(number, its)
+            for number, handler in self.before.items():
+                signal.signal(number, handler)
         self.waiting -= {signal_of(error) or 0}
         self.heed(lambda: None)
 
