@@ -50,7 +50,7 @@ def _fit(counts: Sequence[int], begin: List[float]) -> Optional[Tuple[List[float
     values, damping = begin, 1e-3
     matrix, slopes, sum_of = _normal(counts, values)
     for _ in range(STEPS):
-        damped = [[it * (1 + damping) if row == column else it for column, it in enumerate(its)] for row, its in enumerate(matrix)]
+        damped = [[it * (1 + damping) if row == column else it for column, it in enumerate(entries)] for row, entries in enumerate(matrix)]
         step = _solve(damped, slopes)
         if step is None:
             return None
@@ -97,5 +97,5 @@ def _solve(matrix: Sequence[Sequence[float]], right: Sequence[float]) -> Optiona
         rows[at] = [it / rows[at][at] for it in rows[at]]
         for other in range(len(rows)):
             if other != at:
-                rows[other] = [it - rows[other][at] * its for it, its in zip(rows[other], rows[at])]
+                rows[other] = [it - rows[other][at] * pivot for it, pivot in zip(rows[other], rows[at])]
     return [row[-1] for row in rows]

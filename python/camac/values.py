@@ -116,19 +116,19 @@ def range_of(text: str) -> Range:
     return int(low), int(high or low)
 
 
-def range_text(its: Range) -> str:
+def range_text(ends: Range) -> str:
     """The same the other way."""
-    return str(its[0]) if its[0] == its[1] else f"{its[0]}..{its[1]}"
+    return str(ends[0]) if ends[0] == ends[1] else f"{ends[0]}..{ends[1]}"
 
 
 def ranges(numbers: Iterable[int]) -> List[Range]:
     """Numbers as ranges, in order."""
     found: List[Range] = []
-    for it in sorted(numbers):
-        if found and found[-1][1] == it - 1:
-            found[-1] = found[-1][0], it
+    for number in sorted(numbers):
+        if found and found[-1][1] == number - 1:
+            found[-1] = found[-1][0], number
         else:
-            found.append((it, it))
+            found.append((number, number))
     return found
 
 
@@ -255,13 +255,13 @@ class Plan(NamedTuple):
     def declaration(self, crate: int, station: int, sub_address: int, function: int) -> Optional[Declaration]:
         """What is declared of a command; None if nothing is."""
         there = self.type_at(crate, station)
-        its = there.declarations if there else ()
-        return next((it for it in its if it.function == function and it.first <= sub_address <= it.last), None)
+        declarations = there.declarations if there else ()
+        return next((it for it in declarations if it.function == function and it.first <= sub_address <= it.last), None)
 
     def width(self, crate: int, station: int, sub_address: int, function: int) -> int:
         """How many bits the register there has: 24 if it is not known."""
-        its = self.declaration(crate, station, sub_address, function)
-        return its.width or 24 if its else 24
+        declaration = self.declaration(crate, station, sub_address, function)
+        return declaration.width or 24 if declaration else 24
 
     def demands(self) -> List[Tuple[int, Crate, Station]]:
         """The stations that have a bit of the graded-L pattern, by bit."""

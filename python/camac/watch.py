@@ -57,17 +57,17 @@ class Look(NamedTuple):
 
 def read_look(query: str) -> Look:
     """Reads the query of an address. Raises ValueError if it is none."""
-    its: Dict[str, Any] = {}
+    fields: Dict[str, Any] = {}
     for name, value in urllib.parse.parse_qsl(query, keep_blank_values=True, strict_parsing=bool(query)):
         if name in ("gate", "region"):
-            its[name] = (*its.get(name, ()), value)
+            fields[name] = (*fields.get(name, ()), value)
         elif name in ("of", "up"):
-            its[name] = value
+            fields[name] = value
         elif name in Look._fields and value.isdecimal() and len(value) < 16:
-            its[name] = int(value)
+            fields[name] = int(value)
         elif value or name not in Look._fields:
             raise ValueError(query)
-    return Look(**its)
+    return Look(**fields)
 
 
 class Watch:
@@ -152,15 +152,15 @@ class Watch:
 
     def follow_asked(self, look: Look, asked: Asked) -> Follower:
         """What counts the events that are asked for, which may begin a little before. Those of whole runs take their time."""
-        its, there = self.follower, self.follower.counts.events
+        follower, behind = self.follower, self.follower.counts.events - look.since
         make = lambda: Counts(self.about.services, asked._replace(regions=()))
         if look.seconds or look.events:
-            its = its.since(its.before(look.seconds, look.events), make)
-            while its.poll():
+            follower = follower.since(follower.before(look.seconds, look.events), make)
+            while follower.poll():
                 pass
-            return its
-        key = look.since if look.since <= there else 0, asked.gates, asked.pair
-        return self.keep(key, lambda: its.since(its.before(events=there - look.since) if key[0] else Mark(0.0), make)) if any(key) else its
+            return follower
+        key = look.since if behind >= 0 else 0, asked.gates, asked.pair
+        return self.keep(key, lambda: follower.since(follower.before(events=behind) if key[0] else Mark(0.0), make)) if any(key) else follower
 
     def keep(self, key: Tuple[object, ...], make: Callable[[], Follower]) -> Follower:
         """What follows events under a key, made if it is not there."""
@@ -178,7 +178,7 @@ class Watch:
         other = self.keep((file, asked.gates), lambda: Follower(file, lambda: Counts(about.services, Asked(asked.names, gates=asked.gates))))
         wrong = [other.state.text] if other.state.is_bad else [it.text for it in checks_of(other.counts.fit, about) if not it.agrees]
         self.misfits = [f"{os.path.basename(about.events_file)}: {it}" for it in wrong]
-        live = [its.demands if its and not (look.since or look.seconds or look.events) else None for its in (self.record, beside(file))]
+        live = [record.demands if record and not (look.since or look.seconds or look.events) else None for record in (self.record, beside(file))]
         return lay_over(file, other.counts.channels, live, *({gl: it.count for gl, it in one.bits.items()} for one in (counts, other.counts)))
 
     def draw(self, look: Look) -> Dict[str, str]:
@@ -187,13 +187,13 @@ class Watch:
             asked = asked_of(naming, self.about.names())
         except UsageFault as why:
             return {"one": f'<p class="bad">{escape(why)}</p>'}
-        its, services = self.follow_asked(look, asked), self.about.services
-        counts, taken = its.counts, its.counts.fit.count
+        follower, services = self.follow_asked(look, asked), self.about.services
+        counts, taken = follower.counts, follower.counts.fit.count
         spectra = {gl: it.cycles for gl, it in counts.bits.items()}, {gl: it.words for gl, it in counts.bits.items()}
         channels, over = counts.list_channels(), self.lay_over(look, asked, counts)
         of = f"{taken:,} events" + (f", from event {counts.events - taken + 1:,} on" if taken != counts.events else "")
-        of += "" if its.is_there_yet else f" ({its.state.text})"
-        cycles, words = ("" if its is self.follower else f'<p class="mute">{escape(of + it)}</p>' for it in ("", asked.gated()))
+        of += "" if follower.is_there_yet else f" ({follower.state.text})"
+        cycles, words = ("" if follower is self.follower else f'<p class="mute">{escape(of + it)}</p>' for it in ("", asked.gated()))
         return {
             "cycles": cycles + (panels(seen_groups(*spectra, services, BOTH)) if services else ""),
             "channels": words + panels(channel_groups(channels, BOTH, over=over)),
@@ -204,9 +204,9 @@ class Watch:
     def alarms(self) -> List[str]:
         """What is wrong now: with the files, with the script of the events, and what the user asked for, until the run is over."""
         follower, is_over = self.follower, self.record is not None and self.record.end is not None
-        its = [follower.state.text if follower.state.is_bad else "", self.refused, *self.misfits]
-        its += [it.text for it in checks_of(follower.counts.fit, self.about) if not it.agrees]
-        return [*filter(None, its), *sounding([] if is_over else self.asked_alarms, follower, self.about.services, self.contradictions())]
+        wrong = [follower.state.text if follower.state.is_bad else "", self.refused, *self.misfits]
+        wrong += [it.text for it in checks_of(follower.counts.fit, self.about) if not it.agrees]
+        return [*filter(None, wrong), *sounding([] if is_over else self.asked_alarms, follower, self.about.services, self.contradictions())]
 
     def contradictions(self) -> Sequence[Contradiction]:
         return self.record and self.record.contradictions or ()
@@ -215,24 +215,24 @@ class Watch:
         state = self.follower.state
         lines = [] if state.is_bad else [f'<b class="good">{escape(state.text)}</b>']
         lines += [f'<b class="bad">{escape(it)}</b>' for it in self.follower.restarts]
-        its = self.record
-        if its and its.line:
-            lines.append(f'The record: <b class="{"good" if its.how == "ended" else "bad"}">{escape(its.line)}</b>, {escape(its.end or "")}')
-        elif its:
-            lines.append(f"The record: run in progress since {escape(its.begin or '')}, told {escape(its.told or '')}")
+        record = self.record
+        if record and record.line:
+            lines.append(f'The record: <b class="{"good" if record.how == "ended" else "bad"}">{escape(record.line)}</b>, {escape(record.end or "")}')
+        elif record:
+            lines.append(f"The record: run in progress since {escape(record.begin or '')}, told {escape(record.told or '')}")
         lines += [f'<b class="bad">{escape(it.text())}</b>' for it in self.contradictions()]
         return "".join(f"<p>{it}</p>" for it in lines)
 
     def tiles(self) -> str:
         follower, age = self.follower, self.follower.age()
         missed = sum(it.missed for it in follower.counts.bits.values())
-        its = [(f"{follower.counts.events:,}", "events", ""), (f"{follower.rate():,.1f}", "events a second", "")]
-        its.append(("none" if age is None else _duration(age), "since the last event", ""))
-        its.append((f"{missed:,}", "cycles with X = 0", "bad" if missed else ""))
+        shown = [(f"{follower.counts.events:,}", "events", ""), (f"{follower.rate():,.1f}", "events a second", "")]
+        shown.append(("none" if age is None else _duration(age), "since the last event", ""))
+        shown.append((f"{missed:,}", "cycles with X = 0", "bad" if missed else ""))
         if self.record and self.record.seconds() > 0:
             parts = ((self.record.demands, "live, measured"), (self.record.services, "dead, measured"))
-            its += [(share(part or 0, self.record.seconds()), word, "") for part, word in parts]
-        drawn = (f'<div class="tile"><b class="{kind}">{value}</b><span>{word}</span></div>' for value, word, kind in its)
+            shown += [(share(part or 0, self.record.seconds()), word, "") for part, word in parts]
+        drawn = (f'<div class="tile"><b class="{kind}">{value}</b><span>{word}</span></div>' for value, word, kind in shown)
         return f'<div class="tiles" data-events="{follower.counts.events}">{"".join(drawn)}</div>'
 
     def rates(self) -> str:
@@ -245,23 +245,23 @@ class Watch:
         """A line for each bit: what was seen, beside bound and the most cycles from its look-at-me to its end."""
         rows: List[Row] = []
         services, ends = {it.gl: it for it in self.about.services}, {it.gl: it.end for it in self.responses}
-        for gl, its in sorted(self.follower.counts.bits.items()):
+        for gl, bit in sorted(self.follower.counts.bits.items()):
             service = services.get(gl)
-            cycles = (its.cycles.mean(), its.cycles.greatest or 0) if its.cycles.count else ("", "")
+            cycles = (bit.cycles.mean(), bit.cycles.greatest or 0) if bit.cycles.count else ("", "")
             bound = (service.cycles, service.words) if service else ("", "")
-            words = (its.words.mean(), its.words.greatest or 0) if its.words.count else ("", "")
+            words = (bit.words.mean(), bit.words.greatest or 0) if bit.words.count else ("", "")
             end = ends.get(gl)
-            rows.append((service.name if service else "", gl, its.count, *cycles, bound[0], "-" if end is None else end, *words, bound[1], its.missed))
+            rows.append((service.name if service else "", gl, bit.count, *cycles, bound[0], "-" if end is None else end, *words, bound[1], bit.missed))
         titles = "GL,events,cycles mean,most,bound,from look-at-me at most,words mean,most,bound,X = 0".split(",")
         return table([Column("service", True), *map(Column, titles)], rows, False)
 
     def last(self) -> str:
         names = {it.gl: it.name for it in self.about.services}
         rows = []
-        for it in reversed(self.follower.counts.last):
-            more = len(it.words) - SHOWN_WORDS
-            words = " ".join(map(str, it.words[:SHOWN_WORDS])) + (f" … and {more:,} more" if more > 0 else "")
-            rows.append((it.number, names.get(it.gl, f"GL {it.gl}"), *("" if its is None else its for its in it[2:4]), words))
+        for event in reversed(self.follower.counts.last):
+            more = len(event.words) - SHOWN_WORDS
+            words = " ".join(map(str, event.words[:SHOWN_WORDS])) + (f" … and {more:,} more" if more > 0 else "")
+            rows.append((event.number, names.get(event.gl, f"GL {event.gl}"), *("" if number is None else number for number in event[2:4]), words))
         return table([Column("event"), Column("service", True), Column("cycles"), Column("X = 0"), Column("words", True)], rows, False)
 
     def page(self) -> str:
@@ -280,14 +280,14 @@ def _duration(seconds: float) -> str:
     return f"{seconds / 60:.0f} min" if seconds < 3600 else f"{seconds / 3600:.1f} h"
 
 
-def _draw_one(channels: Channels, it: Optional[Channel], look: Look, asked: Asked, over: Optional[Over]) -> str:
+def _draw_one(channels: Channels, channel: Optional[Channel], look: Look, asked: Asked, over: Optional[Over]) -> str:
     """A spectrum by itself, what is in its range and in regions, and a pair."""
     drawn, cuts = "", [*asked.regions]
-    if it is not None:
-        its = it.spectrum
-        low = min(look.low, its.end - 1)
-        last = its.end - 1 if look.last is None else max(low, min(look.last, its.end - 1))
-        drawn, cuts = figure(draw_panel(of_channel(it, over), BOTH, View(low, last, MOST_BINS), WIDE)), [Cut(it.column, low, last), *cuts]
+    if channel is not None:
+        spectrum = channel.spectrum
+        low = min(look.low, spectrum.end - 1)
+        last = spectrum.end - 1 if look.last is None else max(low, min(look.last, spectrum.end - 1))
+        drawn, cuts = figure(draw_panel(of_channel(channel, over), BOTH, View(low, last, MOST_BINS), WIDE)), [Cut(channel.column, low, last), *cuts]
     rows = [row_of(cut, channels[cut.column].spectrum.bins(cut.low, cut.last + 1, MOST_REGION)) for cut in cuts if cut.column in channels]
     return drawn + (region_table(rows) if rows else "") + (figure(draw_pairs(channels)) if asked.pair else "")
 
@@ -324,13 +324,13 @@ class Server(http.server.ThreadingHTTPServer):
         """The text of a page, or of its parts as JSON; None if there is no such page."""
         way, _, query = path.partition("?")
         folder, _, name = way.rpartition("/")
-        its: Any = self.watch if folder == "" else self.watch.open(os.fsdecode(urllib.parse.unquote_to_bytes(folder[1:]))) if isinstance(self.watch, RunList) else None
-        if its is None or not way.startswith("/") or name not in ("", "state"):
+        watch: Any = self.watch if folder == "" else self.watch.open(os.fsdecode(urllib.parse.unquote_to_bytes(folder[1:]))) if isinstance(self.watch, RunList) else None
+        if watch is None or not way.startswith("/") or name not in ("", "state"):
             return None
         if name == "":
-            return None if query else str(its.page())
+            return None if query else str(watch.page())
         try:
-            return json.dumps(its.parts(read_look(query)))
+            return json.dumps(watch.parts(read_look(query)))
         except ValueError:
             return None
 

@@ -195,58 +195,58 @@ class _Fields:
             self.fail("name", "`name` is missing")
         places = self.range("place", 1, self.most.get(gl, GREATEST_COUNT) or GREATEST_COUNT, ANYWHERE)
         widest = self.widest(gl, places)
-        its = Field(name, gl, unit, self.range("bits", *WHOLE, widest or WHOLE), places, line=table.line)
+        field = Field(name, gl, unit, self.range("bits", *WHOLE, widest or WHOLE), places, line=table.line)
         if "as" in table.keys and self.text("as") not in KINDS:
             self.fail("as", f"`as` is {', '.join(KINDS[:-1])} or {KINDS[-1]}")
-        its = its._replace(kind=self.text("as") or (VALUE if widest == its.bits == WHOLE else SPECTRUM))
+        field = field._replace(kind=self.text("as") or (VALUE if widest == field.bits == WHOLE else SPECTRUM))
         if name == PLACE:
             self.fail("name", "`place` is what each word has; choose another name")
         # A name has one unit in all of the file.
         for it in self.fields:
             if it.name == name and it.unit != unit:
                 self.fail("unit", f"`{name}` has another unit in line {it.line}")
-        its = its._replace(scale=self.amount("scale", 1), offset=self.amount("offset", 0))
-        self.fields.append(self.tagged(its))
+        field = field._replace(scale=self.amount("scale", 1), offset=self.amount("offset", 0))
+        self.fields.append(self.tagged(field))
         if sum(it.tags[1] - it.tags[0] + 1 for it in self.fields if it.gl == gl) > GREATEST_COLUMNS:
             self.fail("of", f"a service has more than {GREATEST_COLUMNS} columns")
 
     def widest(self, gl: int, places: Range) -> Optional[Range]:
         """The bits of the registers that the script read into words at these places; None if one of them may be anything else."""
         places = places[0], min(places[1], self.most.get(gl, GREATEST_COUNT))
-        its = [it for it in self.sources if it.gl == gl and not it.is_expression and _meet(it.places, places)]
-        known = {at for it in its for at in range(max(it.places[0], places[0]), min(it.places[1], places[1]) + 1)}
-        return max(it.bits for it in its) if known and len(known) == places[1] - places[0] + 1 else None
+        sources = [it for it in self.sources if it.gl == gl and not it.is_expression and _meet(it.places, places)]
+        known = {at for it in sources for at in range(max(it.places[0], places[0]), min(it.places[1], places[1]) + 1)}
+        return max(it.bits for it in sources) if known and len(known) == places[1] - places[0] + 1 else None
 
-    def tagged(self, its: Field) -> Field:
+    def tagged(self, field: Field) -> Field:
         """The field with what chooses its column."""
         of = self.text("of")
         if not of:
             if "tag" in self.table.keys:
                 self.fail("tag", "`of` is missing: the field whose number is the tag")
-            return its
+            return field
         if of == PLACE:
             if "place" not in self.table.keys or "tag" in self.table.keys:
                 self.fail("of", 'with `of = "place"` write `place`, and no `tag`')
-            return its._replace(of=of, tags=its.places)
-        tags = [it for it in self.fields if it.gl == its.gl and it.name == of and it.of is None]
+            return field._replace(of=of, tags=field.places)
+        tags = [it for it in self.fields if it.gl == field.gl and it.name == of and it.of is None]
         if not tags:
             self.fail("of", f"no [[word]] of this service before this one is named `{of}` and has no `of` itself")
-        tag = next((it for it in tags if _lies_in(its.places, it.places)), tags[0])
+        tag = next((it for it in tags if _lies_in(field.places, it.places)), tags[0])
         if tag.bits[1] - tag.bits[0] >= GREATEST_TAG_BITS:
             self.fail("of", f"`{of}` has more than {GREATEST_TAG_BITS} bits, too many for a tag")
-        if its.places == ANYWHERE:
-            its = its._replace(places=tag.places)
-        if not _lies_in(its.places, tag.places):
+        if field.places == ANYWHERE:
+            field = field._replace(places=tag.places)
+        if not _lies_in(field.places, tag.places):
             self.fail("place", f"at some of these places `{of}` does not stand")
-        return its._replace(of=of, tags=self.range("tag", 0, tag.greatest, (0, tag.greatest)))
+        return field._replace(of=of, tags=self.range("tag", 0, tag.greatest, (0, tag.greatest)))
 
     def words(self) -> Words:
         """All fields. Two of one name in one service may have no word in common."""
-        for at, its in enumerate(self.fields):
-            for it in self.fields[:at]:
-                if (it.gl, it.name) == (its.gl, its.name) and _meet(it.places, its.places):
-                    if it.of is None or it.of != its.of or _meet(it.tags, its.tags):
-                        raise WordsFault(self.file, its.line, f"`{its.name}` is in line {it.line} for the same words")
+        for at, field in enumerate(self.fields):
+            for earlier in self.fields[:at]:
+                if (earlier.gl, earlier.name) == (field.gl, field.name) and _meet(earlier.places, field.places):
+                    if earlier.of is None or earlier.of != field.of or _meet(earlier.tags, field.tags):
+                        raise WordsFault(self.file, field.line, f"`{field.name}` is in line {earlier.line} for the same words")
         return Words(self.fields)
 
 

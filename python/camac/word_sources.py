@@ -66,12 +66,12 @@ class _State:
 
     def forget(self, statements: Sequence[Statement]) -> None:
         """Forgets what these statements may change."""
-        for it in all_in(statements):
-            name = written_by(it)
+        for statement in all_in(statements):
+            name = written_by(statement)
             if name is not None:
                 self.variables[name] = None
-            if isinstance(it, SetRegister):
-                self.registers.pop(it.register, None)
+            if isinstance(statement, SetRegister):
+                self.registers.pop(statement.register, None)
 
 
 class _Walk:
@@ -90,26 +90,27 @@ class _Walk:
         for it in statements:
             self.statement(it, state)
 
-    def statement(self, it: Statement, state: _State) -> None:
-        if isinstance(it, Assign):
-            state.variables[it.name] = _known(it.value, state)
-        elif isinstance(it, SetRegister):
-            crate, station, sub_address = (_known(one, state) for one in it.address)
-            state.registers[it.register] = crate, station, sub_address
-        elif isinstance(it, Cycle) and it.into is not None:
-            state.variables[it.into] = self.origin(it.function, state.registers.get(it.registers[0]), SHORT_BITS if it.is_short else 24)
-        elif isinstance(it, Transfer):
-            self.transfer(it, state)
-        elif isinstance(it, Plain) and it.word == "put":
-            self.put(it, state)
-        elif isinstance(it, Plain) and it.word == "call":
-            self.call(it, state)
-        elif isinstance(it, If):
-            self.choice(it, state)
-        elif isinstance(it, Lock):
-            self.block(it.body, state)
-        elif isinstance(it, Loop):
-            self.loop(it, state)
+    def statement(self, statement: Statement, state: _State) -> None:
+        if isinstance(statement, Assign):
+            state.variables[statement.name] = _known(statement.value, state)
+        elif isinstance(statement, SetRegister):
+            crate, station, sub_address = (_known(one, state) for one in statement.address)
+            state.registers[statement.register] = crate, station, sub_address
+        elif isinstance(statement, Cycle) and statement.into is not None:
+            bits = SHORT_BITS if statement.is_short else 24
+            state.variables[statement.into] = self.origin(statement.function, state.registers.get(statement.registers[0]), bits)
+        elif isinstance(statement, Transfer):
+            self.transfer(statement, state)
+        elif isinstance(statement, Plain) and statement.word == "put":
+            self.put(statement, state)
+        elif isinstance(statement, Plain) and statement.word == "call":
+            self.call(statement, state)
+        elif isinstance(statement, If):
+            self.choice(statement, state)
+        elif isinstance(statement, Lock):
+            self.block(statement.body, state)
+        elif isinstance(statement, Loop):
+            self.loop(statement, state)
 
     def origin(self, function: int, address: Optional[Address], most_bits: int = 24) -> Optional[Origin]:
         crate, station, sub_address = address or (None, None, None)
@@ -117,24 +118,24 @@ class _Walk:
             return None
         return Origin(crate, station, sub_address, min(most_bits, self.plan.width(crate, station, sub_address, function)))
 
-    def put(self, it: Plain, state: _State) -> None:
-        value = it.values[0]
+    def put(self, statement: Plain, state: _State) -> None:
+        value = statement.values[0]
         known = _known(value, state)
         text = self.text[value.start : value.end].decode("utf-8", "replace")
-        self.puts.append(Put(known if isinstance(known, Origin) else None, it.line, text, self.is_behind))
+        self.puts.append(Put(known if isinstance(known, Origin) else None, statement.line, text, self.is_behind))
 
-    def call(self, it: Plain, state: _State) -> None:
-        body = self.procedures[it.name]
-        parameters = dict(zip(body.variables, (_known(value, state) for value in it.values)))
+    def call(self, statement: Plain, state: _State) -> None:
+        body = self.procedures[statement.name]
+        parameters = dict(zip(body.variables, (_known(value, state) for value in statement.values)))
         self.block(body.statements, _State(parameters, {}))
 
-    def choice(self, it: If, state: _State) -> None:
+    def choice(self, statement: If, state: _State) -> None:
         """Either arm is gone. Both have to put as many words; their columns stay unknown."""
-        counts = [self.counted(block, state) for block in (it.body, it.other)]
+        counts = [self.counted(block, state) for block in (statement.body, statement.other)]
         if counts[0] != counts[1]:
             raise _Lost
-        self.puts += [Put(None, it.line, "", self.is_behind)] * counts[0]
-        state.forget([it])
+        self.puts += [Put(None, statement.line, "", self.is_behind)] * counts[0]
+        state.forget([statement])
 
     def counted(self, block: Sequence[Statement], state: _State) -> int:
         """How many words a block puts."""
@@ -147,37 +148,37 @@ class _Walk:
         del self.puts[begin:]
         return count
 
-    def loop(self, it: Loop, state: _State) -> None:
-        first, last = (_known(it.first, state), _known(it.last, state)) if isinstance(it, For) else (None, None)
-        if isinstance(it, For) and isinstance(first, int) and isinstance(last, int):
+    def loop(self, statement: Loop, state: _State) -> None:
+        first, last = (_known(statement.first, state), _known(statement.last, state)) if isinstance(statement, For) else (None, None)
+        if isinstance(statement, For) and isinstance(first, int) and isinstance(last, int):
             for number in range(first, last + 1):
-                state.variables[it.name] = number
-                self.block(it.body, state)
+                state.variables[statement.name] = number
+                self.block(statement.body, state)
             return
-        state.forget([it])
-        if self.counted(it.body, state):
+        state.forget([statement])
+        if self.counted(statement.body, state):
             raise _Lost
 
-    def transfer(self, it: Transfer, state: _State) -> None:
+    def transfer(self, statement: Transfer, state: _State) -> None:
         """A transfer that reads puts words: all that it can, in events that have the greatest number of words."""
-        state.variables[it.tally] = None
-        if not reads(it.function):
+        state.variables[statement.tally] = None
+        if not reads(statement.function):
             return
         self.is_behind = True
-        most, first = _known(it.most, state), state.registers.get(it.registers[0])
-        limit = _known(it.limit, state) if it.limit is not None else most
+        most, first = _known(statement.most, state), state.registers.get(statement.registers[0])
+        limit = _known(statement.limit, state) if statement.limit is not None else most
         if not isinstance(most, int) or not isinstance(limit, int):
             raise _Lost
         if min(most, limit) > GREATEST_COUNT:
             raise _Lost
-        origins: List[Optional[Origin]] = [self.origin(it.function, first)] * min(most, limit)
-        if len(it.registers) == 2:
-            origins = self.scan(it, first, state.registers.get(it.registers[1]), most)
-        self.puts += [Put(origin, it.line, "", True) for origin in origins]
+        origins: List[Optional[Origin]] = [self.origin(statement.function, first)] * min(most, limit)
+        if len(statement.registers) == 2:
+            origins = self.scan(statement, first, state.registers.get(statement.registers[1]), most)
+        self.puts += [Put(origin, statement.line, "", True) for origin in origins]
 
-    def scan(self, it: Transfer, first: Optional[Address], last: Optional[Address], most: int) -> List[Optional[Origin]]:
+    def scan(self, statement: Transfer, first: Optional[Address], last: Optional[Address], most: int) -> List[Optional[Origin]]:
         """The words of an address scan that moved all that it could. In several stations they are known where each register gave a word."""
-        begin, end = self.origin(it.function, first), self.origin(it.function, last)
+        begin, end = self.origin(statement.function, first), self.origin(statement.function, last)
         if begin is None or end is None or begin.crate != end.crate:
             raise _Lost
         found: List[Optional[Origin]] = []
@@ -185,10 +186,10 @@ class _Walk:
             low = begin.sub_address if station == begin.station else 0
             high = end.sub_address if station == end.station else SUB_ADDRESSES - 1
             for at in range(low, high + 1):
-                its = self.plan.declaration(begin.crate, station, at, it.function)
+                declaration = self.plan.declaration(begin.crate, station, at, statement.function)
                 # A scan gets no word from a probe, which answers Q = 0.
-                if its and not its.is_probe:
-                    found.append(self.origin(it.function, (begin.crate, station, at)))
+                if declaration and not declaration.is_probe:
+                    found.append(self.origin(statement.function, (begin.crate, station, at)))
         return found[:most] if len(found) <= most or begin.station == end.station else [None] * most
 
     def fields(self, gl: int) -> List[Field]:
@@ -196,23 +197,23 @@ class _Walk:
         field; other fields of one name have their place behind it."""
         fields = []
         place = 1
-        for it, alike in itertools.groupby(self.puts):
+        for put, alike in itertools.groupby(self.puts):
             end = place + len(list(alike)) - 1
-            name, bits = self.name(it), (0, it.origin.bits - 1) if it.origin else WHOLE
+            name, bits = self.name(put), (0, put.origin.bits - 1) if put.origin else WHOLE
             if name:
-                kind = VALUE if it.origin and bits == WHOLE else SPECTRUM
-                count = len(self.puts) if it.is_behind else None
-                fields.append(Field(name, gl, "", bits, (place, end), count, line=it.line, kind=kind, is_expression=it.origin is None))
+                kind = VALUE if put.origin and bits == WHOLE else SPECTRUM
+                count = len(self.puts) if put.is_behind else None
+                fields.append(Field(name, gl, "", bits, (place, end), count, line=put.line, kind=kind, is_expression=put.origin is None))
             place = end + 1
         counts = Counter(it.name for it in fields)
         return [it if counts[it.name] == 1 else it._replace(name=f"{it.name}, place {it.places[0]}") for it in fields]
 
-    def name(self, it: Put) -> str:
-        if it.origin is None:
-            text = " ".join(COMMENT.sub(" ", it.text).split())
-            return f"line {it.line}: {text if len(text) <= GREATEST_TEXT else text[:GREATEST_TEXT] + '…'}" if text else ""
-        there = self.plan.type_at(it.origin.crate, it.origin.station)
-        return f"{there.name if there else 'module'} crate {it.origin.crate} station {it.origin.station} A{it.origin.sub_address}"
+    def name(self, put: Put) -> str:
+        if put.origin is None:
+            text = " ".join(COMMENT.sub(" ", put.text).split())
+            return f"line {put.line}: {text if len(text) <= GREATEST_TEXT else text[:GREATEST_TEXT] + '…'}" if text else ""
+        there = self.plan.type_at(put.origin.crate, put.origin.station)
+        return f"{there.name if there else 'module'} crate {put.origin.crate} station {put.origin.station} A{put.origin.sub_address}"
 
 
 def words_of_script(plan: Plan, script: File, services: Sequence[Service]) -> Words:
@@ -221,11 +222,11 @@ def words_of_script(plan: Plan, script: File, services: Sequence[Service]) -> Wo
 
     Raises ProgramFault if the script cannot be read."""
     text, found = script_text(script), []
-    its = read_script(text)
+    parsed = read_script(text)
     bits = {it.name: it.gl for it in services}
-    for body in its.bodies:
+    for body in parsed.bodies:
         if body.name in bits and body.is_service:
-            walk = _Walk(its, text, plan)
+            walk = _Walk(parsed, text, plan)
             try:
                 walk.block(body.statements, _State({name: 0 for name in body.variables}, {}))
             except _Lost:
@@ -235,14 +236,14 @@ def words_of_script(plan: Plan, script: File, services: Sequence[Service]) -> Wo
     return Words(found)
 
 
-def _known(it: Expression, state: _State) -> Known:
-    if isinstance(it, Number):
-        return it.value
-    if isinstance(it, Name):
-        return state.variables.get(it.name)
-    left, right = _known(it.left, state), _known(it.right, state)
+def _known(expression: Expression, state: _State) -> Known:
+    if isinstance(expression, Number):
+        return expression.value
+    if isinstance(expression, Name):
+        return state.variables.get(expression.name)
+    left, right = _known(expression.left, state), _known(expression.right, state)
     if not isinstance(left, int) or not isinstance(right, int):
         return None
-    if it.sign in "/%":
-        return left // right if it.sign == "/" else left % right
-    return {"+": left + right, "-": left - right, "*": left * right}[it.sign]
+    if expression.sign in "/%":
+        return left // right if expression.sign == "/" else left % right
+    return {"+": left + right, "-": left - right, "*": left * right}[expression.sign]

@@ -76,8 +76,8 @@ class Column(NamedTuple):
 
     @property
     def name(self) -> str:
-        its = self.field
-        return its.name if self.tag is None or its.tags[0] == its.tags[1] else f"{its.name}[{self.tag}]"
+        field = self.field
+        return field.name if self.tag is None or field.tags[0] == field.tags[1] else f"{field.name}[{self.tag}]"
 
     @property
     def unit(self) -> str:
@@ -179,10 +179,10 @@ class Words:
         """The numbers in an event, by place. A word without a column has none."""
         layout = self._layout(event.gl, len(event.words))
         for place, (word, readers) in enumerate(zip(event.words, layout), 1):
-            for it in readers:
-                column = it.column(word, place)
+            for reader in readers:
+                column = reader.column(word, place)
                 if column is not None:
-                    yield Value(column, place, it.field.number(word))
+                    yield Value(column, place, reader.field.number(word))
 
     def numbers(self, of: Sequence[Group], asked: Collection[Field] = ()) -> Iterator[Gathered]:
         """The numbers in groups of events, by column: what `values` gives of each event, far quicker. Those of fields that are shown over the run, and of
@@ -190,10 +190,10 @@ class Words:
         gathered: Dict[Tuple[_Reader, int], Tuple[List[Numbers], List[Numbers]]] = {}
         for group in of:
             for place, (words, readers) in enumerate(zip(group.words, self._layout(group.gl, group.size)), 1):
-                for it in readers:
-                    events, numbers = gathered.setdefault((it, place if it.field.of == PLACE else 0), ([], []))
+                for reader in readers:
+                    events, numbers = gathered.setdefault((reader, place if reader.field.of == PLACE else 0), ([], []))
                     numbers.append(words)
-                    if it.field.kind != SPECTRUM or it.field in asked:
+                    if reader.field.kind != SPECTRUM or reader.field in asked:
                         events.append(group.numbers)
         for (reader, place), (events, numbers) in gathered.items():
             yield from reader.split(join(events) if events else [], join(numbers), place)
@@ -202,9 +202,9 @@ class Words:
         """What reads the word at each place of an event of so many words. It is kept, since it is asked for each event."""
         key = gl, count if (gl, count) in self._counts else 0
         if key not in self._layouts:
-            its = [it for it in self._readers.get(gl, []) if it.field.count in (None, count)]
-            last = max((it.field.places[1] for it in its), default=0)
-            self._layouts[key] = [tuple(it for it in its if it.field.places[0] <= place <= it.field.places[1]) for place in range(1, last + 1)]
+            readers = [it for it in self._readers.get(gl, []) if it.field.count in (None, count)]
+            last = max((it.field.places[1] for it in readers), default=0)
+            self._layouts[key] = [tuple(it for it in readers if it.field.places[0] <= place <= it.field.places[1]) for place in range(1, last + 1)]
         return self._layouts[key]
 
     def values_of(self, its: Union[Field, Column], events: EventArrays) -> Values:
@@ -230,9 +230,9 @@ def _rows(numpy: Any, field: Field, places: Range, events: EventArrays) -> Array
     has_field = events.gl == field.gl
     if field.count is not None:
         has_field &= counts == field.count
-    its = numpy.flatnonzero(has_field)
-    starts = events.first[its] + places[0] - 1
-    lengths = numpy.clip(numpy.minimum(counts[its], places[1]) - places[0] + 1, 0, None)
+    index = numpy.flatnonzero(has_field)
+    starts = events.first[index] + places[0] - 1
+    lengths = numpy.clip(numpy.minimum(counts[index], places[1]) - places[0] + 1, 0, None)
     before = numpy.cumsum(lengths) - lengths
     # Numbers of four bytes, if they are enough, take half of the memory; they count modulo 2^32.
     kind = "u4" if len(events.words) < 1 << 32 else "i8"

@@ -137,16 +137,16 @@ def survey(
     branch = branch_of(branch, plan)
     if not getattr(branch, "tells_x", True) and any(it >= 8 for it in functions):
         raise ValueError("this driver tells no X of functions that move no data: ask for F0 and F1 alone, or let it read to tell X (mcstd:LIBRARY,x)")
-    its = declared_plan(plan, program)
+    listed = declared_plan(plan, program)
     at = time.strftime("%Y-%m-%dT%H:%M:%SZ", time.gmtime())
     asked = []
-    for number, crate in enumerate(its.crates, 1):
-        for script in scripts(its, crate, functions, has_empty):
+    for number, crate in enumerate(listed.crates, 1):
+        for script in scripts(listed, crate, functions, has_empty):
             if tell:
-                tell(f"crate {crate.number}, {number} of {len(its.crates)}: {script.commands:,} commands")
+                tell(f"crate {crate.number}, {number} of {len(listed.crates)}: {script.commands:,} commands")
             asked.append(ask(script, branch, program, timeout))
     answers = [cycle for it in asked for cycle in it.cycles()]
-    return Survey(at, its, tuple(functions), has_empty, tuple(asked), tuple(_rows(its, answers)))
+    return Survey(at, listed, tuple(functions), has_empty, tuple(asked), tuple(_rows(listed, answers)))
 
 
 def _names(functions: Sequence[int]) -> str:
@@ -172,19 +172,19 @@ def scripts(plan: Plan, crate: Crate, functions: Sequence[int], has_empty: bool)
         elif has_empty:
             sent += [Reach(number, it, 0, 15) for it in TESTS if it in functions]
     for part in range(0, len(sent), MOST_REACHES):
-        its = sent[part : part + MOST_REACHES]
+        batch = sent[part : part + MOST_REACHES]
         name = f"crate-{crate.number}" + (f"-part-{part // MOST_REACHES + 1}" if len(sent) > MOST_REACHES else "")
-        commands = sum(it.last - it.first + 1 for it in its)
-        text = service((crate.number, its[0].station, 0), commands * (1 + crate.waits), [it.statement(crate.number) for it in its])
-        yield Script(name, _plan_of(crate, its), text, 1, commands)
+        commands = sum(it.last - it.first + 1 for it in batch)
+        text = service((crate.number, batch[0].station, 0), commands * (1 + crate.waits), [it.statement(crate.number) for it in batch])
+        yield Script(name, _plan_of(crate, batch), text, 1, commands)
 
 
 def _plan_of(crate: Crate, sent: Sequence[Reach]) -> str:
     """A plan of one crate, in which each station has the commands that are sent to it."""
     lines: List[str] = []
     stations: List[str] = []
-    for number, its in itertools.groupby(sent, key=lambda it: it.station):
-        commands = ", ".join(f"{{ f = {it.function}, a = {it.first}, to = {it.last} }}" for it in its)
+    for number, of_station in itertools.groupby(sent, key=lambda it: it.station):
+        commands = ", ".join(f"{{ f = {it.function}, a = {it.first}, to = {it.last} }}" for it in of_station)
         lines.append(f'[[type]]\nname = "AT-{number}"\ncommands = [ {commands} ]\n')
         stations.append(f'  {{ n = {number}, type = "AT-{number}"{"" if stations else ", gl = 1"} }},\n')
     return "".join(lines) + f"[[crate]]\nnumber = {crate.number}\nwaits = {crate.waits}\nstation = [\n{''.join(stations)}]\n"
@@ -193,13 +193,13 @@ def _plan_of(crate: Crate, sent: Sequence[Reach]) -> str:
 def _rows(plan: Plan, answers: Sequence[Tuple[Command, Answer]]) -> Iterator[Row]:
     row: Optional[Row] = None
     for command, answer in sorted(answers, key=lambda it: (it[0].crate, it[0].station, it[0].function, it[0].sub_address)):
-        its = _row(plan, command, answer)
-        if row and its._replace(first=row.first, last=row.last, bits=row.bits) == row and its.first == row.last + 1:
-            row = row._replace(last=its.last, bits=max(row.bits, its.bits))
+        following = _row(plan, command, answer)
+        if row and following._replace(first=row.first, last=row.last, bits=row.bits) == row and following.first == row.last + 1:
+            row = row._replace(last=following.last, bits=max(row.bits, following.bits))
             continue
         if row:
             yield row
-        row = its
+        row = following
     if row:
         yield row
 

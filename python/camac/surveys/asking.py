@@ -18,10 +18,10 @@ SERVICE = "asked"
 def declared_plan(plan: File, program: Optional[File]) -> Plan:
     """The plan with all that its types declare. Raises ProgramFault if the library alone reads it, which does not list that, and for the rest as
     `camac.plan`."""
-    its = read_plan(plan, program)
-    if any(it.commands and not it.declarations for it in its.types.values()):
+    listed = read_plan(plan, program)
+    if any(it.commands and not it.declarations for it in listed.types.values()):
         raise ProgramFault("the library does not list what a plan declares: this needs the program camac", 3)
-    return its
+    return listed
 
 
 class Reach(NamedTuple):
@@ -113,9 +113,9 @@ def ask(script: Script, branch: Branch, program: Optional[File] = None, timeout:
     watched = _Watched(branch)
     with tempfile.TemporaryDirectory(prefix="camac-") as room:
         plan, text = os.path.join(room, "plan.toml"), os.path.join(room, "asked.script")
-        for name, its in ((plan, script.plan), (text, script.text)):
+        for name, content in ((plan, script.plan), (text, script.text)):
             with open(name, "w", encoding="utf-8", newline="\n") as file:
-                file.write(its)
+                file.write(content)
         try:
             end = call(plan, text, SERVICE, watched, program=program, timeout=timeout)
             fault = "" if end.how is Ending.ENDED else f"a wait of {end.wait} cycles, which the plan does not permit"

@@ -64,12 +64,12 @@ class _Bench(NamedTuple):
 
 def find_bench(plan: File, register: Tuple[int, int, int], program: Optional[File] = None) -> _Bench:
     """Raises UsageFault if the plan declares no F0 and F16 at crate, station and sub-address of the register."""
-    its, (c, n, a) = declared_plan(plan, program), register
-    kind = its.type_at(c, n)
+    listed, (c, n, a) = declared_plan(plan, program), register
+    kind = listed.type_at(c, n)
     widths = {it.function: it.width or 24 for it in (kind.declarations if kind else ()) if it.first <= a <= it.last and not it.is_probe}
     if not {READ, WRITE} <= widths.keys():
         raise UsageFault(f"the plan declares no register with F0 and F16 at crate {c} station {n} A{a}", 2)
-    crate = next(it for it in its.crates if it.number == c)
+    crate = next(it for it in listed.crates if it.number == c)
     empty = sorted({*STATIONS} - {it.number for it in crate.stations})
     return _Bench(crate, n, a, min(widths[READ], widths[WRITE]), empty[0] if empty else None)
 
@@ -136,9 +136,9 @@ def _walked(bench: _Bench, asked: Asked) -> Iterator[Finding]:
 
 
 def _of_time(bench: _Bench, asked: Asked) -> Iterator[Finding]:
-    waits, its = max(answer.wait for _, answer in asked.cycles()), sorted(asked.seconds)
-    yield Finding(ANSWER, Kept.KEEPS, f"waits of at most {waits} cycles in {len(its):,}; the plan permits {bench.crate.waits}")
-    said = ", ".join(f"{its[int((len(its) - 1) * part)] * 1e6:.1f} ({label})" for part, label in QUANTILES)
+    waits, seconds = max(answer.wait for _, answer in asked.cycles()), sorted(asked.seconds)
+    yield Finding(ANSWER, Kept.KEEPS, f"waits of at most {waits} cycles in {len(seconds):,}; the plan permits {bench.crate.waits}")
+    said = ", ".join(f"{seconds[int((len(seconds) - 1) * part)] * 1e6:.1f} ({label})" for part, label in QUANTILES)
     yield Finding(TIME, Kept.TOLD, f"microseconds of a cycle: {said}")
 
 

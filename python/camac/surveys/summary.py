@@ -37,8 +37,8 @@ class Summary(NamedTuple):
         return f"surveyed at {self.at} by {self.sent:,} commands: {said}" + ("" if self.plan == plan else "; it was another plan")
 
 
-def summary(its: Survey, plan: str) -> Summary:
-    return Summary(its.at, plan, its.sent(), its.differences(), its.not_tried())
+def summary(survey: Survey, plan: str) -> Summary:
+    return Summary(survey.at, plan, survey.sent(), survey.differences(), survey.not_tried())
 
 
 def read_summary(file: File) -> Summary:
@@ -62,8 +62,8 @@ def refuse_foreign(path: str) -> None:
 
 def parse_summary(fields: Any) -> Summary:
     """Raises KeyError, TypeError or ValueError if these are no fields of a survey."""
-    its = Summary(*(fields[it] for it in ("at", "plan_sha256", "sent", "differences", "not_tried")))
-    texts = [fields["form"], its.at, its.plan, *its.differences, *its.not_tried]
-    if fields["form"] != FORM or not all(isinstance(it, str) for it in texts) or not isinstance(its.sent, int):
+    parsed = Summary(*(fields[it] for it in ("at", "plan_sha256", "sent", "differences", "not_tried")))
+    texts = [fields["form"], parsed.at, parsed.plan, *parsed.differences, *parsed.not_tried]
+    if fields["form"] != FORM or not all(isinstance(it, str) for it in texts) or not isinstance(parsed.sent, int):
         raise ValueError
-    return its
+    return parsed

@@ -53,9 +53,9 @@ def wires(plan: File, branch: Branch, agree: Optional[Agree] = None, program: Op
 
     `agree` is asked before each F25, which may also start something. Where the plan declares none, or it raises nothing, `agree` is asked to have the
     look-at-me raised by hand. Without it all F25 are sent, and nothing is done by hand. Raises what `camac.call` raises."""
-    its, text = declared_plan(plan, program), plan_text(plan).decode("utf-8", "replace")
-    for _, crate, station in its.demands():
-        at = _Station(its, crate, station, text)
+    listed, text = declared_plan(plan, program), plan_text(plan).decode("utf-8", "replace")
+    for _, crate, station in listed.demands():
+        at = _Station(listed, crate, station, text)
         wire = at.wire("", fault="its type declares no F8") if at.lam is None else None
         if wire is None and at.execute is not None and (agree is None or agree(f"Enter sends F25 A{at.execute} to {at.place()}, to raise its look-at-me")):
             wire = _try(at, "F25", None, branch, program, timeout)
