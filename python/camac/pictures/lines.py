@@ -71,7 +71,7 @@ def draw_lines(
     rows: Dict[int, List[Tuple[Row, int]]] = {}
     for row, whole in wholes:
         rows.setdefault(row.line, []).append((row, whole))
-    lines = {number: line_of(its) for number, its in rows.items()}
+    lines = {number: line_of(statements) for number, statements in rows.items()}
     for x, word, _ in COLUMNS:
         canvas.text(x, y + 10, word, "mute s10 r")
     canvas.text(BAR_AT, y + 10, "share of the bound", "mute s10")
@@ -100,8 +100,8 @@ class _Table:
         self.y += ROW
 
     def line(self, number: int, text: str) -> None:
-        it = self.lines.get(number)
-        more = list(it.parts) if it else []
+        line = self.lines.get(number)
+        more = list(line.parts) if line else []
         has_room = len(text) <= TEXT_SIZE - len(OF_LOCK) - 6
         first = more.pop(0) if more and (has_room or not more[0].is_lock) else None
         self.heat(first)
@@ -109,8 +109,8 @@ class _Table:
         self.canvas.text(TEXT_AT, self.y + 13, cut(text, TEXT_SIZE), "mono s11", ' xml:space="preserve"')
         if first and first.is_lock and first.cycles:
             self.canvas.text(HEAT[0] + HEAT[1] - 6, self.y + 13, OF_LOCK, "mute s11 r")
-        if it and it.whole > it.cycles():
-            self.canvas.rect((BAR_AT, self.y + 3.5, BAR * it.whole / self.widest, 10), "l-mute")
+        if line and line.whole > line.cycles():
+            self.canvas.rect((BAR_AT, self.y + 3.5, BAR * line.whole / self.widest, 10), "l-mute")
         if first:
             self.numbers(number, first)
         self.y += ROW
@@ -137,19 +137,19 @@ class _Table:
         if part and part.cycles:
             self.canvas.rect((HEAT[0], self.y, HEAT[1], ROW), "waits", None, f' style="fill-opacity:{0.08 + 0.32 * part.cycles / self.hottest:.2f}"')
 
-    def numbers(self, number: int, it: Part) -> None:
+    def numbers(self, number: int, piece: Part) -> None:
         """How often, what one time costs, both together, their share of the bound, the words, and the bar."""
-        values = {"times": it.times, "each": it.each, "cycles": it.cycles, "words": it.words}
+        values = {"times": piece.times, "each": piece.each, "cycles": piece.cycles, "words": piece.words}
         for x, word, room in COLUMNS:
-            text = (share(it.cycles, self.most) if it.cycles else "") if word == "share" else _short(values[word], room)
-            if text and (word == "times" or text != "0" or (word == "cycles" and it.each)):
+            text = (share(piece.cycles, self.most) if piece.cycles else "") if word == "share" else _short(values[word], room)
+            if text and (word == "times" or text != "0" or (word == "cycles" and piece.each)):
                 self.canvas.text(x, self.y + 13, text, "s11 r")
-        begin, wide = BAR_AT, BAR * it.cycles / self.widest
-        sign = "=" if it.times * it.each == it.cycles else "≥"
-        tip = f"line {number}: {it.times:,} × {it.each:,} {sign} {it.cycles:,} of {count(self.most, 'cycle')}; of them {count(it.waits, 'wait')}"
-        tip += " of the lock" if it.is_lock else f", {it.slack:,} not needed" if it.slack else ""
-        for kind, cycles in parts_of(it.cycles, it.waits, it.slack):
-            part = wide * cycles / it.cycles
+        begin, wide = BAR_AT, BAR * piece.cycles / self.widest
+        sign = "=" if piece.times * piece.each == piece.cycles else "≥"
+        tip = f"line {number}: {piece.times:,} × {piece.each:,} {sign} {piece.cycles:,} of {count(self.most, 'cycle')}"
+        tip += f"; of them {count(piece.waits, 'wait')}" + (" of the lock" if piece.is_lock else f", {piece.slack:,} not needed" if piece.slack else "")
+        for kind, cycles in parts_of(piece.cycles, piece.waits, piece.slack):
+            part = wide * cycles / piece.cycles
             self.canvas.rect((begin, self.y + 4, max(part, 0.6), 9), kind, tip if part >= 2 else None)
             begin += part
 

@@ -129,8 +129,8 @@ def _grid(words: Sequence[Tuple[int, Spectrum]]) -> Grid:
 def _cells(words: Sequence[Tuple[int, Spectrum]], grid: Grid) -> Dict[Tuple[int, int], int]:
     """By column and row, how many words fall there. A bin is never wider than a row."""
     cells: Dict[Tuple[int, int], int] = {}
-    for place, it in words:
-        bins = it.bins()
+    for place, spectrum in words:
+        bins = spectrum.bins()
         for at, number_of_words in enumerate(bins.counts):
             if number_of_words:
                 cell = place // grid.per, (bins.first + at * bins.width) // grid.size
@@ -148,6 +148,6 @@ def _draw_axes_of_places(canvas: Canvas, last: int, grid: Grid) -> None:
 
 
 def _column_tip(inside: Sequence[Tuple[int, Spectrum]]) -> str:
-    place, it = inside[0]
+    place, spectrum = inside[0]
     more = f"; and {len(inside) - 1} more" if len(inside) > 1 else ""
-    return f"word {place:,}: {count(it.count, 'event')}, {it.least:,} to {it.greatest:,}, mean {it.mean():,.1f}{more}"
+    return f"word {place:,}: {count(spectrum.count, 'event')}, {spectrum.least:,} to {spectrum.greatest:,}, mean {spectrum.mean():,.1f}{more}"

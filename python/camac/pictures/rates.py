@@ -51,14 +51,14 @@ class Plot:
     def draw(self, lines: Sequence[Line]) -> None:
         """Draws the lines, with their labels at the right, each below the one above it."""
         last = -99.0
-        for it in sorted(lines, key=lambda it: -it.values[-1]):
-            places = [(self.across(rate), self.up(value)) for rate, value in zip(self.rates, it.values)]
-            self.canvas.lines(places, f"l-{it.kind}")
-            if "dash" not in it.kind:
+        for line in sorted(lines, key=lambda it: -it.values[-1]):
+            places = [(self.across(rate), self.up(value)) for rate, value in zip(self.rates, line.values)]
+            self.canvas.lines(places, f"l-{line.kind}")
+            if "dash" not in line.kind:
                 for x, y in places:
-                    self.canvas.rect((x - 1.5, y - 1.5, 3, 3), it.kind.split()[0])
+                    self.canvas.rect((x - 1.5, y - 1.5, 3, 3), line.kind.split()[0])
             last = max(places[-1][1], last + APART)
-            self.canvas.text(self.left + WIDE + 6, last + 4, it.label, "s10", NO_POINTER)
+            self.canvas.text(self.left + WIDE + 6, last + 4, line.label, "s10", NO_POINTER)
 
 
 def draw_rates(simulations: "Sequence[Simulation]", given: "Simulation", cycle: float) -> Canvas:
@@ -66,14 +66,14 @@ def draw_rates(simulations: "Sequence[Simulation]", given: "Simulation", cycle: 
     simulation of the rates that were given; `cycle` are the seconds of a cycle."""
     canvas = Canvas("Look-at-mes that are answered, and how long they wait, over the rate")
     y = 0.0
-    for at, it in enumerate(given.services):
-        its = [one.services[at] for one in simulations]
-        canvas.text(0, y + 14, f"{it.name} (GL {it.gl})", "b")
+    for at, service in enumerate(given.services):
+        points = [one.services[at] for one in simulations]
+        canvas.text(0, y + 14, f"{service.name} (GL {service.gl})", "b")
         canvas.text(LEFT, y + 32, "share of the triggers that are answered", "mute s11")
         canvas.text(PANEL + LEFT, y + 32, "cycles from a look-at-me to the end of its service", "mute s11")
-        _draw_live(canvas, y + 42, its, it, cycle if len(given.services) == 1 else None)
-        _draw_waits(canvas, y + 42, its, it)
-        _draw_tips(canvas, y + 42, its)
+        _draw_live(canvas, y + 42, points, service, cycle if len(given.services) == 1 else None)
+        _draw_waits(canvas, y + 42, points, service)
+        _draw_tips(canvas, y + 42, points)
         y += ROW
     words = "All rates grow together." if len(given.services) > 1 else ""
     canvas.text(0, y + 12, f"The upright line: the given rate. {words}", "mute s11")
@@ -81,31 +81,31 @@ def draw_rates(simulations: "Sequence[Simulation]", given: "Simulation", cycle: 
     return canvas
 
 
-def _draw_live(canvas: Canvas, y: float, its: "Sequence[Simulated]", given: "Simulated", cycle: Optional[float]) -> None:
-    plot = Plot(canvas, (LEFT, y), [it.rate for it in its], 1)
+def _draw_live(canvas: Canvas, y: float, points: "Sequence[Simulated]", given: "Simulated", cycle: Optional[float]) -> None:
+    plot = Plot(canvas, (LEFT, y), [it.rate for it in points], 1)
     plot.draw_axes(given.rate, [(part / 4, f"{25 * part} %") for part in range(5)])
-    lines = [Line([it.live() for it in its], "ours", "answered")]
+    lines = [Line([it.live() for it in points], "ours", "answered")]
     if cycle is not None:
-        lines.append(Line([it.reckoned(cycle) for it in its], "ink dash", "1 / (1 + r τ)"))
+        lines.append(Line([it.reckoned(cycle) for it in points], "ink dash", "1 / (1 + r τ)"))
     plot.draw(lines)
 
 
-def _draw_waits(canvas: Canvas, y: float, its: "Sequence[Simulated]", given: "Simulated") -> None:
-    top = max([given.end or 0, *(it.quantile(1.0) for it in its)])
-    plot = Plot(canvas, (PANEL + LEFT, y), [it.rate for it in its], 1.05 * top)
+def _draw_waits(canvas: Canvas, y: float, points: "Sequence[Simulated]", given: "Simulated") -> None:
+    top = max([given.end or 0, *(it.quantile(1.0) for it in points)])
+    plot = Plot(canvas, (PANEL + LEFT, y), [it.rate for it in points], 1.05 * top)
     plot.draw_axes(given.rate, [(value, f"{value:,}") for value in ticks(top)])
-    lines = [Line([it.quantile(part) for it in its], kind, label) for part, label, kind in QUANTILES]
+    lines = [Line([it.quantile(part) for it in points], kind, label) for part, label, kind in QUANTILES]
     if given.end is not None:
-        lines.append(Line([given.end] * len(its), "ink dash", f"at most {given.end:,}"))
+        lines.append(Line([given.end] * len(points), "ink dash", f"at most {given.end:,}"))
     plot.draw(lines)
 
 
-def _draw_tips(canvas: Canvas, y: float, its: "Sequence[Simulated]") -> None:
+def _draw_tips(canvas: Canvas, y: float, points: "Sequence[Simulated]") -> None:
     """Of each rate a column over each plot, whose tip has what was simulated."""
-    step = WIDE / max(len(its) - 1, 1)
-    for at, it in enumerate(its):
-        tip = f"{_rate(it.rate)} triggers a second: {share(it.live() * it.came, it.came)} of {count(it.came, 'trigger')} answered\n"
-        tip += ", ".join(f"{label} {it.quantile(part):,.1f}" for part, label, _ in QUANTILES) + " cycles"
+    step = WIDE / max(len(points) - 1, 1)
+    for at, point in enumerate(points):
+        tip = f"{_rate(point.rate)} triggers a second: {share(point.live() * point.came, point.came)} of {count(point.came, 'trigger')} answered\n"
+        tip += ", ".join(f"{label} {point.quantile(part):,.1f}" for part, label, _ in QUANTILES) + " cycles"
         for left in (LEFT, PANEL + LEFT):
             canvas.hit((left + (at - 0.5) * step, y, step, HIGH), tip)
 

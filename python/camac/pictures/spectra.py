@@ -58,9 +58,9 @@ class View(NamedTuple):
     last: Optional[int] = None
     most: int = BINS
 
-    def bins(self, its: Spectrum) -> Bins:
-        end = its.end if self.last is None else min(self.last + 1, its.end)
-        return its.bins(min(self.low, end - 1), end, self.most)
+    def bins(self, spectrum: Spectrum) -> Bins:
+        end = spectrum.end if self.last is None else min(self.last + 1, spectrum.end)
+        return spectrum.bins(min(self.low, end - 1), end, self.most)
 
 
 class Group(NamedTuple):
@@ -90,11 +90,11 @@ def seen_groups(cycles: Mapping[int, Spectrum], words: Mapping[int, Spectrum], s
 
 def _of_bits(bits: Sequence[int], values: Sequence[int], bounds: Dict[int, int]) -> Dict[int, Spectrum]:
     """By bit the spectrum of the values of its services, on an axis that holds the greatest bound and the greatest value."""
-    found = {gl: its for gl, (its,) in by_bit(bits, values) if gl in bounds}
+    found = {gl: numbers for gl, (numbers,) in by_bit(bits, values) if gl in bounds}
     end = max([*bounds.values(), *(ends(it)[1] for it in found.values())], default=0) + 1
     spectra = {gl: Spectrum(end) for gl in bounds}
-    for gl, its in found.items():
-        spectra[gl].add_all(its)
+    for gl, numbers in found.items():
+        spectra[gl].add_all(numbers)
     return spectra
 
 
@@ -116,11 +116,11 @@ def channel_groups(channels: Sequence[Channel], scale: str = LINEAR, view: View 
     return _grouped([of_channel(it, over, it.series) for it in channels], scale, view, f"; the line: {over.name}, {over.why}" if over else "")
 
 
-def of_channel(it: Channel, over: Optional[Over] = None, series: Optional[Series] = None) -> Shown:
+def of_channel(channel: Channel, over: Optional[Over] = None, series: Optional[Series] = None) -> Shown:
     """The spectrum of a channel, with that of another run, or a line in its place."""
-    its = it.column.field
-    other = (over.channels[it.column].spectrum, over.factors.get(its.gl, 0.0)) if over and it.column in over.channels else None
-    return Shown(it.column.name, "", it.spectrum, "ours", "words", meaning=(its.scale, its.offset, its.unit), series=series, over=other)
+    column, field = channel.column, channel.column.field
+    other = (over.channels[column].spectrum, over.factors.get(field.gl, 0.0)) if over and column in over.channels else None
+    return Shown(column.name, "", channel.spectrum, "ours", "words", meaning=(field.scale, field.offset, field.unit), series=series, over=other)
 
 
 def _grouped(shown: Sequence[Shown], scale: str, view: View = View(), of_line: str = "") -> List[Group]:
@@ -129,10 +129,10 @@ def _grouped(shown: Sequence[Shown], scale: str, view: View = View(), of_line: s
     for it in shown[:MOST]:
         groups.setdefault((it.series is not None, 0 if it.series else it.spectrum.end), []).append(it)
     made = []
-    for (is_line, end), its in sorted(groups.items(), key=lambda group: group[0][0]):
+    for (is_line, end), alike in sorted(groups.items(), key=lambda group: group[0][0]):
         last = end - 1 if view.last is None else min(view.last, end - 1)
         title = "Over the run" if is_line else f"{min(view.low, last):,} to {last:,}{of_line}"
-        made.append(Group(title, [draw_panel(it, scale, view) for it in its]))
+        made.append(Group(title, [draw_panel(it, scale, view) for it in alike]))
     if len(shown) > MOST:
         made[-1] = made[-1]._replace(title=f"{made[-1].title} ({len(shown) - MOST:,} more are not drawn)")
     return made
@@ -165,49 +165,49 @@ def draw_groups(title: str, groups: Sequence[Group]) -> Canvas:
     return canvas
 
 
-def draw_panel(it: Shown, scale: str = LINEAR, view: View = View(), width: float = PANEL) -> Canvas:
+def draw_panel(shown: Shown, scale: str = LINEAR, view: View = View(), width: float = PANEL) -> Canvas:
     """A panel: title, entries, mean, RMS and the place of the greatest bin, and the spectrum, or a line over the run."""
-    canvas = Canvas(it.of + it.what, width)
-    canvas.text(0, 11, cut(it.of, TITLE - len(it.what)) + it.what, "s11 b")
+    canvas = Canvas(shown.of + shown.what, width)
+    canvas.text(0, 11, cut(shown.of, TITLE - len(shown.what)) + shown.what, "s11 b")
     canvas.grow(ROW - 8)
-    if not it.spectrum.count:
+    if not shown.spectrum.count:
         canvas.text(0, 30, "nothing", "mute s11")
         return canvas
-    if it.series is not None:
-        _draw_line(canvas, it, it.series)
+    if shown.series is not None:
+        _draw_line(canvas, shown, shown.series)
         return canvas
-    mean, rms = it.value(it.spectrum.mean()), abs(it.meaning[0]) * it.spectrum.rms()
-    entries = f"{count_of(it.spectrum.count, it.counts)}" + (f", overflow {it.spectrum.overflow:,}" if it.spectrum.overflow else "")
+    mean, rms = shown.value(shown.spectrum.mean()), abs(shown.meaning[0]) * shown.spectrum.rms()
+    entries = f"{count_of(shown.spectrum.count, shown.counts)}" + (f", overflow {shown.spectrum.overflow:,}" if shown.spectrum.overflow else "")
     canvas.text(0, 24, entries, "mute s10")
-    peak = it.spectrum.peak()
-    canvas.text(0, 36, f"mean {_decimal(mean)}, RMS {_decimal(rms)}" + ("" if peak is None else f", peak at {short(it.value(peak))}"), "mute s10")
-    bins = view.bins(it.spectrum)
-    over = _laid_over(it, bins)
+    peak = shown.spectrum.peak()
+    canvas.text(0, 36, f"mean {_decimal(mean)}, RMS {_decimal(rms)}" + ("" if peak is None else f", peak at {short(shown.value(peak))}"), "mute s10")
+    bins = view.bins(shown.spectrum)
+    over = _laid_over(shown, bins)
     canvas.parts.append('<g class="axis">')
-    _draw_axis(canvas, it, bins)
+    _draw_axis(canvas, shown, bins)
     canvas.parts.append("</g>")
     for one in (LINEAR, LOGARITHMIC) if scale in (BOTH, ZOOMED) else (scale,):
         canvas.parts.append(f'<g class="{one}">')
-        _draw_counts(canvas, it, bins.counts, over, one == LOGARITHMIC)
+        _draw_counts(canvas, shown, bins.counts, over, one == LOGARITHMIC)
         canvas.parts.append("</g>")
-    if it.bound is not None:
-        x = LEFT + _wide(canvas) * (it.bound + 0.5) / _length(bins)
+    if shown.bound is not None:
+        x = LEFT + _wide(canvas) * (shown.bound + 0.5) / _length(bins)
         canvas.line((x, TOP), (x, FOOT), "l-ink dash")
-        canvas.text(width, 24, f"bound {it.bound:,}", "s10 r")
-    if it.meaning[2]:
-        canvas.text(width, FOOT + 26, cut(it.meaning[2], 24), "mute s10 r")
-    _draw_hit(canvas, it, bins, scale == ZOOMED)
+        canvas.text(width, 24, f"bound {shown.bound:,}", "s10 r")
+    if shown.meaning[2]:
+        canvas.text(width, FOOT + 26, cut(shown.meaning[2], 24), "mute s10 r")
+    _draw_hit(canvas, shown, bins, scale == ZOOMED)
     return canvas
 
 
-def _laid_over(it: Shown, bins: Bins) -> List[float]:
+def _laid_over(shown: Shown, bins: Bins) -> List[float]:
     """The counts of another run in these bins, multiplied as it says; nothing if there is none."""
-    if it.over is None:
+    if shown.over is None:
         return []
-    spectrum, factor = it.over
+    spectrum, factor = shown.over
     # An axis without an end may have bins of another width: they are as high as these.
-    its = spectrum.bins(bins.first, bins.first + _length(bins), len(bins.counts))
-    return [factor * its.counts[at * bins.width // its.width] * bins.width / its.width for at in range(len(bins.counts))]
+    other = spectrum.bins(bins.first, bins.first + _length(bins), len(bins.counts))
+    return [factor * other.counts[at * bins.width // other.width] * bins.width / other.width for at in range(len(bins.counts))]
 
 
 def count_of(entries: int, counts: str) -> str:
@@ -238,15 +238,15 @@ def _wide(canvas: Canvas) -> float:
     return canvas.width - LEFT - RIGHT
 
 
-def _draw_axis(canvas: Canvas, it: Shown, bins: Bins) -> None:
+def _draw_axis(canvas: Canvas, shown: Shown, bins: Bins) -> None:
     """The axis of numbers, with five ticks where it is cut into quarters."""
     end = _length(bins)
-    places = [end * quarter // 4 for quarter in range(5)] if end >= 4 and it.bound is None else ticks(end, 4)
+    places = [end * quarter // 4 for quarter in range(5)] if end >= 4 and shown.bound is None else ticks(end, 4)
     canvas.line((LEFT, FOOT + 0.5), (LEFT + _wide(canvas), FOOT + 0.5), "l-mute thin")
     for place in places:
         x = LEFT + _wide(canvas) * place / end
         canvas.line((x, FOOT), (x, FOOT + 4), "l-mute thin")
-        _draw_number(canvas, x, short(it.value(bins.first + place)), place == end)
+        _draw_number(canvas, x, short(shown.value(bins.first + place)), place == end)
 
 
 def _draw_number(canvas: Canvas, x: float, text: str, is_last: bool) -> None:
@@ -254,7 +254,7 @@ def _draw_number(canvas: Canvas, x: float, text: str, is_last: bool) -> None:
     canvas.text(canvas.width if is_last else x, FOOT + 14, text, "mute s10" + (" r" if is_last else " m"))
 
 
-def _draw_counts(canvas: Canvas, it: Shown, counts: Sequence[int], over: Sequence[float], is_log: bool) -> None:
+def _draw_counts(canvas: Canvas, shown: Shown, counts: Sequence[int], over: Sequence[float], is_log: bool) -> None:
     """The outline of the counts, closed at its foot, with that of another run over it, and their axis."""
     peak = max([*counts, *(math.ceil(it) for it in over), 1])
 
@@ -270,7 +270,7 @@ def _draw_counts(canvas: Canvas, it: Shown, counts: Sequence[int], over: Sequenc
                 level = up
         return [*parts, f"H{number(LEFT + _wide(canvas))}V{FOOT}"]
 
-    canvas.path([*outline(counts), "z"], it.kind)
+    canvas.path([*outline(counts), "z"], shown.kind)
     if over:
         canvas.path(outline(over), "l-waits")
     powers = [10**power for power in range(len(str(peak)) - (0 if str(peak) != "1" else 1))] if is_log else [0]
@@ -282,43 +282,43 @@ def _draw_counts(canvas: Canvas, it: Shown, counts: Sequence[int], over: Sequenc
 
 def _packed(counts: Sequence[float]) -> str:
     """Numbers as a page has them: so many zeros as one number below 0."""
-    its = ((is_zero, [*some]) for is_zero, some in itertools.groupby(counts, operator.not_))
-    return " ".join(str(-len(some)) if is_zero else " ".join(f"{it:.6g}" if isinstance(it, float) else str(it) for it in some) for is_zero, some in its)
+    runs = ((is_zero, [*some]) for is_zero, some in itertools.groupby(counts, operator.not_))
+    return " ".join(str(-len(some)) if is_zero else " ".join(f"{it:.6g}" if isinstance(it, float) else str(it) for it in some) for is_zero, some in runs)
 
 
-def _draw_hit(canvas: Canvas, it: Shown, bins: Bins, can_zoom: bool) -> None:
-    tip = f"{it.of}{it.what}: {count_of(it.spectrum.count, it.counts)}, integral {it.spectrum.integral():,}, overflow {it.spectrum.overflow:,}\n"
-    least, most = (it.value(value or 0) for value in (it.spectrum.least, it.spectrum.greatest))
-    tip += f"least {least:,}, mean {it.value(it.spectrum.mean()):,.1f}, RMS {abs(it.meaning[0]) * it.spectrum.rms():,.1f}, most {most:,}; bins of {bins.width:,}"
-    scale, offset, unit = it.meaning
+def _draw_hit(canvas: Canvas, shown: Shown, bins: Bins, can_zoom: bool) -> None:
+    spectrum, (scale, offset, unit) = shown.spectrum, shown.meaning
+    tip = f"{shown.of}{shown.what}: {count_of(spectrum.count, shown.counts)}, integral {spectrum.integral():,}, overflow {spectrum.overflow:,}\n"
+    least, most = (shown.value(value or 0) for value in (spectrum.least, spectrum.greatest))
+    tip += f"least {least:,}, mean {shown.value(spectrum.mean()):,.1f}, RMS {abs(scale) * spectrum.rms():,.1f}, most {most:,}; bins of {bins.width:,}"
     data = f' data-first="{bins.first}" data-width="{bins.width}" data-counts="{" ".join(map(str, bins.counts))}"'
     if (scale, offset) != (1, 0):
         data += f' data-scale="{scale}" data-offset="{offset}"'
-    fine = it.spectrum.bins(bins.first, bins.first + _length(bins), FINE)
-    if it.over:
-        data += f' data-line="{" ".join(f"{one:.4g}" for one in _laid_over(it, bins))}"'
-    if can_zoom and (fine.width < bins.width or it.over):
-        data += f' data-each="{fine.width}" data-fine="{_packed(fine.counts)}"' + (f' data-over="{_packed(_laid_over(it, fine))}"' if it.over else "")
+    fine = spectrum.bins(bins.first, bins.first + _length(bins), FINE)
+    data += f' data-line="{" ".join(f"{one:.4g}" for one in _laid_over(shown, bins))}"' if shown.over else ""
+    if can_zoom and (fine.width < bins.width or shown.over):
+        data += f' data-each="{fine.width}" data-fine="{_packed(fine.counts)}"'
+        data += f' data-over="{_packed(_laid_over(shown, fine))}"' if shown.over else ""
     canvas.hit((LEFT, TOP, _wide(canvas), HIGH), f"{tip} {unit}".rstrip(), data)
 
 
-def _draw_line(canvas: Canvas, it: Shown, series: Series) -> None:
+def _draw_line(canvas: Canvas, shown: Shown, series: Series) -> None:
     """The numbers over the services of the run, from its first to its last; of a counter what it counted since the one before."""
     what = "counted since the one before" if series.is_counter else "values"
-    canvas.text(0, 24, f"{count_of(it.spectrum.count, it.counts)}: {what}", "mute s10")
-    scale, unit = abs(it.meaning[0]), f" {it.meaning[2]}" if it.meaning[2] else ""
-    means = {at: scale * value if series.is_counter else float(it.value(value)) for at, value in series.means().items()}
+    canvas.text(0, 24, f"{count_of(shown.spectrum.count, shown.counts)}: {what}", "mute s10")
+    scale, unit = abs(shown.meaning[0]), f" {shown.meaning[2]}" if shown.meaning[2] else ""
+    means = {at: scale * value if series.is_counter else float(shown.value(value)) for at, value in series.means().items()}
     if not means:
         return
-    mean = f"mean {_decimal(scale * series.mean() if series.is_counter else it.value(it.spectrum.mean()))}{unit}"
-    canvas.text(0, 36, mean if series.is_counter else f"{mean}, RMS {_decimal(scale * it.spectrum.rms())}{unit}", "mute s10")
+    mean = f"mean {_decimal(scale * series.mean() if series.is_counter else shown.value(shown.spectrum.mean()))}{unit}"
+    canvas.text(0, 36, mean if series.is_counter else f"{mean}, RMS {_decimal(scale * shown.spectrum.rms())}{unit}", "mute s10")
     top, low, columns = max([*means.values(), 0]), min([*means.values(), 0]), max(max(means), 1) + 1
     each = HIGH / (top - low) if top > low else 0
     step = _wide(canvas) / columns
     places = [(LEFT + (at + 0.5) * step, FOOT - each * (value - low)) for at, value in means.items()]
-    canvas.lines(places, f"l-{it.kind}")
+    canvas.lines(places, f"l-{shown.kind}")
     if len(places) == 1:
-        canvas.rect((places[0][0] - 1.5, places[0][1] - 1.5, 3, 3), it.kind)
+        canvas.rect((places[0][0] - 1.5, places[0][1] - 1.5, 3, 3), shown.kind)
     canvas.line((LEFT, FOOT + 0.5), (LEFT + _wide(canvas), FOOT + 0.5), "l-mute thin")
     for value in sorted({0.0, low, top}):
         canvas.text(LEFT - 5, FOOT - each * (value - low) + 4, short(round(value, 1)), "mute s10 r")
@@ -326,5 +326,5 @@ def _draw_line(canvas: Canvas, it: Shown, series: Series) -> None:
     for place in ticks(last, 4):
         _draw_number(canvas, LEFT + _wide(canvas) * place / last, short(place), place == last)
     canvas.text(canvas.width, FOOT + 26, "service of the run", "mute s10 r")
-    tip = f"{it.of}: {count_of(it.spectrum.count, it.counts)}, {what}; least {it.spectrum.least:,}, most {it.spectrum.greatest:,}"
+    tip = f"{shown.of}: {count_of(shown.spectrum.count, shown.counts)}, {what}; least {shown.spectrum.least:,}, most {shown.spectrum.greatest:,}"
     canvas.hit((LEFT, TOP, _wide(canvas), HIGH), f"{tip}\neach point: the mean of {count(series.per, 'service')} of the run, one after another")

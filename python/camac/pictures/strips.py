@@ -14,11 +14,11 @@ LABEL_10 = 6.1
 KINDS = {"read": "reads", "write": "writes", "control": "moves no data", "controller": "the crate's controller"}
 
 
-def kind_of(it: Cycle) -> str:
+def kind_of(cycle: Cycle) -> str:
     """The class of a cycle's cell."""
-    if it.command.station in CONTROLLERS:
+    if cycle.command.station in CONTROLLERS:
         return "controller"
-    function = it.command.function
+    function = cycle.command.function
     return "read" if reads(function) else "write" if writes(function) else "control"
 
 
@@ -49,17 +49,17 @@ class _Strip:
 
     def draw(self, operations: Sequence[Operation]) -> float:
         """Draws all, and returns where the strip ends."""
-        for it in operations:
-            if isinstance(it, Unlock):
-                self.bracket(it.crate, self.locks.pop(it.crate, self.x))
+        for operation in operations:
+            if isinstance(operation, Unlock):
+                self.bracket(operation.crate, self.locks.pop(operation.crate, self.x))
                 continue
-            self.make_room(CELL + WAIT * min(it.wait, MOST_WAIT_CELLS))
-            self.draw_wait(it.wait)
-            if isinstance(it, Lock):
-                self.locks[it.crate] = self.x
+            self.make_room(CELL + WAIT * min(operation.wait, MOST_WAIT_CELLS))
+            self.draw_wait(operation.wait)
+            if isinstance(operation, Lock):
+                self.locks[operation.crate] = self.x
                 self.label = None
             else:
-                self.draw_cycle(it)
+                self.draw_cycle(operation)
         for crate, begin in self.locks.items():
             self.bracket(crate, begin)
         return self.y + ROW
@@ -90,17 +90,17 @@ class _Strip:
             self.canvas.rect((self.x, self.y + 3, WAIT - 1, 13), "waits", f"wait {at + 1} of {wait}")
             self.x += WAIT
 
-    def draw_cycle(self, it: Cycle) -> None:
-        canvas, x, y, kind = self.canvas, self.x, self.y, kind_of(it)
-        tip = _cycle_tip(it, kind)
-        if not it.x:
+    def draw_cycle(self, cycle: Cycle) -> None:
+        canvas, x, y, kind = self.canvas, self.x, self.y, kind_of(cycle)
+        tip = _cycle_tip(cycle, kind)
+        if not cycle.x:
             canvas.rect((x, y, CELL - 2, 19), "nox", tip)
             canvas.path(f"M{number(x + 4)} {number(y + 5)}l7 9m0 -9l-7 9", "l-ground thick")
-        elif not it.q:
+        elif not cycle.q:
             canvas.rect((x + 1, y + 1, CELL - 4, 17), f"ground l-{kind} thick", tip)
         else:
             canvas.rect((x, y, CELL - 2, 19), kind, tip)
-        crate, station, _, function = it.command
+        crate, station, _, function = cycle.command
         if (crate, station, function) != self.label:
             self.draw_label(f"c{crate} n{station} F{function}")
         self.label = (crate, station, function)
@@ -115,13 +115,13 @@ class _Strip:
                 return
 
 
-def _cycle_tip(it: Cycle, kind: str) -> str:
-    crate, station, sub_address, function = it.command
-    reply = f"X = {it.x}, Q = {it.q}"
+def _cycle_tip(cycle: Cycle, kind: str) -> str:
+    crate, station, sub_address, function = cycle.command
+    reply = f"X = {cycle.x}, Q = {cycle.q}"
     if reads(function) or writes(function):
-        reply += f", word {it.word:06x}"
-    if it.wait:
-        reply += f", wait {it.wait}"
+        reply += f", word {cycle.word:06x}"
+    if cycle.wait:
+        reply += f", wait {cycle.wait}"
     return f"crate {crate} station {station} A{sub_address} F{function}, {KINDS[kind]}\n{reply}"
 
 

@@ -107,10 +107,10 @@ def _draw_panel(
     is_far = service.annotated_cycles > FAR * max(service.cycles, 1)
     top = max(1.25 * service.cycles if is_far else service.annotated_cycles, most)
     panel = Panel(service, columns, y + 20 + high, top, (high - 4) / max(top, 1), is_far)
-    its = columns.values()
-    text = f"{count(sum(it.services for it in its), 'service')}, {count(sum(it.cycles for it in its), 'cycle')}"
+    seen = columns.values()
+    text = f"{count(sum(it.services for it in seen), 'service')}, {count(sum(it.cycles for it in seen), 'cycle')}"
     if run.has_listing:
-        text += f", of them {count(sum(it.waits for it in its), 'wait')}"
+        text += f", of them {count(sum(it.waits for it in seen), 'wait')}"
     canvas.text(0, y + 12, service.name, "b")
     canvas.text(max(LEFT, 16 + BOLD_12 * len(service.name)), y + 12, text, "mute s11")
     for value in ticks(top, 4 if high == HIGH else 2):
@@ -134,14 +134,14 @@ def _draw_panel(
 def _draw_bars(canvas: Canvas, panel: Panel, axis: Axis) -> None:
     """Draws the bars of all columns: one path of a colour."""
     ours, waits, peaks = [], [], []
-    for at, it in sorted(panel.columns.items()):
+    for at, column in sorted(panel.columns.items()):
         x, width = axis.edge(at), axis.width(at)
-        high, wait = it.cycles / it.services * panel.scale, it.waits / it.services * panel.scale
+        high, wait = column.cycles / column.services * panel.scale, column.waits / column.services * panel.scale
         ours.append(f"M{x} {number(panel.foot)}v{number(wait - high)}h{width}V{number(panel.foot)}z")
         if wait:
             waits.append(f"M{x} {number(panel.foot - high + wait)}v{number(-wait)}h{width}v{number(wait)}z")
         if axis.per > 1:
-            peaks.append(f"M{x} {number(panel.at(it.most))}h{width}")
+            peaks.append(f"M{x} {number(panel.at(column.most))}h{width}")
     canvas.path(ours, "ours crisp")
     canvas.path(waits, "waits crisp")
     canvas.path(peaks, "l-ink")
@@ -185,16 +185,16 @@ def _draw_strip(canvas: Canvas, y: float, kind: str, cycles: Dict[int, int], of:
     canvas.shades(ways, kind)
 
 
-def _column_tip(run: Run, axis: Axis, at: int, it: Column, service: Service) -> str:
+def _column_tip(run: Run, axis: Axis, at: int, column: Column, service: Service) -> str:
     """The tip of a column."""
     first = at * axis.per + 1
     last = min(first + axis.per - 1, axis.total)
-    lines = [f"service {first:,}" if axis.per == 1 else f"services {first:,} to {last:,}: {it.services:,} of {service.name}"]
-    lines.append(f"cycles: mean {it.cycles / it.services:,.1f}, most {it.most:,}; bound {service.cycles:,}")
-    missed = f"X = 0: {count(it.no_x, 'cycle')}"
+    lines = [f"service {first:,}" if axis.per == 1 else f"services {first:,} to {last:,}: {column.services:,} of {service.name}"]
+    lines.append(f"cycles: mean {column.cycles / column.services:,.1f}, most {column.most:,}; bound {service.cycles:,}")
+    missed = f"X = 0: {count(column.no_x, 'cycle')}"
     if run.has_listing:
-        lines.append(f"waits: mean {it.waits / it.services:,.1f}; cycles in a lock: mean {it.locked / it.services:,.1f}")
-        missed = f"Q = 0: {count(it.no_q, 'cycle')}; {missed}"
+        lines.append(f"waits: mean {column.waits / column.services:,.1f}; cycles in a lock: mean {column.locked / column.services:,.1f}")
+        missed = f"Q = 0: {count(column.no_q, 'cycle')}; {missed}"
     return "\n".join([*lines, missed])
 
 
