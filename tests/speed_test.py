@@ -46,7 +46,7 @@ class Built(unittest.TestCase):
                     words, _ = case.put(room)
                     proved, built = (speed.instructions([it, *words]) for it in (PROGRAM, f"{room}/program"))
                     self.assertLess(built, (OF_COMMENTS if "comments" in case.name else MOST) * proved)
-            counts = [[speed.of_shape(its, it, [""]) for it in (f"{room}/program", PROGRAM)] for its in corpus.shapes().values()]
+            counts = [[speed.of_shape(texts, it, [""]) for it in (f"{room}/program", PROGRAM)] for texts in corpus.shapes().values()]
             self.assertLess(statistics.geometric_mean(built / proved for (built,), (proved,) in counts), MOST)
 
 
@@ -57,7 +57,11 @@ class Commands(Room):
         shutil.copytree(TOP / "python/camac", self.room / "camac")
         compileall.compile_dir(self.room / "camac", quiet=1)
         script, listing = TOP / "examples/straight_line.script", self.write("run.listing", "demand 000004 adc\nended events 0\n")
-        for words in (["check", "@sample", script], ["fmt", "--check", script], ["diff", script, script, "--plan", "@sample"], ["csv", "listing", listing]):
+        for words in (
+            ["check", "@sample", script], ["fmt", "--check", script], ["diff", script, script, "--plan", "@sample"], ["csv", "listing", listing],
+            ["draw", "plan", "@sample", "-o", self.room / "plan.svg"],
+            ["simulate", "@sample", script, "--rate", "adc=1000", "--cycle-us", "1", "--services", "10"],
+        ):
             with self.subTest(words[0]), unittest.mock.patch.dict(os.environ, PYTHONPATH=str(self.room), CAMAC_PROGRAM=PROGRAM):
                 self.assertLess(speed.instructions([sys.executable, "-m", "camac", *words]), 200e6)
 

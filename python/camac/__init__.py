@@ -15,7 +15,7 @@ import os
 import re
 import sys
 import types
-from typing import Any, Dict, List
+from typing import Any, Callable, Dict, List, Tuple
 
 
 class _Package(types.ModuleType):
@@ -26,27 +26,24 @@ class _Package(types.ModuleType):
             super().__setattr__(name, value)
 
 
-def _homes() -> Dict[str, str]:
-    """The module of each name of this package. They are in __init__.pyi, as tools that look at types want them. Each module is loaded when
-    a name of it is first asked for: all of them take four times as long as a judgement."""
-    with open(os.path.join(os.path.dirname(__file__), "__init__.pyi"), encoding="utf-8") as stub:
+def lazily(package: str, file: str) -> Tuple[Dict[str, str], Callable[[str], Any], Callable[[], List[str]]]:
+    """The module of each name of a package, its `__getattr__` and its `__dir__`. The names are in __init__.pyi, as tools that look at types want them.
+    Each module is loaded when a name of it is first asked for: all of them take four times as long as a judgement."""
+    with open(os.path.join(os.path.dirname(file), "__init__.pyi"), encoding="utf-8") as stub:
         found = re.findall(r"^from (camac\.\S+) import (.+)$", stub.read(), re.M)
-    return {name: home for home, names in found for name in names.split(", ")}
+    homes, loaded = {name: home for home, names in found for name in names.split(", ")}, vars(sys.modules[package])
+
+    def find(name: str) -> Any:
+        if name in homes:
+            loaded[name] = getattr(importlib.import_module(homes[name]), name)
+            return loaded[name]
+        if f"{package}.{name}" in homes.values():
+            return importlib.import_module(f"{package}.{name}")
+        raise AttributeError(f"module {package!r} has no attribute {name!r}")
+
+    return homes, find, lambda: sorted({*loaded, *homes})
 
 
-_HOMES = _homes()
+_HOMES, __getattr__, __dir__ = lazily(__name__, __file__)
 __all__ = sorted(_HOMES)
 sys.modules[__name__].__class__ = _Package
-
-
-def __getattr__(name: str) -> Any:
-    if name in _HOMES:
-        found = globals()[name] = getattr(importlib.import_module(_HOMES[name]), name)
-        return found
-    if f"{__name__}.{name}" in _HOMES.values():
-        return importlib.import_module(f"{__name__}.{name}")
-    raise AttributeError(f"module {__name__!r} has no attribute {name!r}")
-
-
-def __dir__() -> List[str]:
-    return sorted({*globals(), *_HOMES})

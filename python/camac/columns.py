@@ -3,14 +3,12 @@ import os
 import re
 from typing import List, Mapping, NamedTuple, Optional, Sequence, Tuple
 
+import camac
 from camac.drive import File, UsageFault
 from camac.events import GREATEST_GL, GREATEST_WORD
 from camac.fits import Check
-from camac.record import beside, record_checks, texts_of
 from camac.runs import Asked, Channels, Cut, Inputs, Over, Run, collect, is_event_file
 from camac.values import Plan, Response, Service
-from camac.word_file import read_words
-from camac.word_sources import words_of_script
 from camac.words import Column, Words
 
 
@@ -28,7 +26,7 @@ class Naming(NamedTuple):
 
 def asked_of(naming: Naming, names: Words) -> Asked:
     """What is asked of words. Raises UsageFault if a name is none of a column."""
-    gates, regions = (tuple(Cut(_column(names, it[0]), *it[1:]) for it in its) for its in (naming.gates, naming.regions))
+    gates, regions = (tuple(Cut(_column(names, it[0]), *it[1:]) for it in cuts) for cuts in (naming.gates, naming.regions))
     pair = (_column(names, naming.pair[0]), _column(names, naming.pair[1])) if naming.pair else None
     return Asked(names, pair, naming.bins, gates, regions)
 
@@ -57,18 +55,21 @@ def gather(
     script are used for an event file alone, and for what is asked.
 
     Raises as `collect`, UsageFault if a name is none of a column, and WordsFault."""
-    names = words_of_script(plan, inputs.script, services) if naming and (naming._replace(bins=None) != Naming() or is_event_file(inputs.source)) else Words()
+    is_named = naming and (naming._replace(bins=None) != Naming() or is_event_file(inputs.source))
+    names = camac.words_of_script(plan, inputs.script, services) if is_named else Words()
     if naming and naming.file is not None:
-        names = read_words(naming.file, services, names)
+        names = camac.read_words(naming.file, services, names)
     asked = asked_of(naming or Naming(), names)
     run = collect(inputs, plan, services, program, responses, asked)
+    if not run.has_listing or (naming and naming.over is not None):
+        from camac.record import beside
     record = None if run.has_listing else beside(inputs.source)
     run.contradictions = record.contradictions if record else run.contradictions
     run.checks += _compare_record(inputs)
     if naming and naming.over is not None:
         others = inputs._replace(source=naming.over)
         other = collect(others, plan, services, program, (), Asked(asked.names, gates=asked.gates))
-        live = [its.demands if its else None for its in map(beside, (inputs.source, naming.over))]
+        live = [found.demands if found else None for found in map(beside, (inputs.source, naming.over))]
         run.over = lay_over(naming.over, other.channels, live, *({gl: it.cycles.count for gl, it in one.seen.items()} for one in (run, other)))
         run.checks += [it._replace(text=f"{run.over.name}: {it.text}") for it in (*other.checks, *_compare_record(others))]
     return run
@@ -76,12 +77,16 @@ def gather(
 
 def lay_over(file: File, channels: Channels, live: Sequence[Optional[float]], of: Mapping[int, int], over: Mapping[int, int]) -> Over:
     """What is drawn over a run: for the same live time, if the records of both have it measured; else for as many events of each service."""
-    name, (one, its) = os.path.basename(os.fsdecode(file)), live
-    if one and its:
-        return Over(name, channels, dict.fromkeys(over, one / its), f"for the same live time ({one:,.1f} s, its own {its:,.1f} s)")
+    name, (one, other) = os.path.basename(os.fsdecode(file)), live
+    if one and other:
+        return Over(name, channels, dict.fromkeys(over, one / other), f"for the same live time ({one:,.1f} s, its own {other:,.1f} s)")
     return Over(name, channels, {gl: of[gl] / count for gl, count in over.items() if count and gl in of}, "for as many events")
 
 
 def _compare_record(inputs: Inputs) -> List[Check]:
     """Whether plan and script are those of the record that is beside an event file."""
-    return record_checks(inputs.source, *texts_of(inputs.plan, inputs.script)) if is_event_file(inputs.source) else []
+    if not is_event_file(inputs.source):
+        return []
+    from camac.record import record_checks, texts_of
+
+    return record_checks(inputs.source, *texts_of(inputs.plan, inputs.script))

@@ -6,10 +6,8 @@ so soon (`every`), its crate has inhibit, or the look-at-me is cleared before it
 import heapq
 import math
 import random
-import tempfile
 from typing import Callable, Dict, List, Mapping, NamedTuple, Optional, Sequence
 
-from camac import library
 from camac.drive import Answer, File, UsageFault, drive
 from camac.mock import Declared, MockBranch, Module, Place
 from camac.program import quickest
@@ -106,9 +104,9 @@ class _Source:
 class _Clocked(MockBranch):
     """Modules whose triggers come as time passes. A service has ended at the graded-L operation behind it."""
 
-    def __init__(self, its: MockBranch, sources: Sequence[_Source], setting: Setting) -> None:
-        super().__init__(its.modules, its.gl, (), its.auxiliaries)
-        self.setting, self.sources = setting, {its.gl[it.place]: it for it in sources}
+    def __init__(self, branch: MockBranch, sources: Sequence[_Source], setting: Setting) -> None:
+        super().__init__(branch.modules, branch.gl, (), branch.auxiliaries)
+        self.setting, self.sources = setting, {branch.gl[it.place]: it for it in sources}
         self.order = [(it.next, gl) for gl, it in self.sources.items()]
         heapq.heapify(self.order)
         self.now = self.began = self.busy = 0.0
@@ -117,9 +115,9 @@ class _Clocked(MockBranch):
         self.rise: Optional[float] = None
 
     def take_next(self) -> None:
-        it = self.sources[self.order[0][1]]
-        it.take(self)
-        heapq.heapreplace(self.order, (it.next, self.order[0][1]))
+        source = self.sources[self.order[0][1]]
+        source.take(self)
+        heapq.heapreplace(self.order, (source.next, self.order[0][1]))
 
     def pass_by(self, cycles: int) -> None:
         """So many cycles pass, and the triggers of that time come."""
@@ -129,16 +127,16 @@ class _Clocked(MockBranch):
 
     def close(self) -> None:
         """The service in progress, if there is one, has ended."""
-        it, self.called = self.called, None
-        if it:
+        source, self.called = self.called, None
+        if source:
             if self.setting.is_worst:
-                self.pass_by(it.of.cycles - round((self.now - self.began) / self.setting.cycle))
+                self.pass_by(source.of.cycles - round((self.now - self.began) / self.setting.cycle))
             self.busy += self.now - self.began
-            it.of.length += round((self.now - self.began) / self.setting.cycle)
+            source.of.length += round((self.now - self.began) / self.setting.cycle)
             if self.rise is None:
-                it.of.again += 1
+                source.of.again += 1
             else:
-                it.of.waits.append((self.now - self.rise) / self.setting.cycle)
+                source.of.waits.append((self.now - self.rise) / self.setting.cycle)
 
     def demand(self) -> Optional[Answer]:
         self.close()
@@ -178,7 +176,7 @@ def simulate(
     The event file is written to `events`, which must not hold bytes.
 
     Raises UsageFault if a rate is none of a service of the script, and what `camac.check`, `camac.drive` and `MockBranch.of_plan` raise."""
-    its = read_plan(plan)
+    listed = read_plan(plan)
     # The whole cycles between two triggers that come regularly; what is lacking by less than a millionth counts.
     periods = {name: min(max(int(1 / rate / setting.cycle + 1e-6), 1), 4_294_967_295) for name, rate in setting.rates.items()}
     every = periods if setting.is_regular else {}
@@ -188,12 +186,12 @@ def simulate(
         if name not in by_name:
             raise UsageFault(f"a rate of {name}: the script has no such service, but {', '.join(by_name) or 'none'}", 2)
     simulated = [Simulated(it.name, it.gl, setting.rates[it.name], it.cycles, it.end) for it in responses if it.name in setting.rates]
-    places = {gl: (crate.number, station.number) for gl, crate, station in its.demands()}
+    places = {gl: (crate.number, station.number) for gl, crate, station in listed.demands()}
     sources = [
         _Source(it, places[it.gl], setting.every.get(it.name, 0) * setting.cycle, random.Random(f"{setting.seed} {it.name}"), setting.is_regular)
         for it in simulated
     ]
-    branch = _Clocked(MockBranch.of_plan(its, {**declared_modules(its, setting.seed), **(modules or {})}), sources, setting)
+    branch = _Clocked(MockBranch.of_plan(listed, {**declared_modules(listed, setting.seed), **(modules or {})}), sources, setting)
     end = _run(plan, script, branch, events)
     for it in sources:
         it.of.waiting = (branch.now - it.raised) / setting.cycle if it.is_waiting(branch) else None
@@ -204,9 +202,13 @@ def simulate(
 def _run(plan: File, script: File, branch: MockBranch, events: Optional[File]) -> RunEnd:
     """Plays by the quickest of what is here: the library, else the program."""
     if quickest() is not None:
+        from camac import library
+
         return library.play(plan, script, branch, events)
     if events is not None:
         return drive(plan, script, branch, events)
+    import tempfile
+
     with tempfile.NamedTemporaryFile(suffix=".events") as dropped:
         return drive(plan, script, branch, dropped.name)
 

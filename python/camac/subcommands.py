@@ -1,7 +1,6 @@
 """The subcommands of the program, each as a call that gives what it prints as values."""
 from typing import Iterator, List, Mapping, Optional
 
-from camac.bodies import parse_costs
 from camac.drive import File, Refused
 from camac.printed import parse_listing, read_headings, read_plan, read_responses, read_services
 from camac.program import EVERY, knows_option, lines_of, output_of, settings
@@ -31,6 +30,8 @@ def bounds(plan: File, script: File, program: Optional[File] = None) -> List[Hea
 def costs(plan: File, script: File, program: Optional[File] = None) -> List[Body]:
     """Returns the bodies of an accepted script, in the order of the text, with what each statement has of the bound. Raises as `check`, and UsageFault if
     the program has no `costs`."""
+    from camac.bodies import parse_costs
+
     return parse_costs(output_of("costs", "--", plan, script, program=program))
 
 

@@ -3,8 +3,6 @@ import itertools
 from typing import Dict, FrozenSet, Iterator, List, Sequence, Set, Tuple
 
 from camac.language import OF_FUNCTIONS, TRANSFERS
-from camac.reader import read_script
-from camac.tree import Cycle, Transfer
 from camac.values import Body, Command, Row
 
 SUB_ADDRESSES = 16
@@ -12,6 +10,11 @@ SUB_ADDRESSES = 16
 
 def transfer_commands(bodies: Sequence[Body], script: bytes) -> FrozenSet[Command]:
     """The commands that only transfers of an accepted script send. `bodies` are what `camac.costs` gives."""
+    if not any(row.word in TRANSFERS for body in bodies for row in body.rows):
+        return frozenset()
+    from camac.reader import read_script
+    from camac.tree import Cycle, Transfer
+
     # The functions of transfers and of single cycles, by line.
     functions: Dict[Tuple[int, bool], Set[int]] = {}
     for it in (one for body in read_script(script).bodies for one in body.every):

@@ -1,8 +1,11 @@
 """Options of draw and report: what the words of events are, and what is cut out of their spectra."""
 import argparse
+from typing import TYPE_CHECKING
 
-from camac.columns import Naming, read_cut
 from camac.histograms import Pairs, Spectrum
+
+if TYPE_CHECKING:
+    from camac.columns import Naming
 
 
 def add_words(to: argparse.ArgumentParser) -> None:
@@ -18,15 +21,19 @@ def add_words(to: argparse.ArgumentParser) -> None:
     to.add_argument("--bins", type=int, metavar="BINS", help=f"the most bins of a spectrum (128), and on either side of a pair ({Pairs.USUAL}; {Pairs.MOST} at most)")
 
 
-def read_cuts(args: argparse.Namespace, its: argparse.ArgumentParser) -> None:
+def read_cuts(args: argparse.Namespace, parser: argparse.ArgumentParser) -> None:
     """Reads the values of --gate, --region, --range and --bins; ends with status 2 if they are not understood."""
+    if args.gate or args.region or getattr(args, "range", None):
+        from camac.columns import read_cut
     args.gate, args.region = (tuple(read_cut(" ".join(it), f"--{what}") for it in getattr(args, what)) for what in ("gate", "region"))
     if args.bins is not None and not 1 <= args.bins <= Spectrum.CHANNELS:
-        its.error(f"--bins is 1 to {Spectrum.CHANNELS:,}, not {args.bins}")
+        parser.error(f"--bins is 1 to {Spectrum.CHANNELS:,}, not {args.bins}")
     if args.command == "draw":
         args.range = args.range and read_cut(f"--range {args.range}", "this")[1:]
 
 
-def naming(args: argparse.Namespace) -> Naming:
+def naming(args: argparse.Namespace) -> "Naming":
+    from camac.columns import Naming
+
     pair = (args.pair[0], args.pair[1]) if args.pair else None
     return Naming(args.words, pair, args.gate, args.region, args.over, args.bins)

@@ -3,12 +3,12 @@ import argparse
 import contextlib
 from typing import Any, Iterator, Mapping, Optional
 
+from camac import pictures
 from camac.commands.running import add_every, add_overwrite, read_every, read_pairs
 from camac.drive import UsageFault
 from camac.drivers import run_python
 from camac.mock import Module, Place
 from camac.output import say, write_made
-from camac.pictures import draw_rates
 from camac.pictures.svg import share
 from camac.simulate import GREATEST_RATE, LEAST_RATE, PATIENCE, Setting, Simulation, curve, simulate
 from camac.values import Ending
@@ -32,39 +32,38 @@ Status: 0 done; 1 plan or script is refused; 2 usage; 3 a file or the program fa
 
 
 def add_to(commands: Any) -> None:
-    it = commands.add_parser("simulate", help="Prints what is lost at a rate, and how long look-at-mes wait", epilog=ABOUT)
-    it.add_argument("plan", metavar="PLAN", help="a plan: a TOML file, or @sample, the built-in plan")
-    it.add_argument("script", metavar="SCRIPT", help="a script")
+    parser = commands.add_parser("simulate", help="Prints what is lost at a rate, and how long look-at-mes wait", epilog=ABOUT)
+    parser.add_argument("plan", metavar="PLAN", help="a plan: a TOML file, or @sample, the built-in plan")
+    parser.add_argument("script", metavar="SCRIPT", help="a script")
     text = f"this many triggers a second call for a service, {LEAST_RATE:g} to {GREATEST_RATE:,.0f}; once for each service that is called"
-    it.add_argument("--rate", action="append", required=True, metavar="SERVICE=RATE", help=text)
+    parser.add_argument("--rate", action="append", required=True, metavar="SERVICE=RATE", help=text)
     text = f"how many microseconds a dataway cycle takes on your branch, {LEAST_CYCLE:g} to {GREATEST_CYCLE:,.0f}"
-    it.add_argument("--cycle-us", required=True, type=float, metavar="TIME", help=text)
-    it.add_argument("--worst", action="store_true", help="each service takes its bound of cycles, with all waits")
-    it.add_argument("--regular", action="store_true", help="triggers come regularly, not at random")
-    add_every(it)
-    it.add_argument("--services", type=int, default=10_000, metavar="COUNT", help="how many services are simulated (10,000)")
-    it.add_argument("--seed", type=int, default=1, metavar="NUMBER", help="the same number gives the same triggers and answers (1)")
-    it.add_argument("--modules", metavar="FILE", help="a file of Python with modules of your own")
-    it.add_argument("--events", metavar="EVENTS", help="the event file of the simulation, which must not hold bytes")
-    it.add_argument("-o", "--out", metavar="SVG", help="a picture of the same over rates from an eighth to eight times as great")
-    add_overwrite(it)
-    it.set_defaults(do=do, its=it)
+    parser.add_argument("--cycle-us", required=True, type=float, metavar="TIME", help=text)
+    parser.add_argument("--worst", action="store_true", help="each service takes its bound of cycles, with all waits")
+    parser.add_argument("--regular", action="store_true", help="triggers come regularly, not at random")
+    add_every(parser)
+    parser.add_argument("--services", type=int, default=10_000, metavar="COUNT", help="how many services are simulated (10,000)")
+    parser.add_argument("--seed", type=int, default=1, metavar="NUMBER", help="the same number gives the same triggers and answers (1)")
+    parser.add_argument("--modules", metavar="FILE", help="a file of Python with modules of your own")
+    parser.add_argument("--events", metavar="EVENTS", help="the event file of the simulation, which must not hold bytes")
+    parser.add_argument("-o", "--out", metavar="SVG", help="a picture of the same over rates from an eighth to eight times as great")
+    add_overwrite(parser)
+    parser.set_defaults(do=do, parser=parser)
 
 
 def do(args: argparse.Namespace) -> int:
-    its = args.its
     if not LEAST_CYCLE <= args.cycle_us <= GREATEST_CYCLE:
-        its.error(f"--cycle-us is {LEAST_CYCLE:g} to {GREATEST_CYCLE:,.0f}")
+        args.parser.error(f"--cycle-us is {LEAST_CYCLE:g} to {GREATEST_CYCLE:,.0f}")
     if not 1 <= args.services <= GREATEST_SERVICES:
-        its.error(f"--services is 1 to {GREATEST_SERVICES:,}")
+        args.parser.error(f"--services is 1 to {GREATEST_SERVICES:,}")
     form = f"SERVICE=RATE with {LEAST_RATE:g} to {GREATEST_RATE:,.0f} a second"
-    rates = read_pairs("--rate", args.rate, its, form, _read_rate)
-    setting = Setting(rates, args.cycle_us / 1e6, args.regular, read_every(args.every, its), args.services, args.seed, args.worst)
+    rates = read_pairs("--rate", args.rate, args.parser, form, _read_rate)
+    setting = Setting(rates, args.cycle_us / 1e6, args.regular, read_every(args.every, args.parser), args.services, args.seed, args.worst)
     made = simulate(args.plan, args.script, setting, _modules(args.modules), args.events)
     say("".join(f"{line}\n" for line in _lines(made, setting)))
     if args.out:
         less = setting._replace(services=min(setting.services, OF_A_CURVE))
-        drawn = draw_rates(curve(args.plan, args.script, less, lambda: _modules(args.modules)), made, setting.cycle)
+        drawn = pictures.draw_rates(curve(args.plan, args.script, less, lambda: _modules(args.modules)), made, setting.cycle)
         write_made(args.out, drawn.picture(), args.overwrite)
     return 0
 
@@ -87,16 +86,17 @@ def _modules(file: Optional[str]) -> Optional[Mapping[Place, Module]]:
 
 
 def _lines(made: Simulation, setting: Setting) -> Iterator[str]:
-    for it in made.services:
-        yield f"service {it.name} gl {it.gl} rate {it.rate:g} came {it.came} lost {it.lost} live {it.live():.4f} reckoned {it.reckoned(setting.cycle):.4f}"
-        quantiles = ", ".join(f"{label} {it.quantile(part):.1f}" for part, label in SHARES)
-        yield f"  cycles from look-at-me to end: {quantiles}; at most {'-' if it.end is None else it.end}"
-        if it.later():
-            yield f"  {it.later()} ended later: the triggers do not keep the rates that the last number assumes (--every)"
-        if it.again:
-            yield f"  {it.again} more services were called for a look-at-me that was answered before: this service leaves it up (cclc {it.name} clears it)"
-        if it.waiting is not None and (not it.waits or it.waiting > (it.end or 0)):
-            yield f"  one look-at-me was not answered: at the end it had waited {it.waiting:.1f} cycles"
+    for service in made.services:
+        live = f"live {service.live():.4f} reckoned {service.reckoned(setting.cycle):.4f}"
+        yield f"service {service.name} gl {service.gl} rate {service.rate:g} came {service.came} lost {service.lost} {live}"
+        quantiles = ", ".join(f"{label} {service.quantile(part):.1f}" for part, label in SHARES)
+        yield f"  cycles from look-at-me to end: {quantiles}; at most {'-' if service.end is None else service.end}"
+        if service.later():
+            yield f"  {service.later()} ended later: the triggers do not keep the rates that the last number assumes (--every)"
+        if service.again:
+            yield f"  {service.again} more services were called for a look-at-me that was answered before: this service leaves it up (cclc {service.name} clears it)"
+        if service.waiting is not None and (not service.waits or service.waiting > (service.end or 0)):
+            yield f"  one look-at-me was not answered: at the end it had waited {service.waiting:.1f} cycles"
     yield f"{made.end.events} services in {made.seconds:.6g} s, {share(made.busy, 1)} of it in services"
     yield f"assumed: {'each service takes its bound; ' if setting.is_worst else ''}{ASSUMED}"
     if made.end.how is not Ending.ENDED:

@@ -1,15 +1,17 @@
 """The picture of the bounds of a script: of each service what it may take, of its heading's numbers, and what a run showed."""
-from typing import Optional, Sequence, Tuple
+from typing import TYPE_CHECKING, Optional, Sequence, Tuple
 
 from camac.pictures.svg import Canvas, count, cut
-from camac.runs import Run, Seen
 from camac.values import Service
+
+if TYPE_CHECKING:
+    from camac.runs import Run, Seen
 
 # Of cycles and of words: where the bar begins, and how wide it is.
 CYCLES, WORDS = (160, 210), (580, 150)
 
 
-def draw_bounds(services: Sequence[Service], run: Optional[Run] = None) -> Canvas:
+def draw_bounds(services: Sequence[Service], run: Optional["Run"] = None) -> Canvas:
     """Draws a row for each service: a bar of cycles and a bar of words, and below them what was seen in a run."""
     canvas = Canvas("The bounds of the script: at most, of annotated")
     canvas.text(CYCLES[0], 14, "cycles: at most, of annotated", "mute s11")
@@ -18,12 +20,12 @@ def draw_bounds(services: Sequence[Service], run: Optional[Run] = None) -> Canva
     if not services:
         canvas.text(0, y + 14, "The script has no service.", "mute")
         y += 24
-    for it in services:
-        canvas.text(0, y + 14, f"GL {it.gl}", "mute s11")
-        canvas.text(44, y + 14, cut(it.name, 14), "b")
-        here = seen.get(it.gl)
-        _draw_bar(canvas, y, CYCLES, "ours", (it.cycles, it.annotated_cycles), here.cycles if run and here and run.has_cycles else None)
-        _draw_bar(canvas, y, WORDS, "control", (it.words, it.annotated_words), here.words if here else None)
+    for service in services:
+        canvas.text(0, y + 14, f"GL {service.gl}", "mute s11")
+        canvas.text(44, y + 14, cut(service.name, 14), "b")
+        here = seen.get(service.gl)
+        _draw_bar(canvas, y, CYCLES, "ours", (service.cycles, service.annotated_cycles), here.cycles if run and here and run.has_cycles else None)
+        _draw_bar(canvas, y, WORDS, "control", (service.words, service.annotated_words), here.words if here else None)
         y += 32 if run else 24
     if any(it.cycles < it.annotated_cycles or it.words < it.annotated_words for it in services):
         canvas.text(0, y + 12, "A heading promises more than is needed: `camac bounds` prints the least ones.", "mute s11")
@@ -37,7 +39,7 @@ def draw_bounds(services: Sequence[Service], run: Optional[Run] = None) -> Canva
 
 
 def _draw_bar(
-    canvas: Canvas, y: float, place: Tuple[int, int], kind: str, bound: Tuple[int, int], seen: Optional[Seen]
+    canvas: Canvas, y: float, place: Tuple[int, int], kind: str, bound: Tuple[int, int], seen: Optional["Seen"]
 ) -> None:
     """A bar: filled the checker's bound, dashed the number of the heading; below it the line of what was seen."""
     (x, wide), (most, annotated) = place, bound

@@ -1,12 +1,14 @@
 """The picture of a body's cost: what its bound consists of, as bars below bars, and then by line."""
-from typing import Dict, List, NamedTuple, Optional, Sequence, Tuple
+from typing import TYPE_CHECKING, Dict, List, NamedTuple, Optional, Sequence, Tuple
 
 from camac.bodies import calls_of, opened
 from camac.pictures.lines import OF_LOCK, draw_lines, parts_of
 from camac.pictures.svg import MONO_11, NO_POINTER, SANS_11, WIDTH, Canvas, count, cut, number, share
-from camac.runs import Seen
 from camac.texts import GREATEST_DEPTH
 from camac.values import Body, BodyKind, Row
+
+if TYPE_CHECKING:
+    from camac.runs import Seen
 
 WIDE = WIDTH - 2
 FIRST_BAR, BAR, STEP = 22, 20, 21
@@ -35,7 +37,7 @@ class Scale(NamedTuple):
     is_cut: bool
 
 
-def draw_costs(body: Body, source: Sequence[str], seen: Optional[Seen] = None, bodies: Sequence[Body] = (), has_calls: bool = True) -> Canvas:
+def draw_costs(body: Body, source: Sequence[str], seen: Optional["Seen"] = None, bodies: Sequence[Body] = (), has_calls: bool = True) -> Canvas:
     """Draws the cost of a service or procedure. `source` are the lines of the script; `seen` are the cycles of the services of a run; `bodies`
     are all of the script, so that calls can be opened. Where it `has_calls` the lines of what is called follow those of the body."""
     name = f"{body.kind.value} {body.name}"
@@ -65,11 +67,11 @@ def draw_costs(body: Body, source: Sequence[str], seen: Optional[Seen] = None, b
 def draw_calls(body: Body, source: Sequence[str], bodies: Sequence[Body]) -> List[Tuple[str, Canvas]]:
     """Of each call of a body the lines of what is called, with what they have of the body's bound, and a title."""
     drawn = []
-    for it in calls_of(body, {one.name: one for one in bodies if one.kind is BodyKind.PROCEDURE}):
-        title = f"call {it.body.name} (line {it.line}): {it.times:,} × {it.each:,} = {count(it.times * it.each, 'cycle')}"
+    for call in calls_of(body, {one.name: one for one in bodies if one.kind is BodyKind.PROCEDURE}):
+        title = f"call {call.body.name} (line {call.line}): {call.times:,} × {call.each:,} = {count(call.times * call.each, 'cycle')}"
         canvas = Canvas(title)
-        promised = (it.times, it.promised() // it.times) if it.promised() else None
-        drawn.append((title, draw_lines(canvas, 0, it.body, (source, body.most.cycles), _wholes(it.body), promised)))
+        promised = (call.times, call.promised() // call.times) if call.promised() else None
+        drawn.append((title, draw_lines(canvas, 0, call.body, (source, body.most.cycles), _wholes(call.body), promised)))
     return drawn
 
 
@@ -86,13 +88,13 @@ def nodes_of(rows: Sequence[Row]) -> List[Node]:
             around.pop()
         nodes.append(Node(row, around[-1] if around else None))
         around.append(at)
-    for it in reversed(nodes):
-        if it.parent is not None:
-            parent = nodes[it.parent]
+    for node in reversed(nodes):
+        if node.parent is not None:
+            parent = nodes[node.parent]
             parent.has_block = True
-            parent.cycles += it.cycles
-            parent.waits += it.waits
-            parent.slack += it.slack
+            parent.cycles += node.cycles
+            parent.waits += node.waits
+            parent.slack += node.slack
     return nodes
 
 
@@ -115,7 +117,7 @@ def _draw_whole(canvas: Canvas, y: float, body: Body, scale: Scale) -> None:
         canvas.text(WIDE - 6, y + 15, text, "mute s11 r")
 
 
-def _draw_seen(canvas: Canvas, y: float, seen: Seen, scale: Scale) -> None:
+def _draw_seen(canvas: Canvas, y: float, seen: "Seen", scale: Scale) -> None:
     """Two triangles above the first bar: the mean and the most of a run. If they are near to each other, one text says both."""
     for value in (seen.mean, seen.most):
         x = min(value * scale.cycle, WIDE)

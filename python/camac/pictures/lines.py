@@ -146,8 +146,8 @@ class _Table:
                 self.canvas.text(x, self.y + 13, text, "s11 r")
         begin, wide = BAR_AT, BAR * piece.cycles / self.widest
         sign = "=" if piece.times * piece.each == piece.cycles else "≥"
-        tip = f"line {number}: {piece.times:,} × {piece.each:,} {sign} {piece.cycles:,} of {count(self.most, 'cycle')}"
-        tip += f"; of them {count(piece.waits, 'wait')}" + (" of the lock" if piece.is_lock else f", {piece.slack:,} not needed" if piece.slack else "")
+        tip = f"line {number}: {piece.times:,} × {piece.each:,} {sign} {piece.cycles:,} of {count(self.most, 'cycle')}; of them "
+        tip += count(piece.waits, "wait") + (" of the lock" if piece.is_lock else f", {piece.slack:,} not needed" if piece.slack else "")
         for kind, cycles in parts_of(piece.cycles, piece.waits, piece.slack):
             part = wide * cycles / piece.cycles
             self.canvas.rect((begin, self.y + 4, max(part, 0.6), 9), kind, tip if part >= 2 else None)

@@ -1,11 +1,13 @@
 """The picture of a plan: crates, stations, types of modules, graded-L bits and waits; with a run, the cycles at each station."""
 from collections import Counter
-from typing import Dict, List, NamedTuple, Optional, Sequence, Tuple
+from typing import TYPE_CHECKING, Dict, List, NamedTuple, Optional, Sequence, Tuple
 
 from camac.functions import name
 from camac.pictures.svg import Canvas, count, cut
-from camac.runs import Run
 from camac.values import Crate, Declaration, Plan, Service, Station
+
+if TYPE_CHECKING:
+    from camac.runs import Run
 
 LEFT, STEP, TALLEST = 86, 34, 104
 CRATE_HEIGHT, BOX_HEIGHT = 160, 132
@@ -26,7 +28,7 @@ class Scene(NamedTuple):
     cycles: Optional[Dict[Tuple[int, int], int]]
 
 
-def draw_plan(plan: Plan, services: Optional[Sequence[Service]] = None, run: Optional[Run] = None) -> Canvas:
+def draw_plan(plan: Plan, services: Optional[Sequence[Service]] = None, run: Optional["Run"] = None) -> Canvas:
     """Draws a row for each crate, and below it a line for each graded-L bit."""
     canvas = Canvas("The plan: crates, stations, module types, graded-L bits and waits")
     cycles: Optional[Dict[Tuple[int, int], int]] = None
@@ -107,8 +109,8 @@ def _draw_demand(canvas: Canvas, y: float, gl: int, scene: Scene, place: str) ->
     _draw_badge(canvas, (LEFT + 4, y - 1), gl, scene)
     who = ""
     if scene.services is not None:
-        it = scene.services.get(gl)
-        who = f": service {it.name}: at most {count(it.cycles, 'cycle')}, {count(it.words, 'word')}" if it else ": no service"
+        service = scene.services.get(gl)
+        who = f": service {service.name}: at most {count(service.cycles, 'cycle')}, {count(service.words, 'word')}" if service else ": no service"
     canvas.text(LEFT + 36, y + 11, cut(place, LONGEST_LINE - len(who)) + who)
 
 
@@ -121,15 +123,16 @@ def _station_tip(crate: Crate, station: Station, scene: Scene) -> List[str]:
         lines.append(f"graded-L bit {station.gl}{who}")
     if scene.cycles is not None:
         lines.append(f"{count(scene.cycles[crate.number, station.number], 'cycle')} in this run")
-    its = scene.plan.types[station.type]
-    if its.declarations:
-        return lines + [_declaration_line(it) for it in its.declarations]
-    return [*lines, f"{count(its.commands, 'command')}, {count(its.probes, 'probe')}"]
+    kind = scene.plan.types[station.type]
+    if kind.declarations:
+        return lines + [_declaration_line(it) for it in kind.declarations]
+    return [*lines, f"{count(kind.commands, 'command')}, {count(kind.probes, 'probe')}"]
 
 
-def _declaration_line(it: Declaration) -> str:
+def _declaration_line(declaration: Declaration) -> str:
     """F0 A0 to A11: read group 1, 12 bits"""
-    where = f"F{it.function} A{it.first}" + (f" to A{it.last}" if it.last > it.first else "")
-    if it.is_probe:
+    where = f"F{declaration.function} A{declaration.first}" + (f" to A{declaration.last}" if declaration.last > declaration.first else "")
+    if declaration.is_probe:
         return f"{where}: probe: no register"
-    return f"{where}: {name(it.function)}" + (f", {count(it.width, 'bit')}" if it.width else "") + (", clears its LAM" if it.clears else "")
+    width = f", {count(declaration.width, 'bit')}" if declaration.width else ""
+    return f"{where}: {name(declaration.function)}{width}" + (", clears its LAM" if declaration.clears else "")

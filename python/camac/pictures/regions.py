@@ -12,12 +12,12 @@ HIGH, MOST = 18, 8192
 FOOT = "± one standard deviation; a peak is fitted as a normal distribution on a line, in numbers of the converter"
 
 
-def row_of(it: Cut, bins: Bins) -> Tuple[str, ...]:
+def row_of(cut: Cut, bins: Bins) -> Tuple[str, ...]:
     """What is in a region that has these counts; of a few numbers, these alone."""
-    name = f"{it.column.name} {it.low:,} to {it.last:,}"
+    name = f"{cut.column.name} {cut.low:,} to {cut.last:,}"
     if len(bins.counts) < LEAST:
         return name, f"{sum(bins.counts):,}"
-    found = measure(it.low, bins.counts, bins.width)
+    found = measure(cut.low, bins.counts, bins.width)
     return name, f"{found.gross:,}", _text(found.net, 0), _text(found.centroid, 2), _text(found.width, 2)
 
 
@@ -38,5 +38,5 @@ def draw_regions(channels: Channels) -> Canvas:
     return canvas
 
 
-def _text(it: Optional[Measured], digits: int) -> str:
-    return "no peak" if it is None else f"{it.value:,.{digits}f} ± {it.unsure:,.{digits}f}"
+def _text(quantity: Optional[Measured], digits: int) -> str:
+    return "no peak" if quantity is None else f"{quantity.value:,.{digits}f} ± {quantity.unsure:,.{digits}f}"

@@ -1,11 +1,13 @@
 """The picture of how late services can be: of each one what passes at most from its look-at-me to its end, and what a run showed."""
-from typing import Dict, List, NamedTuple, Optional, Sequence, Tuple
+from typing import TYPE_CHECKING, Dict, List, NamedTuple, Optional, Sequence, Tuple
 
 from camac.late import Late
 from camac.pictures.costs import MARK, NARROWEST
 from camac.pictures.svg import NO_POINTER, SANS_11, Canvas, count, cut
-from camac.runs import Run
 from camac.values import Response
+
+if TYPE_CHECKING:
+    from camac.runs import Run
 
 # Where the bars begin, how wide the longest one is, and how many characters the sum below a bar has room for.
 LEFT, WIDE, SUM = 160, 640, 125
@@ -23,7 +25,7 @@ class Piece(NamedTuple):
     tip: str
 
 
-def draw_response(responses: Sequence[Response], run: Optional[Run] = None) -> Canvas:
+def draw_response(responses: Sequence[Response], run: Optional["Run"] = None) -> Canvas:
     """Draws a bar for each service; `responses` are those of all services of a script, in the order of bits."""
     canvas = Canvas("How late each service can be, from its look-at-me to its end")
     canvas.text(LEFT, 14, "cycles from a look-at-me to the end of its service, at most", "mute s11")
@@ -34,14 +36,14 @@ def draw_response(responses: Sequence[Response], run: Optional[Run] = None) -> C
         y += 24
     longest = max([it.end or 0 for it in responses] + [it.most for it in late.values()], default=0)
     scale = WIDE / max(longest, 1)
-    for it in responses:
-        canvas.text(0, y + 14, f"GL {it.gl}", "mute s11")
-        canvas.text(44, y + 14, cut(it.name, 14), "b")
-        canvas.text(44, y + 27, "once" if it.every is None else f"every {it.every:,}", "mute s10")
-        seen = late.get(it.gl)
+    for response in responses:
+        canvas.text(0, y + 14, f"GL {response.gl}", "mute s11")
+        canvas.text(44, y + 14, cut(response.name, 14), "b")
+        canvas.text(44, y + 27, "once" if response.every is None else f"every {response.every:,}", "mute s10")
+        seen = late.get(response.gl)
         if seen:
             _draw_seen(canvas, y, seen, scale)
-        _draw_bar(canvas, (y, y + (38 if seen else 30)), it, responses, scale)
+        _draw_bar(canvas, (y, y + (38 if seen else 30)), response, responses, scale)
         y += 48 if seen else 40
     _draw_words(canvas, y, responses, late)
     return canvas
@@ -52,16 +54,16 @@ def _draw_bar(canvas: Canvas, at: Tuple[float, float], of: Response, responses: 
     y, below = at
     if of.end is None:
         canvas.rect((LEFT + 0.5, y + 2.5, WIDE, 15), "l-mute dash")
-        unkept = next((f"no number: {it.text()}" for its in responses if its.gl <= of.gl for it in its.unkept), NO_NUMBER)
+        unkept = next((f"no number: {it.text()}" for other in responses if other.gl <= of.gl for it in other.unkept), NO_NUMBER)
         canvas.text(LEFT + 8, y + 14, cut(unkept, SUM), "s11")
         return
     x, pieces = float(LEFT), pieces_of(of, responses)
-    for it in pieces:
-        wide = it.cycles * scale
-        canvas.rect((x, y + 3, max(wide - (wide > 3), NARROWEST), 14), it.kind, it.tip if wide >= MARK else None)
+    for piece in pieces:
+        wide = piece.cycles * scale
+        canvas.rect((x, y + 3, max(wide - (wide > 3), NARROWEST), 14), piece.kind, piece.tip if wide >= MARK else None)
         room = int((wide - 8) / SANS_11)
-        if room >= min(4, len(it.name)):
-            canvas.text(x + 4, y + 14, cut(it.name, room), "s11 on", NO_POINTER)
+        if room >= min(4, len(piece.name)):
+            canvas.text(x + 4, y + 14, cut(piece.name, room), "s11 on", NO_POINTER)
         x += wide
     canvas.text(LEFT + WIDE + 8, y + 14, f"at most {of.end:,}", "s11")
     canvas.text(LEFT, below, cut(" + ".join(it.term for it in pieces) or "no cycle", SUM), "mute s10")
@@ -93,11 +95,11 @@ def pieces_of(of: Response, responses: Sequence[Response]) -> List[Piece]:
     pieces = [Piece("slack", first.cycles, first.name, f"{first.cycles:,} ({first.name}, in progress)", tip)]
     if call > 1:
         pieces = [_left(of, call, [(first, 1), (of, call - 1), *calls])]
-    for it, before in calls:
-        times = it.calls(begins) - before
-        tip = f"{it.name} (GL {it.gl}) goes first: {count(times, 'time')} at most {count(it.cycles, 'cycle')}"
-        name = it.name if times == 1 else f"{times:,} × {it.name}"
-        pieces.append(Piece("waits", times * it.cycles, name, _product(times, it), tip))
+    for service, before in calls:
+        times = service.calls(begins) - before
+        tip = f"{service.name} (GL {service.gl}) goes first: {count(times, 'time')} at most {count(service.cycles, 'cycle')}"
+        name = service.name if times == 1 else f"{times:,} × {service.name}"
+        pieces.append(Piece("waits", times * service.cycles, name, _product(times, service), tip))
     tip = f"{of.name} (GL {of.gl}) itself: at most {count(of.cycles, 'cycle')}"
     pieces.append(Piece("ours", of.cycles, of.name, f"{of.cycles:,} (its own)", tip))
     return [it for it in pieces if it.cycles]

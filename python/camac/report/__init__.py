@@ -8,7 +8,7 @@ from camac.drive import File, Refused
 from camac.program import knows_command, lines_of
 from camac.proof import told
 from camac.report import sections
-from camac.pictures import draw_plan
+from camac.pictures.plan import draw_plan
 from camac.pictures.svg import escape
 from camac.report.page import figure, header, page
 from camac.fits import Check

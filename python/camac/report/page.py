@@ -3,7 +3,6 @@ import base64
 import hashlib
 from typing import NamedTuple, Sequence
 
-from camac.pictures.regions import COLUMNS
 from camac.pictures.spectra import Group
 from camac.pictures.svg import DARK, LIGHT, MONO, SANS, Canvas, escape, page_style, variables
 
@@ -230,6 +229,8 @@ def table(columns: Sequence[Column], rows: Sequence[Row], is_sorted: bool = True
 
 def region_table(rows: Sequence[Row]) -> str:
     """What was measured in regions."""
+    from camac.pictures.regions import COLUMNS
+
     return table([Column("region", True), *(Column(title) for _, title in COLUMNS)], rows, False)
 
 

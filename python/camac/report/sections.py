@@ -6,11 +6,16 @@ from typing import Dict, List, NamedTuple, Optional, Sequence, Tuple, Union
 from camac import functions
 from camac.drive import File
 from camac.values import Body, Ending, Plan, Response, Service
-from camac.pictures import draw_bounds, draw_calls, draw_costs, draw_pairs, draw_places, draw_plan, draw_response, draw_run, draw_strip
-from camac.pictures import regions
+from camac.pictures.bounds import draw_bounds
+from camac.pictures.costs import draw_calls, draw_costs
+from camac.pictures.maps import draw_pairs, draw_places
+from camac.pictures.plan import draw_plan
+from camac.pictures.response import draw_response
 from camac.pictures.spectra import BINS, ZOOMED, View, groups_of
 from camac.numbers import greatest, total
+from camac.pictures.strips import draw_strip
 from camac.pictures.svg import count, escape, share
+from camac.pictures.timeline import draw_run
 from camac.report.page import KEYS, Cell, Column, Row, figure, folded, header, panels, region_table, table
 from camac.runs import Inputs, Kept, Run, Why
 
@@ -88,20 +93,20 @@ def _digest(path: File) -> str:
 
 def tiles(run: Run) -> str:
     cycles, waits, missed = total(run.cycles), total(run.waits), total(run.no_x)
-    its = [(len(run.gl), "events", "")]
+    shown = [(len(run.gl), "events", "")]
     if run.has_cycles:
-        its.append((cycles, "cycles, waits counted", ""))
+        shown.append((cycles, "cycles, waits counted", ""))
     if run.has_listing:
-        its.append((waits, f"waits, {share(waits, cycles)} of the cycles", ""))
-    its.append((total(run.words), "event words", ""))
+        shown.append((waits, f"waits, {share(waits, cycles)} of the cycles", ""))
+    shown.append((total(run.words), "event words", ""))
     if run.has_cycles:
-        its.append((missed, "cycles with X = 0", "bad" if missed else ""))
+        shown.append((missed, "cycles with X = 0", "bad" if missed else ""))
     if run.has_listing:
-        its.append((total(run.no_q), "cycles with Q = 0", ""))
-        its.append((total(run.of_transfers), "Q = 0 of transfers", ""))
+        shown.append((total(run.no_q), "cycles with Q = 0", ""))
+        shown.append((total(run.of_transfers), "Q = 0 of transfers", ""))
     if run.idle:
-        its.append((run.idle, "demands without a service", ""))
-    drawn = (f'<div class="tile"><b class="{kind}">{value:,}</b><span>{word}</span></div>' for value, word, kind in its)
+        shown.append((run.idle, "demands without a service", ""))
+    drawn = (f'<div class="tile"><b class="{kind}">{value:,}</b><span>{word}</span></div>' for value, word, kind in shown)
     return f'<div class="tiles">{"".join(drawn)}</div>'
 
 
@@ -155,14 +160,14 @@ def late(facts: Facts) -> str:
 def _late_table(responses: List[Response], run: Run) -> str:
     """A line for each service: how late it can be, and what was seen."""
     rows: List[Row] = []
-    for it in responses:
-        its, broken = run.late[it.gl], ""
-        if its.broken:
-            name, call, elapsed, number = its.broken
+    for response in responses:
+        observed, broken = run.late[response.gl], ""
+        if observed.broken:
+            name, call, elapsed, number = observed.broken
             broken = f"{name}: call {call:,} after {count(elapsed, 'cycle')}, service {number:,}"
-        can_be = [_number(number, "-") for number in (it.start, it.end, it.longest)]
-        seen = [_number(number if its.count else None, "") for number in (its.most, its.number)]
-        rows.append((it.name, it.gl, _number(it.every, "once"), *can_be, *seen, its.count, its.left_out, broken))
+        can_be = [_number(number, "-") for number in (response.start, response.end, response.longest)]
+        seen = [_number(number if observed.count else None, "") for number in (observed.most, observed.number)]
+        rows.append((response.name, response.gl, _number(response.every, "once"), *can_be, *seen, observed.count, observed.left_out, broken))
     titles = "GL,every,start,end,longest stretch,seen,in service,services,left out".split(",")
     return table([Column("service", True), *map(Column, titles), Column("a rate was broken first by", True)], rows)
 
@@ -179,8 +184,8 @@ def cost(facts: Facts) -> str:
     out.append("<p>Where the cycles of the bound come from. A dead time is the cycles times what one takes on your branch.</p>")
     seen = facts.run.seen if facts.run.has_cycles else {}
     for body in facts.bodies:
-        its = seen.get(body.gl) if body.gl else None
-        out.append(figure(draw_costs(body, facts.source, its.cycles if its else None, facts.bodies, has_calls=False)))
+        of_bit = seen.get(body.gl) if body.gl else None
+        out.append(figure(draw_costs(body, facts.source, of_bit.cycles if of_bit else None, facts.bodies, has_calls=False)))
         out += [folded(title, figure(lines)) for title, lines in draw_calls(body, facts.source, facts.bodies)]
     return "".join(out)
 
@@ -204,12 +209,12 @@ def run_section(facts: Facts) -> str:
 def _kinds_table(facts: Facts) -> str:
     """A line for each service of the script: bounds, and what was seen."""
     run, seen, rows = facts.run, facts.run.seen, []
-    for it in facts.services:
-        its = seen.get(it.gl)
-        cycles = (its.cycles.least, its.cycles.mean, its.cycles.most) if its and run.has_cycles else ("", "", "")
-        waits, words = (its.waits / its.cycles.count, its.words.mean) if its else ("", "")
-        row = (it.name, it.gl, its.cycles.count if its else 0, *cycles, it.cycles, it.annotated_cycles, waits, words, it.words)
-        rows.append((*row, *((its.no_q, its.of_transfers, its.no_x) if its else (0, 0, 0))))
+    for service in facts.services:
+        of_bit = seen.get(service.gl)
+        cycles = (of_bit.cycles.least, of_bit.cycles.mean, of_bit.cycles.most) if of_bit and run.has_cycles else ("", "", "")
+        waits, words = (of_bit.waits / of_bit.cycles.count, of_bit.words.mean) if of_bit else ("", "")
+        row = (service.name, service.gl, of_bit.cycles.count if of_bit else 0, *cycles, service.cycles, service.annotated_cycles)
+        rows.append((*row, waits, words, service.words, *((of_bit.no_q, of_bit.of_transfers, of_bit.no_x) if of_bit else (0, 0, 0))))
     titles = "GL,events,cycles least,mean,most,bound,annotated,waits mean,words mean,words bound,Q = 0,Q end,X = 0".split(",")
     columns = [Column("service", True), *map(Column, titles)]
     return _known_table(run, columns, rows)
@@ -233,9 +238,9 @@ def _strips(facts: Facts) -> List[str]:
     for (why, _), kept in facts.run.kept.items():
         reasons.setdefault(kept.number, []).append(why.value)
 
-    def order(it: Tuple[Tuple[Why, int], Kept]) -> Tuple[bool, float, int]:
-        service = facts.service(it[1].gl)
-        return it[0][0] is Why.LONGEST, -it[1].cycles / max(service.cycles if service else 1, 1), it[1].number
+    def order(pair: Tuple[Tuple[Why, int], Kept]) -> Tuple[bool, float, int]:
+        service = facts.service(pair[1].gl)
+        return pair[0][0] is Why.LONGEST, -pair[1].cycles / max(service.cycles if service else 1, 1), pair[1].number
 
     chosen: Dict[int, Kept] = {}
     for _, kept in sorted(facts.run.kept.items(), key=order):
@@ -269,6 +274,8 @@ def histograms(facts: Facts) -> str:
     for title, groups in groups_of(run, facts.plan, facts.services, ZOOMED, View(most=run.asked.bins or BINS)):
         out += [f"<h3>{escape(title)}</h3>", panels(groups)]
     if run.asked.regions:
+        from camac.pictures import regions
+
         out += ["<h3>Regions</h3>", region_table(regions.measured(run.channels)), f'<p class="mute">{regions.FOOT}</p>']
     if run.asked.pair:
         out += ["<h3>Two numbers of an event</h3>", figure(draw_pairs(run.channels))]
