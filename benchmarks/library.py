@@ -48,8 +48,8 @@ def costs(program, script, answers, calls, room):
         for line in lines:
             if function := re.match(r"(c?)fn=\((\d+)\)(?: (.*))?", line):
                 is_called, number, text = function.groups()
-                its = names.setdefault(number, text)
-                name, called = (name, its) if is_called else (its, None)
+                full = names.setdefault(number, text)
+                name, called = (name, full) if is_called else (full, None)
             elif re.match(r"[+*\-\d]", line):
                 # the line behind a call has the cost of the called function, which has a line of its own
                 if COPIES.match(called) if called else not COPIES.match(name):

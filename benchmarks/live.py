@@ -51,8 +51,8 @@ class Branch:
 
 def spent():
     """Seconds since some moment, and those of the processor, of this process and of those that ended."""
-    its = [resource.getrusage(who) for who in (resource.RUSAGE_SELF, resource.RUSAGE_CHILDREN)]
-    return time.perf_counter(), sum(it.ru_utime + it.ru_stime for it in its)
+    usages = [resource.getrusage(who) for who in (resource.RUSAGE_SELF, resource.RUSAGE_CHILDREN)]
+    return time.perf_counter(), sum(it.ru_utime + it.ru_stime for it in usages)
 
 
 @contextlib.contextmanager

@@ -55,8 +55,8 @@ def main(words):
             timed("rename", lambda: client.at("rename", uri, line, lines[line].index("v") + 1, newName="word"))
             lines[line] = lines[line][:4] + " " + lines[line][4:]
         client.end()
-    for name, its in took.items():
-        print(f"{name}: {statistics.median(its):.1f} ms, 99 of 100 within {statistics.quantiles(its, n=100)[98]:.1f}")
+    for name, times in took.items():
+        print(f"{name}: {statistics.median(times):.1f} ms, 99 of 100 within {statistics.quantiles(times, n=100)[98]:.1f}")
     return 0
 
 

@@ -282,11 +282,11 @@ def print_corpus(chosen, programs):
             tokens, parsed, whole = of_shape(texts, program)
             lines[-1].append([whole, tokens - start, parsed - tokens, whole - parsed, whole / (lines[-1][0][0] if lines[-1] else whole)])
         tell_shape(name, len(texts[0]), lines[-1])
-    tell_shape("all", "", [[*map(statistics.mean, its[:4]), statistics.geometric_mean(its[4])] for its in (list(zip(*them)) for them in zip(*lines))])
+    tell_shape("all", "", [[*map(statistics.mean, row[:4]), statistics.geometric_mean(row[4])] for row in (list(zip(*them)) for them in zip(*lines))])
 
 
 def tell_shape(name, size, line):
-    print(f"| {name} | {size} |" + "".join("".join(f" {it / 1e6:.2f} |" for it in its) + f" {ratio:.3f} |" for *its, ratio in line), flush=True)
+    print(f"| {name} | {size} |" + "".join("".join(f" {it / 1e6:.2f} |" for it in parts) + f" {ratio:.3f} |" for *parts, ratio in line), flush=True)
 
 
 def main():

@@ -74,11 +74,11 @@ MODULES = {it.module: it for it in FILES if it.part == "specs"}
 
 def closure(roots, of, found):
     """The roots and all on which they rest, each after those on which it rests itself."""
-    for it in sorted(roots):
-        if it not in found:
-            found[it] = None
-            closure(of(it), of, found)
-            found[it] = found.pop(it)
+    for one in sorted(roots):
+        if one not in found:
+            found[one] = None
+            closure(of(one), of, found)
+            found[one] = found.pop(one)
     return [*found]
 
 
@@ -93,7 +93,7 @@ def named(file, lines):
     """The definitions that lines of a file name. A `do` names two operators."""
     words = {*re.findall(r"[^\s(){}\[\],;.λ`]+", "\n".join(lines).replace(" do\n", " >>= >>\n"))}
     known = {it: (file.module, it) for it in [*file.definitions, *file.parts]} | file.imports
-    found = {defined(*its) for name, its in known.items() if name in words or "◌" in name and {*name.split("◌")} - {""} <= words}
+    found = {defined(*place) for name, place in known.items() if name in words or "◌" in name and {*name.split("◌")} - {""} <= words}
     return (found | {defined(known[one][0], it) for one, it in re.findall(r"\b(\w+)\.([^\s(){},.]+)", "\n".join(lines)) if one in known}) - {None}
 
 
@@ -124,7 +124,7 @@ def main(words):
         sys.exit(__doc__.strip())
     else:
         above = closure(MODULES, lambda it: {other for other, _ in MODULES[it].imports.values()} & {*MODULES}, {})
-        rows = ("\n".join(MODULES[it].row(its) for it in above if it in dict(its)) for its in (first, more))
+        rows = ("\n".join(MODULES[it].row(rows_of) for it in above if it in dict(rows_of)) for rows_of in (first, more))
         print(TEXT.format(count(first), next(rows), count(more), next(rows)), end="")
 
 

@@ -49,8 +49,8 @@ def hints(folders):
         for file in glob.glob(f"{folder}/*/src/**/*.rt", recursive=True):
             crate, _, *path = os.path.relpath(file, folder)[: -len(".rt")].split(os.sep)
             module = "::".join([crate, *path[:-1]])
-            with open(file, encoding="utf-8") as it:
-                for hint, name in HINT.findall(it.read()):
+            with open(file, encoding="utf-8") as source:
+                for hint, name in HINT.findall(source.read()):
                     found.setdefault(name, []).append((module, WORDS[hint]))
     return found
 
@@ -85,21 +85,21 @@ class Module:
                 self.globals[NAME.match(piece)[1]] = piece
             else:
                 self.others.append(piece)
-        self.names = {name: set(NAME.findall(its)) - {name} for name, its in {**self.functions, **self.globals}.items()}
+        self.names = {name: set(NAME.findall(text)) - {name} for name, text in {**self.functions, **self.globals}.items()}
 
     def reached(self, first=frozenset()):
         """The functions and global values that are reached, each behind the one that names it first. Those of the crates that come first are
         followed first."""
         found = {}
-        left = [name for name, its in self.functions.items() if not its.startswith("define internal")]
+        left = [name for name, text in self.functions.items() if not text.startswith("define internal")]
         later = []
         while left or later:
             name = left.pop() if left else later.pop()
             if name not in found and name in self.names:
                 found[name] = len(found)
-                for its in sorted(self.names[name], reverse=True):
-                    crate = its.strip('"').partition("::")[0]
-                    (left if crate in first or crate in LIBRARIES else later).append(its)
+                for other in sorted(self.names[name], reverse=True):
+                    crate = other.strip('"').partition("::")[0]
+                    (left if crate in first or crate in LIBRARIES else later).append(other)
         return list(found)
 
     def parts(self, shares, first=frozenset()):
@@ -115,8 +115,8 @@ class Module:
             parts[min(bisect.bisect_right(ends, so_far), len(parts) - 1)].append(name)
             so_far += len(self.functions[name])
         named = [self._named(it, small) for it in parts]
-        shared = {it for part, its in zip(parts, named) for it in its - small - set(part) if it in self.functions}
-        return ["".join(self._part(set(part), its, small, shared)) for part, its in zip(parts, named) if part]
+        shared = {it for part, names in zip(parts, named) for it in names - small - set(part) if it in self.functions}
+        return ["".join(self._part(set(part), names, small, shared)) for part, names in zip(parts, named) if part]
 
     @staticmethod
     def _is_small(function):

@@ -23,24 +23,24 @@ def sources_sum():
                 names += [f"{folder}/{it}" for it in files if it.endswith((".rt", ".antt"))]
     total = hashlib.sha256()
     for name in sorted(names):
-        with open(name, "rb") as it:
-            total.update(f"{os.path.relpath(name, TOP)} {hashlib.sha256(it.read()).hexdigest()}\n".encode())
+        with open(name, "rb") as file:
+            total.update(f"{os.path.relpath(name, TOP)} {hashlib.sha256(file.read()).hexdigest()}\n".encode())
     return total.hexdigest()
 
 
 def is_passed():
     """Whether the sources here are those that the gate has passed."""
     try:
-        with open(FILE, encoding="utf-8") as it:
-            return it.read().strip() == sources_sum()
+        with open(FILE, encoding="utf-8") as file:
+            return file.read().strip() == sources_sum()
     except OSError:
         return False
 
 
 def main(words):
     if words == ["--write"]:
-        with open(FILE, "w", encoding="utf-8") as it:
-            it.write(f"{sources_sum()}\n")
+        with open(FILE, "w", encoding="utf-8") as file:
+            file.write(f"{sources_sum()}\n")
     elif words:
         print(__doc__.strip(), file=sys.stderr)
         return 2

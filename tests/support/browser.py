@@ -119,8 +119,8 @@ class Browser:
 
     def drag(self, element, begin, end, is_touch=False, count=1):
         """Drags over an element, from a part of its width to another, by the mouse or by a finger."""
-        its = f"(it=>{{it.scrollIntoView({{block:'center'}});let b=it.getBoundingClientRect();return[b.left,b.top,b.width,b.height]}})({element})"
-        left, top, wide, high = self.ask(its)
+        code = f"(it=>{{it.scrollIntoView({{block:'center'}});let b=it.getBoundingClientRect();return[b.left,b.top,b.width,b.height]}})({element})"
+        left, top, wide, high = self.ask(code)
         self.call("Emulation.setTouchEmulationEnabled", enabled=is_touch)
         kinds = ("touchStart", "touchMove", "touchMove", "touchEnd") if is_touch else ("mousePressed", "mouseMoved", "mouseMoved", "mouseReleased")
         for kind, part in zip(kinds, (begin, (begin + end) / 2, end, end)):

@@ -142,11 +142,11 @@ def largest_plan():
     commands += "{ f = 9, a = 0 }, { f = 27, a = 0 }, { f = 8, a = 12 }, { f = 10, a = 12 }"
     parts = [f'[[type]]\nname = "TYPE-{k:02}-LONG_NAME_OF_A_MODULE_TY"\ncommands = [ {commands} ]\n' for k in range(64)]
     for crate in range(1, 8):
-        its = []
+        stations = []
         for station in range(1, 24):
             gl = f", gl = {PLACES.index((crate, station)) + 1}" if (crate, station) in PLACES else ""
-            its.append(f'{{ n = {station}, type = "TYPE-{(crate * 23 + station) % 64:02}-LONG_NAME_OF_A_MODULE_TY"{gl} }}')
-        parts.append(f"[[crate]]\nnumber = {crate}\nwaits = {2 * crate}\nstation = [ {', '.join(its)} ]\n")
+            stations.append(f'{{ n = {station}, type = "TYPE-{(crate * 23 + station) % 64:02}-LONG_NAME_OF_A_MODULE_TY"{gl} }}')
+        parts.append(f"[[crate]]\nnumber = {crate}\nwaits = {2 * crate}\nstation = [ {', '.join(stations)} ]\n")
     return "".join(parts)
 
 
@@ -243,7 +243,7 @@ class Page(html.parser.HTMLParser):
         self.part = self.parts.setdefault(heading, {"tables": [], "tips": [], "counts": [], "texts": [], "paragraphs": []})
 
     def handle_starttag(self, tag, attributes):
-        its = dict(attributes)
+        named = dict(attributes)
         if "p" not in self.inside:
             self.text = ""
         self.inside.append(tag)
@@ -251,8 +251,8 @@ class Page(html.parser.HTMLParser):
             self.part["tables"].append([])
         elif tag == "tr":
             self.part["tables"][-1].append([])
-        if "data-counts" in its:
-            self.part["counts"].append([int(it) for it in its["data-counts"].split()])
+        if "data-counts" in named:
+            self.part["counts"].append([int(it) for it in named["data-counts"].split()])
 
     def handle_startendtag(self, tag, attributes):
         self.handle_starttag(tag, attributes)

@@ -15,7 +15,7 @@ def read_edits(file):
     edits = dict(zip(parts[::2], parts[1::2]))
     if first or 2 * len(edits) < len(parts):
         raise Stop(f"{file}: each mutant begins with a line 'mutant: NAME', and has a name of its own")
-    return {name: [(key, text.removeprefix(" ")) for key, _, text in (it.partition(":") for it in its.split("\n") if it)] for name, its in edits.items()}
+    return {name: [(key, text.removeprefix(" ")) for key, _, text in (it.partition(":") for it in lines.split("\n") if it)] for name, lines in edits.items()}
 
 
 def changed(edit, folder):

@@ -39,7 +39,7 @@ def plants_of(crate, function):
         return []
     head = re.split(r"\b(?:requires|ensures|where)\b", "\n".join(plain[: begin - 1].split("\n")[function.first :]))[0]
     kind, lines = head.partition("->")[2].strip(), "\n" * text.count("\n", begin, end)
-    answers = [it for form, its in GIVEN_UP.items() if re.fullmatch(form, kind, re.S) for it in its if it != text[begin:end].strip()]
+    answers = [it for form, bodies in GIVEN_UP.items() if re.fullmatch(form, kind, re.S) for it in bodies if it != text[begin:end].strip()]
     found = [(begin, end, f" {it} {lines}") for it in answers]
     for form, new in CHANGES:
         found += [(*it.span(), new(it)) for it in re.compile(form, re.M).finditer(text, begin, end) if plain[it.end() - 1] == it[0][-1]]

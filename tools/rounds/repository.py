@@ -107,10 +107,10 @@ def crates():
 
 def build_below(chosen, jobs):
     """Builds the libraries that are not there or not current, lowest first."""
-    for it in dict.fromkeys(it for crate in chosen for it in crate.below()):
-        if not it.is_built():
-            print(f"{it.name}: building its library, which is not there or not current", file=sys.stderr, flush=True)
-            os.makedirs(os.path.dirname(it.rlib), exist_ok=True)
-            ran = rattle("build", [*it.words(jobs), "--statements", "-o", it.rlib], it.folder)
+    for lower in dict.fromkeys(it for crate in chosen for it in crate.below()):
+        if not lower.is_built():
+            print(f"{lower.name}: building its library, which is not there or not current", file=sys.stderr, flush=True)
+            os.makedirs(os.path.dirname(lower.rlib), exist_ok=True)
+            ran = rattle("build", [*lower.words(jobs), "--statements", "-o", lower.rlib], lower.folder)
             if ran.returncode:
-                raise Stop(f"{it.name} is not proved, so nothing above it can be tried:\n{ran.stdout[-2000:]}")
+                raise Stop(f"{lower.name} is not proved, so nothing above it can be tried:\n{ran.stdout[-2000:]}")
