@@ -61,12 +61,12 @@ class Abandoned(Case):
         return session
 
     def test_crates_are_as_at_the_demand(self):
-        session, its = self.session(SAMPLE, CHANGES), [DEMAND, *[CYCLE] * 3]
+        session, answers = self.session(SAMPLE, CHANGES), [DEMAND, *[CYCLE] * 3]
         for count in range(1, 5):
-            for it in its[:count]:
+            for it in answers[:count]:
                 session.next(it)
             self.assertEqual((session.abandon(), session.where(), session.wants().kind), ((), None, library.DEMAND))
-        told = [(did.service, did.event) for did in map(session.next, (*its, CYCLE))]
+        told = [(did.service, did.event) for did in map(session.next, (*answers, CYCLE))]
         self.assertEqual((told, session.words()), ([(1, 0), *[(0, 0)] * 3, (0, 1)], (0,)))
         # the service that ended has disabled the demand output
         self.assertEqual(session.next(DEMAND).service, 0)
@@ -121,7 +121,7 @@ class Abandoned(Case):
         session, told = self.session(SAMPLE, CHANGES), []
         for it in (DEMAND, *[CYCLE] * 3):
             session.next(it)
-            told.append([(its.kind, its.c, its.n, its.a, its.f, its.data, its.waits) for its in session.back()])
+            told.append([(asked.kind, asked.c, asked.n, asked.a, asked.f, asked.data, asked.waits) for asked in session.back()])
         inhibit, demand = (library.CYCLE, 1, 30, 9, 24, library.NO_DATA, 2), (library.CYCLE, 1, 30, 10, 26, library.NO_DATA, 2)
         self.assertEqual(told, [[], [], [inhibit], [inhibit, demand]])
         session.abandon()

@@ -68,12 +68,12 @@ class Archive(Case):
         played = Played(room / "bench.toml", room / "bench.script", None, None)
         cls.events = []
         for run in range(RUNS):
-            its = [cls.event(chance, number) for number in range(1, EVENTS + 1)]
+            events = [cls.event(chance, number) for number in range(1, EVENTS + 1)]
             if run == 4:
                 # What a head has, but no word, may look like the marker of an event.
-                its[20_000:20_100] = [it._replace(cycles=0xCA4D0003) for it in its[20_000:20_100]]
-            cls.events.append(its)
-            (room / f"run{run}.events").write_bytes(NEW_FILE + b"".join(map(record, its)))
+                events[20_000:20_100] = [it._replace(cycles=0xCA4D0003) for it in events[20_000:20_100]]
+            cls.events.append(events)
+            (room / f"run{run}.events").write_bytes(NEW_FILE + b"".join(map(record, events)))
             record_of = describe(played) if run < 2 else record_of._replace(plan=record_of.plan)
             record_of = record_of._replace(events=f"run{run}.events", demands=10.0 + run if run else None, services=2.0 if run else None)
             (room / f"run{run}.json").write_text(record_of.text())
@@ -90,14 +90,14 @@ class Archive(Case):
     def by_hand(cls):
         """What is in all files, by numpy."""
         numpy = importlib.import_module("numpy")
-        adc = [[it.words for it in its if it.gl == 3] for its in cls.events]
-        words = numpy.array([word for its in adc for some in its for word in some])
+        adc = [[it.words for it in events if it.gl == 3] for events in cls.events]
+        words = numpy.array([word for run in adc for some in run for word in some])
         cls.channel, cls.height = words >> 16, words & 0xFFF
-        ticks = [it.words for its in cls.events for it in its if it.gl == 5]
-        cls.first = numpy.array([its[0] for its in ticks if its])
-        cls.others = numpy.bincount([word & 0xFF for its in ticks for word in its[1:4]], minlength=256)
+        ticks = [it.words for events in cls.events for it in events if it.gl == 5]
+        cls.first = numpy.array([tick[0] for tick in ticks if tick])
+        cls.others = numpy.bincount([word & 0xFF for tick in ticks for word in tick[1:4]], minlength=256)
         is_in = (cls.channel == 1) & (1100 <= cls.height) & (cls.height <= 1300)
-        sizes = numpy.array([len(some) for its in adc for some in its])
+        sizes = numpy.array([len(some) for run in adc for some in run])
         passed = numpy.add.reduceat(is_in, numpy.cumsum(sizes) - sizes) > 0
         cls.gated = numpy.repeat(passed, sizes)
         cls.counts, cls.passed = [*map(len, adc)], [int(it.sum()) for it in numpy.split(passed, numpy.cumsum([*map(len, adc)])[:-1])]
@@ -114,12 +114,12 @@ class Archive(Case):
         self.assertTrue(numpy.array_equal(gated.histogram("height[3]"), numpy.bincount(self.height[(self.channel == 3) & self.gated], minlength=4096)))
         self.assertEqual(len(gated.gate("channel", 9, 9).array("channel")), 0)
         rates, of_gate = runs.rates(), gated.rates()
-        for run, (name, its) in enumerate(rates.items()):
+        for run, (name, by_service) in enumerate(rates.items()):
             self.assertEqual(os.path.basename(name), f"run{run}.events")
             if run == 0:
-                self.assertTrue(all(map(math.isnan, its.values())))
+                self.assertTrue(all(map(math.isnan, by_service.values())))
                 continue
-            self.assertEqual(its, {"adc": self.counts[run] / (12 + run), "tick": (EVENTS - self.counts[run]) / (12 + run)})
+            self.assertEqual(by_service, {"adc": self.counts[run] / (12 + run), "tick": (EVENTS - self.counts[run]) / (12 + run)})
             self.assertEqual(of_gate[name], {"adc": self.passed[run] / (12 + run), "tick": 0.0})
         return runs
 
@@ -151,8 +151,8 @@ class Archive(Case):
             client = opened.enter_context(distributed.Client(cluster.scheduler_address))
             runs = camac.open_runs(str(self.room / "many*.events"), self.words)
             gated = runs.gate("height[1]", 1100, 1300)
-            for its, found in zip(wanted, (runs.histogram("height[2]"), gated.histogram("height[3]"), [sum(it.values()) for it in runs.rates().values()])):
-                self.assertEqual(list(found), list(its))
+            for right, found in zip(wanted, (runs.histogram("height[2]"), gated.histogram("height[3]"), [sum(it.values()) for it in runs.rates().values()])):
+                self.assertEqual(list(found), list(right))
             most = client.run(lambda: int(re.search(r"VmHWM:\s*(\d+) kB", open("/proc/self/status").read())[1]) << 10)
         self.assertEqual(len(most), 2)
         self.assertLess(max(most.values()), ROOM, most)
@@ -169,11 +169,11 @@ class Archive(Case):
             with open(self.room / f"{name}.events", "wb") as file:
                 file.write(NEW_FILE)
                 for at in range(1, end - first + 1, PIECE):
-                    its = numpy.zeros(min(PIECE, end - first + 1 - at), [("head", ">u2", 2), ("of", ">u4", 2), ("counts", ">u2", 2), ("words", ">u4", 12)])
-                    heights = chance.integers(0, 4096, (len(its), 12))
-                    its["head"], its["counts"], its["words"] = (0xCA4D, 3), (0, 12), heights | numpy.arange(12) << 16
-                    its["of"][:, 0], its["of"][:, 1] = numpy.arange(at, at + len(its)), 30
-                    its.tofile(file)
+                    records = numpy.zeros(min(PIECE, end - first + 1 - at), [("head", ">u2", 2), ("of", ">u4", 2), ("counts", ">u2", 2), ("words", ">u4", 12)])
+                    heights = chance.integers(0, 4096, (len(records), 12))
+                    records["head"], records["counts"], records["words"] = (0xCA4D, 3), (0, 12), heights | numpy.arange(12) << 16
+                    records["of"][:, 0], records["of"][:, 1] = numpy.arange(at, at + len(records)), 30
+                    records.tofile(file)
                     counts += numpy.bincount(heights[:, 2], minlength=4096)
                     gated += numpy.bincount(heights[(1100 <= heights[:, 1]) & (heights[:, 1] <= 1300), 3], minlength=4096)
         return counts, gated, [(end - first) / 10 for first, end in zip(ends, ends[1:])]
@@ -186,8 +186,8 @@ class Archive(Case):
             runs.array("nothing")
         data = (self.made / "run1.events").read_bytes()
         cut = data.index(record(self.events[1][50_000]))
-        for name, its in (("cut", data[:-3]), ("lost", data[:cut] + data[cut + len(record(self.events[1][50_000])) :]), ("no", b"no event file"), ("empty", NEW_FILE)):
-            (self.room / f"{name}.events").write_bytes(its)
+        for name, content in (("cut", data[:-3]), ("lost", data[:cut] + data[cut + len(record(self.events[1][50_000])) :]), ("no", b"no event file"), ("empty", NEW_FILE)):
+            (self.room / f"{name}.events").write_bytes(content)
             (self.room / f"{name}.json").write_text(camac.read_record(self.made / "run1.json")._replace(events=f"{name}.events").text())
             with mock.patch.dict(sys.modules, {"dask": None}):
                 runs = camac.open_runs(str(self.room / f"{name}.events"), self.words, 1 << 20)
@@ -201,12 +201,12 @@ class Archive(Case):
                 self.assertEqual(str(caught.exception), str(wanted.exception))
 
     def test_version_one(self):
-        its = [it._replace(cycles=None, missed=None) for it in self.events[0][:1000]]
+        events = [it._replace(cycles=None, missed=None) for it in self.events[0][:1000]]
         head = lambda it: b"\xca\x4d" + it.gl.to_bytes(2, "big") + it.number.to_bytes(4, "big") + len(it.words).to_bytes(2, "big")
-        (self.room / "one.events").write_bytes(b"CAMACEV1" + b"".join(head(it) + b"".join(word.to_bytes(4, "big") for word in it.words) for it in its))
+        (self.room / "one.events").write_bytes(b"CAMACEV1" + b"".join(head(it) + b"".join(word.to_bytes(4, "big") for word in it.words) for it in events))
         (self.room / "one.json").write_text(camac.read_record(self.made / "run1.json")._replace(events="one.events").text())
         runs = camac.open_runs(str(self.room / "one.events"), self.words, 4096).gate("channel", 0, 2)
-        self.assertEqual(int(runs.histogram("channel").sum()), sum(len(it.words) for it in its if it.gl == 3 and any(word >> 16 < 3 for word in it.words)))
+        self.assertEqual(int(runs.histogram("channel").sum()), sum(len(it.words) for it in events if it.gl == 3 and any(word >> 16 < 3 for word in it.words)))
 
 
 if __name__ == "__main__":

@@ -59,8 +59,8 @@ class Arrays(Case):
         """The same with pieces of every size, with a fault anywhere, and with a word that looks like a marker."""
         chance = random.Random(5)
         for number in range(40):
-            its = list(events_at_random(chance, chance.choice((0, 1, 5, 300, 3000))))
-            data = NEW_FILE + b"".join(map(record, its))
+            events = list(events_at_random(chance, chance.choice((0, 1, 5, 300, 3000))))
+            data = NEW_FILE + b"".join(map(record, events))
             if number % 3 == 1:
                 at = chance.randrange(8, len(data) + 1)
                 data = data[:at] + bytes([chance.randrange(256)]) + data[at + 1 :]
@@ -74,13 +74,13 @@ class Arrays(Case):
     def test_tables(self):
         """The tables of comma-separated values, with long stretches of events of one kind and with short ones."""
         names, chance = Words([Field("a % 3", 3, places=(1, 1)), Field('x,%d "µ"', 3, places=(2, 3)), Field("c", 5, places=(1, 1), count=2)]), random.Random(3)
-        its, kind = [], (3, 4)
+        events, kind = [], (3, 4)
         for number in range(1, 40_001):
             if chance.random() < 0.004 or 20_000 < number < 20_800:
                 kind = chance.choice(((3, 4), (3, 0), (5, 2), (5, 1), (3, 1)))
             words = tuple(chance.randrange(1 << chance.choice((1, 4, 12, 24))) for _ in range(kind[1]))
-            its.append(Event(number, kind[0], chance.randrange(200), 0, words))
-        (self.room / "events").write_bytes(NEW_FILE + b"".join(map(record, its)))
+            events.append(Event(number, kind[0], chance.randrange(200), 0, words))
+        (self.room / "events").write_bytes(NEW_FILE + b"".join(map(record, events)))
         for sources, user in ((Words(), Words()), (names, Words()), (Words(), names)):
             tables = []
             for long in (0, 1 << 30):
@@ -88,14 +88,14 @@ class Arrays(Case):
                     tables.append([io.BytesIO(), io.BytesIO()])
                     write_events(arrays.event_pieces(self.room / "events"), Table(True, sources, user), *tables[-1])
             self.assertEqual(*([it.getvalue() for it in one] for one in tables))
-            self.assertEqual([it.getvalue().count(b"\n") for it in tables[0]], [len(its) + 1, sum(len(it.words) for it in its) + 1])
+            self.assertEqual([it.getvalue().count(b"\n") for it in tables[0]], [len(events) + 1, sum(len(it.words) for it in events) + 1])
 
     def test_arrays_are_used(self):
         """A long file without a fault is read in arrays alone."""
         (self.room / "events").write_bytes(NEW_FILE + b"".join(map(record, events_at_random(random.Random(1), 60_000))))
-        its = [*arrays.event_pieces(self.room / "events")]
-        self.assertEqual([type(it) for it in its[:-1]], [arrays.EventArrays] * (len(its) - 1))
-        self.assertEqual((sum(len(it.gl) for it in its[:-1]), its[-1]), (60_000, []))
+        pieces = [*arrays.event_pieces(self.room / "events")]
+        self.assertEqual([type(it) for it in pieces[:-1]], [arrays.EventArrays] * (len(pieces) - 1))
+        self.assertEqual((sum(len(it.gl) for it in pieces[:-1]), pieces[-1]), (60_000, []))
         (self.room / "events").write_bytes(NEW_FILE)
         self.assertEqual([*arrays.event_pieces(self.room / "events")], [[]])
         (self.room / "events").write_bytes(b"")

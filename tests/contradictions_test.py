@@ -56,22 +56,22 @@ def by_hand(operations):
     counts, cycles, called = collections.Counter(), 0, []
     for made in operations:
         kind, *at = made.request.split()
-        its = made.answer
-        if kind == "demand" and its:
-            counts.update((f"GL {bit}", "demand") for bit in (9, 24) if its.gl >> bit - 1 & 1)
-            called.append((3 if its.gl & 4 else 5 if its.gl & 16 else 0, cycles))
+        answer = made.answer
+        if kind == "demand" and answer:
+            counts.update((f"GL {bit}", "demand") for bit in (9, 24) if answer.gl >> bit - 1 & 1)
+            called.append((3 if answer.gl & 4 else 5 if answer.gl & 16 else 0, cycles))
             counts["adc", f"call sooner than every {EVERY} cycles"] += called[-1][0] == 3 and any(is_sooner(called, gl) for gl in (3, 5))
         elif kind == "cycle":
             c, n, a, f = map(int, at[:4])
-            cycles += 1 + its.wait
+            cycles += 1 + answer.wait
             width = laboratory.WIDTHS.get((c, n, f if f == 16 else 0), 24)
-            if n < 24 and not its.x:
+            if n < 24 and not answer.x:
                 counts[f"crate {c} station {n}", "cycle with X = 0"] += 1
-            elif f < 8 and a < 8 + 4 * (n == 5) and its.word >> width:
+            elif f < 8 and a < 8 + 4 * (n == 5) and answer.word >> width:
                 counts[f"crate {c} station {n}", f"word above {width} bits"] += 1
         elif kind == "lock":
-            cycles += its.wait
-    return {its: count for its, count in counts.items() if count}
+            cycles += answer.wait
+    return {key: count for key, count in counts.items() if count}
 
 
 def is_sooner(called, gl):
@@ -87,8 +87,8 @@ class Counted(Case):
         self.enterContext(mock.patch.dict(os.environ, CAMAC_PROGRAM=PROGRAM))
         self.plan, self.script = self.write("lab.toml", laboratory.PLAN), self.write("lab.script", laboratory.SCRIPT)
 
-    def found(self, its):
-        return {(it.place, it.what): it.times for it in its}
+    def found(self, told):
+        return {(it.place, it.what): it.times for it in told}
 
     def test_everywhere(self):
         for seed in range(3):
@@ -131,11 +131,11 @@ class Counted(Case):
 
     def test_overrun(self):
         """The cycle of a wait that is not permitted did not happen."""
-        its = [camac.Answer(gl=4), camac.Answer(1, 0, 0, 0), camac.Answer(0, 0, 0, 9)]
+        answers = [camac.Answer(gl=4), camac.Answer(1, 0, 0, 0), camac.Answer(0, 0, 0, 9)]
         class Ends(Contrary):
             def demand(self):
-                return its.pop(0)
-            cycle = lambda self, *_: its.pop(0)
+                return answers.pop(0)
+            cycle = lambda self, *_: answers.pop(0)
         end = camac.drive(self.plan, self.script, Ends(None, 0), self.room / "short.events")
         self.assertEqual((end.how, end.contradictions), (camac.Ending.OVERRUN, ()))
 

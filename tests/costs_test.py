@@ -61,11 +61,11 @@ class Made(Costs):
             status, printed, said = self.call("costs", inputs)
             wanted = tell("costs", inputs)
             self.assertEqual((status, printed, said), (0, wanted.out.decode(), b""), number)
-            its = read_bodies(printed)
-            for body in its:
+            bodies = read_bodies(printed)
+            for body in bodies:
                 self.add_up(body)
                 seen.update(row.word for row in body.rows)
-            self.assertEqual(read_services(self.call("check", inputs)[1]), services_of(its), number)
+            self.assertEqual(read_services(self.call("check", inputs)[1]), services_of(bodies), number)
         words = "= cdreg put cfsa cssa cfmad cfubc cfubr cccz cccc ctci ctcd ctgl ccci cccd cclm cclc ctlm if else for while lock call"
         self.assertEqual(seen, set(words.split()))
 

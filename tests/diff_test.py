@@ -85,7 +85,7 @@ class Diff(Plans):
         self.assertEqual((status, said), (1, ""))
         services, commands = out.splitlines()[:2], out.splitlines()[2:]
         self.assertEqual(services[1], "~ service two cycles 2 -> 3 words 0 steps 1 start 4 -> 6 end 6 -> 9  grown: cycles start end")
-        wanted = [f"{sign} command 1 {n} {what}" for sign, its in (("-", ["0..3 0 ADC width 12"]), ("+", ["0..2 0 ADC width 11", "3 16 ADC width 24"])) for n in (5, 6) for what in its]
+        wanted = [f"{sign} command 1 {n} {what}" for sign, texts in (("-", ["0..3 0 ADC width 12"]), ("+", ["0..2 0 ADC width 11", "3 16 ADC width 24"])) for n in (5, 6) for what in texts]
         self.assertEqual(commands, wanted)
 
     def test_refusals_and_faults(self):
@@ -108,9 +108,9 @@ class Diff(Plans):
 
 
 class Sarif(Plans):
-    def expect_keys(self, what, its, more=()):
-        self.assertLessEqual({*REQUIRED[what][: 2 if what in ("log", "run") else 1], *more}, {*its}, what)
-        self.assertLessEqual({*its}, {*REQUIRED[what]}, what)
+    def expect_keys(self, what, fields, more=()):
+        self.assertLessEqual({*REQUIRED[what][: 2 if what in ("log", "run") else 1], *more}, {*fields}, what)
+        self.assertLessEqual({*fields}, {*REQUIRED[what]}, what)
 
     def test_log(self):
         name = "a b%c.script"

@@ -345,9 +345,9 @@ class Sentences(unittest.TestCase):
 
     def test_promises(self):
         """PROMISES has each promise of README word by word."""
-        mine, its = (set(re.findall(r"(?m)^> .*(?:\n> .*)*", self.page(it))) for it in ("README.md", "docs/inside/PROMISES.md"))
+        mine, promises = (set(re.findall(r"(?m)^> .*(?:\n> .*)*", self.page(it))) for it in ("README.md", "docs/inside/PROMISES.md"))
         self.assertEqual(len(mine), 2)
-        self.assertEqual({" ".join(it.split()) for it in mine} - {" ".join(it.split()) for it in its}, set())
+        self.assertEqual({" ".join(it.split()) for it in mine} - {" ".join(it.split()) for it in promises}, set())
 
     def test_names_in_promises(self):
         """PROMISES names what is there: a function, a clause, a definition or a field."""

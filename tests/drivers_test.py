@@ -230,10 +230,10 @@ class InC(Case):
 
     def give(self, driver, requests):
         """Gives each request when the one before is answered."""
-        for it in requests:
-            driver.stdin.write(it.encode() + b"\n")
-            if not it.startswith("unlock 2"):
-                self.assertTrue(select.select([driver.stdout], [], [], PATIENCE)[0], it)
+        for request in requests:
+            driver.stdin.write(request.encode() + b"\n")
+            if not request.startswith("unlock 2"):
+                self.assertTrue(select.select([driver.stdout], [], [], PATIENCE)[0], request)
                 self.assertEqual(len(driver.stdout.readline()), 20)
 
     def expect_released(self, driver, given, answered):

@@ -237,8 +237,9 @@ class Editors(Case):
         self.assertEqual(self.file("camac.vsix"), self.file("again.vsix"))
         with zipfile.ZipFile(self.room / "camac.vsix") as package:
             package.extractall(self.room)
-        its = json.loads((self.room / "extension/package.json").read_text())
-        places = [its["main"], *(it["configuration"] for it in its["contributes"]["languages"]), *(it["path"] for it in its["contributes"]["grammars"])]
+        about = json.loads((self.room / "extension/package.json").read_text())
+        languages, grammars = about["contributes"]["languages"], about["contributes"]["grammars"]
+        places = [about["main"], *(it["configuration"] for it in languages), *(it["path"] for it in grammars)]
         self.assertEqual([it for it in places if not (self.room / "extension" / it).is_file()], [])
         for name in ("extension.vsixmanifest", "[Content_Types].xml"):
             ElementTree.parse(self.room / name)
@@ -251,15 +252,15 @@ class Editors(Case):
 
     def test_kate(self):
         """The words are those of the other editors, and the server is bound to the name of the language."""
-        its = ElementTree.parse(TOP / "editors/kate/camac.xml").getroot()
-        words = {it.text for it in its.iter("item")}
+        syntax = ElementTree.parse(TOP / "editors/kate/camac.xml").getroot()
+        words = {it.text for it in syntax.iter("item")}
         grammar = json.loads((TOP / "editors/vscode/syntaxes/camac.tmLanguage.json").read_text())
         wanted = {word for it in grammar["patterns"] for found in re.findall(r"\(\?:([a-z|]+)\)", it["match"]) for word in found.split("|")}
         self.assertEqual(words, wanted)
-        styles = {it.get("name") for it in its.iter("itemData")}
-        self.assertEqual({it.get("attribute") for it in its.iter() if it.get("attribute")}, styles)
+        styles = {it.get("name") for it in syntax.iter("itemData")}
+        self.assertEqual({it.get("attribute") for it in syntax.iter() if it.get("attribute")}, styles)
         server = json.loads((TOP / "editors/kate/settings.json").read_text())["servers"]["camac"]
-        self.assertTrue(re.search(server["highlightingModeRegex"], its.get("name")))
+        self.assertTrue(re.search(server["highlightingModeRegex"], syntax.get("name")))
 
 
 if __name__ == "__main__":

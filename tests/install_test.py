@@ -124,10 +124,10 @@ class Lacking(Case):
         self.assertEqual(self.files(place), [])
 
     def test_archives(self):
-        for option, its in OF_ARCHIVES.items():
-            tools = [*OF_LAUNCHER, *OF_INSTALLER, *its]
+        for option, archivers in OF_ARCHIVES.items():
+            tools = [*OF_LAUNCHER, *OF_INSTALLER, *archivers]
             place = self.folder()
-            for tool in its if all(map(shutil.which, its)) else ():
+            for tool in archivers if all(map(shutil.which, archivers)) else ():
                 said = f"camac: {tool} is not here, and is needed\n"
                 self.assertEqual(call(COPY / "install", option, place, env=self.but(tool, *tools)), (1, "", said))
             self.assertEqual(self.files(place), [])

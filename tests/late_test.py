@@ -63,8 +63,8 @@ class Service:
 
 def chosen(chance):
     """The responses of one to five services of small numbers."""
-    its = [Service(gl, chance.randrange(9), chance.choice([None, chance.randrange(1, 60)])) for gl in sorted(chance.sample(range(1, 25), chance.randrange(1, 6)))]
-    return [it.response(its) for it in its]
+    services = [Service(gl, chance.randrange(9), chance.choice([None, chance.randrange(1, 60)])) for gl in sorted(chance.sample(range(1, 25), chance.randrange(1, 6)))]
+    return [it.response(services) for it in services]
 
 
 def ends_of(responses, operations):
@@ -128,7 +128,7 @@ class Pieces(unittest.TestCase):
     """What the end of a service consists of."""
 
     def test_by_hand(self):
-        its = (VETO, STRIP, SPILL, SLOW)
+        responses = (VETO, STRIP, SPILL, SLOW)
         wanted = {
             VETO: [("slack", 7, "7 (spill, in progress)"), ("ours", 5, "5 (its own)")],
             # Before its second look-at-me, at 6, came 7 of spill, 3 of strip, 5 of veto: 9 of these 15 are left. Veto comes again at 15.
@@ -136,19 +136,19 @@ class Pieces(unittest.TestCase):
             SPILL: [("slack", 7, "7 (slow, in progress)"), ("waits", 20, "4 × 5 (veto)"), ("waits", 30, "10 × 3 (strip)"), ("ours", 7, "7 (its own)")],
         }
         for it, pieces in wanted.items():
-            self.assertEqual([(piece.kind, piece.cycles, piece.term) for piece in pieces_of(it, its)], pieces)
-        tip = pieces_of(STRIP, its)[0].tip
+            self.assertEqual([(piece.kind, piece.cycles, piece.term) for piece in pieces_of(it, responses)], pieces)
+        tip = pieces_of(STRIP, responses)[0].tip
         self.assertEqual(tip, "Call 2 of a stretch ends latest. Before its look-at-me came 15 cycles:\n7 (spill) + 3 (strip) + 5 (veto)\nof which 6 have passed: 1 period of 6")
 
     def test_sums(self):
         """The pieces add up to the end, whichever call is the latest."""
         chance, later = random.Random(4), 0
         for _ in range(600):
-            its = chosen(chance)
-            for it in its:
-                if it.end is not None:
-                    pieces = pieces_of(it, its)
-                    self.assertEqual((sum(piece.cycles for piece in pieces), min([1, *(piece.cycles for piece in pieces)])), (it.end, 1))
+            responses = chosen(chance)
+            for response in responses:
+                if response.end is not None:
+                    pieces = pieces_of(response, responses)
+                    self.assertEqual((sum(piece.cycles for piece in pieces), min([1, *(piece.cycles for piece in pieces)])), (response.end, 1))
                     later += any("left from before" in piece.term for piece in pieces)
         self.assertGreater(later, 0)
 
@@ -160,7 +160,7 @@ class Pieces(unittest.TestCase):
 class Watched(unittest.TestCase):
     def test_by_hand(self):
         """Veto may call again after 15 cycles, strip after 6."""
-        its = (VETO, STRIP, SPILL)
+        responses = (VETO, STRIP, SPILL)
         for operations, seen in [
             ([], {1: (0, 0, 0), 4: (0, 0, 0), 9: (0, 0, 0)}),
             ([(4, 3)], {1: (0, 0, 0), 4: (1, 3, 0), 9: (0, 0, 0)}),
@@ -171,7 +171,7 @@ class Watched(unittest.TestCase):
             # Strip calls again after 3 cycles. A stretch of veto knows nothing of it, one of spill does.
             ([(4, 3), (4, 3), (1, 5), (9, 7)], {1: (1, 8, 0), 4: (1, 3, 1), 9: (0, 0, 1)}),
         ]:
-            run = two_crates.run_of(its, operations)
+            run = two_crates.run_of(responses, operations)
             self.assertEqual({gl: (it.count, it.most, it.left_out) for gl, it in run.late.items()}, seen)
             self.assertTrue(run.agrees())
         self.assertEqual([run.late[gl].broken for gl in (1, 4, 9)], [None, Broken("strip", 2, 3, 2), Broken("strip", 2, 3, 2)])
@@ -187,18 +187,18 @@ class Watched(unittest.TestCase):
         """The numbers are those of the definition, and no end is above its bound while the rates are kept; some reach it."""
         chance, reached = random.Random(9), 0
         for _ in range(300):
-            its = chosen(chance)
-            bounds = {0: 0, **{it.gl: it.cycles for it in its}}
+            responses = chosen(chance)
+            bounds = {0: 0, **{it.gl: it.cycles for it in responses}}
             operations = [(gl, bounds[gl] if chance.random() < 0.8 else chance.randint(0, bounds[gl])) for gl in chance.choices(list(bounds), k=25)]
-            run = two_crates.run_of(its, operations)
-            for it in its:
-                ends, broken = ends_of(its, operations)[it.gl]
-                kept, late = [end for end in ends if end is not None], run.late[it.gl]
+            run = two_crates.run_of(responses, operations)
+            for response in responses:
+                ends, broken = ends_of(responses, operations)[response.gl]
+                kept, late = [end for end in ends if end is not None], run.late[response.gl]
                 self.assertEqual((late.count, late.most, late.left_out), (len(kept), max(kept, default=0), len(ends) - len(kept)))
                 first = late.broken and (late.broken.name, late.broken.call, late.broken.elapsed)
                 self.assertEqual(first, (f"s{broken[0][0]}", *broken[0][1:]) if broken else None)
-                self.assertTrue(it.end is None or late.most <= it.end)
-                reached += late.count > 0 and late.most == it.end
+                self.assertTrue(response.end is None or late.most <= response.end)
+                reached += late.count > 0 and late.most == response.end
             self.assertTrue(run.agrees())
         self.assertGreater(reached, 20)
 
@@ -240,10 +240,10 @@ class Shown(laboratory.BenchCase):
         ends = ends_of(of, self.operations())
         page = self.page(*self.RATES)
         rows = page.table("How late")
-        for it, row in zip(of, rows):
-            late, broken = ends[it.gl]
+        for said, row in zip(of, rows):
+            late, broken = ends[said.gl]
             kept = [end for end in late if end is not None]
-            wanted = [it.name, it.gl, it.every, it.start, it.end, it.longest, max(kept) if kept else "", len(kept), len(late) - len(kept)]
+            wanted = [said.name, said.gl, said.every, said.start, said.end, said.longest, max(kept) if kept else "", len(kept), len(late) - len(kept)]
             titles = ["service", "GL", "every", "start", "end", "longest stretch", "seen", "services", "left out"]
             self.assertEqual([row[title] for title in titles], [str(number) for number in wanted])
             gl, call, cycles = broken[0]

@@ -110,8 +110,8 @@ class Launcher(Case):
         began = time.monotonic()
         words = (self.launcher, "check", "@sample", "@in")
         terminals, calls = [Terminal(), Terminal()], []
-        for it in (*terminals, None):
-            calls.append(start(*words, stderr=it.given if it else subprocess.PIPE))
+        for terminal in (*terminals, None):
+            calls.append(start(*words, stderr=terminal.given if terminal else subprocess.PIPE))
             calls[-1].stdin.write(self.script)
             calls[-1].stdin.close()
             while "reading the sources" not in terminals[0].said and calls[0].poll() is None:
@@ -349,10 +349,10 @@ class Install(Case):
             return
         line = "top=$1; source $top/tools/program.bash; cd $top; texts_of crates/*/src tools/library_main.text; rt version | sha256sum"
         texts, kit = call("bash", "-c", line.replace("$top", '"$top"'), "bash", COPY)[1].splitlines()
-        its = COPY / f"out/libcamac.{texts}.{kit[:16]}.a"
-        its.parent.mkdir(exist_ok=True)
-        shutil.copy(cls.archive(), its)
-        its.chmod(0o755)
+        library = COPY / f"out/libcamac.{texts}.{kit[:16]}.a"
+        library.parent.mkdir(exist_ok=True)
+        shutil.copy(cls.archive(), library)
+        library.chmod(0o755)
 
     def said_of_library(self, how):
         return f"install: no library for C: {self.lacking[0]} is not here" if self.lacking else f"install: the library for C, {how}"
@@ -448,8 +448,8 @@ class Install(Case):
         call("tar", "-xzf", packed, "-C", place, "--strip-components=1")
         put = self.folder()
         call(COPY / "install", put)
-        its = {it.relative_to(place) for it in place.rglob("*") if it.is_file() and it != packed}
-        self.assertEqual(its, {it.relative_to(put) for it in put.rglob("*") if it.is_file() and "__pycache__" not in it.parts})
+        files = {it.relative_to(place) for it in place.rglob("*") if it.is_file() and it != packed}
+        self.assertEqual(files, {it.relative_to(put) for it in put.rglob("*") if it.is_file() and "__pycache__" not in it.parts})
         path = {"PATH": f"{place}/bin:/usr/bin:/bin"}
         self.assertEqual(call("camac", "check", "@sample", place / "share/doc/camac/examples/straight_line.script", env=path), (0, VERDICT, ""))
 
@@ -465,9 +465,9 @@ class Install(Case):
         self.addCleanup(shutil.rmtree, COPY / "crates/camac/out")
         self.addCleanup((COPY / "out/proved").unlink)
         if not self.lacking:
-            its = COPY / "tools/proved_library"
-            self.addCleanup(its.write_text, its.read_text())
-            its.write_text(f"#!/bin/sh\nmkdir -p out && cp {self.archive()} out/libcamac_c.a\n")
+            tool = COPY / "tools/proved_library"
+            self.addCleanup(tool.write_text, tool.read_text())
+            tool.write_text(f"#!/bin/sh\nmkdir -p out && cp {self.archive()} out/libcamac_c.a\n")
             self.addCleanup(shutil.rmtree, COPY / "crates/camac_c/out")
             self.addCleanup((COPY / "out/proved_library").unlink)
         toolchain(folder, "mkdir -p out && printf '#!/bin/sh\\necho camac proved\\n' >out/camac && chmod 755 out/camac")
@@ -485,8 +485,8 @@ class Install(Case):
         place = self.folder()
         call(COPY / "install", place)
         (place / "share/old").write_text("")
-        with open(place / "share/camac/installed", "a", encoding="utf-8") as it:
-            it.write("share/old\n")
+        with open(place / "share/camac/installed", "a", encoding="utf-8") as file:
+            file.write("share/old\n")
         self.assertEqual(call(COPY / "install", place)[0], 0)
         self.assertFalse((place / "share/old").exists())
 

@@ -58,13 +58,13 @@ class Limited(Case):
         """The listing and the event file of the run on all answers, what each answer and each pause released, and how often it paused."""
         listing, events, released, pauses = "", b"", [], 0
         for answer in ANSWERS:
-            its = session.next(answer)
+            step = session.next(answer)
             while True:
                 listing, events = listing + session.item(), events + session.record()
-                released += its.unlocked
+                released += step.unlocked
                 if not session.is_busy():
                     break
-                its, pauses = session.go_on(), pauses + 1
+                step, pauses = session.go_on(), pauses + 1
         return listing, events, released, pauses
 
     def test_a_run_that_pauses_tells_the_same(self):
@@ -86,8 +86,8 @@ class Limited(Case):
         self.assertEqual((told.kind, told.service, told.event), (library.DEMAND, 1, 0))
         for event in (0, 0, 0, 1):
             self.assertTrue(session.is_busy())
-            its = session.go_on()
-            self.assertEqual((its.kind, its.event), (0, event))
+            step = session.go_on()
+            self.assertEqual((step.kind, step.event), (0, event))
         self.assertEqual((session.is_busy(), session.words(), session.wants().kind), (False, (3,), library.DEMAND))
 
     def told(self, session):
@@ -108,8 +108,8 @@ class Limited(Case):
         session = self.session(1000)
         session.next(Answer())
         told = self.told(session)
-        its = session.go_on()
-        self.assertEqual((its.kind, its.unlocked, its.event, self.told(session)), (0, (), 0, told))
+        step = session.go_on()
+        self.assertEqual((step.kind, step.unlocked, step.event, self.told(session)), (0, (), 0, told))
 
     def test_a_service_that_pauses_may_be_left(self):
         session = self.session(library.NO_LIMIT)
@@ -142,13 +142,13 @@ class Limited(Case):
         script = f"cdlam adc 1 1 5 12\nvar v\nservice adc within 9 cycles event 3 words {{\n  cdreg a 1 1 5 0\n{cycles}}}\n"
         for most, lists in ((0, 3), (30, 3), (511, 3), (512, 1), (library.NO_LIMIT, 1)):
             session, made = self.session(most, script), []
-            its = session.next(DEMAND)
-            while not its.event:
+            step = session.next(DEMAND)
+            while not step.event:
                 if session.is_busy():
-                    its = session.go_on()
+                    step = session.go_on()
                 else:
                     made.append([Answer(1, 1, sum(map(len, made)) + k) for k in range(len(session.ahead()))])
-                    its = session.next_many(made[-1])[-1]
+                    step = session.next_many(made[-1])[-1]
             self.assertEqual((len(made), session.words()), (lists, (0, 1, 2)))
 
     def test_pauses_that_nobody_asked_for(self):

@@ -66,8 +66,8 @@ class Made:
         self.plan = TYPE + "".join(map(self.crate, (1, 2)))
 
     def crate(self, number):
-        its = ", ".join(f'{{ n = {n}, type = "T", gl = {self.bits[name]} }}' for name, (c, n) in self.places.items() if c == number)
-        return f"[[crate]]\nnumber = {number}\nwaits = {self.waits[number]}\nstation = [ {its} ]\n"
+        stations = ", ".join(f'{{ n = {n}, type = "T", gl = {self.bits[name]} }}' for name, (c, n) in self.places.items() if c == number)
+        return f"[[crate]]\nnumber = {number}\nwaits = {self.waits[number]}\nstation = [ {stations} ]\n"
 
     def service(self, name):
         dice, (c, n) = self.dice, self.places[name]
@@ -86,15 +86,15 @@ class Made:
         """Something that clears or hides the look-at-me of another service, or its own."""
         if self.is_kept or self.dice.random() < 0.6:
             return ""
-        (kind, (text, clears, hides)), its = self.dice.choice(list(WRONGS.items())), self.dice.choice(list(self.places))
-        if its == name and kind in ("cclc", "F9"):
+        (kind, (text, clears, hides)), whose = self.dice.choice(list(WRONGS.items())), self.dice.choice(list(self.places))
+        if whose == name and kind in ("cclc", "F9"):
             return ""
         for other, place in self.places.items():
-            if other == its or kind in OF_CRATE and place[0] == self.places[its][0]:
+            if other == whose or kind in OF_CRATE and place[0] == self.places[whose][0]:
                 self.unkept |= {(other, Harm.CLEARED, name)} if clears and other != name else set()
                 self.unkept |= {(other, Harm.HIDDEN, name)} if hides else set()
         self.wrongs.add(kind)
-        return text.format(its, *self.places[its])
+        return text.format(whose, *self.places[whose])
 
     def part(self, c):
         reads = READ * self.dice.randrange(1, 5)
@@ -141,12 +141,12 @@ class Modules(Answers):
     def clock(self):
         return self.now + self.rested
 
-    def raise_at(self, it, at, changes):
-        it.is_up, it.may = True, it.every is not None
-        it.least, it.next = at + (it.every or 0), None
-        if it.every and (self.is_worst or self.dice.random() < 0.7):
-            it.next = it.least + self.dice.choice((0, 0, self.dice.randrange(9)) if not self.is_worst else (0,))
-        changes[len(self.lines)].append((it.name, at - self.rested))
+    def raise_at(self, module, at, changes):
+        module.is_up, module.may = True, module.every is not None
+        module.least, module.next = at + (module.every or 0), None
+        if module.every and (self.is_worst or self.dice.random() < 0.7):
+            module.next = module.least + self.dice.choice((0, 0, self.dice.randrange(9)) if not self.is_worst else (0,))
+        changes[len(self.lines)].append((module.name, at - self.rested))
 
     def raise_now(self, modules, changes):
         for it in modules:
@@ -158,10 +158,10 @@ class Modules(Answers):
             while not it.is_up and it.next is not None and it.next <= self.clock():
                 self.raise_at(it, max(it.next, it.down), changes)
 
-    def clear(self, it):
-        if it.is_up:
-            it.is_up, it.down = False, self.clock()
-            self.after[len(self.lines)].append((it.name, None))
+    def clear(self, module):
+        if module.is_up:
+            module.is_up, module.down = False, self.clock()
+            self.after[len(self.lines)].append((module.name, None))
 
     def up(self):
         return [it for it in self.all if it.is_up]
@@ -188,13 +188,13 @@ class Modules(Answers):
         return Answer(1, int(self.is_worst or self.dice.random() < 0.7), self.dice.randrange(1 << 24), wait, 0)
 
     def command(self, c, n, a, f):
-        for it in self.all:
-            is_there, of_crate = it.place == (c, n) and a == 0, (n, a, f) if it.place[0] == c else None
+        for module in self.all:
+            is_there, of_crate = module.place == (c, n) and a == 0, (n, a, f) if module.place[0] == c else None
             # Some modules are cleared by Z, C and F24, too, each time or now and then.
             if is_there and f in (9, 10) or (is_there and f == 24 or of_crate in (Z, C)) and self.dice.random() < 0.5:
-                self.clear(it)
+                self.clear(module)
             if is_there and f in (24, 26) or of_crate == Z:
-                it.is_enabled = f == 26 and of_crate != Z
+                module.is_enabled = f == 26 and of_crate != Z
 
     def operate(self):
         """A graded-L operation, after a rest if no look-at-me is up."""

@@ -162,20 +162,20 @@ class Written(Called):
         self.write("run.listing", listing(3)[0])
 
     @staticmethod
-    def words(its, out):
-        return [sys.executable, "-c", its.program, *(it.replace("OUT", out) for it in its.words)]
+    def words(command, out):
+        return [sys.executable, "-c", command.program, *(it.replace("OUT", out) for it in command.words)]
 
     def each(self, but=frozenset()):
         """Each command: what it is, why it leaves another file, what it may replace at its file, and what it puts there."""
         for name, replaced in table().items():
-            its = COMMANDS.get(name)
-            if its is None or name in but:
+            command = COMMANDS.get(name)
+            if command is None or name in but:
                 continue
             if name not in self.known:
-                self.assertEqual(self.ran(self.words(its, "fresh"))[::2], (0, ""), name)
-                new, made = (read(its.file.replace("OUT", "fresh")) for read in (self.timeless, self.text))
+                self.assertEqual(self.ran(self.words(command, "fresh"))[::2], (0, ""), name)
+                new, made = (read(command.file.replace("OUT", "fresh")) for read in (self.timeless, self.text))
                 self.known[name] = "" if replaced == NOTHING else made if "record" in name or "survey" in name else made[:56] + NIGHT_BEFORE, new
-            yield its, REASONS.get(replaced, FOREIGN), *self.known[name]
+            yield command, REASONS.get(replaced, FOREIGN), *self.known[name]
             for it in {*self.room.iterdir()} - {self.room / name for name in ("script", "answers", "run.events", "run.listing")}:
                 shutil.rmtree(it) if it.is_dir() and not it.is_symlink() else it.unlink()
 
@@ -195,27 +195,27 @@ class Written(Called):
 
     def test_links(self):
         """What a link leads to is written, and the link stays. A file of two names keeps both, and its mode."""
-        for its, _, old, new in self.each():
-            with self.subTest(its.words):
+        for command, _, old, new in self.each():
+            with self.subTest(command.words):
                 (self.room / "far").mkdir()
                 self.write("far/there", old).chmod(0o604)
                 os.link(self.room / "far/there", self.room / "other")
-                link = self.room / its.file.replace("OUT", "to")
+                link = self.room / command.file.replace("OUT", "to")
                 link.symlink_to("far/there")
-                self.assertEqual(self.ran(self.words(its, "to"))[::2], (0, ""))
+                self.assertEqual(self.ran(self.words(command, "to"))[::2], (0, ""))
                 self.assertEqual((os.readlink(link), self.timeless("far/there"), self.text("other")), ("far/there", new, self.text("far/there")))
                 self.assertEqual(((self.room / "other").stat().st_nlink, self.mode("other"), len([*(self.room / "far").iterdir()])), (2, 0o604, 1))
 
     def test_owners(self):
         """Another file comes to the place, with mode, owner and group of the old one."""
         owner = (65534, 65534) if not os.getuid() else (os.getuid(), os.getgid())
-        for its, _, old, new in self.each(AS_IT_GOES):
-            with self.subTest(its.words):
-                file = self.write(its.file.replace("OUT", "out"), old)
+        for command, _, old, new in self.each(AS_IT_GOES):
+            with self.subTest(command.words):
+                file = self.write(command.file.replace("OUT", "out"), old)
                 os.chown(file, *owner)
                 file.chmod(0o640)
                 with file.open() as before:
-                    self.assertEqual(self.ran(self.words(its, "out"))[::2], (0, ""))
+                    self.assertEqual(self.ran(self.words(command, "out"))[::2], (0, ""))
                     after = file.stat()
                     self.assertFalse(os.path.samestat(os.fstat(before.fileno()), after))
                 self.assertEqual((self.timeless(file), self.mode(file), after.st_uid, after.st_gid), (new, 0o640, *owner))
@@ -223,12 +223,12 @@ class Written(Called):
     def test_owners_that_cannot_be_given(self):
         """The file of another user, who lets it be written, is written in place."""
         before = self.without("chown")
-        for its, _, old, new in self.each():
-            with self.subTest(its.words):
-                file = self.write(its.file.replace("OUT", "out"), old)
+        for command, _, old, new in self.each():
+            with self.subTest(command.words):
+                file = self.write(command.file.replace("OUT", "out"), old)
                 os.chown(file, 65534, 65534)
                 file.chmod(0o666)
-                self.assertEqual(self.ran([*before, *self.words(its, "out")])[::2], (0, ""))
+                self.assertEqual(self.ran([*before, *self.words(command, "out")])[::2], (0, ""))
                 self.assertEqual((self.timeless(file), self.mode(file), file.stat().st_uid), (new, 0o666, 65534))
                 self.assertEqual([*self.room.rglob("*.new")], [])
 
@@ -245,35 +245,35 @@ class Written(Called):
     def test_read_only_files(self):
         """A file that its user may not write stays, although the folder may be written."""
         before = self.without("dac_override") if not os.getuid() else []
-        for its, _, old, _ in self.each():
-            with self.subTest(its.words):
-                file = self.write(its.file.replace("OUT", "out"), old)
+        for command, _, old, _ in self.each():
+            with self.subTest(command.words):
+                file = self.write(command.file.replace("OUT", "out"), old)
                 file.chmod(0o444)
-                self.refuse([*before, *self.words(its, "out")], file.name, "Permission denied")
+                self.refuse([*before, *self.words(command, "out")], file.name, "Permission denied")
                 self.assertEqual((file.read_text(), self.mode(file)), (old, 0o444))
 
     def test_other_kinds(self):
         """A file of another kind stays, and a folder."""
-        for its, reason, _, _ in self.each():
-            with self.subTest(its.words):
-                file = self.write(its.file.replace("OUT", "out"), NIGHT_BEFORE)
+        for command, reason, _, _ in self.each():
+            with self.subTest(command.words):
+                file = self.write(command.file.replace("OUT", "out"), NIGHT_BEFORE)
                 if reason == CHANGED:
-                    self.assertEqual(self.ran(self.words(its, "out"))[0], 1)
+                    self.assertEqual(self.ran(self.words(command, "out"))[0], 1)
                 else:
-                    self.refuse(self.words(its, "out"), file.name, reason)
+                    self.refuse(self.words(command, "out"), file.name, reason)
                 self.assertEqual(file.read_text(), NIGHT_BEFORE)
                 file.unlink()
                 file.mkdir()
-                self.refuse(self.words(its, "out"), file.name, "Is a directory")
+                self.refuse(self.words(command, "out"), file.name, "Is a directory")
 
     def test_what_is_saved_meanwhile(self):
         """It is not lost, although the command found nothing of it when it began."""
-        for its, reason, _, _ in self.each(AS_IT_GOES):
-            with self.subTest(its.words):
-                file = self.write(its.file.replace("OUT", "out"), its.old)
-                words = self.words(its._replace(program=SAVES + its.program), "out")
+        for command, reason, _, _ in self.each(AS_IT_GOES):
+            with self.subTest(command.words):
+                file = self.write(command.file.replace("OUT", "out"), command.old)
+                words = self.words(command._replace(program=SAVES + command.program), "out")
                 self.refuse([*words[:3], file.name, *words[3:]], file.name, reason)
-                self.assertRegex(file.read_text(), f"(?s)\\A{re.escape(its.old)}({SAVED})+\\Z")
+                self.assertRegex(file.read_text(), f"(?s)\\A{re.escape(command.old)}({SAVED})+\\Z")
 
     def test_what_is_saved_between_questions(self):
         """A script that an editor saves each time that the program is asked."""
@@ -288,15 +288,15 @@ class Written(Called):
     def test_full_disk(self):
         """A disk that has no room, seen by these commands alone."""
         rows, line = [], ""
-        for number, (its, _, old, _) in enumerate(self.each()):
-            rows.append((its, old))
-            file = its.file.replace("OUT", "small/out")
+        for number, (command, _, old, _) in enumerate(self.each()):
+            rows.append((command, old))
+            file = command.file.replace("OUT", "small/out")
             line += f"printf %s {shlex.quote(old)} >{file}; head -c 65536 /dev/zero >small/rest 2>&-\n"
-            line += f"{shlex.join(self.words(its, 'small/out'))} >said{number} 2>&1; echo $? >>said{number}; cat {file} >left{number}; rm small/rest; ls small >names{number}; rm small/*\n"
+            line += f"{shlex.join(self.words(command, 'small/out'))} >said{number} 2>&1; echo $? >>said{number}; cat {file} >left{number}; rm small/rest; ls small >names{number}; rm small/*\n"
         self.on_small_disk(line)
-        for number, (its, old) in enumerate(rows):
-            file, said = its.file.replace("OUT", "out"), self.text(f"said{number}")
-            with self.subTest(its.words):
+        for number, (command, old) in enumerate(rows):
+            file, said = command.file.replace("OUT", "out"), self.text(f"said{number}")
+            with self.subTest(command.words):
                 self.assertEqual((said[-2:], "No space left on device" in said, f"small/{file}" in said), ("3\n", True, True), said)
                 self.assertEqual((self.text(f"left{number}"), self.text(f"names{number}")), (old, f"{file}\n"))
 
@@ -408,13 +408,13 @@ class Outputs(Called):
     def test_two_at_once(self):
         """Both write before one of them ends: each table is whole when it comes to its place."""
         words = [sys.executable, "-m", "camac", "csv", "listing", "-", "-o", "out"]
-        its = [subprocess.Popen(words, stdin=subprocess.PIPE, cwd=self.room, env=self.env) for _ in range(2)]
+        processes = [subprocess.Popen(words, stdin=subprocess.PIPE, cwd=self.room, env=self.env) for _ in range(2)]
         rows = []
-        for number, it in enumerate(its):
-            it.stdin.write(b"demand 000004 adc\n" * 50_000)
-            it.stdin.flush()
+        for number, process in enumerate(processes):
+            process.stdin.write(b"demand 000004 adc\n" * 50_000)
+            process.stdin.flush()
             rows.append(50_000 + number)
-        for it, count, more in zip(its, rows, (b"", b"unlock 1\n")):
+        for it, count, more in zip(processes, rows, (b"", b"unlock 1\n")):
             it.communicate(more, timeout=60)
             self.assertEqual((it.returncode, self.text("out").count("\n")), (0, count + 1))
         self.assertEqual(self.there(), ["out", "run.listing"])

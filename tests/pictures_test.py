@@ -81,23 +81,23 @@ class Numbers(laboratory.BenchCase):
 
     def test_services_of_the_script(self):
         for row in self.page.table("The run"):
-            its = [(it, event) for it, event in zip(self.sums.services, self.sums.events) if it.name == row["service"]]
-            cycles, words = [it.cycles for it, _ in its], [len(event[4]) for _, event in its]
+            pairs = [(it, event) for it, event in zip(self.sums.services, self.sums.events) if it.name == row["service"]]
+            cycles, words = [it.cycles for it, _ in pairs], [len(event[4]) for _, event in pairs]
             bound = re.search(rf"service {row['service']} .* cycles (\d+) of (\d+) words (\d+) of", laboratory.call("check", *self.inputs[:2]))
-            wanted = [len(its), min(cycles), sum(cycles) / len(its), max(cycles), int(bound[1]), int(bound[2])]
-            wanted += [sum(it.waits for it, _ in its) / len(its), sum(words) / len(its), int(bound[3])]
-            wanted += [sum(getattr(it, name) for it, _ in its) for name in ("no_q", "of_transfers", "no_x")]
+            wanted = [len(pairs), min(cycles), sum(cycles) / len(pairs), max(cycles), int(bound[1]), int(bound[2])]
+            wanted += [sum(it.waits for it, _ in pairs) / len(pairs), sum(words) / len(pairs), int(bound[3])]
+            wanted += [sum(getattr(it, name) for it, _ in pairs) for name in ("no_q", "of_transfers", "no_x")]
             for found, value in zip(list(row.values())[2:], wanted):
                 self.assertAlmostEqual(number(found), value, delta=0.05)
 
     def test_services_of_the_run(self):
         rows = self.page.table("Services")
         self.assertEqual(len(rows), len(self.sums.services))
-        for at, (row, it, event) in enumerate(zip(rows, self.sums.services, self.sums.events)):
-            wanted = [at + 1, it.name, it.cycles, None, it.waits, it.locked, it.no_q, it.of_transfers, it.no_x, len(event[4])]
+        for at, (row, seen, event) in enumerate(zip(rows, self.sums.services, self.sums.events)):
+            wanted = [at + 1, seen.name, seen.cycles, None, seen.waits, seen.locked, seen.no_q, seen.of_transfers, seen.no_x, len(event[4])]
             found = [cell if title == "service" else None if title == "of bound" else number(cell) for title, cell in row.items()]
             self.assertEqual(found, wanted)
-            self.assertEqual(laboratory.NAMES[event[0]], it.name)
+            self.assertEqual(laboratory.NAMES[event[0]], seen.name)
 
     def test_commands(self):
         has_widths = knows_option("plan", "--commands", PROGRAM)
@@ -105,10 +105,10 @@ class Numbers(laboratory.BenchCase):
         self.assertEqual(len(rows), len(self.sums.commands))
         for row in rows:
             at = tuple(int(it) for it in row["crate station A F"].replace("F", "").split())
-            its = self.sums.commands[at]
+            sent = self.sums.commands[at]
             width = laboratory.WIDTHS.get((at[0], at[1], at[3]), 24) if has_widths else 24
-            words = [word & ((1 << width) - 1) for word in its["words"]]
-            wanted = [its["count"], its["no_q"], its["no_x"], its["waits"]]
+            words = [word & ((1 << width) - 1) for word in sent["words"]]
+            wanted = [sent["count"], sent["no_q"], sent["no_x"], sent["waits"]]
             wanted += [min(words), sum(words) / len(words), max(words)] if words else [None] * 3
             for found, value in zip(list(row.values())[3:], wanted):
                 self.assertTrue(number(found) is value is None or abs(number(found) - value) < 0.051, (row, wanted))
@@ -163,8 +163,8 @@ class Numbers(laboratory.BenchCase):
         columns = re.findall(r"^service [\d,]+\ncycles: mean ([\d.]+), most ([\d,]+);", tips, re.M)
         self.assertEqual(sorted(float(mean) for mean, _ in columns), sorted(it.cycles for it in self.sums.services))
         for word, name in (("Q = 0", "no_q"), ("X = 0", "no_x")):
-            its = re.findall(rf"{word}: ([\d,]+) cycle", tips)
-            self.assertEqual(sum(map(int, its)), self.sums.total(name))
+            missed = re.findall(rf"{word}: ([\d,]+) cycle", tips)
+            self.assertEqual(sum(map(int, missed)), self.sums.total(name))
 
     def test_bounds(self):
         tips = self.page.parts["What was promised, and what was seen"]["tips"]
@@ -230,8 +230,8 @@ class Numbers(laboratory.BenchCase):
         wanted = {it: self.page.tiles[it] for it in ("events", "cycles, waits counted", "event words", "cycles with X = 0")}
         self.assertEqual(page.tiles, wanted)
         for heading in ("The run", "Services"):
-            for ours, its in zip(page.table(heading), self.page.table(heading)):
-                self.assertEqual(ours, {title: its[title] for title in ours})
+            for ours, of_answers in zip(page.table(heading), self.page.table(heading)):
+                self.assertEqual(ours, {title: of_answers[title] for title in ours})
         self.assertNotIn("Q = 0", page.table("Services")[0])
 
 
@@ -249,8 +249,8 @@ class Costs(laboratory.BenchCase):
             self.assertEqual(tuple(sum(row.share[k] for row in body.rows) for k in range(3)), body.most)
             self.assertTrue(all(0 <= row.waits + row.slack <= row.share.cycles for row in body.rows))
             if body.name in services:
-                it = services[body.name]
-                self.assertEqual((*body.most, *body.annotated[:2]), (it.cycles, it.words, it.steps, it.annotated_cycles, it.annotated_words))
+                row = services[body.name]
+                self.assertEqual((*body.most, *body.annotated[:2]), (row.cycles, row.words, row.steps, row.annotated_cycles, row.annotated_words))
         adc, tick = bodies[1], bodies[2]
         # 5 tests, 2 for the lock, and two cycles at the end may be waited for; in the lock are 12 reads and a scan of 8
         self.assertEqual((adc.most.cycles, adc.waits(), adc.slack()), (15 + 2 + 12 + 8 + 6, 10 + 2 + 4, 0))
@@ -261,14 +261,14 @@ class Costs(laboratory.BenchCase):
         """The bodies of the bench and of all worked rows of costs, each with all of its script."""
         worked = [one.printed.decode() for case in ROWS["costs"].values() for one in case]
         for printed in (two_crates.COSTS, *(it for it in worked if it.startswith(("service", "proc")))):
-            its = parse_costs(printed)
-            yield from ((body, its) for body in its)
+            bodies = parse_costs(printed)
+            yield from ((body, bodies) for body in bodies)
 
     def test_lines_multiply(self):
         """On each line `times` times `each` is `cycles`, and the lines add up to the bound; so do those of a call, with what its heading promises."""
         tried = calls = 0
-        for body, its in self.bodies():
-            procedures = {it.name: it for it in its if it.kind is BodyKind.PROCEDURE}
+        for body, bodies in self.bodies():
+            procedures = {it.name: it for it in bodies if it.kind is BodyKind.PROCEDURE}
             self.assertEqual(self.cycles_of(body), body.most.cycles)
             self.assertEqual(sum(row.share.cycles for row in opened(body, procedures)), body.most.cycles)
             self.assertEqual(sum(row.waits for row in opened(body, procedures)), body.waits())
@@ -283,7 +283,7 @@ class Costs(laboratory.BenchCase):
         rows = {}
         for it in nodes_of(body.rows):
             rows.setdefault(it.row.line, []).append((it.row, it.cycles))
-        parts = [part for its in rows.values() for part in line_of(its).parts]
+        parts = [part for of_line in rows.values() for part in line_of(of_line).parts]
         self.assertTrue(all(it.times * it.each == it.cycles for it in parts))
         return sum(it.cycles for it in parts)
 
@@ -418,14 +418,14 @@ class Texts(laboratory.BenchCase):
             return "#" + "".join(f"{round(above * opacity + below * (1 - opacity)):02x}" for above, below in parts)
 
         for theme in (svg.LIGHT, svg.DARK):
-            its = {name: pair[theme] for name, pair in svg.COLOURS.items()}
+            colours = {name: pair[theme] for name, pair in svg.COLOURS.items()}
             areas = ("ours", "waits", "slack", "read", "write", "control", "controller", "lock", "noq", "nox")
             wanted = [(text, under, 4.5) for text in ("ink", "mute", "nox") for under in ("ground", "face")]
             wanted += [("control", "ground", 4.5), ("ours", "ground", 4.5)]
             wanted += [("ground", bar, 4.7) for bar in ("ours", "waits", "slack")] + [(area, "ground", 4.7) for area in areas]
             for one, other, least in wanted:
-                self.assertGreaterEqual(round(contrast(its[one], its[other]), 1), least, (theme, one, other))
-            self.assertGreaterEqual(contrast(its["ink"], over(its["waits"], its["ground"], 0.4)), 4.5, "text on the hottest line")
+                self.assertGreaterEqual(round(contrast(colours[one], colours[other]), 1), least, (theme, one, other))
+            self.assertGreaterEqual(contrast(colours["ink"], over(colours["waits"], colours["ground"], 0.4)), 4.5, "text on the hottest line")
 
 
 LISTED_PLAN = """\
@@ -469,9 +469,9 @@ def rates_at(factor):
     """A simulation by hand, of which no program is needed: a service of 20 cycles at so many times 5,000 triggers a second."""
     rate, answered = 5000 * factor, 1000
     lost = round(answered * rate * 20 * 1.4e-6)
-    its = Simulated("adc", 3, rate, 20, 34)
-    its.came, its.lost, its.length, its.waits = answered + lost, lost, 20 * answered, [20 + min(at * factor / 200, 13) for at in range(answered)]
-    return Simulation([its], 1.0, 0.5, None)
+    adc = Simulated("adc", 3, rate, 20, 34)
+    adc.came, adc.lost, adc.length, adc.waits = answered + lost, lost, 20 * answered, [20 + min(at * factor / 200, 13) for at in range(answered)]
+    return Simulation([adc], 1.0, 0.5, None)
 
 
 def kept_pictures():
@@ -500,8 +500,8 @@ def kept_pictures():
         "rates": pictures.draw_rates([rates_at(factor) for factor in FACTORS], rates_at(1), 1.4e-6),
         "places": pictures.draw_places(run, services[0]),
     }
-    for name, its in (("", run), ("small-", small_run())):
-        for (why, gl), kept in its.kept.items():
+    for name, shown in (("", run), ("small-", small_run())):
+        for (why, gl), kept in shown.kept.items():
             drawn[f"strip-{name}{why.name.lower()}-{gl}"] = pictures.draw_strip(kept, services[0] if gl != 5 else services[1], why.value)
     return {name: canvas.picture() for name, canvas in drawn.items()}
 
@@ -543,10 +543,10 @@ class Kept(unittest.TestCase):
         run = Run(has_listing=True)
         for at in range(3000):
             run.gl.append(3)
-            for its in (run.cycles, run.words):
-                its.append(5)
-            for its in (run.waits, run.no_q, run.of_transfers, run.no_x, run.locked):
-                its.append(at % 2)
+            for column in (run.cycles, run.words):
+                column.append(5)
+            for column in (run.waits, run.no_q, run.of_transfers, run.no_x, run.locked):
+                column.append(at % 2)
         drawn = pictures.draw_run(run, read_services(VERDICT)).picture()
         bars = re.findall(r"M(\S+) \S+v\S+h(\d+)V", re.search(r'<path d="([^"]*)" class="ours crisp"', drawn)[1])
         edges = [(int(x), int(x) + int(wide)) for x, wide in bars]
@@ -664,10 +664,10 @@ class InChromium(laboratory.BenchCase):
         self.assertEqual(browser.ask("[+r.dataset.first,+r.dataset.width,r.dataset.counts.split(' ').length]"), [32, 4, 88])
         self.assertEqual(browser.ask("document.querySelector('[aria-live=polite]').textContent.split(':')[0]"), "32 to 35")
         browser.ask("document.querySelector('#plan ~ .figure svg').focus()")
-        its = browser.ask("Array.from(document.activeElement.querySelectorAll('rect>title')).map(it=>it.textContent)")
+        tips = browser.ask("Array.from(document.activeElement.querySelectorAll('rect>title')).map(it=>it.textContent)")
         for key, at in (("ArrowRight", 1), ("End", -1), ("ArrowLeft", -2), ("Enter", -2)):
             browser.key(key)
-            self.assertEqual(browser.ask(tip), its[at])
+            self.assertEqual(browser.ask(tip), tips[at])
         self.assertTrue(browser.ask("document.activeElement.closest('.full')!==null"))
         browser.ask("document.activeElement.blur()")
         self.assertEqual([browser.ask(tip), browser.ask("document.querySelectorAll('.mark').length")], ["", 0])

@@ -577,12 +577,12 @@ class Pages(Case):
         self.assertEqual(sorted("|".join(code).split("|")), sorted(words))
         self.assertEqual(sorted(re.findall(r'"(\w+)"', "".join(re.findall(r"'\(([^)]*)\)", emacs)))), sorted(words))
         kate = re.findall(r"<item>(\w+)</item>", (TOP / "editors/kate/camac.xml").read_text())
-        for its in (kate, camac.language.WORDS, [it.decode() for it in oracle.reader.tokens.KEYWORDS]):
-            self.assertEqual(sorted(its), sorted(words))
+        for listed in (kate, camac.language.WORDS, [it.decode() for it in oracle.reader.tokens.KEYWORDS]):
+            self.assertEqual(sorted(listed), sorted(words))
         code = (TOP / "crates/camac_text_cursor/src/choice.rt").read_text()
-        for its, kind in ((camac.language.DECLARATIONS | {"table"}, "Declaration"), (camac.language.STATEMENTS - {"lock"}, "Statement")):
+        for wanted, kind in ((camac.language.DECLARATIONS | {"table"}, "Declaration"), (camac.language.STATEMENTS - {"lock"}, "Statement")):
             found = re.search(rf"Choice::{kind} => matches!\((.*?)\),", code, re.S)[1]
-            self.assertEqual({it.lower() for it in re.findall(r"Keyword::(\w+)", found)}, its)
+            self.assertEqual({it.lower() for it in re.findall(r"Keyword::(\w+)", found)}, wanted)
         self.assertEqual(page.split(), words)
 
 

@@ -60,8 +60,8 @@ class Messages(Seeded):
         """Whatever JSON may hold."""
         kinds = [None, True, 0, -1, 1 << 70, 1.5, float("inf"), float("nan"), "", "x", "\ud800", [], {}, self.random.choice(self.uris)]
         if depth and self.random.random() < 0.4:
-            its = [self.value(depth - 1) for _ in range(self.random.randrange(4))]
-            return its if self.random.random() < 0.5 else dict(zip(("uri", "textDocument", "line", "id"), its))
+            values = [self.value(depth - 1) for _ in range(self.random.randrange(4))]
+            return values if self.random.random() < 0.5 else dict(zip(("uri", "textDocument", "line", "id"), values))
         return self.random.choice(kinds)
 
     def number(self):
@@ -72,9 +72,9 @@ class Messages(Seeded):
 
     def text(self):
         lines = [*SCRIPT.splitlines(), "}", "{" * 20, "\ud800\U0001f4a5\r", "put", "x" * 3000, "\0", "call get(", 'name = "', "[[crate]]"]
-        its = self.random.choices(lines, k=self.random.randrange(30)) if self.random.random() < 0.6 else SCRIPT.splitlines()
+        some = self.random.choices(lines, k=self.random.randrange(30)) if self.random.random() < 0.6 else SCRIPT.splitlines()
         first = [f"# plan: {self.random.choice(self.PLANS)}"] if self.random.random() < 0.6 else []
-        return "\n".join([*first, *its])
+        return "\n".join([*first, *some])
 
     def message(self):
         """A message with all that belongs to it."""
@@ -96,9 +96,9 @@ class Messages(Seeded):
             return {"id": f"{self.number()}", "method": f"textDocument/{self.random.choice(self.OF_A_TEXT)}", "params": params}
         return {"id": self.value(), "method": self.random.choice(self.OTHERS), "params": {"id": self.number(), "command": "camac.keeps", "arguments": self.uris[:1]}}
 
-    def spoilt(self, it):
+    def spoilt(self, message):
         """A message in which something is left out, or is of another kind."""
-        inside = it
+        inside = message
         while isinstance(inside, dict) and inside:
             key = self.random.choice([*inside])
             if self.random.random() < 0.5 or not isinstance(inside[key], dict):
@@ -108,13 +108,13 @@ class Messages(Seeded):
                     inside[key] = self.value()
                 break
             inside = inside[key]
-        return it if it.get("method") not in ("exit", "shutdown") else {}
+        return message if message.get("method") not in ("exit", "shutdown") else {}
 
     def bytes(self):
         """A message as it is sent: right, wrong, or none at all."""
         kind = self.random.random()
-        it = self.message() if kind < 0.4 else self.spoilt(self.message())
-        data = json.dumps(it if kind < 0.8 else [it, it]).encode()
+        message = self.message() if kind < 0.4 else self.spoilt(self.message())
+        data = json.dumps(message if kind < 0.8 else [message, message]).encode()
         if kind > 0.9:
             deep = self.random.choice((10, 900, 100_000))
             data = self.random.choice((b"[" * deep, b"[" * deep + b"]" * deep, b'{"params":' * deep + b"1" + b"}" * deep, b"1" * deep, data[: len(data) // 2], b"\xff" + data, b""))
@@ -159,8 +159,8 @@ class Files(Seeded):
 
     def made(self):
         """Events of the bench; each differs from that of another file."""
-        its = [Event(at, 3, self.random.randrange(99, 60_000), self.random.randrange(99), (self.random.randrange(1 << 24),)) for at in range(1, self.random.randrange(2, 400))]
-        return NEW_FILE + b"".join(map(record, its))
+        events = [Event(at, 3, self.random.randrange(99, 60_000), self.random.randrange(99), (self.random.randrange(1 << 24),)) for at in range(1, self.random.randrange(2, 400))]
+        return NEW_FILE + b"".join(map(record, events))
 
     def remove(self, path):
         if path.is_dir() and not path.is_symlink():
@@ -241,8 +241,8 @@ class Files(Seeded):
         self.assertEqual(self.watch.follower.state, ("follows", False))
         self.put(self.room / "right", wanted)
         events = list(camac.read_events(self.room / "right"))
-        its = self.watch.follower.counts.bits[3]
-        self.assertEqual((its.count, its.missed, its.cycles.total), (len(events), sum(it.missed for it in events), sum(it.cycles for it in events)))
+        bit = self.watch.follower.counts.bits[3]
+        self.assertEqual((bit.count, bit.missed, bit.cycles.total), (len(events), sum(it.missed for it in events), sum(it.cycles for it in events)))
         parts = self.shown()
         self.assertIn(f"<b class=\"\">{len(events):,}</b><span>events</span>", parts["tiles"])
         self.assertIn('<b class="good">follows</b>', parts["notes"])

@@ -49,8 +49,8 @@ class Record(Case):
         super().setUp()
         self.record, self.events = self.room / "run.json", self.room / "run.events"
 
-    def drive(self, its, text=SCRIPT, **more):
-        return camac.drive(PLAN_FILE, text, its, self.events, program=PROGRAM, timeout=60, **more)
+    def drive(self, driver, text=SCRIPT, **more):
+        return camac.drive(PLAN_FILE, text, driver, self.events, program=PROGRAM, timeout=60, **more)
 
     def told(self):
         return json.loads(self.record.read_text())
@@ -108,7 +108,7 @@ camac.drive("@sample", {str(SCRIPT)!r}, Killed(), "run.events", program={PROGRAM
         seen = []
 
         class Looks(Seconds):
-            def demand(its):
+            def demand(this):
                 seen.append(self.told())
                 return super().demand()
 
@@ -126,10 +126,10 @@ camac.drive("@sample", {str(SCRIPT)!r}, Killed(), "run.events", program={PROGRAM
         self.assertIsNotNone(told["end"])
 
     def test_an_overrun(self):
-        its = branch(3)
-        its.auxiliaries[1] = Auxiliary(0)
-        its.auxiliaries[1].wait = lambda is_locked: 3
-        end = self.drive(its, record=self.record)
+        made = branch(3)
+        made.auxiliaries[1] = Auxiliary(0)
+        made.auxiliaries[1].wait = lambda is_locked: 3
+        end = self.drive(made, record=self.record)
         self.assertEqual((self.told()["how"], self.told()["line"]), ("overrun", end.line))
 
     def test_nothing_is_written_over_and_nothing_is_left_of_a_refused_script(self):
@@ -147,7 +147,7 @@ camac.drive("@sample", {str(SCRIPT)!r}, Killed(), "run.events", program={PROGRAM
         self.assertEqual([*self.room.iterdir()], [])
         # a record that cannot be written at the end: the events are there, and the end of the run is shown
         class Gone(MockBranch):
-            def demand(its):
+            def demand(this):
                 if self.record.is_file():
                     self.record.unlink()
                     self.record.mkdir()
@@ -159,7 +159,7 @@ camac.drive("@sample", {str(SCRIPT)!r}, Killed(), "run.events", program={PROGRAM
 
     def test_a_record_that_somebody_else_writes(self):
         class Changed(MockBranch):
-            def demand(its):
+            def demand(this):
                 self.record.write_text("mine")
                 return super().demand()
         with unittest.mock.patch("camac.record.REFRESH", 0.0), self.assertRaises(camac.ProgramFault) as caught:

@@ -54,12 +54,12 @@ class Refuted(unittest.TestCase):
         self.assertGreater(len(EDITS), 0)
         for name, edit in EDITS.items():
             with self.subTest(name):
-                its = dict(edit)
-                file, _, test = its["test"].partition(".")
+                fields = dict(edit)
+                file, _, test = fields["test"].partition(".")
                 command = [sys.executable, TOP / f"tests/{file}.py", test]
                 ran = subprocess.run(command, env={**os.environ, "CAMAC_PROGRAM": self.program}, capture_output=True, text=True)
                 self.assertEqual(ran.returncode, 1, "no test failed")
-                self.assertTrue(its["says"] in ran.stderr, f"no failure says {its['says']}")
+                self.assertTrue(fields["says"] in ran.stderr, f"no failure says {fields['says']}")
 
 
 if __name__ == "__main__":

@@ -247,9 +247,9 @@ class Commands(laboratory.BenchCase):
         self.assertEqual(told, "camac: fault read: plan.toml: Is a directory\n")
 
     def test_an_input_that_a_picture_would_take_the_place_of(self):
-        its = self.write("costs.adc.svg", STRAIGHT)
-        told = self.call("draw", "costs", "@sample", its, "-o", self.room / "costs.svg", status=3)[1]
-        self.assertEqual((told, its.read_text()), (f"camac: {its} is an input: it would be lost\n", STRAIGHT))
+        picture = self.write("costs.adc.svg", STRAIGHT)
+        told = self.call("draw", "costs", "@sample", picture, "-o", self.room / "costs.svg", status=3)[1]
+        self.assertEqual((told, picture.read_text()), (f"camac: {picture} is an input: it would be lost\n", STRAIGHT))
 
     def test_an_older_program(self):
         """Of a program without `costs` a page is made, and says what it lacks."""

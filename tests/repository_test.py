@@ -60,12 +60,12 @@ def run(*words, **how):
 class Plans(unittest.TestCase):
     def test_schema_has_the_keys_of_the_page(self):
         tables = re.findall(r"(?:^\|.*\|\n)+", page("docs/PLANS.md").partition("## Key by key")[2], re.M)
-        for text, its in zip(tables, TABLES):
+        for text, kinds in zip(tables, TABLES):
             found = re.findall(r"^\| `(\w+)` \| (.*) \| (.*) \|$", text, re.M)
-            self.assertEqual([key for key, *_ in found], [*its["properties"]])
-            self.assertEqual([key for key, _, missing in found if missing == "refused"], its.get("required", []))
+            self.assertEqual([key for key, *_ in found], [*kinds["properties"]])
+            self.assertEqual([key for key, _, missing in found if missing == "refused"], kinds.get("required", []))
             for key, value, missing in found:
-                kind = its["properties"][key]
+                kind = kinds["properties"][key]
                 if kind["type"] == "integer":
                     least, greatest = re.search(r"(\d+|`a`) to (\d+)", value).groups()
                     self.assertEqual((kind["minimum"], kind["maximum"]), (0 if least == "`a`" else int(least), int(greatest)), key)
@@ -73,13 +73,13 @@ class Plans(unittest.TestCase):
 
     def test_manual_page(self):
         text = " ".join(page("man/camac-plan.5").split())
-        for its in TABLES:
-            for key, kind in its["properties"].items():
+        for kinds in TABLES:
+            for key, kind in kinds["properties"].items():
                 told = [it for it in re.findall(rf"\.It Cm {key} (.*?)(?= \.It | \.El )", text)]
                 self.assertTrue(told, key)
                 if kind["type"] == "integer" and key != "to":
                     self.assertTrue(any(f"{kind['minimum']} to {kind['maximum']}" in it for it in told), key)
-                if key in its.get("required", []):
+                if key in kinds.get("required", []):
                     self.assertTrue(any(it.endswith("Required.") for it in told), key)
 
     def test_plans(self):
@@ -91,7 +91,7 @@ class Plans(unittest.TestCase):
         wrong = [text for _, text, code, _ in plans.MISTAKES if code in ("P2", "P3", "P4")]
         for old, new, said in (*plans.TABLES, *plans.FIELDS):
             wrong += [SAMPLE.decode().replace(old, new)] * (said[:2] in ("P2", "P3", "P4"))
-        for case in (it for its in ROWS.values() for row in its.values() for it in row if "PLAN" in it.inputs):
+        for case in (it for cases in ROWS.values() for row in cases.values() for it in row if "PLAN" in it.inputs):
             code = re.match(rb"refused (P[234])", case.printed)
             if code or not case.printed.startswith(b"refused P"):
                 (wrong if code else right).append(case.inputs["PLAN"].decode())
@@ -111,11 +111,11 @@ class ManualPages(unittest.TestCase):
         text = page("man/camac-script.5")
         forms = " ".join(re.findall(r"(?m)^\.(?:It )?Cm (.*)$", text)).split()
         self.assertEqual([it for it in keywords() if it not in forms], [])
-        its = [(most, what.replace("`", "")) for what, most in rows(page("docs/LANGUAGE.md"), "## Limits")]
+        limits = [(most, what.replace("`", "")) for what, most in rows(page("docs/LANGUAGE.md"), "## Limits")]
         found = re.findall(r"(?m)^\.It (.*)\n(.*)$", text.partition(".Ss Limits")[2].partition(".El")[0])
-        self.assertEqual(found[:-1], its[:-1])
-        self.assertEqual(found[-1][1], its[-1][1])
-        self.assertTrue(its[-1][0].startswith(found[-1][0]))
+        self.assertEqual(found[:-1], limits[:-1])
+        self.assertEqual(found[-1][1], limits[-1][1])
+        self.assertTrue(limits[-1][0].startswith(found[-1][0]))
 
     def test_events(self):
         lines = re.findall(r"(?m)^\.It (\d.*) Ta (.*) Ta (.*)$", page("man/camac-events.5"))

@@ -62,22 +62,22 @@ class Simulations(Case):
     def test_dead_time_of_one_service(self):
         """While a service runs, so many triggers are lost as a Poisson process has in this time: within four standard deviations."""
         for rate, seed in ((20_000, 1), (70_000, 2), (200_000, 3)):
-            (it,) = self.simulate({"trig": rate}, services=2000, seed=seed).services
+            (service,) = self.simulate({"trig": rate}, services=2000, seed=seed).services
             wanted = 2000 * rate * LONG * CYCLE
-            self.assertEqual(len(it.waits), 2000)
-            self.assertLess(abs(it.lost - wanted), 4 * math.sqrt(wanted), (rate, it.lost))
-            self.assertEqual({round(wait, 6) for wait in it.waits}, {LONG})
+            self.assertEqual(len(service.waits), 2000)
+            self.assertLess(abs(service.lost - wanted), 4 * math.sqrt(wanted), (rate, service.lost))
+            self.assertEqual({round(wait, 6) for wait in service.waits}, {LONG})
             # the live share is 1 / (1 + rate * dead time); its spread follows from that of the triggers that are lost
-            self.assertAlmostEqual(it.live(), 1 / (1 + rate * LONG * CYCLE), delta=4 * math.sqrt(wanted) / 2000 * it.live() ** 2)
-            self.assertAlmostEqual(it.reckoned(CYCLE), 1 / (1 + rate * LONG * CYCLE))
+            self.assertAlmostEqual(service.live(), 1 / (1 + rate * LONG * CYCLE), delta=4 * math.sqrt(wanted) / 2000 * service.live() ** 2)
+            self.assertAlmostEqual(service.reckoned(CYCLE), 1 / (1 + rate * LONG * CYCLE))
 
     def test_regular_triggers(self):
         """Of triggers 5 cycles apart two come while the look-at-me of a third one is up; of triggers 14 cycles apart none does."""
-        (it,) = self.simulate({"trig": 1 / (5 * CYCLE)}, is_regular=True, services=100).services
-        self.assertEqual((it.came - it.lost, it.lost // 2 in (99, 100)), (100, True))
-        (it,) = self.simulate({"trig": 1 / (14 * CYCLE)}, is_regular=True, services=100).services
+        (service,) = self.simulate({"trig": 1 / (5 * CYCLE)}, is_regular=True, services=100).services
+        self.assertEqual((service.came - service.lost, service.lost // 2 in (99, 100)), (100, True))
+        (service,) = self.simulate({"trig": 1 / (14 * CYCLE)}, is_regular=True, services=100).services
         said = camac.response(self.plan, self.script, {"trig": 14})[0]
-        self.assertEqual((it.came, it.lost, it.end, said.every), (100, 0, said.end, 14))
+        self.assertEqual((service.came, service.lost, service.end, said.every), (100, 0, said.end, 14))
 
     def test_how_late(self):
         """Where modules keep their rates, no service ends later than `camac response` says, and the worst is nearly reached."""
@@ -146,10 +146,10 @@ class Simulations(Case):
         self.plan.write_text(PLAN.replace("waits = 0", "waits = 2"))
         body = "cfsa 27 r if not q { cfsa 27 r cfsa 27 r } cclc trig"
         self.script.write_text(f"cdlam trig 1 1 2 12\nservice trig within 12 cycles event 0 words {{ cdreg r 1 1 2 0 {body} }}\n")
-        (it,) = self.simulate({"trig": 100}, services=50, is_worst=True).services
-        self.assertEqual({round(wait, 6) for wait in it.waits}, {12})
-        (it,) = self.simulate({"trig": 100}, services=50).services
-        self.assertLess(min(it.waits), 12)
+        (service,) = self.simulate({"trig": 100}, services=50, is_worst=True).services
+        self.assertEqual({round(wait, 6) for wait in service.waits}, {12})
+        (service,) = self.simulate({"trig": 100}, services=50).services
+        self.assertLess(min(service.waits), 12)
         self.assertIn("assumed: each service takes its bound; Q is 1, but 0 of a probe", self.told("--rate", "trig=1", "--services", "9", "--worst")[1])
 
     def test_single_modules(self):
@@ -205,14 +205,14 @@ class Simulations(Case):
 class Modules(unittest.TestCase):
     def test_declared(self):
         adc = read_plan(LISTED).types["ADC"]
-        its = mock.Declared(adc.declarations, seed=3)
-        its.trigger()
-        self.assertTrue(its.calls())
-        self.assertEqual([its.cycle(12, 8, None), its.cycle(12, 10, None), its.cycle(12, 8, None)], [(1, 1, 0), (1, 1, 0), (1, 0, 0)])
-        self.assertEqual([its.cycle(13, 0, None), its.cycle(0, 9, None), its.cycle(12, 0, None)], [(1, 0, 0), (0, 0, 0), (1, 0, 0)])
-        words = [its.cycle(a, 0, None) for a in range(12)]
+        module = mock.Declared(adc.declarations, seed=3)
+        module.trigger()
+        self.assertTrue(module.calls())
+        self.assertEqual([module.cycle(12, 8, None), module.cycle(12, 10, None), module.cycle(12, 8, None)], [(1, 1, 0), (1, 1, 0), (1, 0, 0)])
+        self.assertEqual([module.cycle(13, 0, None), module.cycle(0, 9, None), module.cycle(12, 0, None)], [(1, 0, 0), (0, 0, 0), (1, 0, 0)])
+        words = [module.cycle(a, 0, None) for a in range(12)]
         self.assertTrue(all((it.x, it.q) == (1, 1) and 0 <= it.word < 4096 for it in words))
-        self.assertEqual((its.cycle(0, 16, 99), its.cycle(0, 0, None)), ((1, 1, 0), (1, 1, 99)))
+        self.assertEqual((module.cycle(0, 16, 99), module.cycle(0, 0, None)), ((1, 1, 0), (1, 1, 99)))
 
 
 LISTED = """\

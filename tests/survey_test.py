@@ -58,8 +58,8 @@ class Wide(Tested):
     """A converter whose words have a bit 13."""
 
     def cycle(self, a, f, data):
-        its = super().cycle(a, f, data)
-        return its._replace(word=its.word | 0x2000) if f == 0 and its.q else its
+        reply = super().cycle(a, f, data)
+        return reply._replace(word=reply.word | 0x2000) if f == 0 and reply.q else reply
 
 
 class Dead(Module):
@@ -76,13 +76,13 @@ def right():
 
 def other(**changed):
     """The modules of the plan, but for those that are changed: s15 is station 5 of crate 1."""
-    its = right()
+    modules = right()
     for name, module in changed.items():
         place = int(name[1]), int(name[2:])
-        its[place] = module
+        modules[place] = module
         if module is None:
-            del its[place]
-    return its
+            del modules[place]
+    return modules
 
 
 TESTED = """\
@@ -141,11 +141,11 @@ class Surveys(Case):
 
     def test_right_crates(self):
         for has_empty in (False, True):
-            its = self.survey(right(), has_empty=has_empty)
-            self.assertEqual(its.differences(), [])
+            surveyed = self.survey(right(), has_empty=has_empty)
+            self.assertEqual(surveyed.differences(), [])
             # each F0 and its probes, F8 and F27 that the plan declares
-            self.assertEqual(its.count(camac.surveys.Found.AGREES), 2 * (16 + 1) + 2 * 2 + 12 + 1)
-            self.assertEqual(its.sent(), (44 if has_empty else 5) * 32 + 2 * 32 + 2 * 1 + 2 * 16 + 12 - 32 * 2 + (2 * 32 if has_empty else 0))
+            self.assertEqual(surveyed.count(camac.surveys.Found.AGREES), 2 * (16 + 1) + 2 * 2 + 12 + 1)
+            self.assertEqual(surveyed.sent(), (44 if has_empty else 5) * 32 + 2 * 32 + 2 * 1 + 2 * 16 + 12 - 32 * 2 + (2 * 32 if has_empty else 0))
 
     def test_each_fault(self):
         for name, (modules, wanted) in [*FAULTS.items(), ("exchanged", EXCHANGED)]:
@@ -173,15 +173,15 @@ class Surveys(Case):
         """By the branch's own account: F8 and F27 everywhere, F0 where it is declared, no lockout, and nothing else; each script is accepted, and the program
         lists the same."""
         recorder = Recorder(self.branch(other(s15=Scaler())))
-        its = camac.survey(self.plan, recorder)
+        surveyed = camac.survey(self.plan, recorder)
         sent = [it.request for it in recorder.operations]
-        self.assertEqual(sent, [it.request for asked in its.asked for it in asked.made])
+        self.assertEqual(sent, [it.request for asked in surveyed.asked for it in asked.made])
         stations = [(1, 5), (1, 6), (1, 7), (4, 2), (4, 23)]
         wanted = {f"cycle {c} {n} {a} {f} none" for c, n in stations for a in range(16) for f in (8, 27)}
         wanted |= {f"cycle {c} {n} {a} 0 in" for c, n, most in ((1, 5, 16), (1, 6, 1), (1, 7, 16), (4, 2, 12), (4, 23, 1)) for a in range(most)}
         self.assertEqual((len(sent), set(sent)), (len(wanted), wanted))
-        for asked in its.asked:
-            plan, text, answers = (self.write(name, its) for name, its in (("p", asked.script.plan), ("s", asked.script.text), ("a", asked.answers())))
+        for asked in surveyed.asked:
+            plan, text, answers = (self.write(name, content) for name, content in (("p", asked.script.plan), ("s", asked.script.text), ("a", asked.answers())))
             status, listing, _ = called("check", plan, text)
             self.assertEqual((status, listing.split(b"\n")[0]), (0, b"accepted"))
             status, listing, _ = called("run", plan, text, answers, self.room / "e")
@@ -191,12 +191,12 @@ class Surveys(Case):
             self.assertEqual(made, [it.request for it in asked.made])
 
     def test_functions(self):
-        its = self.survey(right(), functions=(2, 25), has_empty=False)
-        self.assertEqual({it.request for it in its.asked[0].made}, {f"cycle 1 {n} {a} 2 in" for n in (5, 7) for a in range(12)} | {f"cycle 1 {n} 0 25 none" for n in (5, 7)})
-        self.assertEqual(len(its.asked), 1)
+        surveyed = self.survey(right(), functions=(2, 25), has_empty=False)
+        self.assertEqual({it.request for it in surveyed.asked[0].made}, {f"cycle 1 {n} {a} 2 in" for n in (5, 7) for a in range(12)} | {f"cycle 1 {n} 0 25 none" for n in (5, 7)})
+        self.assertEqual(len(surveyed.asked), 1)
         for wrong in (16, 23, 32, -1):
             self.assertRaises(ValueError, self.survey, right(), functions=(0, wrong))
-        left = " ".join(its.not_tried())
+        left = " ".join(surveyed.not_tried())
         self.assertIn("F16: a survey writes nothing", left)
         self.assertIn("F0, F8, F10, F24, F26, F27: asked for by --also", left)
 
@@ -231,16 +231,16 @@ class Surveys(Case):
         sent = [it.request for it in recorder.operations]
         self.assertEqual([it for it in sent if it.endswith(" 25 none")], [])
         self.assertEqual([it for it in sent if it.startswith("cycle 1 5 12 ")], [f"cycle 1 5 12 {f} none" for f in (26, 10, 10, 24)])
-        its = self.survey(right())
-        its = its._replace(wires=tuple(wires(self.plan, self.branch(modules, {(1, 5): 4, (1, 7): 3}))))
-        self.expect(its.differences(), ["crate 1 station 5 (ADC-12): F25: bit 4", "crate 1 station 7 (ADC-12): F25: bit 3"])
+        surveyed = self.survey(right())
+        surveyed = surveyed._replace(wires=tuple(wires(self.plan, self.branch(modules, {(1, 5): 4, (1, 7): 3}))))
+        self.expect(surveyed.differences(), ["crate 1 station 5 (ADC-12): F25: bit 4", "crate 1 station 7 (ADC-12): F25: bit 3"])
 
     def test_full_branch(self):
         """Seven crates of 23 stations: all is asked, crate after crate, and an interrupt at any cycle leaves no lockout."""
         stations = ", ".join(f'{{ n = {n}, type = "ANY" }}' for n in range(1, 24))
         plan = self.write("full.toml", FULL + "".join(f"[[crate]]\nnumber = {c}\nwaits = 15\nstation = [ {stations} ]\n" for c in range(1, 8)))
-        its = camac.plan(plan)
-        branch = MockBranch({(c, n): Declared(its.types["ANY"].declarations) for c in range(1, 8) for n in range(1, 24)}, {})
+        listed = camac.plan(plan)
+        branch = MockBranch({(c, n): Declared(listed.types["ANY"].declarations) for c in range(1, 8) for n in range(1, 24)}, {})
         told = []
         found = camac.survey(plan, branch, tell=told.append)
         self.assertEqual((found.sent(), found.differences()), (7 * 23 * 64, []))
@@ -289,11 +289,11 @@ class Command(Case):
 
     def test_progress(self):
         """At a terminal."""
-        ours, its = pty.openpty()
+        ours, terminal = pty.openpty()
         self.addCleanup(os.close, ours)
         words = [sys.executable, "-m", "camac", "survey", "@sample", "--driver", "mock"]
-        done = subprocess.run(words, stdout=subprocess.DEVNULL, stderr=its, timeout=60, env={**os.environ, "PYTHONPATH": str(TOP / "python"), "CAMAC_PROGRAM": PROGRAM})
-        os.close(its)
+        done = subprocess.run(words, stdout=subprocess.DEVNULL, stderr=terminal, timeout=60, env={**os.environ, "PYTHONPATH": str(TOP / "python"), "CAMAC_PROGRAM": PROGRAM})
+        os.close(terminal)
         self.assertEqual((done.returncode, os.read(ours, 1000)), (0, b"camac: crate 1, 1 of 1: 81 commands\r\n"))
 
     def test_words(self):
@@ -347,18 +347,18 @@ class Wrong(MockBranch):
     fault = ""
 
     def cycle(self, c, n, a, f, data):
-        its = super().cycle(c, n, a, f, data)
+        answer = super().cycle(c, n, a, f, data)
         if (c, n) not in self.modules and n < 28 and self.fault == f"X of F{f}":
-            return its._replace(x=1)
+            return answer._replace(x=1)
         if self.fault == "stuck" and (n, f) == (6, 0):
-            return its._replace(word=its.word & ~8)
+            return answer._replace(word=answer.word & ~8)
         if self.fault == "other way" and (n, f) == (6, 0):
-            return its._replace(word=int(f"{its.word:08b}"[::-1], 2))
+            return answer._replace(word=int(f"{answer.word:08b}"[::-1], 2))
         if self.fault == "deaf" and n == 6:
-            return its._replace(x=0)
+            return answer._replace(x=0)
         if self.fault == "dead" and n == 28:
             raise OSError("no answer to Z")
-        return its._replace(wait=1) if self.fault == "lockout" and c in self.locked else its
+        return answer._replace(wait=1) if self.fault == "lockout" and c in self.locked else answer
 
 
 class DriverTest(Case):

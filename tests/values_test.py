@@ -147,8 +147,8 @@ class Values(Case):
     def test_run(self):
         answers = self.write("answers", "0 0 000000 0 000004\n1 1 123fff 2 000000\n1 1 000000 1 000000\n")
         words = ["@sample", TOP / "examples/straight_line.script", answers, self.room / "events"]
-        its = Cycle(Command(1, 5, 0, 0), Move.IN, 0x123FFF, 1, 1, 2), Cycle(Command(1, 5, 12, 10), Move.NONE, 0, 1, 1, 1)
-        wanted = [Demand(4, "adc"), *its, RunEnd(Ending.ENDED, "ended events 1", 1)]
+        cycles = Cycle(Command(1, 5, 0, 0), Move.IN, 0x123FFF, 1, 1, 2), Cycle(Command(1, 5, 12, 10), Move.NONE, 0, 1, 1, 1)
+        wanted = [Demand(4, "adc"), *cycles, RunEnd(Ending.ENDED, "ended events 1", 1)]
         self.assertEqual(list(camac.run(*words)), wanted)
         self.assertEqual([event.words for event in camac.read_events(words[3])], [(0xFFF,)])
         begun = camac.run(*words)
@@ -183,8 +183,8 @@ class Printed(Case):
     def test_each_line_of_the_rows(self):
         readers = {"plan": printed.read_plan, "check": read_services, "bounds": read_headings, "costs": bodies.parse_costs, "response": printed.read_responses}
         known, read = re.compile(r"(not )?reached(\n\w+( \d+(\.\.\d+)?){1,3}|\nlock \d)*\n"), collections.Counter()
-        for its in (case for rows in ROWS.values() for cases in rows.values() for case in cases):
-            text, command = its.printed.decode(), its.command.partition(" ")[0]
+        for row in (case for rows in ROWS.values() for cases in rows.values() for case in cases):
+            text, command = row.printed.decode(), row.command.partition(" ")[0]
             lines = text.splitlines()
             if printed.is_refused(text):
                 (code, line, rule, _), sentence, advice, column, rest, also = printed.read_explanation(text)
@@ -193,7 +193,7 @@ class Printed(Case):
                 told = [*[sentence] * bool(sentence), *advice]
                 shown = rest[: len(rest) - len(told)]
                 lines = [it.partition(": ")[0] for it in advice if not it.startswith("Turn: ")]
-                self.assertEqual((lines, rest), (["Why", "Fix", "More"] if its.command in ("explain", "explain --bounds") else [], (*shown, *told)))
+                self.assertEqual((lines, rest), (["Why", "Fix", "More"] if row.command in ("explain", "explain --bounds") else [], (*shown, *told)))
                 self.assertEqual((len(shown), column is None), (0, True) if "P" in code or not told else (2, False))
                 command = "refused"
             elif command == "run":
@@ -201,9 +201,9 @@ class Printed(Case):
             elif command == "drive":
                 self.assertEqual([it for it in lines if not printed.read_request(it.encode())], lines[-1:])
                 self.assertTrue(printed.read_end(lines[-1]))
-            elif "--at" in its.command:
-                self.assertEqual(printed.is_known(text), not its.status)
-                self.assertTrue(its.status or known.fullmatch(text), text)
+            elif "--at" in row.command:
+                self.assertEqual(printed.is_known(text), not row.status)
+                self.assertTrue(row.status or known.fullmatch(text), text)
             elif command != "explain":
                 readers[command](text)
             read[command] += 1
@@ -227,13 +227,13 @@ class Printed(Case):
 
 class Histograms(unittest.TestCase):
     def test_few_values(self):
-        its = Spectrum(8)
-        self.assertEqual((its.bins(), its.mean(), its.rms(), its.least, its.peak()), (Bins(0, 1, [0] * 8), 0.0, 0.0, None, None))
+        few = Spectrum(8)
+        self.assertEqual((few.bins(), few.mean(), few.rms(), few.least, few.peak()), (Bins(0, 1, [0] * 8), 0.0, 0.0, None, None))
         for value in (5, 7, 5, 8):
-            its.add_all([value])
-        self.assertEqual((its.bins(), its.count, its.integral(), its.overflow, its.peak()), (Bins(0, 1, [0, 0, 0, 0, 0, 2, 0, 1]), 4, 3, 1, 5))
-        self.assertEqual((its.mean(), its.least, its.greatest), (25 / 4, 5, 8))
-        self.assertAlmostEqual(its.rms(), statistics.pstdev([5, 7, 5, 8]))
+            few.add_all([value])
+        self.assertEqual((few.bins(), few.count, few.integral(), few.overflow, few.peak()), (Bins(0, 1, [0, 0, 0, 0, 0, 2, 0, 1]), 4, 3, 1, 5))
+        self.assertEqual((few.mean(), few.least, few.greatest), (25 / 4, 5, 8))
+        self.assertAlmostEqual(few.rms(), statistics.pstdev([5, 7, 5, 8]))
 
     def test_bins(self):
         """Whatever comes, one number after another or many at once, the bins hold what a count by hand gives."""
@@ -241,49 +241,49 @@ class Histograms(unittest.TestCase):
         for end in (None, 1, 44, 128, 129, 4096, 1 << 24):
             for greatest in (1, 127, 128, 4095, 0xFFFFFF):
                 values = [chance.randint(0, greatest) for _ in range(300)]
-                its, one_by_one = Spectrum(end), Spectrum(end)
-                its.add_all(values[:100])
-                its.add_all(values[100:])
+                spectrum, one_by_one = Spectrum(end), Spectrum(end)
+                spectrum.add_all(values[:100])
+                spectrum.add_all(values[100:])
                 for value in values:
                     one_by_one.add_all([value])
-                first, width, counts = its.bins()
+                first, width, counts = spectrum.bins()
                 self.assertEqual((first, one_by_one.bins()), (0, (0, width, counts)))
-                self.assertEqual(width, max(1, (its.end if end is None else 1 << (end - 1).bit_length()) >> 16))
+                self.assertEqual(width, max(1, (spectrum.end if end is None else 1 << (end - 1).bit_length()) >> 16))
                 self.assertEqual(width & (width - 1), 0)
                 last = max(values) if end is None else end - 1
                 for low, most in ((0, None), (0, 128), (100, 7)):
-                    bins = its.bins(low, most=most) if low < its.end else Bins(low, 1, [])
+                    bins = spectrum.bins(low, most=most) if low < spectrum.end else Bins(low, 1, [])
                     self.assertTrue(most is None or len(bins.counts) <= most)
                     wanted = collections.Counter((value // width * width - low) // bins.width for value in values if low <= value // width * width and value <= last)
                     self.assertEqual(bins.counts, [wanted[at] for at in range(len(bins.counts))])
-                self.assertEqual((sum(counts), its.overflow), (its.integral(), sum(value > last for value in values)))
+                self.assertEqual((sum(counts), spectrum.overflow), (spectrum.integral(), sum(value > last for value in values)))
                 most = collections.Counter(value // width * width for value in values if value <= last).most_common()
-                self.assertEqual(its.peak(), min((at for at, count in most if count == most[0][1]), default=None))
+                self.assertEqual(spectrum.peak(), min((at for at, count in most if count == most[0][1]), default=None))
 
     def test_series(self):
         """A counter is what its caller says is one, and rises through its last number; what only rises else is values."""
         for full, wanted in ((None, {0: 100, 2: 150, 3: 170, 5: 30}), (200, {2: 50, 3: 20, 5: 60})):
-            its = Series(full)
-            its.add_all([1, 3], [100, 150])
-            its.add_all([4, 6], [170, 30])
-            self.assertEqual((its.means(), its.mean()), (wanted, sum(wanted.values()) / len(wanted)))
-        its = Series(1 << 24)
+            series = Series(full)
+            series.add_all([1, 3], [100, 150])
+            series.add_all([4, 6], [170, 30])
+            self.assertEqual((series.means(), series.mean()), (wanted, sum(wanted.values()) / len(wanted)))
+        series = Series(1 << 24)
         numbers = list(range(1, 1001))
-        its.add_all(numbers, [7 * number for number in numbers])
-        self.assertEqual((its.per, set(its.means().values())), (8, {7.0}))
+        series.add_all(numbers, [7 * number for number in numbers])
+        self.assertEqual((series.per, set(series.means().values())), (8, {7.0}))
 
     def test_pairs(self):
         for most, shifts in ((64, (6, 11)), (100, (6, 11)), (512, (3, 8)), (9999, (3, 8))):
             self.pairs(Pairs(4096, None, most=most), *shifts)
 
-    def pairs(self, its, *shifts):
+    def pairs(self, histogram, *shifts):
         chance = random.Random(2)
         pairs = [(chance.randint(0, 4095), chance.randint(0, 99_999)) for _ in range(500)]
         for some in (pairs[:1], pairs[1:]):
-            its.add_all(*zip(*some))
-        self.assertEqual((its.ends, its.count), ([4096, 1 << 17], 500))
+            histogram.add_all(*zip(*some))
+        self.assertEqual((histogram.ends, histogram.count), ([4096, 1 << 17], 500))
         wanted = collections.Counter((across >> shifts[0], up >> shifts[1]) for across, up in pairs)
-        self.assertEqual(its.cells, wanted)
+        self.assertEqual(histogram.cells, wanted)
 
 
 class Transfers(unittest.TestCase):
@@ -317,8 +317,8 @@ class Columns(unittest.TestCase):
                 for value in names.values(event):
                     wanted[value.column][event.number if value.column.field.kind != "spectrum" else 0, value.number] += 1
             found = collections.defaultdict(collections.Counter)
-            for column, numbers, its in names.numbers(groups(events, 1)):
-                found[column].update(zip(numbers or [0] * len(its), its))
+            for column, numbers, values in names.numbers(groups(events, 1)):
+                found[column].update(zip(numbers or [0] * len(values), values))
             self.assertEqual({it: sum(found[it].values()) for it in found}, {it: sum(wanted[it].values()) for it in wanted})
             self.assertEqual(found, wanted)
 

@@ -85,17 +85,17 @@ class Following(Case):
         """What is counted is what is in these events."""
         counts = self.follower.counts
         self.assertEqual(counts.events, len(wanted))
-        for gl, its in counts.bits.items():
+        for gl, bit in counts.bits.items():
             mine = [it for it in wanted if it.gl == gl]
-            self.assertEqual((its.count, its.missed), (len(mine), sum(it.missed for it in mine)))
-            self.assertEqual((its.cycles.count, its.cycles.total), (len(mine), sum(it.cycles for it in mine)))
+            self.assertEqual((bit.count, bit.missed), (len(mine), sum(it.missed for it in mine)))
+            self.assertEqual((bit.cycles.count, bit.cycles.total), (len(mine), sum(it.cycles for it in mine)))
         words = [word for it in wanted if it.gl == 3 for word in it.words]
         channels = {it.column.name: it.spectrum for it in counts.list_channels()}
         for channel in (1, 2):
-            its = [word & 0xFFF for word in words if word >> 16 == channel]
-            if its:
+            heights = [word & 0xFFF for word in words if word >> 16 == channel]
+            if heights:
                 found = channels[f"pulse height[{channel}]"]
-                self.assertEqual((found.count, found.total, sum(found.counts.values())), (len(its), sum(its), len(its)))
+                self.assertEqual((found.count, found.total, sum(found.counts.values())), (len(heights), sum(heights), len(heights)))
         rates = [it.words[2] for it in wanted if it.gl == 5]
         if rates:
             self.assertEqual((channels["rate[3]"].count, channels["rate[3]"].total), (len(rates), sum(rates)))
@@ -103,15 +103,15 @@ class Following(Case):
 
     def test_growth_by_any_piece(self):
         """Whatever pieces a file grows by, only whole records are taken."""
-        its = events(60)
-        data = NEW_FILE + b"".join(map(record, its))
-        ends = [8 + sum(len(record(it)) for it in its[:at]) for at in range(61)]
+        written = events(60)
+        data = NEW_FILE + b"".join(map(record, written))
+        ends = [8 + sum(len(record(it)) for it in written[:at]) for at in range(61)]
         self.assertEqual((self.poll(), self.follower.state.text), (0, f"No such file or directory: {self.file}"))
         for at in range(0, len(data), 7):
             self.add(data[at : at + 7])
             there = min(at + 7, len(data))
             self.assertEqual(self.poll(0.1), max((k for k, end in enumerate(ends) if end <= there), default=0))
-        self.check(its)
+        self.check(written)
         self.assertEqual((self.follower.state.text, self.follower.state.is_bad, self.follower.restarts), ("follows", False, []))
 
     def test_rate_and_age(self):
@@ -154,11 +154,11 @@ class Following(Case):
 
     def test_a_part_of_the_run(self):
         """What follows from a moment on counts the events behind it."""
-        its = events(500)
-        self.add(NEW_FILE + b"".join(map(record, its[:100])))
+        written = events(500)
+        self.add(NEW_FILE + b"".join(map(record, written[:100])))
         self.poll()
         for at in range(100, 500, 40):
-            self.add(b"".join(map(record, its[at : at + 40])))
+            self.add(b"".join(map(record, written[at : at + 40])))
             self.poll(3.0)
         for mark, first in ((self.follower.before(seconds=7), 380), (self.follower.before(events=100), 380), (self.follower.before(events=9999), 100)):
             part = self.follower.since(mark, self.follower.make_counts)
@@ -166,11 +166,11 @@ class Following(Case):
                 pass
             self.assertEqual((mark.events, part.counts.events, part.counts.fit.count), (first, 500, 500 - first))
             for gl, bit in part.counts.bits.items():
-                self.assertEqual((bit.count, bit.missed), (sum(it.gl == gl for it in its[first:]), sum(it.missed for it in its[first:] if it.gl == gl)))
+                self.assertEqual((bit.count, bit.missed), (sum(it.gl == gl for it in written[first:]), sum(it.missed for it in written[first:] if it.gl == gl)))
 
     def test_alarms(self):
         alarms = [*map(read_alarm, ("silence=30", "x0=4", "plan=3", "rate=2", "rate:tick=1", "rate:nobody=1"))]
-        sounds = lambda *its: [it.partition("=")[0] for it in sounding(alarms, self.follower, SERVICES, its)]
+        sounds = lambda *contradictions: [it.partition("=")[0] for it in sounding(alarms, self.follower, SERVICES, contradictions)]
         self.add(NEW_FILE)
         self.poll()
         self.assertEqual(sounds(), ["rate:nobody"])
@@ -191,13 +191,13 @@ class Following(Case):
                 read_alarm(wrong)
 
     def test_cut(self):
-        its = events(40)
-        self.add(NEW_FILE + b"".join(map(record, its)))
+        written = events(40)
+        self.add(NEW_FILE + b"".join(map(record, written)))
         self.poll()
-        size = 8 + sum(len(record(it)) for it in its[:10])
+        size = 8 + sum(len(record(it)) for it in written[:10])
         os.truncate(self.file, size)
         self.assertEqual(self.poll(), 10)
-        self.check(its[:10])
+        self.check(written[:10])
         self.assertRegex(self.follower.restarts[0], r"^\d\d:\d\d:\d\d: the file was cut; counted again from its beginning$")
 
     def test_replaced(self):
@@ -209,11 +209,11 @@ class Following(Case):
         os.replace(other, self.file)
         self.assertEqual(self.poll(), 50)
         self.assertIn("another file has taken the place", self.follower.restarts[0])
-        its = [it._replace(cycles=it.cycles + 1) for it in events(60)]
+        written = [it._replace(cycles=it.cycles + 1) for it in events(60)]
         with open(self.file, "r+b") as out:
-            out.write(NEW_FILE + b"".join(map(record, its)))
+            out.write(NEW_FILE + b"".join(map(record, written)))
         self.poll()
-        self.check(its)
+        self.check(written)
         self.assertIn("written over", self.follower.restarts[1])
         self.file.unlink()
         self.assertEqual(self.poll(), 60)
@@ -223,12 +223,12 @@ class Following(Case):
 
     def test_wrong_field(self):
         """The events before a fault stay, and the fault is reported, until another file comes."""
-        its = events(20)
-        place = 8 + sum(map(len, map(record, its)))
-        self.add(NEW_FILE + b"".join(map(record, its)) + b"\xca\x4e" + bytes(14))
+        written = events(20)
+        place = 8 + sum(map(len, map(record, written)))
+        self.add(NEW_FILE + b"".join(map(record, written)) + b"\xca\x4e" + bytes(14))
         for _ in range(2):
             self.poll()
-            self.check(its)
+            self.check(written)
             self.assertEqual(self.follower.state, (f"refused V2 byte {place}: marker; the events before it are shown", True))
         self.file.write_bytes(b"no event file at all")
         self.poll()
@@ -239,8 +239,8 @@ class Following(Case):
 
     def test_wrong_bytes_and_then_the_right_ones(self):
         """A copy that writes into the file itself, holes first: all is shown once it is right, even where its time and its length are the same."""
-        its = events(60)
-        data = NEW_FILE + b"".join(map(record, its))
+        written = events(60)
+        data = NEW_FILE + b"".join(map(record, written))
         for hole in (0, 8, 1000, len(data) - 200):
             self.setUp()
             self.add(data[:hole] + b"\xff" * 200 + data[hole + 200 :])
@@ -252,18 +252,18 @@ class Following(Case):
                 out.write(data)
             os.utime(self.file, ns=(before.st_atime_ns, before.st_mtime_ns))
             self.poll()
-            self.check(its)
+            self.check(written)
             self.assertEqual((self.follower.state, self.follower.restarts), (("follows", False), []))
 
     def test_a_wrong_end_that_is_cut_off(self):
-        its = events(20)
-        data = NEW_FILE + b"".join(map(record, its))
+        written = events(20)
+        data = NEW_FILE + b"".join(map(record, written))
         self.add(data + bytes(16))
         self.poll()
         self.assertTrue(self.follower.state.is_bad)
         os.truncate(self.file, len(data))
         self.poll()
-        self.check(its)
+        self.check(written)
         self.assertEqual(self.follower.state, ("follows", False))
 
     def test_no_file(self):
@@ -278,8 +278,8 @@ class Following(Case):
         self.follower = Follower(self.file, lambda: Counts((), Asked()), self.clock)
         self.add(b"CAMACEV1" + bytes.fromhex("ca4d0003 00000001 0002 00000fff 00ffffff"))
         self.assertEqual(self.poll(), 1)
-        its = self.follower.counts.bits[3]
-        self.assertEqual((its.cycles.count, its.words.total), (0, 2))
+        bit = self.follower.counts.bits[3]
+        self.assertEqual((bit.cycles.count, bit.words.total), (0, 2))
 
 
 class ServedCase(laboratory.BenchCase):
@@ -324,9 +324,9 @@ class ServedCase(laboratory.BenchCase):
             pass
         return watch, server
 
-    def append(self, watch, *its):
+    def append(self, watch, *added):
         with open(self.file, "ab") as out:
-            out.write(b"".join(map(record, its)))
+            out.write(b"".join(map(record, added)))
         watch.poll()
         watch.drawn.clear()
 
@@ -367,20 +367,20 @@ class Served(ServedCase):
         watch, server = self.start(**self.bench_files())
         watch.poll()
         parts = json.loads(self.ask(server, path="/state")[1])
-        its = [it for it in camac.read_events(self.file)]
+        written = [it for it in camac.read_events(self.file)]
         tiles = dict(re.findall(r'<b class="(?:bad)?">([^<]*)</b><span>([^<]*)</span>', parts["tiles"]))
         tiles = {word: number for number, word in tiles.items()}
-        self.assertEqual((tiles["events"], tiles["cycles with X = 0"]), (f"{len(its):,}", f"{sum(it.missed for it in its):,}"))
+        self.assertEqual((tiles["events"], tiles["cycles with X = 0"]), (f"{len(written):,}", f"{sum(it.missed for it in written):,}"))
         rows = [re.findall(r"<td[^>]*>([^<]*)</td>", row) for row in re.findall(r"<tr><td.*?</tr>", parts["services"])]
         ends = {it.name: it.end for it in camac.response(*self.bench_files().values())}
         for row in rows:
-            mine = [it for it in its if it.gl == int(row[1])]
+            mine = [it for it in written if it.gl == int(row[1])]
             cycles, words = [it.cycles for it in mine], [len(it.words) for it in mine]
             wanted = [f"{len(mine):,}", f"{statistics.mean(cycles):,.1f}", str(max(cycles)), {"adc": "43", "tick": "26"}[row[0]]]
             wanted += [str(ends[row[0]]), f"{statistics.mean(words):,.1f}", str(max(words)), {"adc": "21", "tick": "12"}[row[0]], str(sum(it.missed for it in mine))]
             self.assertEqual(row[2:], wanted)
         counts = [list(map(int, it.split())) for it in re.findall(r'data-counts="([^"]*)"', parts["cycles"])]
-        self.assertEqual(counts[0], [sum(it.gl == 3 and it.cycles == value for it in its) for value in range(44)])
+        self.assertEqual(counts[0], [sum(it.gl == 3 and it.cycles == value for it in written) for value in range(44)])
         self.assertEqual(parts["last"].count("<tr><td"), 12)
         self.assertEqual({it.name: (it.stat().st_mtime_ns, it.read_bytes()) for it in self.room.iterdir()}, before, "nothing is written")
 
@@ -445,8 +445,8 @@ class Served(ServedCase):
     def test_what_is_asked(self):
         """Gates, regions and a pair are those by hand, also of events that come later and of the last ones; what is no name is told."""
         source, name = random.Random(2), "ADC crate 1 station 5 A"
-        its = [tuple(int(source.gauss(1000 + 50 * at, 40)) for at in range(12)) for _ in range(3000)]
-        made = [record(Event(at, 3, 20, 0, words)) for at, words in enumerate(its, 1)]
+        numbers = [tuple(int(source.gauss(1000 + 50 * at, 40)) for at in range(12)) for _ in range(3000)]
+        made = [record(Event(at, 3, 20, 0, words)) for at, words in enumerate(numbers, 1)]
         self.file.write_bytes(NEW_FILE + b"".join(made[:2000]))
         watch, server = self.start(plan="@sample", script=TOP / "examples/all_channels.script")
         quoted = urllib.parse.quote(name)
@@ -458,7 +458,7 @@ class Served(ServedCase):
         self.file.write_bytes(NEW_FILE + b"".join(made))
         for window, first in windows.items():
             parts = ask(window + asked)
-            passed = [words for words in its[first:] if 990 <= words[1] <= 1060 and 1090 <= words[2] <= 1200]
+            passed = [words for words in numbers[first:] if 990 <= words[1] <= 1060 and 1090 <= words[2] <= 1200]
             rows = [re.findall(r"<td[^>]*>([^<]*)</td>", row)[:2] for row in re.findall("<tr>(.*?)</tr>", parts["one"])[1:]]
             counts = [sum(low <= words[at] <= last for words in passed) for at, low, last in ((0, 950, 1050), (3, 1100, 1200))]
             self.assertEqual(rows, [[f"{name}0 950 to 1,050", f"{counts[0]:,}"], [f"{name}3 1,100 to 1,200", f"{counts[1]:,}"]])

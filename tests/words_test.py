@@ -128,8 +128,8 @@ class OfFile(Case):
             ("place = 3\nas = 'counter'", 24, "counter"), ("place = 3\nas = 'spectrum'", 24, "spectrum"), ("place = 5", 24, "spectrum"), ("", 24, "spectrum"),
             ("place = '1..3'\nof = 'place'", 24, "value"),
         ):
-            its = parse_words(f"[[word]]\ngl = 3\nname = 'x'\n{keys}".encode(), "words.toml", SERVICES, sources).fields[0]
-            self.assertEqual((its.bits, its.kind), ((0, bits - 1), kind), keys)
+            field = parse_words(f"[[word]]\ngl = 3\nname = 'x'\n{keys}".encode(), "words.toml", SERVICES, sources).fields[0]
+            self.assertEqual((field.bits, field.kind), ((0, bits - 1), kind), keys)
 
     def test_other_forms_of_toml(self):
         try:
@@ -367,9 +367,9 @@ class Export(Case):
         """The record stands for plan and script; sources are named, and another plan is refused."""
         text = self.write("a.script", script(["for i = 0 to 3 {", "cdreg r 1 1 5 i", "cfsa 0 r -> v", "put v", "}"], 12, 4))
         (self.room / "run.events").unlink()
-        its = Told(4, 3, 12)
+        branch = Told(4, 3, 12)
         os.environ["CAMAC_PROGRAM"] = PROGRAM
-        camac.drive("@sample", text, its, self.room / "run.events", record=camac.Recording(self.room / "run.json", 5, HOSTILE[0]))
+        camac.drive("@sample", text, branch, self.room / "run.events", record=camac.Recording(self.room / "run.json", 5, HOSTILE[0]))
         self.call("run.events", "-o", "a.csv", "--record", "run.json", without=["numpy"])
         self.call("run.events", "-o", "b.csv", "--plan", "@sample", "--script", "a.script", "--record", "run.json")
         rows = self.rows("a.words.csv")
@@ -512,10 +512,10 @@ class Spectra(Case):
                 self.assertEqual(status, 0)
                 picture = out.read_text()
                 self.assertEqual(drawn.setdefault(bool(gate), picture), picture)
-                its = collections.Counter(values[::2] if gate else values)
+                counted = collections.Counter(values[::2] if gate else values)
                 counts = [int(it) for it in re.findall(r'data-first="1100" data-width="1" data-counts="([^"]*)"', picture)[0].split()]
-                self.assertEqual(counts, [its[at] for at in range(1100, 1250)])
-                peak = max(range(4096), key=lambda at: (its[at], -at))
+                self.assertEqual(counts, [counted[at] for at in range(1100, 1250)])
+                peak = max(range(4096), key=lambda at: (counted[at], -at))
                 self.assertIn(f"peak at {peak:,}<", picture)
                 found = re.findall(r">([0-9.,]+) ± ([0-9.]+)<", picture)
                 self.assertEqual(len(found), 6)
@@ -523,8 +523,8 @@ class Spectra(Case):
                     self.assertLess(abs(float(place.replace(",", "")) - line), 0.3)
                     self.assertLess(float(unsure), 0.1)
                     self.assertLess(abs(float(width) - 8), 0.5)
-                    self.assertIn(f">{sum(its[it] for it in range(low, low + 19)):,}<", picture)
-                    self.assertLess(abs(float(net.replace(",", "")) / sum(its.values()) - 0.16), 0.02)
+                    self.assertIn(f">{sum(counted[it] for it in range(low, low + 19)):,}<", picture)
+                    self.assertLess(abs(float(net.replace(",", "")) / sum(counted.values()) - 0.16), 0.02)
 
     def run_of(self, events, *lines, words=""):
         """The files of a run of these words, of a script with these lines."""
@@ -568,13 +568,13 @@ class Spectra(Case):
         chance = random.Random(6)
         values = [(min(int(chance.expovariate(1 / 700)), 4095), chance.randrange(4096)) for _ in range(70_000)]
         picture = self.drawn(*self.run_of(values, *self.READ), "--bins", "4096", "--region", "ADC crate 1 station 5 A0", "100..299")
-        its = numpy.fromfile(self.room / "run.events", ">u4", offset=8).reshape(-1, 6)
+        rows = numpy.fromfile(self.room / "run.events", ">u4", offset=8).reshape(-1, 6)
         for at in (0, 1):
-            counts = numpy.bincount(its[:, 4 + at].astype(int), minlength=4096)
+            counts = numpy.bincount(rows[:, 4 + at].astype(int), minlength=4096)
             panel = picture[picture.index(f">ADC crate 1 station 5 A{at}<") :]
             self.assertEqual([int(it) for it in re.search('data-counts="([^"]*)"', panel)[1].split()], counts.tolist())
-            self.assertIn(f">mean {its[:, 4 + at].mean():,.1f}, RMS {its[:, 4 + at].std():,.1f}, peak at {counts.argmax():,}<", panel)
-        region = (its[:, 4] >= 100) & (its[:, 4] <= 299)
+            self.assertIn(f">mean {rows[:, 4 + at].mean():,.1f}, RMS {rows[:, 4 + at].std():,.1f}, peak at {counts.argmax():,}<", panel)
+        region = (rows[:, 4] >= 100) & (rows[:, 4] <= 299)
         self.assertIn(f">{region.sum():,}<", picture[picture.index("A0 100 to 299<") :])
 
     def test_a_steady_voltage(self):
@@ -604,8 +604,8 @@ class Spectra(Case):
         name, over = "ADC crate 1 station 5 A0", ["--over", str(self.room / "other.events")]
         made = camac.record.describe(camac.record.Played("@sample", files[1], None, PROGRAM))
         for seconds, told, line in (((), "for as many events", 600), ((8.0, 2.0), "for the same live time (8.0 s, its own 2.0 s)", 1200)):
-            for file, its in zip(("run", "other"), seconds):
-                self.write(f"{file}.json", made._replace(demands=its, services=1.0).text())
+            for file, live in zip(("run", "other"), seconds):
+                self.write(f"{file}.json", made._replace(demands=live, services=1.0).text())
             self.assertIn(f">0 to 4,095; the line: other.events, {told}<", self.drawn(*files, *over))
             page = self.room / "run.html"
             self.assertEqual(main(["report", *files, *over, "-o", str(page), "--overwrite"]), 0)
