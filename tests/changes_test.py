@@ -56,13 +56,13 @@ class Changes(unittest.TestCase):
     def expect_answers(self, words, text, refusals):
         """Each is answered by lines, or by one refusal of these codes."""
         with concurrent.futures.ThreadPoolExecutor(2) as pool:
-            for it, (status, out, err) in zip(changed(text), pool.map(lambda it: answer(words, it), changed(text))):
-                self.assertIn(status, (0, 1), it)
-                self.assertEqual((err, out[-1:]), (b"", b"\n"), it)
+            for made, (status, out, err) in zip(changed(text), pool.map(lambda it: answer(words, it), changed(text))):
+                self.assertIn(status, (0, 1), made)
+                self.assertEqual((err, out[-1:]), (b"", b"\n"), made)
                 if status:
-                    self.assertRegex(out, rb"\Arefused [%s][0-9]+( line [0-9]+| byte [0-9]+)?: [^\n]+\n\Z" % refusals, it)
+                    self.assertRegex(out, rb"\Arefused [%s][0-9]+( line [0-9]+| byte [0-9]+)?: [^\n]+\n\Z" % refusals, made)
                 else:
-                    self.assertNotIn(b"refused", out, it)
+                    self.assertNotIn(b"refused", out, made)
 
     def test_plan(self):
         self.expect_answers("plan @in", SAMPLE, b"P")
@@ -70,10 +70,10 @@ class Changes(unittest.TestCase):
     def expect_sentences(self, words, text):
         """Each refusal of a changed text has its source line, a sentence of the case, and the texts of its rule, and begins as that of `check`."""
         with concurrent.futures.ThreadPoolExecutor(2) as pool:
-            for it, (status, out, err) in zip(changed(text), pool.map(lambda it: answer(words, it), changed(text))):
+            for made, (status, out, err) in zip(changed(text), pool.map(lambda it: answer(words, it), changed(text))):
                 if status:
-                    self.assertEqual((status, err), (1, b""), it)
-                    self.assertRegex(out, EXPLANATION, it)
+                    self.assertEqual((status, err), (1, b""), made)
+                    self.assertRegex(out, EXPLANATION, made)
 
     def test_explanations(self):
         self.expect_sentences("explain @sample @in", FORMS)

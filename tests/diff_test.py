@@ -127,18 +127,18 @@ class Sarif(Plans):
         self.expect_keys("driver", run["tool"]["driver"])
         self.assertEqual(run["invocations"], [{"executionSuccessful": False}])
         found = []
-        for it in run["results"]:
-            self.expect_keys("result", it)
-            self.assertIn(it["level"], ("none", "note", "warning", "error"))
-            self.assertEqual(run["tool"]["driver"]["rules"][it["ruleIndex"]]["id"], it["ruleId"])
-            (location,) = it["locations"]
+        for told in run["results"]:
+            self.expect_keys("result", told)
+            self.assertIn(told["level"], ("none", "note", "warning", "error"))
+            self.assertEqual(run["tool"]["driver"]["rules"][told["ruleIndex"]]["id"], told["ruleId"])
+            (location,) = told["locations"]
             self.expect_keys("location", location)
             place = location["physicalLocation"]
             self.expect_keys("physicalLocation", place)
             line = place.get("region", {}).get("startLine")
             self.assertTrue(line is None or line >= 1)
             self.assertRegex(place["artifactLocation"]["uri"], r"\A([\w.~!$&'()*+,;=:@/-]|%[0-9A-F]{2})+\Z")
-            found.append((unquote(place["artifactLocation"]["uri"]), line, it["level"], it["ruleId"], it["message"]["text"].partition("\n")[0]))
+            found.append((unquote(place["artifactLocation"]["uri"]), line, told["level"], told["ruleId"], told["message"]["text"].partition("\n")[0]))
         self.assertEqual([it[:4] for it in found], [(name, 4, "error", "E12"), ("warned.script", 4, "warning", "W3"), ("none.script", None, "error", "fault")])
         self.assertEqual(found[0][4], "more cycles than annotated")
         self.assertIn("\nWhy: ", run["results"][1]["message"]["text"])

@@ -78,14 +78,14 @@ class Judged(unittest.TestCase):
     def judge(self, name, seconds, seed=SEED, least=0):
         memory = "/dev/shm" if os.access("/dev/shm", os.W_OK) else None
         with tempfile.TemporaryDirectory(prefix="camac-oracle-", dir=memory) as room:
-            it = Comparison(Program(PROGRAM, pathlib.Path(room)), seed, JUDGES[name])
+            comparison = Comparison(Program(PROGRAM, pathlib.Path(room)), seed, JUDGES[name])
             began = used()
-            it.run(0, least)
-            it.run(least, sys.maxsize - least, seconds - (used() - began))
-        print(f"judged: {it.told()}")
+            comparison.run(0, least)
+            comparison.run(least, sys.maxsize - least, seconds - (used() - began))
+        print(f"judged: {comparison.told()}")
         again = f"tools/oracle/compare {name} --seed {seed} --count 1 --first"
-        self.assertEqual([f"{keep(one, it, TOP / 'out/oracle')}: {again} {one.number}" for one in it.differences], [])
-        return it.missing()
+        self.assertEqual([f"{keep(one, comparison, TOP / 'out/oracle')}: {again} {one.number}" for one in comparison.differences], [])
+        return comparison.missing()
 
     def test_every_code(self):
         self.assertEqual(self.judge("answers", 0, OF_CODES, CASES_OF_CODES), [])

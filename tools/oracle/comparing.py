@@ -94,9 +94,9 @@ def used() -> float:
     return times.user + times.system + times.children_user + times.children_system
 
 
-def keep(difference: Difference, it: Comparison, folder: pathlib.Path) -> pathlib.Path:
+def keep(difference: Difference, comparison: Comparison, folder: pathlib.Path) -> pathlib.Path:
     """Writes the files of a difference into a folder of its own."""
-    to = folder / f"{it.judge.name}-seed-{it.seed}-case-{difference.number}-{difference.command}"
+    to = folder / f"{comparison.judge.name}-seed-{comparison.seed}-case-{difference.number}-{difference.command}"
     to.mkdir(parents=True, exist_ok=True)
     for name, data in difference.inputs._asdict().items():
         if data:

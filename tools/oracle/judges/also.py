@@ -23,8 +23,8 @@ def placed_line(refused: Refused, text: bytes, script: Script) -> str:
     return refused.line().replace(":", f" column {column}:", 1)
 
 
-def judge(it: Comparison) -> None:
-    inputs = make_inputs(it.dice(), make_troubled)
+def judge(comparison: Comparison) -> None:
+    inputs = make_inputs(comparison.dice(), make_troubled)
     plan = plan_of(inputs)
     try:
         script = read_script(inputs.script)
@@ -35,9 +35,9 @@ def judge(it: Comparison) -> None:
     absent = [one.what for one in refusals if one.code == "L1"]
     same = [one.line for one in script.services() if script.lams[one.name] in absent]
     wanted = [placed_line(one, inputs.script, script) for one in refusals[1:] if one.code != "L2" or one.place not in same]
-    answered = it.asked("explain", inputs)
+    answered = comparison.asked("explain", inputs)
     found = LINE.findall(answered.out.decode("latin-1")) if answered else None
-    it.judged += bool(refusals)
-    it.seen.update(f"also {one.code[0]}" for one in refusals[1:])
+    comparison.judged += bool(refusals)
+    comparison.seen.update(f"also {one.code[0]}" for one in refusals[1:])
     if found != wanted:
-        it.differs("explain", inputs, told([f"also {one}" for one in wanted], REFUSED, "also"), answered)
+        comparison.differs("explain", inputs, told([f"also {one}" for one in wanted], REFUSED, "also"), answered)

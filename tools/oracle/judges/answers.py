@@ -6,7 +6,7 @@ from oracle.comparing import Comparison
 from oracle.reader.engines import tell
 
 
-def judge(it: Comparison) -> None:
-    case = make_case(it.seed, it.number)
+def judge(comparison: Comparison) -> None:
+    case = make_case(comparison.seed, comparison.number)
     for command in case.commands:
-        it.compare(command, case.inputs, tell(command, case.inputs))
+        comparison.compare(command, case.inputs, tell(command, case.inputs))

@@ -39,8 +39,8 @@ def make_place(random: Random, text: bytes, starts: Iterable[int]) -> Place:
 def make_turns(random: Random, loops: List[ForEach]) -> List[int]:
     """Turns of some `each` loops, or numbers beside their turns."""
     most = random.choice((0, 0, 1, 2, 3)) if loops else random.choice((0, 0, 0, 1))
-    its = [random.choice(loops) if loops else None for _ in range(most)]
-    numbers = [random.choice((it.first, it.first + 1, it.last, it.last + 1, it.first - 1, (it.first + it.last) // 2)) if it else 0 for it in its]
+    chosen = [random.choice(loops) if loops else None for _ in range(most)]
+    numbers = [random.choice((it.first, it.first + 1, it.last, it.last + 1, it.first - 1, (it.first + it.last) // 2)) if it else 0 for it in chosen]
     return [min(max(it, 0), 4_294_967_295) for it in numbers]
 
 
@@ -63,9 +63,9 @@ class Script:
 
     def token_at(self, place: Place) -> Optional[Token]:
         """The last token of the line that begins at or before the column, or else its first one."""
-        its = [it for it in self.tokens if it.line == place.line]
-        before = [it for it in its if it.start - self.text.rfind(b"\n", 0, it.start) <= place.column]
-        return before[-1] if before else its[0] if its else None
+        tokens = [it for it in self.tokens if it.line == place.line]
+        before = [it for it in tokens if it.start - self.text.rfind(b"\n", 0, it.start) <= place.column]
+        return before[-1] if before else tokens[0] if tokens else None
 
     def begun(self, start: int, kind: type) -> int:
         """Where the last thing of this kind begins, at this byte or before it; -1 if there is none."""
@@ -89,39 +89,39 @@ class Script:
 
     def known(self, judged: Judged, block: List[Statement], statement: Statement, turns: List[int]) -> State:
         """What is known before a statement in a block that was judged, in these turns. Raises the refusal of one before it."""
-        for it in block:
-            if is_in(statement, [it]):
-                return self.inside(judged, it, statement, turns)
-            if id(it) in judged.stopped:
-                raise judged.stopped[id(it)]
+        for outer in block:
+            if is_in(statement, [outer]):
+                return self.inside(judged, outer, statement, turns)
+            if id(outer) in judged.stopped:
+                raise judged.stopped[id(outer)]
         return None
 
-    def inside(self, judged: Judged, it: Statement, statement: Statement, turns: List[int]) -> State:
-        refused = judged.stopped.get(id(it))
-        if it is statement or id(it) not in judged.found:
-            return judged.found.get(id(it), (None,))[0]
-        if refused and refused.what is it and refused.code != "E9":
+    def inside(self, judged: Judged, outer: Statement, statement: Statement, turns: List[int]) -> State:
+        refused = judged.stopped.get(id(outer))
+        if outer is statement or id(outer) not in judged.found:
+            return judged.found.get(id(outer), (None,))[0]
+        if refused and refused.what is outer and refused.code != "E9":
             raise refused
-        if isinstance(it, If):
-            return self.known(judged, it.body if is_in(statement, it.body) else it.otherwise or [], statement, turns)
-        if not isinstance(it, ForEach):
-            return self.known(judged, it.body, statement, turns)
+        if isinstance(outer, If):
+            return self.known(judged, outer.body if is_in(statement, outer.body) else outer.otherwise or [], statement, turns)
+        if not isinstance(outer, ForEach):
+            return self.known(judged, outer.body, statement, turns)
         if turns:
-            return self.in_turn(judged, it, statement, turns)
+            return self.in_turn(judged, outer, statement, turns)
         known: State = None
-        for turn in judged.turns.get(id(it), []):
-            known = join(known, self.known(turn, it.body, statement, []))
+        for turn in judged.turns.get(id(outer), []):
+            known = join(known, self.known(turn, outer.body, statement, []))
         return known
 
-    def in_turn(self, judged: Judged, it: ForEach, statement: Statement, turns: List[int]) -> State:
+    def in_turn(self, judged: Judged, loop: ForEach, statement: Statement, turns: List[int]) -> State:
         """The same in one turn of an `each`. Raises the refusal of a turn before it."""
-        at, its = turns[0] - it.first, judged.turns.get(id(it), [])
-        if not 0 <= at < turns_of(it):
+        at, found = turns[0] - loop.first, judged.turns.get(id(loop), [])
+        if not 0 <= at < turns_of(loop):
             return None
-        if at < len(its):
-            return self.known(its[at], it.body, statement, turns[1:])
-        if id(it) in judged.stopped:
-            raise judged.stopped[id(it)]
+        if at < len(found):
+            return self.known(found[at], loop.body, statement, turns[1:])
+        if id(loop) in judged.stopped:
+            raise judged.stopped[id(loop)]
         return None
 
     def lines(self, known: Known, body: int) -> List[str]:
@@ -133,8 +133,8 @@ class Script:
         return lines + [f"locked {it}" for it in sorted(known.locked)]
 
 
-def judge(it: Comparison) -> None:
-    random = it.dice()
+def judge(comparison: Comparison) -> None:
+    random = comparison.dice()
     inputs = (make_inputs if random.random() < 0.8 else make_edge_inputs)(random)
     script: Optional[Script] = None
     try:
@@ -147,4 +147,4 @@ def judge(it: Comparison) -> None:
         if script:
             wanted = script.told(place, turns)
         words = f"--at {place.line}:{place.column}" + "".join(f" --turn {one}" for one in turns)
-        it.compare("explain", inputs._replace(words=words.encode()), wanted)
+        comparison.compare("explain", inputs._replace(words=words.encode()), wanted)

@@ -27,8 +27,8 @@ MOST_TOKENS = 400
 
 def fits(before: List[Token], kind: str, fault: Token) -> bool:
     """Whether S2 does not refuse a token of this kind behind these. Which name or number is right, other rules say."""
-    its = ("name", EACH) if kind == EACH else (kind, "name_of_none")
-    token = Token(*its, 1, fault.line, fault.start)
+    what = ("name", EACH) if kind == EACH else (kind, "name_of_none")
+    token = Token(*what, 1, fault.line, fault.start)
     grammar = Grammar([*before, token, token._replace(kind="end")])
     try:
         grammar.whole()
@@ -39,13 +39,13 @@ def fits(before: List[Token], kind: str, fault: Token) -> bool:
 
 def set_of(items: str, is_procedure: bool) -> FrozenSet[str]:
     """The tokens that are told."""
-    its = re.findall(ONE, items)
-    told_of = frozenset().union(*(KINDS.get(one) or {one.strip("`")} for one in its))
-    return told_of - {"lock"} if is_procedure and "`lock`" not in its else told_of
+    parts = re.findall(ONE, items)
+    told_of = frozenset().union(*(KINDS.get(one) or {one.strip("`")} for one in parts))
+    return told_of - {"lock"} if is_procedure and "`lock`" not in parts else told_of
 
 
-def judge(it: Comparison) -> None:
-    inputs = make_inputs(it.dice(), make_misspelt)
+def judge(comparison: Comparison) -> None:
+    inputs = make_inputs(comparison.dice(), make_misspelt)
     try:
         tokens = read_tokens(inputs.script)
     except Refused:
@@ -58,13 +58,13 @@ def judge(it: Comparison) -> None:
         if refused.code != "S2" or grammar.at > MOST_TOKENS:
             return
         line = refused.line()
-    answered = it.asked("explain", inputs)
+    answered = comparison.asked("explain", inputs)
     text = answered.out.decode("latin-1") if answered else ""
     found = SET.search(text)
-    it.seen["set" if found else "sentence of its own"] += 1
-    it.judged += bool(found)
+    comparison.seen["set" if found else "sentence of its own"] += 1
+    comparison.judged += bool(found)
     wanted = {kind for kind in (*KEYWORDS_TEXT, *SIGNS, EACH, "name", "number") if fits(tokens[: grammar.at], kind, grammar.token)}
     # Where any name fits, that is one.
     wanted -= {EACH} if "name" in wanted else set()
     if not text.startswith(line) or found and set_of(found[1], grammar.is_procedure) != wanted:
-        it.differs("explain", inputs, told([line, f"expected {sorted(wanted)}"], REFUSED, "S2"), answered)
+        comparison.differs("explain", inputs, told([line, f"expected {sorted(wanted)}"], REFUSED, "S2"), answered)

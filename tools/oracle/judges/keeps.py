@@ -44,17 +44,17 @@ def lesser(text: bytes) -> Iterator[bytes]:
     """A script with one bound one less, or one range or one `each` left out."""
     for it in re.finditer(EACH, text):
         yield text[: it.start()] + b" {" + text[it.end() :]
-    for it in KEEP.finditer(text):
-        kept = it[1].split(b", ")
+    for found in KEEP.finditer(text):
+        kept = found[1].split(b", ")
         for at, one in enumerate(kept):
             for other in narrower(one):
-                its = b", ".join(filter(None, [*kept[:at], other, *kept[at + 1 :]]))
-                yield text[: it.start()] + (b" keep " + its if its else b"") + b" {" + text[it.end() :]
-    for it in HEADING.finditer(text):
-        cycles, words = int(it[1]), int(it[2])
+                left = b", ".join(filter(None, [*kept[:at], other, *kept[at + 1 :]]))
+                yield text[: found.start()] + (b" keep " + left if left else b"") + b" {" + text[found.end() :]
+    for found in HEADING.finditer(text):
+        cycles, words = int(found[1]), int(found[2])
         for numbers in ((cycles - 1, words), (cycles, words - 1)):
             if min(numbers) >= 0:
-                yield text[: it.start()] + b"within %d cycles event %d words" % numbers + text[it.end() :]
+                yield text[: found.start()] + b"within %d cycles event %d words" % numbers + text[found.end() :]
 
 
 def with_each(text: bytes) -> bytes:
@@ -62,16 +62,16 @@ def with_each(text: bytes) -> bytes:
     return edited(text, [put_before_block(text, it, "each") for body in read_tree(text).bodies for it in turn_by_turn(body)])
 
 
-def judge(it: Comparison) -> None:
-    random = it.dice()
+def judge(comparison: Comparison) -> None:
+    random = comparison.dice()
     text = make_beginner(random)
-    found = propose("@sample", text, it.program.program)
+    found = propose("@sample", text, comparison.program.program)
     applied = found.applied(text)
-    it.judged += len(found.proposals)
-    it.seen.update(one.kind.value for one in found.proposals)
+    comparison.judged += len(found.proposals)
+    comparison.seen.update(one.kind.value for one in found.proposals)
 
     def differs(script: bytes, what: str, status: int) -> None:
-        it.differs("check", Inputs(script=script, file=text), told([what], status, "keeps"))
+        comparison.differs("check", Inputs(script=script, file=text), told([what], status, "keeps"))
 
     checker, refused = judged(applied, found.remaining is not None)
     remaining = found.remaining and Refused(found.remaining.code, found.remaining.line or 0)
@@ -80,10 +80,10 @@ def judge(it: Comparison) -> None:
     if refused:
         return
     for other in lesser(applied):
-        it.seen["needed"] += 1
+        comparison.seen["needed"] += 1
         if not judged(other)[1]:
             differs(other, "refused: less than was proposed", REFUSED)
     if {one.kind for one in found.proposals} - {Kind.EACH, Kind.HEADING}:
-        it.seen["alone"] += 1
+        comparison.seen["alone"] += 1
         if not judged(with_each(text), True)[1]:
             differs(text, "accepted with `each` alone", GOOD)

@@ -34,8 +34,8 @@ def places(shown: bytes, mark: bytes, line: bytes) -> List[int]:
     return [it + mark.index(b"^") for it in begins]
 
 
-def judge(it: Comparison) -> None:
-    random = it.dice()
+def judge(comparison: Comparison) -> None:
+    random = comparison.dice()
     inputs = (make_inputs if random.random() < 0.7 else make_edge_inputs)(random)
     plan, script = plan_of(inputs), None
     try:
@@ -47,13 +47,13 @@ def judge(it: Comparison) -> None:
     start = start_of(first, script)
     begin = inputs.script.rfind(b"\n", 0, start) + 1
     line = inputs.script[begin:].partition(b"\n")[0].translate(CONTROL)
-    answered = it.asked("explain", inputs)
+    answered = comparison.asked("explain", inputs)
     _, shown, mark, *_ = [*(answered.out.split(b"\n") if answered else []), b"", b"", b""]
-    it.judged += 1
-    it.seen[first.code] += 1
+    comparison.judged += 1
+    comparison.seen[first.code] += 1
     has_mark = b"^" in mark and mark[:MARGIN].strip() == b"|"
     if not has_mark or start - begin not in places(shown[MARGIN:], mark[MARGIN:], line):
-        it.differs("explain", inputs, told([first.line(), f"a ^ below byte {start - begin + 1} of the line"], REFUSED, first.code), answered)
+        comparison.differs("explain", inputs, told([first.line(), f"a ^ below byte {start - begin + 1} of the line"], REFUSED, first.code), answered)
     turn = f"Turn: {', '.join(first.turns)}\n" if first.turns else ""
     if answered and turn != "".join(re.findall("^Turn: .*\n", answered.out.decode("latin-1"), re.M)):
-        it.differs("explain", inputs, told([first.line(), turn], REFUSED, "turn"), answered)
+        comparison.differs("explain", inputs, told([first.line(), turn], REFUSED, "turn"), answered)

@@ -16,20 +16,20 @@ LONGEST = 1_000
 UNKEPT = "does not clear", "cleared by", "hidden by"
 
 
-def judge(it: Comparison) -> None:
-    random = it.dice()
+def judge(comparison: Comparison) -> None:
+    random = comparison.dice()
     inputs = make_inputs(random)
     wanted = tell("response", inputs)
-    it.compare("response", inputs, wanted)
+    comparison.compare("response", inputs, wanted)
     for why in UNKEPT:
-        it.seen[why] += why.encode() in wanted.out
-    it.seen["without a number"] += b" end - " in wanted.out and b"unkept" not in wanted.out
+        comparison.seen[why] += why.encode() in wanted.out
+    comparison.seen["without a number"] += b" end - " in wanted.out and b"unkept" not in wanted.out
     if wanted.reached == "response":
-        it.seen["above a promise"] += wanted.status == REFUSED and b"unkept" not in wanted.out
-        play(it, random, inputs)
+        comparison.seen["above a promise"] += wanted.status == REFUSED and b"unkept" not in wanted.out
+        play(comparison, random, inputs)
 
 
-def play(it: Comparison, random: Random, inputs: Inputs) -> None:
+def play(comparison: Comparison, random: Random, inputs: Inputs) -> None:
     """Plays the script on answers made for it, watches the law, and has the program play it too."""
     checker = checked(inputs)
     services = services_of(checker, rates_of(inputs.words.decode().split())[0])
@@ -46,8 +46,8 @@ def play(it: Comparison, random: Random, inputs: Inputs) -> None:
         faults += [f"the modules break the rate of {call}" for one in watches for call in one.broken if call.service.every]
     inputs = inputs._replace(answers="".join(f"{one}\n" for one in modules.lines).encode())
     if faults:
-        it.differs("response", inputs, told(faults, GOOD, "law"))
+        comparison.differs("response", inputs, told(faults, GOOD, "law"))
     late = [{end.number for end in one.ended if one.found and end.waited == one.found.end} for one in watches]
-    it.seen["end reached"] += any(late)
-    it.seen["end reached by a later call"] += any(one and 1 not in one for one in late)
-    it.compare("run", inputs, listed(modules.run))
+    comparison.seen["end reached"] += any(late)
+    comparison.seen["end reached by a later call"] += any(one and 1 not in one for one in late)
+    comparison.compare("run", inputs, listed(modules.run))

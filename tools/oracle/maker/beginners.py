@@ -53,9 +53,9 @@ class Beginner:
 
 def make_beginner(random: Random) -> bytes:
     """A script that is mostly refused for what its loops forget."""
-    it = Beginner(random)
-    lines = [it.made(("{a} = {c}", "{a} = {s}"))] if random.random() < 0.3 else []
+    beginner = Beginner(random)
+    lines = [beginner.made(("{a} = {c}", "{a} = {s}"))] if random.random() < 0.3 else []
     for _ in range(random.choice((1, 1, 1, 2))):
-        lines += it.loop()
-    lines += [it.made(ENDS) for _ in range(random.choice((1, 1, 2)))]
-    return (OPENING.format(" ".join(it.names)) + "".join(f"{one}\n" for one in lines) + CLOSING).encode()
+        lines += beginner.loop()
+    lines += [beginner.made(ENDS) for _ in range(random.choice((1, 1, 2)))]
+    return (OPENING.format(" ".join(beginner.names)) + "".join(f"{one}\n" for one in lines) + CLOSING).encode()

@@ -69,16 +69,16 @@ class Modules(Answers):
     def up(self) -> List[Service]:
         return [it for it in self.services if len(self.raised[it.name]) > self.answered[it.name]]
 
-    def raise_at(self, its: Service, cycle: int) -> None:
-        self.raised[its.name].append(cycle)
+    def raise_at(self, service: Service, cycle: int) -> None:
+        self.raised[service.name].append(cycle)
         if self.random.random() < 0.7:
-            self.due[its.name] = cycle + (its.every or self.span) + self.random.choice((0, 0, self.random.randrange(self.span)))
+            self.due[service.name] = cycle + (service.every or self.span) + self.random.choice((0, 0, self.random.randrange(self.span)))
 
-    def may_raise(self, its: Service) -> bool:
-        raised = self.raised[its.name]
-        if its.every is None:
-            return len(raised) == self.answered[its.name]
-        return not raised or raised[-1] + its.every <= self.now
+    def may_raise(self, service: Service) -> bool:
+        raised = self.raised[service.name]
+        if service.every is None:
+            return len(raised) == self.answered[service.name]
+        return not raised or raised[-1] + service.every <= self.now
 
     def raise_now(self, services: Sequence[Service]) -> None:
         for it in services:
@@ -110,10 +110,10 @@ class Ambush(Modules):
     def reply(self, most: int) -> Answer:
         return Answer(1, 1, self.random.randrange(2**24), most, 0)
 
-    def raise_at(self, its: Service, cycle: int) -> None:
-        self.raised[its.name].append(cycle)
-        if its.every and its in self.lower:
-            self.due[its.name] = cycle + its.every
+    def raise_at(self, service: Service, cycle: int) -> None:
+        self.raised[service.name].append(cycle)
+        if service.every and service in self.lower:
+            self.due[service.name] = cycle + service.every
 
     def wake(self) -> None:
         self.due.clear()

@@ -59,9 +59,9 @@ def remove_at(nodes: List[Node], line: int) -> bool:
     """Takes the statement of a line out, and returns whether there was one."""
     for node in nodes:
         for block in node.blocks():
-            for it in block:
-                if it.line == line:
-                    block.remove(it)
+            for inner in block:
+                if inner.line == line:
+                    block.remove(inner)
                     return True
     return False
 

@@ -42,7 +42,7 @@ def make_plan(random: Random, bits: List[int]) -> Tuple[bytes, List[Tuple[int, i
     places = [(random.choice((1, 2)), n) for n in range(1, len(bits) + 1)]
     text = TYPE
     for crate in (1, 2):
-        stations = ", ".join(f'{{ n = {n}, type = "A", gl = {bit} }}' for bit, (its, n) in zip(bits, places) if its == crate)
+        stations = ", ".join(f'{{ n = {n}, type = "A", gl = {bit} }}' for bit, (own, n) in zip(bits, places) if own == crate)
         text += f"[[crate]]\nnumber = {crate}\nwaits = {random.choice((0, 0, 1, 2, 15))}\nstation = [ {stations} ]\n".encode()
     return text, places
 
@@ -100,11 +100,11 @@ def make_words(random: Random, checker: Checker) -> bytes:
     every = make_rates(random, {it.name: it.cycles for it in services_of(checker, {})})
     services = services_of(checker, every)
     words = [f"--every {name}={rate}" for name, rate in every.items()]
-    for it in services:
+    for service in services:
         if random.random() < 0.2:
-            found = response_of(services, it)
+            found = response_of(services, service)
             most = random.choice((0, MOST)) if found is None or random.random() < 0.1 else found.end + random.choice((-1, 0, 0, 1, 9))
-            words.append(f"--within {it.name}={min(MOST, max(0, most))}")
+            words.append(f"--within {service.name}={min(MOST, max(0, most))}")
     if random.random() < 0.02:
         words.append(random.choice((*words, "--every nobody=7", "--within nobody=7")))
     random.shuffle(words)

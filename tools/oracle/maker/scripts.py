@@ -38,8 +38,8 @@ class ScriptMaker:
         """Declares LAMs; those that may have a service come first."""
         served: List[str] = []
         others: List[str] = []
-        for crate, it in self.plan.crates.items():
-            for n, station in it.stations.items():
+        for crate, in_crate in self.plan.crates.items():
+            for n, station in in_crate.stations.items():
                 subs = [a for f, a in station.module.widths if f in (8, 10, 24, 26)] or [0]
                 name = f"l{crate}_{n}"
                 (served if station.gl else others).append(name)
@@ -126,15 +126,15 @@ class ScriptMaker:
 
     def promise(self) -> None:
         """Headings that promise more than is needed, or one less."""
-        for it in self.bodies():
+        for body in self.bodies():
             how = self.random.random()
-            numbers = list(it.numbers)
+            numbers = list(body.numbers)
             at = self.random.randrange(3)
             if how < 0.04:
                 numbers[at] = max(0, numbers[at] - 1)
             elif how < 0.3:
                 numbers = [min(4_294_967_295, one + self.random.choice((0, 1, 100))) for one in numbers]
-            it.put_numbers((numbers[0], numbers[1], numbers[2]))
+            body.put_numbers((numbers[0], numbers[1], numbers[2]))
 
 
 def another(random: Random, word: str, words: List[str]) -> str:
@@ -158,8 +158,8 @@ def change_meaning(random: Random, text: str) -> str:
     places = [it for it in places if random.random() < 0.2 or not AFTER_BRANCH.search(text[max(0, it.start() - 40) : it.start()])]
     if not places:
         return text
-    it = random.choice(places)
-    return text[: it.start()] + another(random, it.group(), [one.group() for one in places]) + text[it.end() :]
+    place = random.choice(places)
+    return text[: place.start()] + another(random, place.group(), [one.group() for one in places]) + text[place.end() :]
 
 
 def change_words(random: Random, text: str) -> str:
@@ -167,10 +167,10 @@ def change_words(random: Random, text: str) -> str:
     places = list(WORD.finditer(text))
     if not places:
         return text
-    it = random.choice(places)
+    place = random.choice(places)
     other = random.choice((random.choice(places).group(), random.choice((*SIGNS, *sorted(KEYWORDS_TEXT), "each", "0", "z", "Z" * 33))))
-    new = random.choice(("", f"{it.group()} {it.group()}", f"{other} {it.group()}", other, other))
-    return text[: it.start()] + new + text[it.end() :]
+    new = random.choice(("", f"{place.group()} {place.group()}", f"{other} {place.group()}", other, other))
+    return text[: place.start()] + new + text[place.end() :]
 
 
 def change_line(random: Random, text: str) -> str:

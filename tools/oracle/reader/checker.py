@@ -41,12 +41,12 @@ class Judged:
             for one in turns:
                 yield from one.all()
 
-    def found_of(self, it: Statement) -> Iterator[Tuple[Known, Cost]]:
+    def found_of(self, statement: Statement) -> Iterator[Tuple[Known, Cost]]:
         """What is known before a statement and what it costs, wherever it is judged: in an `each` once for each turn."""
-        return (one.found[id(it)] for one in self.all() if id(it) in one.found)
+        return (one.found[id(statement)] for one in self.all() if id(statement) in one.found)
 
-    def known(self, it: Statement) -> Iterator[Known]:
-        return (known for known, _ in self.found_of(it))
+    def known(self, statement: Statement) -> Iterator[Known]:
+        return (known for known, _ in self.found_of(statement))
 
 
 class Checker:
@@ -121,14 +121,14 @@ class Checker:
         return state, cost
 
     @contextmanager
-    def turn_of(self, it: ForEach, number: int) -> Iterator[None]:
+    def turn_of(self, loop: ForEach, number: int) -> Iterator[None]:
         """A turn, of which what is found is kept apart."""
         around, self.judged = self.judged, Judged()
-        around.turns.setdefault(id(it), []).append(self.judged)
+        around.turns.setdefault(id(loop), []).append(self.judged)
         try:
             yield
         except Refused as refused:
-            refused.turns.insert(0, f"{it.name} = {number}")
+            refused.turns.insert(0, f"{loop.name} = {number}")
             raise
         finally:
             self.judged = around
@@ -143,36 +143,36 @@ class Checker:
             raise Refused("E6", line)
         return known.registers[register]
 
-    def assign(self, known: Known, it: Assign) -> Tuple[State, Cost]:
-        value = value_of(known, it.value, it.line)
-        self.writes(it.name, it.line)
-        return known.with_variable(it.name, value), STEP
+    def assign(self, known: Known, statement: Assign) -> Tuple[State, Cost]:
+        value = value_of(known, statement.value, statement.line)
+        self.writes(statement.name, statement.line)
+        return known.with_variable(statement.name, value), STEP
 
-    def set_register(self, known: Known, it: SetRegister) -> Tuple[State, Cost]:
-        address = Address(*(value_of(known, part, it.line) for part in it.address))
-        return known._replace(registers={**known.registers, it.register: address}), STEP
+    def set_register(self, known: Known, statement: SetRegister) -> Tuple[State, Cost]:
+        address = Address(*(value_of(known, part, statement.line) for part in statement.address))
+        return known._replace(registers={**known.registers, statement.register: address}), STEP
 
-    def cycle(self, known: Known, it: Cycle) -> Tuple[State, Cost]:
-        value = value_of(known, it.value, it.line) if it.value is not None else None
-        if it.into is not None:
-            self.writes(it.into, it.line)
-        address = self.address(known, it.register, it.line)
-        widths = widths_of(self.plan, address, it.function, it.line)
-        moves = "read" if it.into is not None else "control" if value is None else "write"
-        if kind_of(it.function) != moves:
-            raise Refused("E3", it.line)
-        if value is not None and (value[1] >= 2**widths.least or it.is_short and value[1] > SHORT_WORD):
-            raise Refused("E5", it.line)
+    def cycle(self, known: Known, statement: Cycle) -> Tuple[State, Cost]:
+        value = value_of(known, statement.value, statement.line) if statement.value is not None else None
+        if statement.into is not None:
+            self.writes(statement.into, statement.line)
+        address = self.address(known, statement.register, statement.line)
+        widths = widths_of(self.plan, address, statement.function, statement.line)
+        moves = "read" if statement.into is not None else "control" if value is None else "write"
+        if kind_of(statement.function) != moves:
+            raise Refused("E3", statement.line)
+        if value is not None and (value[1] >= 2**widths.least or statement.is_short and value[1] > SHORT_WORD):
+            raise Refused("E5", statement.line)
         cost = Cost(one_cycle(self.plan, address.crate, known.locked), 0, 1)
-        if it.into is not None:
+        if statement.into is not None:
             greatest = 2**widths.greatest - 1
-            known = known.with_variable(it.into, (0, min(greatest, SHORT_WORD) if it.is_short else greatest))
+            known = known.with_variable(statement.into, (0, min(greatest, SHORT_WORD) if statement.is_short else greatest))
         return known, cost
 
-    def lam_call(self, known: Known, it: LamCall) -> Tuple[State, Cost]:
-        lam = self.script.lams[it.lam]
+    def lam_call(self, known: Known, statement: LamCall) -> Tuple[State, Cost]:
+        lam = self.script.lams[statement.lam]
         address = Address((lam.crate, lam.crate), (lam.station, lam.station), (lam.sub, lam.sub))
-        widths_of(self.plan, address, LAM_FUNCTIONS[it.call], it.line)
+        widths_of(self.plan, address, LAM_FUNCTIONS[statement.call], statement.line)
         return known, Cost(one_cycle(self.plan, address.crate, known.locked), 0, 1)
 
     def one_crate(self, known: Known, expression: Expression, line: int, refused: FrozenSet[int]) -> Range:
@@ -182,60 +182,60 @@ class Checker:
             raise Refused("E15", line)
         return crate
 
-    def crate_call(self, known: Known, it: CrateCall) -> Tuple[State, Cost]:
-        crate = self.one_crate(known, it.crate, it.line, frozenset())
+    def crate_call(self, known: Known, statement: CrateCall) -> Tuple[State, Cost]:
+        crate = self.one_crate(known, statement.crate, statement.line, frozenset())
         return known, Cost(one_cycle(self.plan, crate, known.locked), 0, 1)
 
-    def put(self, known: Known, it: Put) -> Tuple[State, Cost]:
-        if value_of(known, it.value, it.line)[1] > GREATEST_WORD:
-            raise Refused("E16", it.line)
+    def put(self, known: Known, statement: Put) -> Tuple[State, Cost]:
+        if value_of(known, statement.value, statement.line)[1] > GREATEST_WORD:
+            raise Refused("E16", statement.line)
         return known, Cost(0, 1, 1)
 
-    def choice(self, known: Known, it: If) -> Tuple[State, Cost]:
-        test_values(known, it.condition, it.line)
-        fails = where(known, it.condition, False, it.line)
+    def choice(self, known: Known, statement: If) -> Tuple[State, Cost]:
+        test_values(known, statement.condition, statement.line)
+        fails = where(known, statement.condition, False, statement.line)
         if fails is None:
-            self.judged.never_else.add(id(it))
+            self.judged.never_else.add(id(statement))
         around = self.loop_variables
         try:
-            after, cost = self.block(where(known, it.condition, True, it.line), it.body)
+            after, cost = self.block(where(known, statement.condition, True, statement.line), statement.body)
         except Refused:
             self.loop_variables = around
             with suppress(Refused):
-                self.block(fails, it.otherwise or [])
+                self.block(fails, statement.otherwise or [])
             raise
-        other, other_cost = self.block(fails, it.otherwise or [])
+        other, other_cost = self.block(fails, statement.otherwise or [])
         return join(after, other), STEP.plus(cost.greater(other_cost))
 
-    def lock(self, known: Known, it: Lock) -> Tuple[State, Cost]:
-        crate, _ = self.one_crate(known, it.crate, it.line, known.locked)
-        after, cost = self.block(known._replace(locked=known.locked | {crate}), it.body)
+    def lock(self, known: Known, statement: Lock) -> Tuple[State, Cost]:
+        crate, _ = self.one_crate(known, statement.crate, statement.line, known.locked)
+        after, cost = self.block(known._replace(locked=known.locked | {crate}), statement.body)
         if after is not None:
             after = after._replace(locked=known.locked)
         return after, cost.plus(Cost(self.plan.waits(crate), 0, 2))
 
-    def call(self, known: Known, it: Call) -> Tuple[State, Cost]:
-        values = [value_of(known, argument, it.line) for argument in it.arguments]
-        parameters = self.script.procedures[it.procedure].parameters
+    def call(self, known: Known, statement: Call) -> Tuple[State, Cost]:
+        values = [value_of(known, argument, statement.line) for argument in statement.arguments]
+        parameters = self.script.procedures[statement.procedure].parameters
         if not all(is_inside(value, (one.first, one.last)) for value, one in zip(values, parameters)):
-            raise Refused("E21", it.line)
-        return known, STEP.plus(self.headings[it.procedure])
+            raise Refused("E21", statement.line)
+        return known, STEP.plus(self.headings[statement.procedure])
 
     def verdict(self) -> List[str]:
         lines = ["accepted"]
-        for it, (cycles, words, steps) in zip(self.script.bodies, self.costs):
-            if it.is_service:
-                gl = gl_of(self.script, self.plan, it.name)
-                lines.append(f"service {it.name} gl {gl} cycles {cycles} of {it.cycles} words {words} of {it.words} steps {steps}")
+        for body, (cycles, words, steps) in zip(self.script.bodies, self.costs):
+            if body.is_service:
+                gl = gl_of(self.script, self.plan, body.name)
+                lines.append(f"service {body.name} gl {gl} cycles {cycles} of {body.cycles} words {words} of {body.words} steps {steps}")
         return lines
 
     def least_headings(self) -> List[str]:
         """What `bounds` prints, once the script was judged with `is_least`."""
         lines = []
-        for it, (cycles, words, steps) in zip(self.script.bodies, self.costs):
+        for body, (cycles, words, steps) in zip(self.script.bodies, self.costs):
             numbers = f"within {cycles} cycles event {words} words"
-            ranges = ", ".join(f"{one.name} in {one.first}..{one.last}" for one in it.parameters)
-            lines.append(f"service {it.name} {numbers}" if it.is_service else f"proc {it.name}({ranges}) {numbers} steps {steps}")
+            ranges = ", ".join(f"{one.name} in {one.first}..{one.last}" for one in body.parameters)
+            lines.append(f"service {body.name} {numbers}" if body.is_service else f"proc {body.name}({ranges}) {numbers} steps {steps}")
         return lines
 
 

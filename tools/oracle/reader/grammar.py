@@ -240,10 +240,10 @@ class Grammar(Cursor):
     def read_for(self, line: int, _kind: str) -> Statement:
         name = self.known(self.seen)
         self.take("=")
-        its = self.tokens[self.at : self.at + 4]
-        if [it.kind for it in its] == ["number", "to", "number", "name"] and its[3].text == EACH:
+        ahead = self.tokens[self.at : self.at + 4]
+        if [it.kind for it in ahead] == ["number", "to", "number", "name"] and ahead[3].text == EACH:
             self.at += 4
-            return ForEach(line, name, its[0].value, its[2].value, self.block())
+            return ForEach(line, name, ahead[0].value, ahead[2].value, self.block())
         first = self.expression()
         last = self.most("to")
         return For(line, name, first, last, self.keeps(name), self.block())

@@ -71,100 +71,101 @@ class Looks:
             self.sent[body.name] = self.commands(body)
         return sorted((one for it in self.script.services() for one in self.of(it)), key=lambda it: (it.bit, it.line))
 
-    def of(self, it: Body) -> Iterator[Unkept]:
-        lam, bit = self.script.lams[it.name], gl_of(self.script, self.plan, it.name) or 0
-        if not self.clears(it.block, lam):
-            yield Unkept(bit, it.line, it.name, "does not clear its look-at-me")
+    def of(self, body: Body) -> Iterator[Unkept]:
+        lam, bit = self.script.lams[body.name], gl_of(self.script, self.plan, body.name) or 0
+        if not self.clears(body.block, lam):
+            yield Unkept(bit, body.line, body.name, "does not clear its look-at-me")
         for why, test in WHYS:
             for other in self.script.services():
                 lines = [line for command, line in self.sent[other.name].items() if test(self.plan, lam, command)]
-                if lines and (other is not it or test is may_hide):
-                    yield Unkept(bit, min(lines), it.name, f"{why} {other.name}")
+                if lines and (other is not body or test is may_hide):
+                    yield Unkept(bit, min(lines), body.name, f"{why} {other.name}")
 
     def clears(self, block: List[Statement], lam: Lam) -> bool:
         """Whether each way through a block clears the look-at-me, as its text shows."""
         return any(self.is_clearing(it, lam) for it in block)
 
-    def is_clearing(self, it: Statement, lam: Lam) -> bool:
-        if isinstance(it, Block) and not all(isinstance(most, int) and most >= 1 for most in (it.most, it.limit) if most is not None):
+    def is_clearing(self, statement: Statement, lam: Lam) -> bool:
+        if isinstance(statement, Block) and not all(isinstance(it, int) and it >= 1 for it in (statement.most, statement.limit) if it is not None):
             return False
-        if isinstance(it, (LamCall, Cycle, Block)):
-            its = self.of_statement(it)
-            return bool(its) and all(must_clear(self.plan, lam, command) for command in its)
-        if isinstance(it, If):
-            return self.clears(it.body, lam) and self.clears(it.otherwise or [], lam)
-        if isinstance(it, (For, ForEach)):
-            return isinstance(it.first, int) and isinstance(it.last, int) and it.first <= it.last and self.clears(it.body, lam)
-        if isinstance(it, Call):
-            return self.clears(self.script.procedures[it.procedure].block, lam)
-        return isinstance(it, Lock) and self.clears(it.body, lam)
+        if isinstance(statement, (LamCall, Cycle, Block)):
+            commands = self.of_statement(statement)
+            return bool(commands) and all(must_clear(self.plan, lam, command) for command in commands)
+        if isinstance(statement, If):
+            return self.clears(statement.body, lam) and self.clears(statement.otherwise or [], lam)
+        if isinstance(statement, (For, ForEach)):
+            first, last = statement.first, statement.last
+            return isinstance(first, int) and isinstance(last, int) and first <= last and self.clears(statement.body, lam)
+        if isinstance(statement, Call):
+            return self.clears(self.script.procedures[statement.procedure].block, lam)
+        return isinstance(statement, Lock) and self.clears(statement.body, lam)
 
-    def may_clear_twice(self, it: Body) -> bool:
-        return self.times(it.block, self.script.lams[it.name]) == 2
+    def may_clear_twice(self, body: Body) -> bool:
+        return self.times(body.block, self.script.lams[body.name]) == 2
 
     def times(self, block: List[Statement], lam: Lam) -> int:
         """How often a way through a block may clear the look-at-me, up to two."""
         return min(2, sum(self.times_of(it, lam) for it in block))
 
-    def times_of(self, it: Statement, lam: Lam) -> int:
-        if isinstance(it, If):
-            return max(self.times(it.body, lam), self.times(it.otherwise or [], lam))
-        if isinstance(it, (For, ForEach, While)):
-            return self.turns(it) * self.times(it.body, lam)
-        if isinstance(it, Lock):
-            return self.times(it.body, lam)
-        if isinstance(it, Call):
-            which = it.procedure, lam.crate, lam.station, lam.sub
+    def times_of(self, statement: Statement, lam: Lam) -> int:
+        if isinstance(statement, If):
+            return max(self.times(statement.body, lam), self.times(statement.otherwise or [], lam))
+        if isinstance(statement, (For, ForEach, While)):
+            return self.turns(statement) * self.times(statement.body, lam)
+        if isinstance(statement, Lock):
+            return self.times(statement.body, lam)
+        if isinstance(statement, Call):
+            which = statement.procedure, lam.crate, lam.station, lam.sub
             if which not in self.called:
-                self.called[which] = self.times(self.script.procedures[it.procedure].block, lam)
+                self.called[which] = self.times(self.script.procedures[statement.procedure].block, lam)
             return self.called[which]
-        its = [command for command in self.of_statement(it) if may_clear(self.plan, lam, command)]
-        if not its or not isinstance(it, (Block, Scan)):
-            return min(1, len(its))
-        most = max(cost.steps for _, cost in self.checker.judged.found_of(it)) - 1
-        return min(most, len({sub for _, _, sub, _ in its})) if isinstance(it, Scan) else most
+        commands = [command for command in self.of_statement(statement) if may_clear(self.plan, lam, command)]
+        if not commands or not isinstance(statement, (Block, Scan)):
+            return min(1, len(commands))
+        most = max(cost.steps for _, cost in self.checker.judged.found_of(statement)) - 1
+        return min(most, len({sub for _, _, sub, _ in commands})) if isinstance(statement, Scan) else most
 
-    def turns(self, it: Union[For, ForEach, While]) -> int:
+    def turns(self, loop: Union[For, ForEach, While]) -> int:
         """The most turns of a loop; none where it, or its block, is not reached."""
-        judged = [one for one in self.checker.judged.all() if it.body and id(it) in one.found]
-        if isinstance(it, ForEach):
-            return max((len(one.turns.get(id(it), [])) for one in judged), default=0)
-        known = [one.found[id(it)][0] for one in judged if id(it.body[0]) in one.found]
-        if isinstance(it, While):
-            return it.turns if known else 0
-        return max((value_of(one, it.last, it.line)[1] - value_of(one, it.first, it.line)[0] + 1 for one in known), default=0)
+        judged = [one for one in self.checker.judged.all() if loop.body and id(loop) in one.found]
+        if isinstance(loop, ForEach):
+            return max((len(one.turns.get(id(loop), [])) for one in judged), default=0)
+        known = [one.found[id(loop)][0] for one in judged if id(loop.body[0]) in one.found]
+        if isinstance(loop, While):
+            return loop.turns if known else 0
+        return max((value_of(one, loop.last, loop.line)[1] - value_of(one, loop.first, loop.line)[0] + 1 for one in known), default=0)
 
     def commands(self, body: Body) -> Dict[Command, int]:
         found: Dict[Command, int] = {}
-        for it in everything(body.block):
-            its = self.sent[it.procedure] if isinstance(it, Call) else dict.fromkeys(self.of_statement(it), it.line)
-            for command, line in its.items():
+        for statement in everything(body.block):
+            sent = self.sent[statement.procedure] if isinstance(statement, Call) else dict.fromkeys(self.of_statement(statement), statement.line)
+            for command, line in sent.items():
                 found[command] = min(line, found.get(command, line))
         return found
 
-    def of_statement(self, it: Statement) -> Set[Command]:
+    def of_statement(self, statement: Statement) -> Set[Command]:
         """The commands of a statement, by what is known before it. A scan counts for all of its stations, a LAM call also where it is not reached.
         In an `each` the addresses of all turns count together."""
-        if isinstance(it, LamCall):
-            lam = self.script.lams[it.lam]
-            return {(lam.crate, lam.station, lam.sub, LAM_FUNCTIONS[it.call])}
-        its = self.addresses(it)
-        if not its:
+        if isinstance(statement, LamCall):
+            lam = self.script.lams[statement.lam]
+            return {(lam.crate, lam.station, lam.sub, LAM_FUNCTIONS[statement.call])}
+        addresses = self.addresses(statement)
+        if not addresses:
             return set()
-        crates, stations, subs = (functools.reduce(hull, ranges) for ranges in zip(*its))
-        if isinstance(it, CrateCall):
-            return {(c, *CRATE_COMMANDS[it.call]) for c in numbers(crates)}
-        return {(c, n, a, it.function) for c in numbers(crates) for n in numbers(stations) for a in numbers(subs)}
+        crates, stations, subs = (functools.reduce(hull, ranges) for ranges in zip(*addresses))
+        if isinstance(statement, CrateCall):
+            return {(c, *CRATE_COMMANDS[statement.call]) for c in numbers(crates)}
+        return {(c, n, a, statement.function) for c in numbers(crates) for n in numbers(stations) for a in numbers(subs)}
 
-    def addresses(self, it: Statement) -> List[Address]:
+    def addresses(self, statement: Statement) -> List[Address]:
         """Where a statement goes each time that it is judged. That of a call of a controller has only a crate."""
-        its = []
-        for known in self.checker.judged.known(it):
-            if isinstance(it, CrateCall):
-                its.append(Address(value_of(known, it.crate, it.line), (0, 0), (0, 0)))
-            elif isinstance(it, (Cycle, Block)):
-                its.append(known.registers[it.register])
-            elif isinstance(it, Scan):
-                first, last = known.registers[it.first], known.registers[it.last]
-                its.append(Address(first.crate, (first.station[0], last.station[1]), (0, 15)))
-        return its
+        addresses = []
+        for known in self.checker.judged.known(statement):
+            if isinstance(statement, CrateCall):
+                addresses.append(Address(value_of(known, statement.crate, statement.line), (0, 0), (0, 0)))
+            elif isinstance(statement, (Cycle, Block)):
+                addresses.append(known.registers[statement.register])
+            elif isinstance(statement, Scan):
+                first, last = known.registers[statement.first], known.registers[statement.last]
+                addresses.append(Address(first.crate, (first.station[0], last.station[1]), (0, 15)))
+        return addresses

@@ -18,21 +18,21 @@ JUDGED = 65_536
 
 def everything(statements: List[Statement]) -> Iterator[Statement]:
     """All statements of a block, at any depth."""
-    for it in statements:
-        yield it
-        if isinstance(it, If):
-            yield from everything(it.body + (it.otherwise or []))
-        elif isinstance(it, (For, ForEach, While, Lock)):
-            yield from everything(it.body)
+    for statement in statements:
+        yield statement
+        if isinstance(statement, If):
+            yield from everything(statement.body + (statement.otherwise or []))
+        elif isinstance(statement, (For, ForEach, While, Lock)):
+            yield from everything(statement.body)
 
 
-def written_by(it: Statement) -> Optional[str]:
+def written_by(statement: Statement) -> Optional[str]:
     """The variable that a statement itself writes."""
-    if isinstance(it, (Assign, For, ForEach)):
-        return it.name
-    if isinstance(it, (Scan, Block)):
-        return it.tally
-    return it.into if isinstance(it, Cycle) else None
+    if isinstance(statement, (Assign, For, ForEach)):
+        return statement.name
+    if isinstance(statement, (Scan, Block)):
+        return statement.tally
+    return statement.into if isinstance(statement, Cycle) else None
 
 
 def head_of(known: Known, body: List[Statement], keeps: List[Keep], name: str, range_: Range) -> Known:
@@ -56,31 +56,31 @@ def cost_of(turns: int, body: Cost) -> Cost:
     return STEP.plus(body.plus(STEP).times(turns))
 
 
-def for_(checker: Checker, known: Known, it: For) -> Tuple[State, Cost]:
-    first, last = value_of(known, it.first, it.line), value_of(known, it.last, it.line)
-    checker.writes(it.name, it.line)
+def for_(checker: Checker, known: Known, loop: For) -> Tuple[State, Cost]:
+    first, last = value_of(known, loop.first, loop.line), value_of(known, loop.last, loop.line)
+    checker.writes(loop.name, loop.line)
     turns = max(0, last[1] - first[0] + 1)
     if turns > TURNS:
-        raise Refused("E10", it.line)
-    test_keeps(known, it.keeps, "E8", it.line)
+        raise Refused("E10", loop.line)
+    test_keeps(known, loop.keeps, "E8", loop.line)
     if not turns:
         return known, STEP
-    entry, own = known.variables[it.name], (first[0], last[1])
-    head = head_of(known, it.body, it.keeps, it.name, own)
-    around, checker.loop_variables = checker.loop_variables, (*checker.loop_variables, it.name)
-    after, cost = checker.block(head, it.body)
+    entry, own = known.variables[loop.name], (first[0], last[1])
+    head = head_of(known, loop.body, loop.keeps, loop.name, own)
+    around, checker.loop_variables = checker.loop_variables, (*checker.loop_variables, loop.name)
+    after, cost = checker.block(head, loop.body)
     checker.loop_variables = around
-    test_keeps(after, it.keeps, "E9", it.line)
-    return head.with_variable(it.name, hull(entry, own)), cost_of(turns, cost)
+    test_keeps(after, loop.keeps, "E9", loop.line)
+    return head.with_variable(loop.name, hull(entry, own)), cost_of(turns, cost)
 
 
-def turns_of(it: ForEach) -> int:
-    return max(0, it.last - it.first + 1)
+def turns_of(loop: ForEach) -> int:
+    return max(0, loop.last - loop.first + 1)
 
 
-def judged_in(it: ForEach) -> int:
+def judged_in(loop: ForEach) -> int:
     """What is judged in an `each`: its turns, and in each of them the statements of its block."""
-    return turns_of(it) * (1 + judged_by(it.body))
+    return turns_of(loop) * (1 + judged_by(loop.body))
 
 
 def judged_by(block: List[Statement]) -> int:
@@ -94,69 +94,69 @@ def judged_by(block: List[Statement]) -> int:
 
 def outermost(block: List[Statement]) -> Iterator[ForEach]:
     """The `each` loops of a block that are in no other one, in text order."""
-    for it in block:
-        if isinstance(it, ForEach):
-            yield it
-        elif isinstance(it, If):
-            yield from outermost(it.body + (it.otherwise or []))
-        elif isinstance(it, (For, While, Lock)):
-            yield from outermost(it.body)
+    for statement in block:
+        if isinstance(statement, ForEach):
+            yield statement
+        elif isinstance(statement, If):
+            yield from outermost(statement.body + (statement.otherwise or []))
+        elif isinstance(statement, (For, While, Lock)):
+            yield from outermost(statement.body)
 
 
 def test_judged(body: Body) -> None:
     """E10 at the `each` with which those of a body judge too much, before anything of it is judged."""
     count = 0
-    for it in outermost(body.block):
-        count += judged_in(it)
+    for loop in outermost(body.block):
+        count += judged_in(loop)
         if count > JUDGED:
-            raise Refused("E10", it.line, it)
+            raise Refused("E10", loop.line, loop)
 
 
-def each(checker: Checker, known: Known, it: ForEach) -> Tuple[State, Cost]:
+def each(checker: Checker, known: Known, loop: ForEach) -> Tuple[State, Cost]:
     """Judges the block for each turn, from what the one before has left."""
-    checker.writes(it.name, it.line)
-    if turns_of(it) > TURNS:
-        raise Refused("E10", it.line)
+    checker.writes(loop.name, loop.line)
+    if turns_of(loop) > TURNS:
+        raise Refused("E10", loop.line)
     state: State = known
     cost = STEP
-    around, checker.loop_variables = checker.loop_variables, (*checker.loop_variables, it.name)
-    for number in range(it.first, it.last + 1):
+    around, checker.loop_variables = checker.loop_variables, (*checker.loop_variables, loop.name)
+    for number in range(loop.first, loop.last + 1):
         if state is None:
             break
-        with checker.turn_of(it, number):
-            state, one = checker.block(state.with_variable(it.name, (number, number)), it.body)
+        with checker.turn_of(loop, number):
+            state, one = checker.block(state.with_variable(loop.name, (number, number)), loop.body)
         cost = cost.plus(STEP).plus(one)
     checker.loop_variables = around
-    if state is not None and turns_of(it):
+    if state is not None and turns_of(loop):
         # A loop in the block may keep it in a wider range.
-        state = state.with_variable(it.name, (it.last, it.last))
+        state = state.with_variable(loop.name, (loop.last, loop.last))
     return state, cost
 
 
-def falls_by(it: While) -> Optional[int]:
+def falls_by(loop: While) -> Optional[int]:
     """What each turn takes from the measure, or None if the rule on measures is broken."""
-    falls = [one for one in it.body if isinstance(one, Assign) and one.name == it.measure]
-    written = [one for one in everything(it.body) if written_by(one) == it.measure]
+    falls = [one for one in loop.body if isinstance(one, Assign) and one.name == loop.measure]
+    written = [one for one in everything(loop.body) if written_by(one) == loop.measure]
     if len(falls) != 1 or len(written) != 1:
         return None
     value = falls[0].value
-    if not isinstance(value, Operation) or value.sign != "-" or value.left != it.measure or not isinstance(value.right, int):
+    if not isinstance(value, Operation) or value.sign != "-" or value.left != loop.measure or not isinstance(value.right, int):
         return None
     return value.right or None
 
 
-def while_(checker: Checker, known: Known, it: While) -> Tuple[State, Cost]:
-    step = falls_by(it)
+def while_(checker: Checker, known: Known, loop: While) -> Tuple[State, Cost]:
+    step = falls_by(loop)
     if step is None:
-        raise Refused("E7", it.line)
-    most = known.variables[it.measure][1]
-    if it.turns > TURNS or most // step > it.turns:
-        raise Refused("E10", it.line)
-    test_keeps(known, it.keeps, "E8", it.line)
-    head = head_of(known, it.body, it.keeps, it.measure, (0, most))
-    test_values(head, it.condition, it.line)
-    inside = where(head, it.condition, True, it.line)
-    after, cost = checker.block(inside, it.body)
-    test_keeps(after, it.keeps, "E9", it.line)
-    turns = 0 if inside is None else it.turns
-    return where(head, it.condition, False, it.line), cost_of(turns, cost)
+        raise Refused("E7", loop.line)
+    most = known.variables[loop.measure][1]
+    if loop.turns > TURNS or most // step > loop.turns:
+        raise Refused("E10", loop.line)
+    test_keeps(known, loop.keeps, "E8", loop.line)
+    head = head_of(known, loop.body, loop.keeps, loop.measure, (0, most))
+    test_values(head, loop.condition, loop.line)
+    inside = where(head, loop.condition, True, loop.line)
+    after, cost = checker.block(inside, loop.body)
+    test_keeps(after, loop.keeps, "E9", loop.line)
+    turns = 0 if inside is None else loop.turns
+    return where(head, loop.condition, False, loop.line), cost_of(turns, cost)

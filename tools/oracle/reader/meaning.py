@@ -135,92 +135,92 @@ class Run:
         for it in statements:
             DOES[type(it)](self, it)
 
-    def assign(self, it: Assign) -> None:
-        self.variables[it.name] = self.value(it.value)
+    def assign(self, statement: Assign) -> None:
+        self.variables[statement.name] = self.value(statement.value)
 
-    def set_register(self, it: SetRegister) -> None:
-        crate, station, sub = (self.value(part) for part in it.address)
-        self.registers[it.register] = crate, station, sub
+    def set_register(self, statement: SetRegister) -> None:
+        crate, station, sub = (self.value(part) for part in statement.address)
+        self.registers[statement.register] = crate, station, sub
 
-    def single(self, it: Cycle) -> None:
-        moves = "read" if it.into is not None else "control" if it.value is None else "write"
-        command = Command(*self.registers[it.register], it.function, moves, None if it.value is None else self.value(it.value))
+    def single(self, cycle: Cycle) -> None:
+        moves = "read" if cycle.into is not None else "control" if cycle.value is None else "write"
+        command = Command(*self.registers[cycle.register], cycle.function, moves, None if cycle.value is None else self.value(cycle.value))
         word = self.cycle(command)
-        if it.into is not None:
-            self.variables[it.into] = self.cut(word, command, SHORT_BITS if it.is_short else 24)
+        if cycle.into is not None:
+            self.variables[cycle.into] = self.cut(word, command, SHORT_BITS if cycle.is_short else 24)
 
-    def scan(self, it: Scan) -> None:
-        crate, station, sub = self.registers[it.first]
-        _, last_station, last_sub = self.registers[it.last]
-        most, kept = self.value(it.most), 0
+    def scan(self, statement: Scan) -> None:
+        crate, station, sub = self.registers[statement.first]
+        _, last_station, last_sub = self.registers[statement.last]
+        most, kept = self.value(statement.most), 0
         while kept < most and (station, sub) <= (last_station, last_sub):
-            command = Command(crate, station, sub, it.function, "read")
+            command = Command(crate, station, sub, statement.function, "read")
             word = self.cycle(command)
             if self.q:
                 self.words.append(self.cut(word, command))
                 kept += 1
             station, sub = (station, sub + 1) if self.q and sub < LAST_SUB else (station + 1, 0)
-        self.variables[it.tally] = kept
+        self.variables[statement.tally] = kept
 
-    def transfer(self, it: Block) -> None:
+    def transfer(self, statement: Block) -> None:
         """Q-stop ends after a Q = 0; Q-repeat goes on, up to its limit."""
-        most, done, cycles = self.value(it.most), 0, 0
-        limit = most if it.limit is None else self.value(it.limit)
-        table = self.script.tables[it.table] if it.table else []
-        address = self.registers[it.register]
+        most, done, cycles = self.value(statement.most), 0, 0
+        limit = most if statement.limit is None else self.value(statement.limit)
+        table = self.script.tables[statement.table] if statement.table else []
+        address = self.registers[statement.register]
         while done < most and cycles < limit:
-            command = Command(*address, it.function, "write" if it.table else "read", table[done] if it.table else None)
+            command = Command(*address, statement.function, "write" if statement.table else "read", table[done] if statement.table else None)
             word = self.cycle(command)
             cycles += 1
-            if self.q and not it.table:
+            if self.q and not statement.table:
                 self.words.append(self.cut(word, command))
             done += self.q
-            if not self.q and it.limit is None:
+            if not self.q and statement.limit is None:
                 break
-        self.variables[it.tally] = done
+        self.variables[statement.tally] = done
 
-    def put(self, it: Put) -> None:
-        self.words.append(self.value(it.value))
+    def put(self, statement: Put) -> None:
+        self.words.append(self.value(statement.value))
 
-    def crate_call(self, it: CrateCall) -> None:
-        station, sub, function = CRATE_COMMANDS[it.call]
-        self.cycle(Command(self.value(it.crate), station, sub, function, kind_of(function)))
+    def crate_call(self, statement: CrateCall) -> None:
+        station, sub, function = CRATE_COMMANDS[statement.call]
+        self.cycle(Command(self.value(statement.crate), station, sub, function, kind_of(function)))
 
-    def lam_call(self, it: LamCall) -> None:
-        lam: Lam = self.script.lams[it.lam]
-        self.cycle(Command(lam.crate, lam.station, lam.sub, LAM_FUNCTIONS[it.call], "control"))
+    def lam_call(self, statement: LamCall) -> None:
+        lam: Lam = self.script.lams[statement.lam]
+        self.cycle(Command(lam.crate, lam.station, lam.sub, LAM_FUNCTIONS[statement.call], "control"))
 
-    def choice(self, it: If) -> None:
-        self.block(it.body if self.holds(it.condition) else it.otherwise or [])
+    def choice(self, statement: If) -> None:
+        self.block(statement.body if self.holds(statement.condition) else statement.otherwise or [])
 
-    def for_(self, it: For) -> None:
-        for number in range(self.value(it.first), self.value(it.last) + 1):
-            self.variables[it.name] = number
-            self.block(it.body)
+    def for_(self, loop: For) -> None:
+        for number in range(self.value(loop.first), self.value(loop.last) + 1):
+            self.variables[loop.name] = number
+            self.block(loop.body)
 
-    def each(self, it: ForEach) -> None:
-        self.for_(For(it.line, it.name, it.first, it.last, [], it.body))
+    def each(self, loop: ForEach) -> None:
+        self.for_(For(loop.line, loop.name, loop.first, loop.last, [], loop.body))
 
-    def while_(self, it: While) -> None:
-        while self.holds(it.condition):
-            self.block(it.body)
+    def while_(self, loop: While) -> None:
+        while self.holds(loop.condition):
+            self.block(loop.body)
 
-    def lock(self, it: Lock) -> None:
-        crate = self.value(it.crate)
+    def lock(self, statement: Lock) -> None:
+        crate = self.value(statement.crate)
         self.requests.append(f"lock {crate}")
         answer = self.answer()
         self.branch.permit(crate, answer.wait)
         self.branch.locked.add(crate)
         self.cost += answer.wait
         self.listing.append(f"lock {crate} wait {answer.wait}")
-        self.block(it.body)
+        self.block(statement.body)
         self.branch.locked.discard(crate)
         self.listing.append(f"unlock {crate}")
         self.requests.append(f"unlock {crate}")
 
-    def call(self, it: Call) -> None:
-        procedure = self.script.procedures[it.procedure]
-        values = [self.value(argument) for argument in it.arguments]
+    def call(self, statement: Call) -> None:
+        procedure = self.script.procedures[statement.procedure]
+        values = [self.value(argument) for argument in statement.arguments]
         around = self.variables, self.registers
         self.variables, self.registers = {one.name: value for one, value in zip(procedure.parameters, values)}, {}
         self.block(procedure.block)

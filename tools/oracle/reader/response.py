@@ -61,19 +61,19 @@ class Search:
 
 
 @functools.lru_cache(maxsize=32)
-def response_of(services: Tuple[Service, ...], its: Service) -> Optional[Response]:
+def response_of(services: Tuple[Service, ...], service: Service) -> Optional[Response]:
     """The numbers of one of these services, or None."""
     search = Search()
-    before = max([0, *(it.cycles for it in services if it.bit > its.bit)])
-    lower = [it for it in services if it.bit < its.bit]
+    before = max([0, *(it.cycles for it in services if it.bit > service.bit)])
+    lower = [it for it in services if it.bit < service.bit]
     try:
-        longest = search.least(before, [*lower, its])
+        longest = search.least(before, [*lower, service])
         start = 0
-        for earlier in range(its.calls(longest)):
-            start = max(start, search.least(before + earlier * its.cycles, lower) - earlier * (its.every or 0))
+        for earlier in range(service.calls(longest)):
+            start = max(start, search.least(before + earlier * service.cycles, lower) - earlier * (service.every or 0))
     except NoNumber:
         return None
-    return Response(start, start + its.cycles, longest)
+    return Response(start, start + service.cycles, longest)
 
 
 def kept_of(services: Tuple[Service, ...], unkept: List[Unkept]) -> List[Service]:
@@ -99,12 +99,12 @@ def services_of(checker: Checker, every: Dict[str, int]) -> Tuple[Service, ...]:
     return tuple(sorted(services, key=lambda it: it.bit))
 
 
-def line_of(its: Service, found: Optional[Response], within: Optional[int], twice: bool) -> str:
+def line_of(service: Service, found: Optional[Response], within: Optional[int], twice: bool) -> str:
     start, end, longest = found or ("-", "-", "-")
-    rate = "once" if its.every is None else f"every {its.every}"
+    rate = "once" if service.every is None else f"every {service.every}"
     promised = "" if within is None else f" of {within}"
     again = " clears 2" if twice else ""
-    return f"service {its.name} gl {its.bit} cycles {its.cycles} {rate} start {start} end {end}{promised} longest {longest}{again}"
+    return f"service {service.name} gl {service.bit} cycles {service.cycles} {rate} start {start} end {end}{promised} longest {longest}{again}"
 
 
 def response_lines(checker: Checker, every: Dict[str, int], within: Dict[str, int]) -> Tuple[List[str], bool]:

@@ -65,18 +65,18 @@ class Row(NamedTuple):
         return f"line {self.line} depth {self.depth} {self.word} times {self.times} {each} share {'{} {} {}'.format(*self.share)}{self.tail.text()}"
 
 
-def word_of(it: Statement) -> str:
-    if isinstance(it, Cycle):
-        return "cssa" if it.is_short else "cfsa"
-    if isinstance(it, Block):
-        return "cfubc" if it.limit is None else "cfubr"
-    if isinstance(it, (CrateCall, LamCall)):
-        return it.call.split()[0]
-    return WORDS[type(it)]
+def word_of(statement: Statement) -> str:
+    if isinstance(statement, Cycle):
+        return "cssa" if statement.is_short else "cfsa"
+    if isinstance(statement, Block):
+        return "cfubc" if statement.limit is None else "cfubr"
+    if isinstance(statement, (CrateCall, LamCall)):
+        return statement.call.split()[0]
+    return WORDS[type(statement)]
 
 
-def range_text(it: Range) -> str:
-    return str(it[0]) if it[0] == it[1] else f"{it[0]}..{it[1]}"
+def range_text(ends: Range) -> str:
+    return str(ends[0]) if ends[0] == ends[1] else f"{ends[0]}..{ends[1]}"
 
 
 def multiplied(a: Cost, b: Cost) -> Cost:
@@ -89,9 +89,9 @@ class Shares:
     def __init__(self, checker: Checker) -> None:
         self.checker, self.judged = checker, checker.judged
 
-    def found(self, it: Statement) -> Tuple[State, Cost]:
+    def found(self, statement: Statement) -> Tuple[State, Cost]:
         """What was known before a statement (None if it cannot be reached), and what one time of it costs."""
-        return self.judged.found.get(id(it), (None, NOTHING))
+        return self.judged.found.get(id(statement), (None, NOTHING))
 
     def block_cost(self, block: List[Statement]) -> Cost:
         cost = NOTHING
@@ -99,89 +99,89 @@ class Shares:
             cost = cost.plus(self.found(it)[1])
         return cost
 
-    def turns(self, it: For | ForEach | While) -> int:
+    def turns(self, loop: For | ForEach | While) -> int:
         """A loop of T turns has 1 step and T times (1 + the steps of its block). Those of an `each` are known."""
-        if isinstance(it, ForEach):
-            return len(self.judged.turns.get(id(it), []))
-        return (self.found(it)[1].steps - 1) // (1 + self.block_cost(it.body).steps)
+        if isinstance(loop, ForEach):
+            return len(self.judged.turns.get(id(loop), []))
+        return (self.found(loop)[1].steps - 1) // (1 + self.block_cost(loop.body).steps)
 
     def rows(self, block: List[Statement], depth: int, counted: Counted) -> Iterator[Row]:
-        for it in block:
-            known, each = self.found(it)
+        for statement in block:
+            known, each = self.found(statement)
             here = counted if known is not None else Counted(0, NOTHING)
-            share = multiplied(self.own(it, known, each), here.weight)
-            yield Row(it.line, depth, word_of(it), here.times, each, share, self.tail(it, known))
-            yield from self.inside(it, depth, here)
+            share = multiplied(self.own(statement, known, each), here.weight)
+            yield Row(statement.line, depth, word_of(statement), here.times, each, share, self.tail(statement, known))
+            yield from self.inside(statement, depth, here)
 
-    def own(self, it: Statement, known: State, each: Cost) -> Cost:
+    def own(self, statement: Statement, known: State, each: Cost) -> Cost:
         """The cost of one time without its block."""
         if known is None:
             return NOTHING
-        if isinstance(it, If):
+        if isinstance(statement, If):
             return STEP
-        if isinstance(it, (For, ForEach, While)):
-            return Cost(steps=1 + self.turns(it))
-        if isinstance(it, Lock):
-            return Cost(self.checker.plan.waits(value_of(known, it.crate, it.line)[0]), 0, 2)
+        if isinstance(statement, (For, ForEach, While)):
+            return Cost(steps=1 + self.turns(statement))
+        if isinstance(statement, Lock):
+            return Cost(self.checker.plan.waits(value_of(known, statement.crate, statement.line)[0]), 0, 2)
         return each
 
-    def inside(self, it: Statement, depth: int, here: Counted) -> Iterator[Row]:
-        if isinstance(it, If):
-            yield from self.arms(it, depth, here)
-        elif isinstance(it, (For, While)):
-            turns = self.turns(it) if here.times else 0
-            yield from self.rows(it.body, depth + 1, Counted(here.times * turns, here.weight.times(turns)))
-        elif isinstance(it, ForEach):
-            yield from self.each(it, depth + 1, here)
-        elif isinstance(it, Lock):
-            yield from self.rows(it.body, depth + 1, here)
+    def inside(self, statement: Statement, depth: int, here: Counted) -> Iterator[Row]:
+        if isinstance(statement, If):
+            yield from self.arms(statement, depth, here)
+        elif isinstance(statement, (For, While)):
+            turns = self.turns(statement) if here.times else 0
+            yield from self.rows(statement.body, depth + 1, Counted(here.times * turns, here.weight.times(turns)))
+        elif isinstance(statement, ForEach):
+            yield from self.each(statement, depth + 1, here)
+        elif isinstance(statement, Lock):
+            yield from self.rows(statement.body, depth + 1, here)
 
-    def each(self, it: ForEach, depth: int, here: Counted) -> List[Row]:
+    def each(self, loop: ForEach, depth: int, here: Counted) -> List[Row]:
         """The rows of all turns as one; without a turn those of what cannot be reached."""
         around = self.judged
         self.judged = Judged()
-        rows = list(self.rows(it.body, depth, Counted(0, NOTHING)))
-        for self.judged in around.turns.get(id(it), []):
-            rows = [one.merged(other) for one, other in zip(rows, self.rows(it.body, depth, here))]
+        rows = list(self.rows(loop.body, depth, Counted(0, NOTHING)))
+        for self.judged in around.turns.get(id(loop), []):
+            rows = [one.merged(other) for one, other in zip(rows, self.rows(loop.body, depth, here))]
         self.judged = around
         return rows
 
-    def arms(self, it: If, depth: int, here: Counted) -> Iterator[Row]:
+    def arms(self, statement: If, depth: int, here: Counted) -> Iterator[Row]:
         """For each number the greater arm counts, the first if both are alike."""
-        first, second = self.block_cost(it.body), self.block_cost(it.otherwise or [])
+        first, second = self.block_cost(statement.body), self.block_cost(statement.otherwise or [])
         of_first = Cost(*(int(a >= b) for a, b in zip(first, second)))
-        yield from self.rows(it.body, depth + 1, here._replace(weight=multiplied(here.weight, of_first)))
-        if it.otherwise is not None:
-            is_reached = here.times and id(it) not in self.judged.never_else
-            yield Row(it.line, depth, "else", here.times if is_reached else 0, second, NOTHING)
+        yield from self.rows(statement.body, depth + 1, here._replace(weight=multiplied(here.weight, of_first)))
+        if statement.otherwise is not None:
+            is_reached = here.times and id(statement) not in self.judged.never_else
+            yield Row(statement.line, depth, "else", here.times if is_reached else 0, second, NOTHING)
             of_second = Cost(*(1 - one for one in of_first))
-            yield from self.rows(it.otherwise, depth + 1, here._replace(weight=multiplied(here.weight, of_second)))
+            yield from self.rows(statement.otherwise, depth + 1, here._replace(weight=multiplied(here.weight, of_second)))
 
-    def tail(self, it: Statement, known: State) -> Tail:
+    def tail(self, statement: Statement, known: State) -> Tail:
         """The tail of a row. The address of a LAM and the name of a procedure are known in any case."""
-        if isinstance(it, LamCall):
-            lam = self.checker.script.lams[it.lam]
+        if isinstance(statement, LamCall):
+            lam = self.checker.script.lams[statement.lam]
             return Tail(f"at {lam.crate} {lam.station} {lam.sub}")
-        if isinstance(it, Call):
-            return Tail(f"proc {it.procedure}")
+        if isinstance(statement, Call):
+            return Tail(f"proc {statement.procedure}")
         if known is None:
             return Tail()
-        if isinstance(it, (For, ForEach, While)):
-            return Tail("turns", ((0, self.turns(it)),))
-        if isinstance(it, (Lock, CrateCall)):
-            return Tail("crate", (value_of(known, it.crate, it.line),))
-        if isinstance(it, Scan):
-            return Tail("at", (*known.registers[it.first], *known.registers[it.last]))
-        return Tail("at", known.registers[it.register]) if isinstance(it, (Cycle, Block)) else Tail()
+        if isinstance(statement, (For, ForEach, While)):
+            return Tail("turns", ((0, self.turns(statement)),))
+        if isinstance(statement, (Lock, CrateCall)):
+            return Tail("crate", (value_of(known, statement.crate, statement.line),))
+        if isinstance(statement, Scan):
+            return Tail("at", (*known.registers[statement.first], *known.registers[statement.last]))
+        return Tail("at", known.registers[statement.register]) if isinstance(statement, (Cycle, Block)) else Tail()
 
-    def head(self, it: Body, cost: Cost) -> str:
+    def head(self, body: Body, cost: Cost) -> str:
         cycles, words, steps = cost
-        numbers = f"cycles {cycles} of {it.cycles} words {words} of {it.words} steps {steps}"
-        if not it.is_service:
-            return f"proc {it.name} line {it.line} {numbers} of {it.steps}"
-        lam = self.checker.script.lams[it.name]
-        gl = gl_of(self.checker.script, self.checker.plan, it.name)
-        return f"service {it.name} line {it.line} gl {gl} at {lam.crate} {lam.station} {lam.sub} {numbers}"
+        numbers = f"cycles {cycles} of {body.cycles} words {words} of {body.words} steps {steps}"
+        if not body.is_service:
+            return f"proc {body.name} line {body.line} {numbers} of {body.steps}"
+        lam = self.checker.script.lams[body.name]
+        gl = gl_of(self.checker.script, self.checker.plan, body.name)
+        return f"service {body.name} line {body.line} gl {gl} at {lam.crate} {lam.station} {lam.sub} {numbers}"
 
     def lines(self) -> List[str]:
         lines = []

@@ -28,8 +28,8 @@ class Watch:
     `raised` has the cycles of the run at which its look-at-mes were raised. If it is empty, calls alone are watched.
     """
 
-    def __init__(self, its: Service, found: Optional[Response], raised: Sequence[int] = ()) -> None:
-        self.its, self.found, self.raised = its, found, raised
+    def __init__(self, service: Service, found: Optional[Response], raised: Sequence[int] = ()) -> None:
+        self.service, self.found, self.raised = service, found, raised
         self.faults: List[str] = []
         self.broken: List[Called] = []
         self.ended: List[Ended] = []
@@ -42,7 +42,7 @@ class Watch:
 
     def operate(self, called: Optional[Service]) -> None:
         """A graded-L operation, and what it calls."""
-        was_stretch, self.is_stretch = self.is_stretch, called is not None and called.bit <= self.its.bit
+        was_stretch, self.is_stretch = self.is_stretch, called is not None and called.bit <= self.service.bit
         if self.is_stretch and not was_stretch:
             self.is_kept, self.elapsed = True, self.since
             self.calls.clear()
@@ -53,7 +53,7 @@ class Watch:
             if call.number > called.calls(call.elapsed):
                 self.is_kept = False
                 self.broken.append(call)
-            self.answered += called == self.its
+            self.answered += called == self.service
             self.look("is called")
 
     def spend(self, cycles: int) -> None:
@@ -66,10 +66,10 @@ class Watch:
 
     def end(self) -> None:
         """The service that was called, if any, has ended."""
-        if self.called == self.its:
+        if self.called == self.service:
             self.look("has ended")
             if self.is_kept:
-                self.ended.append(Ended(self.calls[self.its.name], self.waited()))
+                self.ended.append(Ended(self.calls[self.service.name], self.waited()))
         self.called = None
 
     def waited(self) -> Optional[int]:
@@ -80,25 +80,25 @@ class Watch:
         if self.found is None or not self.is_kept:
             return
         if self.elapsed > self.found.longest:
-            self.faults.append(f"the stretch of {self.its.name} takes {self.elapsed} cycles")
-        if self.called == self.its:
+            self.faults.append(f"the stretch of {self.service.name} takes {self.elapsed} cycles")
+        if self.called == self.service:
             most = self.found.start if what == "is called" else self.found.end
-            number, waited = self.calls[self.its.name], self.waited()
-            if self.elapsed > (number - 1) * (self.its.every or 0) + most:
-                self.faults.append(f"{self.its.name} {what}, call {number} of its stretch, after {self.elapsed} cycles")
+            number, waited = self.calls[self.service.name], self.waited()
+            if self.elapsed > (number - 1) * (self.service.every or 0) + most:
+                self.faults.append(f"{self.service.name} {what}, call {number} of its stretch, after {self.elapsed} cycles")
             if waited is not None and waited > most:
-                self.faults.append(f"{self.its.name} {what} {waited} cycles after look-at-me {self.answered}")
+                self.faults.append(f"{self.service.name} {what} {waited} cycles after look-at-me {self.answered}")
 
 
 def watch(watches: List[Watch], listing: List[str]) -> None:
     """Has the watches of all services of a script see the lines of a run."""
-    services = {it.its.name: it.its for it in watches}
+    services = {it.service.name: it.service for it in watches}
     for line in listing:
         words = line.split()
-        for it in watches:
+        for one in watches:
             if words[0] in ("demand", "ended"):
-                it.end()
+                one.end()
             if words[0] == "demand":
-                it.operate(services.get(words[2]))
+                one.operate(services.get(words[2]))
             elif words[0] in ("cycle", "lock"):
-                it.spend(int(words[-1]) + (words[0] == "cycle"))
+                one.spend(int(words[-1]) + (words[0] == "cycle"))
