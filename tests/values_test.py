@@ -183,8 +183,8 @@ class Printed(Case):
     def test_each_line_of_the_rows(self):
         readers = {"plan": printed.read_plan, "check": read_services, "bounds": read_headings, "costs": bodies.parse_costs, "response": printed.read_responses}
         known, read = re.compile(r"(not )?reached(\n\w+( \d+(\.\.\d+)?){1,3}|\nlock \d)*\n"), collections.Counter()
-        for row in (case for rows in ROWS.values() for cases in rows.values() for case in cases):
-            text, command = row.printed.decode(), row.command.partition(" ")[0]
+        for its in (case for rows in ROWS.values() for cases in rows.values() for case in cases):
+            text, command = its.printed.decode(), its.command.partition(" ")[0]
             lines = text.splitlines()
             if printed.is_refused(text):
                 (code, line, rule, _), sentence, advice, column, rest, also = printed.read_explanation(text)
@@ -193,7 +193,7 @@ class Printed(Case):
                 told = [*[sentence] * bool(sentence), *advice]
                 shown = rest[: len(rest) - len(told)]
                 lines = [it.partition(": ")[0] for it in advice if not it.startswith("Turn: ")]
-                self.assertEqual((lines, rest), (["Why", "Fix", "More"] if row.command in ("explain", "explain --bounds") else [], (*shown, *told)))
+                self.assertEqual((lines, rest), (["Why", "Fix", "More"] if its.command in ("explain", "explain --bounds") else [], (*shown, *told)))
                 self.assertEqual((len(shown), column is None), (0, True) if "P" in code or not told else (2, False))
                 command = "refused"
             elif command == "run":
@@ -201,9 +201,9 @@ class Printed(Case):
             elif command == "drive":
                 self.assertEqual([it for it in lines if not printed.read_request(it.encode())], lines[-1:])
                 self.assertTrue(printed.read_end(lines[-1]))
-            elif "--at" in row.command:
-                self.assertEqual(printed.is_known(text), not row.status)
-                self.assertTrue(row.status or known.fullmatch(text), text)
+            elif "--at" in its.command:
+                self.assertEqual(printed.is_known(text), not its.status)
+                self.assertTrue(its.status or known.fullmatch(text), text)
             elif command != "explain":
                 readers[command](text)
             read[command] += 1
