@@ -22,8 +22,8 @@ _camac() {
   word=${words[-1]} place=$((${#words[@]} - 2))
   COMPREPLY=()
   case $place:${words[1]-} in
-  0:*) offered='plan check explain bounds costs response run drive events help --help --version -h -V' ;;
-  1:help) offered='plan check explain bounds costs response run drive events help' ;;
+  0:*) offered='plan check explain bounds costs tell response run drive events help --help --version -h -V' ;;
+  1:help) offered='plan check explain bounds costs tell response run drive events help' ;;
   *:help) ;;
   [1-4]:plan)
     case $word in
@@ -45,7 +45,7 @@ _camac() {
     *) _camac_file "${words[1]}:$place" "$word" && return ;;
     esac
     ;;
-  [1-4]:check | [1-4]:bounds | [1-4]:costs | [1-4]:run | [1-4]:drive | [1-4]:events)
+  [1-4]:check | [1-4]:bounds | [1-4]:costs | [1-4]:tell | [1-4]:run | [1-4]:drive | [1-4]:events)
     case $word in
     -*) offered='--help -h' ;;
     *) _camac_file "${words[1]}:$place" "$word" && return ;;
@@ -59,8 +59,8 @@ _camac() {
 _camac_file() {
   local offered=
   case $1 in
-  plan:1 | check:1 | explain:1 | bounds:1 | costs:1 | response:1 | run:1) offered='@sample @in' ;;
-  check:2 | explain:2 | bounds:2 | costs:2 | response:2 | run:[23] | events:1) offered='@in' ;;
+  plan:1 | check:1 | explain:1 | bounds:1 | costs:1 | tell:1 | response:1 | run:1) offered='@sample @in' ;;
+  check:2 | explain:2 | bounds:2 | costs:2 | tell:2 | response:2 | run:[23] | events:1) offered='@in' ;;
   drive:1) offered='@sample' ;;
   drive:[23] | run:4) ;;
   *) return ;;

@@ -12,6 +12,7 @@ complete -c camac -n __fish_use_subcommand -a check -d 'Accepts a script with it
 complete -c camac -n __fish_use_subcommand -a explain -d 'Says where and why a plan or script is refused, and how to fix it'
 complete -c camac -n __fish_use_subcommand -a bounds -d 'Prints the headings of a script with the least numbers that are accepted'
 complete -c camac -n __fish_use_subcommand -a costs -d 'Prints the share of each statement in the bounds of an accepted script'
+complete -c camac -n __fish_use_subcommand -a tell -d 'Prints what check and costs print with all places, or each refusal explained'
 complete -c camac -n __fish_use_subcommand -a response -d 'Prints the most cycles from each look-at-me to the end of its service'
 complete -c camac -n __fish_use_subcommand -a run -d 'Plays an accepted script against a list of answers, and writes its events'
 complete -c camac -n __fish_use_subcommand -a drive -d 'Runs an accepted script live: asks for each operation, and reads its answer'
@@ -27,6 +28,6 @@ complete -c camac -s h -l help -d 'Print help'
 complete -c camac -n __fish_use_subcommand -s V -l version -d 'Print version'
 
 complete -c camac -n '__camac_at 1 help; or __camac_at 2 help' -f
-complete -c camac -n '__camac_at 1 help' -a 'plan check explain bounds costs response run drive events help'
-complete -c camac -n '__camac_at 1 plan check explain bounds costs response run drive' -a @sample -d 'the built-in plan'
-complete -c camac -n '__camac_at 1 plan check explain bounds costs response run events; or __camac_at 2 check explain bounds costs response run; or __camac_at 3 run' -a @in -d 'standard input'
+complete -c camac -n '__camac_at 1 help' -a 'plan check explain bounds costs tell response run drive events help'
+complete -c camac -n '__camac_at 1 plan check explain bounds costs tell response run drive' -a @sample -d 'the built-in plan'
+complete -c camac -n '__camac_at 1 plan check explain bounds costs tell response run events; or __camac_at 2 check explain bounds costs tell response run; or __camac_at 3 run' -a @in -d 'standard input'

@@ -5,14 +5,10 @@
 #include <camac/camac.h>
 #include <string.h>
 
-typedef uint32_t of_text(const uint8_t *text, size_t text_size, uint8_t *out, size_t room, size_t *size);
-typedef uint32_t of_script(const uint8_t *plan, size_t plan_size, const uint8_t *script, size_t script_size, uint8_t *out, size_t room, size_t *size);
-
-of_text camac_raw_plan, camac_raw_explain_plan, camac_raw_events;
-of_script camac_raw_check, camac_raw_explain, camac_raw_explain_bounds, camac_raw_bounds, camac_raw_costs;
 uint32_t camac_raw_version(void);
-uint32_t camac_raw_explain_at(const uint8_t *plan, size_t plan_size, const uint8_t *script, size_t script_size, uint32_t line, uint32_t column,
-                              uint8_t *out, size_t room, size_t *size);
+uint32_t camac_raw_tell(uint32_t ask, uint32_t line, uint32_t column, const uint8_t *plan, size_t plan_size, const uint8_t *script,
+                        size_t script_size, uint8_t *out, size_t room, size_t *size);
+uint32_t camac_raw_events(const uint8_t *file, size_t file_size, uint8_t *out, size_t room, size_t *size);
 uint32_t camac_raw_response(const uint8_t *plan, size_t plan_size, const uint8_t *script, size_t script_size, const uint8_t *every,
                             size_t every_size, const uint8_t *within, size_t within_size, uint8_t *out, size_t room, size_t *size);
 uint32_t camac_raw_run(const uint8_t *plan, size_t plan_size, const uint8_t *script, size_t script_size, const uint8_t *answers,
@@ -102,62 +98,35 @@ static size_t *told(size_t *size, size_t *unasked) {
     return size;
 }
 
-static int call_of_text(of_text *call, const void *text, size_t text_size, char *out, size_t room, size_t *size) {
-    uint8_t nowhere[1];
-    size_t unasked;
-    size = told(size, &unasked);
-    if (IS_NULL(text, text_size) || IS_NULL(out, room)) return CAMAC_MISUSE;
-    return (int)call(IN(text, text_size), OUT(out, room), size);
-}
-
-static int call_of_script(of_script *call, const void *plan, size_t plan_size, const void *script, size_t script_size, char *out, size_t room,
-                          size_t *size) {
-    uint8_t nowhere[1];
-    size_t unasked;
-    size = told(size, &unasked);
-    if (IS_NULL(plan, plan_size) || IS_NULL(script, script_size) || IS_NULL(out, room)) return CAMAC_MISUSE;
-    return (int)call(IN(plan, plan_size), IN(script, script_size), OUT(out, room), size);
-}
-
-int camac_plan(const void *plan, size_t plan_size, char *text, size_t room, size_t *size) {
-    return call_of_text(camac_raw_plan, plan, plan_size, text, room, size);
-}
-
-int camac_explain_plan(const void *plan, size_t plan_size, char *text, size_t room, size_t *size) {
-    return call_of_text(camac_raw_explain_plan, plan, plan_size, text, room, size);
-}
-
-int camac_events(const void *file, size_t file_size, char *text, size_t room, size_t *size) {
-    return call_of_text(camac_raw_events, file, file_size, text, room, size);
-}
-
-int camac_check(const void *plan, size_t plan_size, const void *script, size_t script_size, char *text, size_t room, size_t *size) {
-    return call_of_script(camac_raw_check, plan, plan_size, script, script_size, text, room, size);
-}
-
-int camac_explain(const void *plan, size_t plan_size, const void *script, size_t script_size, char *text, size_t room, size_t *size) {
-    return call_of_script(camac_raw_explain, plan, plan_size, script, script_size, text, room, size);
-}
-
-int camac_explain_bounds(const void *plan, size_t plan_size, const void *script, size_t script_size, char *text, size_t room, size_t *size) {
-    return call_of_script(camac_raw_explain_bounds, plan, plan_size, script, script_size, text, room, size);
-}
-
-int camac_explain_at(const void *plan, size_t plan_size, const void *script, size_t script_size, uint32_t line, uint32_t column, char *text,
-                     size_t room, size_t *size) {
+/* What the program prints. The place counts where what is known there is asked. */
+static int tell(uint32_t ask, uint32_t line, uint32_t column, const void *plan, size_t plan_size, const void *script, size_t script_size,
+                char *text, size_t room, size_t *size) {
     uint8_t nowhere[1];
     size_t unasked;
     size = told(size, &unasked);
     if (IS_NULL(plan, plan_size) || IS_NULL(script, script_size) || IS_NULL(text, room) || !line || !column) return CAMAC_MISUSE;
-    return (int)camac_raw_explain_at(IN(plan, plan_size), IN(script, script_size), line, column, OUT(text, room), size);
+    return (int)camac_raw_tell(ask, line, column, IN(plan, plan_size), IN(script, script_size), OUT(text, room), size);
 }
 
-int camac_bounds(const void *plan, size_t plan_size, const void *script, size_t script_size, char *text, size_t room, size_t *size) {
-    return call_of_script(camac_raw_bounds, plan, plan_size, script, script_size, text, room, size);
+/* The number by which what is known at a place is asked. */
+#define KNOWN_AT 9u
+
+int camac_tell(enum camac_ask ask, const void *plan, size_t plan_size, const void *script, size_t script_size, char *text, size_t room,
+               size_t *size) {
+    return tell(ask == KNOWN_AT ? 0 : (uint32_t)ask, 1, 1, plan, plan_size, script, script_size, text, room, size);
 }
 
-int camac_costs(const void *plan, size_t plan_size, const void *script, size_t script_size, char *text, size_t room, size_t *size) {
-    return call_of_script(camac_raw_costs, plan, plan_size, script, script_size, text, room, size);
+int camac_explain_at(const void *plan, size_t plan_size, const void *script, size_t script_size, uint32_t line, uint32_t column, char *text,
+                     size_t room, size_t *size) {
+    return tell(KNOWN_AT, line, column, plan, plan_size, script, script_size, text, room, size);
+}
+
+int camac_events(const void *file, size_t file_size, char *text, size_t room, size_t *size) {
+    uint8_t nowhere[1];
+    size_t unasked;
+    size = told(size, &unasked);
+    if (IS_NULL(file, file_size) || IS_NULL(text, room)) return CAMAC_MISUSE;
+    return (int)camac_raw_events(IN(file, file_size), OUT(text, room), size);
 }
 
 int camac_response(const void *plan, size_t plan_size, const void *script, size_t script_size, const void *every, size_t every_size,

@@ -63,7 +63,7 @@ class Grown(Case):
 
     def test_verdicts(self):
         (self.room / "one.events").write_bytes(EVENT_FILE)
-        lines = [f"{it} plan.toml straight.script" for it in ("check", "explain", "bounds", "costs")]
+        lines = [f"{it} plan.toml straight.script" for it in ("check", "explain", "bounds", "costs", "tell")]
         for line in (*lines, "plan plan.toml", "events one.events"):
             whole = self.limited(line, resource.RLIM_INFINITY)[2]
             for most in range(len(whole) + 1):

@@ -382,7 +382,7 @@ class Fails(Logged):
         self.expect_each("plan @in", "plan.toml")
 
     def test_scripts(self):
-        for name in ("check", "explain", "bounds", "costs"):
+        for name in ("check", "explain", "bounds", "costs", "tell"):
             self.expect_each(f"{name} plan.toml straight.script")
             self.expect_each(f"{name} plan.toml @in", "straight.script")
 

@@ -142,7 +142,7 @@ class RandomScripts(Case):
 
     def told(self, plan, script, answers):
         """The verdict, without the lines of refusals, and what a run lists and writes."""
-        verdict = library.check(plan, script)
+        verdict = library.tell("check", plan, script)
         run = library.run(plan, script, answers or b"") if verdict.accepted else None
         return re.sub(r" line \d+", "", verdict.text), run
 
@@ -154,7 +154,7 @@ class RandomScripts(Case):
                 try:
                     made = formatted(its.script)
                 except LayoutFault:
-                    self.assertRegex(library.check(plan, its.script).text, "refused [SP]")
+                    self.assertRegex(library.tell("check", plan, its.script).text, "refused [SP]")
                     continue
                 tried += 1
                 self.assertEqual([it.text for it in tokens_of(made)], [it.text for it in tokens_of(its.script)])

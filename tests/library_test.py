@@ -182,7 +182,7 @@ def accepted_script(number):
     random = Random(f"library/{number}")
     plan = make_plan(random)
     script = make_script(random, read_plan(plan))
-    return (plan, script) if library.check(plan, script).accepted else None
+    return (plan, script) if library.tell("check", plan, script).accepted else None
 
 
 @functools.lru_cache(maxsize=None)
@@ -406,8 +406,8 @@ class Python(Case):
 
     def test_texts(self):
         for its in (EXAMPLES / "straight_line.script", EXAMPLES / "too_few_cycles.script"):
-            for name in ("check", "explain", "bounds", "costs", "response"):
-                verdict = getattr(library, name)(self.sample(), its.read_text())
+            for name in ("check", "explain", "bounds", "costs", "tell", "response"):
+                verdict = library.tell(name, self.sample(), its.read_text())
                 self.assertEqual((0 if verdict.accepted else 1, verdict.text), call(PROGRAM, name, SAMPLE, its))
             for line, column in ((1, 1), (4, 3), (5, 3), (5, 99), (99, 1)):
                 verdict = library.explain_at(self.sample(), its.read_text(), line, column)
@@ -417,10 +417,10 @@ class Python(Case):
                 library.explain_at(self.sample(), b"", line, column)
         for name, of_program in (("plan", "plan"), ("explain_plan", "explain")):
             for plan in sorted(EXAMPLES.glob("*.toml")):
-                verdict = getattr(library, name)(plan.read_bytes())
+                verdict = library.tell(name, plan.read_bytes())
                 self.assertEqual((0 if verdict.accepted else 1, verdict.text), call(PROGRAM, of_program, plan))
         with self.assertRaises(ProgramFault) as found:
-            library.check(self.sample(), b" " * (1 << 20) + b" ")
+            library.tell("check", self.sample(), b" " * (1 << 20) + b" ")
         self.assertEqual((str(found.exception), found.exception.status), ("fault input too long", 3))
 
     def test_in_the_place_of_the_program(self):
@@ -429,7 +429,7 @@ class Python(Case):
         odd.write_bytes(STRAIGHT_LINE.replace("within 3 cycles", "within 0 cycles").replace("{", "{ # \xe9", 1).encode("latin-1"))
         plan = self.write("bad.toml", "[[types]]\n")
         its = [*pairs(), ("@sample", EXAMPLES / "too_few_cycles.script"), ("@sample", odd), (plan, odd), ("@sample", self.write("none.script", ""))]
-        words = [(command, "--", *it) for it in its for command in ("check", "explain", "bounds", "costs", "response")]
+        words = [(command, "--", *it) for it in its for command in ("check", "explain", "bounds", "costs", "tell", "response")]
         for it in [*words, ("explain", "--", plan), ("plan", "--", plan), ("plan", "--", "@sample")]:
             with self.subTest(it):
                 self.assertEqual(*(list(lines_of(*it, program=program)) for program in (PROGRAM, "@library")))
@@ -564,7 +564,7 @@ class Python(Case):
     def test_what_is_no_text(self):
         for wrong in (5, None, ["a"]):
             with self.assertRaises(TypeError):
-                library.check(self.sample(), wrong)
+                library.tell("check", self.sample(), wrong)
 
     def play(self, text, *answers, **how):
         self.branch_asked = Listed(*answers)
@@ -684,7 +684,7 @@ class Python(Case):
         with library.Session(self.sample(), LOCKOUT) as session:
             (service,) = session.services()
             self.assertEqual(service[:5], ("adc", 1, 5, 12, 3))
-            text = library.check(self.sample(), LOCKOUT).text
+            text = library.tell("check", self.sample(), LOCKOUT).text
             self.assertIn("service {0} gl {4} cycles {6} of {9} words {7} of {10} steps {8}\n".format(*service), text)
             self.assertTrue(LOCKOUT.splitlines()[service.line - 1].startswith("service adc"))
             for _ in range(2):

@@ -15,7 +15,7 @@ from support.program import ANSWERS, CLOSED, DEMAND, EVENT_FILE, EVENT_FILE_ONE,
 import camac.language
 import oracle.reader.tokens
 
-WORDS = {"plan": ["PLAN"], "check": ["PLAN", "SCRIPT"], "explain": ["PLAN|CODE", "[SCRIPT]"], "bounds": ["PLAN", "SCRIPT"], "costs": ["PLAN", "SCRIPT"], "response": ["PLAN", "SCRIPT"], "run": ["PLAN", "SCRIPT", "ANSWERS", "EVENTS"], "drive": ["PLAN", "SCRIPT", "EVENTS"], "events": ["FILE"]}
+WORDS = {"plan": ["PLAN"], "check": ["PLAN", "SCRIPT"], "explain": ["PLAN|CODE", "[SCRIPT]"], "bounds": ["PLAN", "SCRIPT"], "costs": ["PLAN", "SCRIPT"], "tell": ["PLAN", "SCRIPT"], "response": ["PLAN", "SCRIPT"], "run": ["PLAN", "SCRIPT", "ANSWERS", "EVENTS"], "drive": ["PLAN", "SCRIPT", "EVENTS"], "events": ["FILE"]}
 # The options of a command but those of help, with the values that they take.
 OPTIONS = {"plan": {"commands": ""}, "explain": {"at": "LINE:COLUMN", "turn": "N", "bounds": ""}, "response": {"every": "SERVICE=CYCLES", "within": "SERVICE=CYCLES"}}
 
@@ -86,7 +86,7 @@ class Usage(Case):
             self.assertIn(b"Usage: camac", err, words)
 
     def test_standard_input_twice(self):
-        for words in ("check @in @in", "explain @in @in", "bounds @in @in", "costs @in @in", "response @in @in", "run @in @in a e", "run @in s @in e", "run @sample @in @in e", "run @in @in @in e", "drive @in s e", "drive @sample @in e"):
+        for words in ("check @in @in", "explain @in @in", "bounds @in @in", "costs @in @in", "tell @in @in", "response @in @in", "run @in @in a e", "run @in s @in e", "run @sample @in @in e", "run @in @in @in e", "drive @in s e", "drive @sample @in e"):
             self.assertEqual(self.call(*words.split()), (2, b"", TWICE), words)
             self.assertFalse((self.room / "e").exists())
 
@@ -304,14 +304,14 @@ class Streams(Case):
         self.assertEqual(self.file("e"), EVENT_FILE)
 
     def test_help_that_cannot_be_written(self):
-        for words in ("--help", "-h", "help", "plan --help", "check --help", "explain --help", "bounds --help", "costs --help", "run --help", "events --help", "--version"):
+        for words in ("--help", "-h", "help", "plan --help", "check --help", "explain --help", "bounds --help", "costs --help", "tell --help", "run --help", "events --help", "--version"):
             self.assertEqual(self.shell(f'"$camac" {words} >/dev/full'), (3, b"", FULL), words)
             self.assertEqual(self.shell(f'"$camac" {words} >&-'), (3, b"", unwritten(errno.EBADF)), words)
         self.assertEqual(self.shell('"$camac" --frob 2>/dev/full'), (2, b"", b""))
 
     def test_full_device(self):
         (self.room / "one.events").write_bytes(EVENT_FILE)
-        for words in ("plan @sample", "check @sample straight.script", "costs @sample straight.script", "events @in <<<x", "events @in <one.events", "run @sample straight.script answers e"):
+        for words in ("plan @sample", "check @sample straight.script", "costs @sample straight.script", "tell @sample straight.script", "events @in <<<x", "events @in <one.events", "run @sample straight.script answers e"):
             self.assertEqual(self.shell(f'"$camac" {words} >/dev/full'), (3, b"", FULL), words)
         self.assertEqual(self.file("e"), b"CAMACEV2")
         self.assertEqual(self.call("run", "@sample", "straight.script", "answers", "/dev/full"), (3, b"", unwritten(errno.ENOSPC, "/dev/full")))

@@ -182,6 +182,7 @@ class RefusedMemory(unittest.TestCase):
     def test_costs(self):
         for script in (STRAIGHT_LINE, REFUSED, UNREAD, PROCEDURE, ARMS):
             self.refuse_each("costs @sample @in", script)
+            self.refuse_each("tell @sample @in", script)
         self.refuse_each("costs @in script", SAMPLE_PLAN, PROCEDURE)
 
     def test_explain(self):

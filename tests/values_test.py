@@ -177,24 +177,31 @@ class Values(Case):
         self.assertEqual([knows_command(it) for it in ("check", "events", "Commands", "chec")], [True, True, False, False])
 
 
+def head_of(it):
+    """The line of a refusal."""
+    place = "".join(f" {name} {number}" for name, number in (("line", it.line), ("column", it.column)) if number is not None)
+    return f"refused {it.code}{place}: {it.rule}"
+
+
 class Printed(Case):
     """The reader against the program's own text: what it prints in the worked rows, and its sentences."""
 
     def test_each_line_of_the_rows(self):
         readers = {"plan": printed.read_plan, "check": read_services, "bounds": read_headings, "costs": bodies.parse_costs, "response": printed.read_responses}
+        readers["tell"] = lambda text: (read_services(text), bodies.parse_costs(printed.costs_in(text)))
         known, read = re.compile(r"(not )?reached(\n\w+( \d+(\.\.\d+)?){1,3}|\nlock \d)*\n"), collections.Counter()
         for its in (case for rows in ROWS.values() for cases in rows.values() for case in cases):
             text, command = its.printed.decode(), its.command.partition(" ")[0]
             lines = text.splitlines()
             if printed.is_refused(text):
-                (code, line, rule, _), sentence, advice, column, rest, also = printed.read_explanation(text)
-                further = [f"also refused {it.code} line {it.line} column {it.column}: {it.rule}" for it in also]
-                self.assertEqual(lines, [f"refused {code}: {rule}" if line is None else f"refused {code} line {line}: {rule}", *rest, *further])
-                told = [*[sentence] * bool(sentence), *advice]
-                shown = rest[: len(rest) - len(told)]
-                lines = [it.partition(": ")[0] for it in advice if not it.startswith("Turn: ")]
-                self.assertEqual((lines, rest), (["Why", "Fix", "More"] if its.command in ("explain", "explain --bounds") else [], (*shown, *told)))
-                self.assertEqual((len(shown), column is None), (0, True) if "P" in code or not told else (2, False))
+                found = printed.read_explanations(text)
+                self.assertEqual(lines, [one for it in found for one in (head_of(it.refusal), *it.lines)])
+                for it in found:
+                    told = [*[it.sentence] * bool(it.sentence), *it.advice]
+                    shown = it.lines[: len(it.lines) - len(told)]
+                    parts = [one.partition(": ")[0] for one in it.advice if not one.startswith(("Turn: ", "also refused "))]
+                    self.assertEqual((parts, it.lines), (["Why", "Fix", "More"] if its.command in ("explain", "explain --bounds", "tell") else [], (*shown, *told)))
+                    self.assertEqual(len(shown), 0 if "P" in it.refusal.code or not told else 2)
                 command = "refused"
             elif command == "run":
                 self.assertEqual(len(list(camac.parse_listing(lines))), len(lines))

@@ -366,12 +366,12 @@ class Command(Case):
         self.assertEqual(sorted(it.name for it in self.room.iterdir()), ["a.script", "link"])
 
     def test_refused_headings(self):
-        """A refusal that no heading fixes is shown, and the file is as it was. If `explain` names a heading first, that is left out."""
+        """A refusal that no heading fixes is shown, and the file is as it was. What a heading fixes is left out."""
         wide = DRAFT.replace(b"event 001", b"event 0").replace(b"call read(11)", b"put 16777216")
         for text, wanted, begins in (
-            (wide, "refused E16: word above 24 bits", []),
-            (wide.replace(b"event 0", b"event 1"), "refused E16: word above 24 bits", ["    7 | service adc within 0 cycles event 2 words { call read(0)"]),
-            (b"service\n" + DRAFT, "refused S2: unexpected token", ["    2 | cdlam adc 1 1 5 12  # service x within 9 cycles"]),
+            (wide, "refused E16: word above 24 bits", "    7 | service adc within 0 cycles event 2 words { call read(0)"),
+            (wide.replace(b"event 0", b"event 1"), "refused E16: word above 24 bits", "    7 | service adc within 0 cycles event 2 words { call read(0)"),
+            (b"service\n" + DRAFT, "refused S2: unexpected token", "    2 | cdlam adc 1 1 5 12  # service x within 9 cycles"),
         ):
             file = self.room / "a.script"
             file.write_bytes(text)
@@ -379,7 +379,7 @@ class Command(Case):
             status, printed = self.command("--write", "--json", "@sample", "a.script")
             (found,) = json.loads(printed)[0]["found"]
             self.assertEqual((status, f"{found['kind']} {found['code']}: {found['text']}"), (1, wanted))
-            self.assertEqual([it[: len(begins[0])] for it in found["explanation"][:1]], begins)
+            self.assertEqual(found["explanation"][0][: len(begins)], begins)
             self.assertEqual((file.read_bytes(), file.stat().st_ino, file.stat().st_mtime_ns), (text, before.st_ino, before.st_mtime_ns))
 
     def test_write_many(self):

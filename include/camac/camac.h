@@ -73,7 +73,8 @@ enum camac_code {
     CAMAC_REFUSED = 1,   /* a plan, a script, an answer or an event file broke a rule, a wait was not permitted, or a service may end too late:
                             the text says which */
     CAMAC_MISUSE = 2,    /* the session is none, or header and library do not fit; camac_open found it open; a struct or a pointer is wrong
-                            (STRUCTS, TEXTS); what camac_response is told of services is wrong; camac_explain_at: a line or column of 0 */
+                            (STRUCTS, TEXTS); what camac_response is told of services is wrong; camac_explain_at: a line or column of 0;
+                            camac_tell is asked nothing that it knows */
     CAMAC_NO_MEMORY = 3, /* malloc or realloc refused */
     CAMAC_OVERRUN = 4,   /* a wait that the plan does not permit: the run stays where it was, until camac_abandon leaves the service */
     CAMAC_RANGE = 5,     /* a word or gl above 0xffffff, a wait above 15, or the number of no service */
@@ -155,7 +156,7 @@ typedef struct camac_service_info {
     uint32_t c, n, a;                 /* the address of its LAM */
     uint32_t gl;                      /* its bit of the graded-L pattern, 1..24 */
     uint32_t line;                    /* of its heading in the script, from 1 */
-    uint32_t cycles, words, steps;    /* the most that it can need: its bounds, as camac_check tells them */
+    uint32_t cycles, words, steps;    /* the most that it can need: its bounds, as `camac check` tells them */
     uint32_t most_cycles, most_words; /* what its heading allows */
     uint32_t spare[4];
 } camac_service_info;
@@ -173,15 +174,21 @@ uint32_t camac_version(void);
 /* What a code says, in English. */
 const char *camac_code_text(int code);
 
-/* What `camac plan`, `camac explain PLAN`, `check`, `explain`, `explain --bounds`, `bounds` and `costs` print, of texts that are in memory.
- * CAMAC_OK: accepted. CAMAC_REFUSED: the text says why, that of an explanation at length. */
-CAMAC_CALL camac_plan(const void *plan, size_t plan_size, char *text, size_t room, size_t *size);
-CAMAC_CALL camac_explain_plan(const void *plan, size_t plan_size, char *text, size_t room, size_t *size);
-CAMAC_CALL camac_check(const void *plan, size_t plan_size, const void *script, size_t script_size, char *text, size_t room, size_t *size);
-CAMAC_CALL camac_explain(const void *plan, size_t plan_size, const void *script, size_t script_size, char *text, size_t room, size_t *size);
-CAMAC_CALL camac_explain_bounds(const void *plan, size_t plan_size, const void *script, size_t script_size, char *text, size_t room, size_t *size);
-CAMAC_CALL camac_bounds(const void *plan, size_t plan_size, const void *script, size_t script_size, char *text, size_t room, size_t *size);
-CAMAC_CALL camac_costs(const void *plan, size_t plan_size, const void *script, size_t script_size, char *text, size_t room, size_t *size);
+/* What camac_tell is asked: what these commands print. The first two look at a plan alone. */
+enum camac_ask {
+    CAMAC_PLAN = 1,           /* camac plan PLAN */
+    CAMAC_EXPLAIN_PLAN = 2,   /* camac explain PLAN */
+    CAMAC_CHECK = 3,          /* camac check PLAN SCRIPT */
+    CAMAC_EXPLAIN = 4,        /* camac explain PLAN SCRIPT */
+    CAMAC_EXPLAIN_BOUNDS = 5, /* camac explain --bounds PLAN SCRIPT */
+    CAMAC_BOUNDS = 6,         /* camac bounds PLAN SCRIPT */
+    CAMAC_COSTS = 7,          /* camac costs PLAN SCRIPT */
+    CAMAC_TELL = 8            /* camac tell PLAN SCRIPT */
+};
+
+/* What the program prints of texts that are in memory. CAMAC_OK: accepted. CAMAC_REFUSED: the text says why, that of an explanation at length. */
+CAMAC_CALL camac_tell(enum camac_ask ask, const void *plan, size_t plan_size, const void *script, size_t script_size, char *text, size_t room,
+                      size_t *size);
 
 /* What `camac explain --at LINE:COLUMN` prints: what the checker knows before the statement there. Line and column are from 1, the column in bytes.
  * CAMAC_OK: "reached", and a line for each variable with its range, for each register that is set and for each locked crate; or "not reached".
@@ -204,7 +211,7 @@ CAMAC_CALL camac_events(const void *file, size_t file_size, char *text, size_t r
 CAMAC_CALL camac_run(const void *plan, size_t plan_size, const void *script, size_t script_size, const void *answers, size_t answers_size,
                      char *text, size_t room, size_t *size, void *file, size_t file_room, size_t *file_size);
 
-/* Checks a script, and opens a session at the beginning of its run. The text is that of camac_check. Where the code is not CAMAC_OK, the
+/* Checks a script, and opens a session at the beginning of its run. The text is that of `camac check`. Where the code is not CAMAC_OK, the
  * session stays as it was: also CAMAC_MISUSE of a session that is open. */
 CAMAC_CALL camac_open(camac_session *s, const void *plan, size_t plan_size, const void *script, size_t script_size,
                       char *text, size_t room, size_t *size);

@@ -79,25 +79,17 @@ template <class Call> verdict judged(Call call, const char *needed = "") {
     if (code > CAMAC_REFUSED) CAMAC_THROW(fault(code, code == CAMAC_MISUSE ? needed : ""));
     return {code == CAMAC_OK, std::move(text)};
 }
-inline verdict judged(decltype(camac_plan) *call, std::string_view its) {
-    return judged([&](char *t, std::size_t room, std::size_t *n) { return call(its.data(), its.size(), t, room, n); });
-}
-inline verdict judged(decltype(camac_check) *call, std::string_view plan, std::string_view script) {
-    return judged([&](char *t, std::size_t room, std::size_t *n) { return call(plan.data(), plan.size(), script.data(), script.size(), t, room, n); });
-}
 } // namespace detail
 
 // What the calls of camac.h with these names do. They throw fault at codes other than CAMAC_OK and CAMAC_REFUSED.
-[[nodiscard]] inline verdict plan(std::string_view plan) { return detail::judged(camac_plan, plan); }
-[[nodiscard]] inline verdict explain_plan(std::string_view plan) { return detail::judged(camac_explain_plan, plan); }
-[[nodiscard]] inline verdict events(std::string_view file) { return detail::judged(camac_events, file); }
-[[nodiscard]] inline verdict check(std::string_view plan, std::string_view script) { return detail::judged(camac_check, plan, script); }
-[[nodiscard]] inline verdict explain(std::string_view plan, std::string_view script) { return detail::judged(camac_explain, plan, script); }
-[[nodiscard]] inline verdict explain_bounds(std::string_view plan, std::string_view script) {
-    return detail::judged(camac_explain_bounds, plan, script);
+[[nodiscard]] inline verdict tell(camac_ask ask, std::string_view plan, std::string_view script = {}) {
+    return detail::judged(
+        [&](char *t, std::size_t room, std::size_t *n) { return camac_tell(ask, plan.data(), plan.size(), script.data(), script.size(), t, room, n); },
+        "tell needs one of camac_ask");
 }
-[[nodiscard]] inline verdict bounds(std::string_view plan, std::string_view script) { return detail::judged(camac_bounds, plan, script); }
-[[nodiscard]] inline verdict costs(std::string_view plan, std::string_view script) { return detail::judged(camac_costs, plan, script); }
+[[nodiscard]] inline verdict events(std::string_view file) {
+    return detail::judged([&](char *t, std::size_t room, std::size_t *n) { return camac_events(file.data(), file.size(), t, room, n); });
+}
 [[nodiscard]] inline verdict explain_at(std::string_view plan, std::string_view script, std::uint32_t line, std::uint32_t column) {
     return detail::judged(
         [&](char *t, std::size_t room, std::size_t *n) {

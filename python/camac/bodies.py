@@ -3,14 +3,7 @@ from typing import Dict, List, Mapping, NamedTuple, Optional, Sequence
 
 from camac.language import CYCLES, TRANSFERS
 from camac.printed import read_bodies
-from camac.values import Body, Cost, Row, Service
-
-
-def services_of(bodies: Sequence[Body]) -> List[Service]:
-    """The services among bodies, as `camac.check` gives them."""
-    return [
-        Service(it.name, it.gl, it.most.cycles, it.annotated[0], it.most.words, it.annotated[1], it.most.steps) for it in bodies if it.gl is not None
-    ]
+from camac.values import Body, Cost, Row
 
 
 def parse_costs(printed: str) -> List[Body]:

@@ -106,6 +106,7 @@ class Refused(DriveFault):
     def __init__(self, printed: str) -> None:
         line = printed.partition("\n")[0]
         super().__init__(line)
+        self.printed = printed
         self.code, self.line, self.rule, _ = REFUSAL.read(line) or Refusal("", None, line)
 
 

@@ -1,17 +1,20 @@
 """`camac-check`: many scripts on one plan, each place as FILE:LINE or FILE:LINE:COLUMN, with warnings about what is accepted."""
+import contextlib
 from typing import TYPE_CHECKING, Callable, Dict, List, NamedTuple, Optional, Sequence, Tuple
 
 from camac.drive import File, ProgramFault, Refused, UsageFault, one_line
-from camac.printed import read_explanation
-from camac.program import advice_on, lines_of, output_of
+from camac.printed import read_explanations
+from camac.program import advice_on, output_of
 from camac.texts import TextFile
-from camac.values import Service
+from camac.values import Explanation, Service
 from camac.warn import look, looks_for_all
 
 if TYPE_CHECKING:
     from camac.loops.proposals import Proposal
 
 ACCEPTED, REFUSED, FAULT = 0, 1, 3
+# Rules that the numbers of a heading break.
+OF_HEADINGS = frozenset(("E11", "E12", "E18"))
 FORMATS = ("text", "json", "github", "sarif")
 LEVELS = {"refused": "error", "fault": "error", "warning": "warning", "written": "notice", "proposed": "notice", "remaining": "error"}
 # The characters that GitHub wants escaped in a message, and in a property.
@@ -87,7 +90,7 @@ def judge(plan: str, scripts: Sequence[str], program: Optional[File] = None, wri
 
 def _look_at_plan(plan: TextFile, program: Optional[File]) -> List[Found]:
     plan.text()
-    output_of("plan", "--", plan, program=program)
+    output_of("explain", "--", plan, program=program)
     return []
 
 
@@ -103,7 +106,9 @@ def _judge_script(plan: TextFile, name: str, program: Optional[File], writes: bo
 
         if keeps:
             written.extend(_changes("written", write_keeps(plan, name, program)))
-        written.extend(Found("written", it.line, None, it.heading) for it in write_headings(plan, name, program))
+        # What no heading fixes is found below.
+        with contextlib.suppress(Refused):
+            written.extend(Found("written", it.line, None, it.heading) for it in write_headings(plan, name, program))
         return []
 
     def judged() -> List[Found]:
@@ -114,6 +119,8 @@ def _judge_script(plan: TextFile, name: str, program: Optional[File], writes: bo
 
     files = [plan, script]
     found = (_faults(write, files, program) if writes else []) or _faults(judged, files, program)
+    if writes:
+        found = [it for it in found if it.code not in OF_HEADINGS] or found
     is_refused = any(it.kind == "refused" for it in found)
     proposed = _faults(lambda: _proposed(plan, script, program), files, program) if keeps and is_refused else []
     return Judged(name, [*written, *found, *proposed], services)
@@ -136,14 +143,7 @@ def _faults(call: Callable[[], List[Found]], files: List[TextFile], program: Opt
     try:
         return call()
     except Refused as refusal:
-        its = read_explanation("\n".join(lines_of("explain", "--", *files, program=program)))
-        # The headings as they are may be refused before what no heading fixes.
-        if its is None or its.refusal[:3] != (refusal.code, refusal.line, refusal.rule):
-            return [Found("refused", refusal.line, refusal.code, refusal.rule)]
-        line, column = _place_in_plan(files[0], its.sentence) if refusal.line is None else (refusal.line, its.column)
-        text = f"{refusal.rule} ({SWAPPED})" if its.sentence.endswith(f"{SWAPPED}.") else refusal.rule
-        first = Found("refused", line, refusal.code, text, its.lines, column)
-        return [first, *(Found("refused", it.line, it.code, it.rule, (), it.column) for it in its.also)]
+        return [_refused(files[0], it) for it in read_explanations(refusal.printed)]
     except UsageFault:
         raise
     except ProgramFault as fault:
@@ -152,6 +152,14 @@ def _faults(call: Callable[[], List[Found]], files: List[TextFile], program: Opt
         if fault.filename not in [it.file for it in files]:
             raise
         return [Found("fault", None, None, str(fault.strerror or fault))]
+
+
+def _refused(plan: TextFile, its: Explanation) -> Found:
+    code, line, rule, column = its.refusal
+    if line is None:
+        line, column = _place_in_plan(plan, its.sentence)
+    text = f"{rule} ({SWAPPED})" if its.sentence.endswith(f"{SWAPPED}.") else rule
+    return Found("refused", line, code, text, its.lines, column)
 
 
 def _place_in_plan(plan: TextFile, sentence: str) -> Tuple[int, int]:
@@ -194,7 +202,7 @@ def status(judged: Sequence[Judged], is_strict: bool) -> int:
 
 # How an explanation ends of a script in the place of the plan, or a plan in that of the script.
 SWAPPED = "PLAN comes first, then SCRIPT"
-NO_COSTS = "this program has no `costs` or no `response`, so most warnings are not looked for"
+NO_COSTS = "this program has no `tell`, so most warnings are not looked for"
 
 
 def note(program: Optional[File] = None) -> Optional[str]:

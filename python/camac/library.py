@@ -1,6 +1,6 @@
 """The checker and the runner of camac in this process, over the library for C, with no second program.
 
-`check` and its like judge texts, `Session` is a run that takes an answer at a time, and `play` does what `camac.drive` does. docs/C.md says
+`tell` judges texts, `Session` is a run that takes an answer at a time, and `play` does what `camac.drive` does. docs/C.md says
 what each call of the library does. `camac.native` says where the library is looked for."""
 import contextlib
 import ctypes
@@ -29,6 +29,8 @@ if TYPE_CHECKING:
 
 Text = Union[bytes, bytearray, memoryview, str]
 ROOM = 4096
+# What `tell` prints of a script has so many bytes for one of it at most; else it is asked again.
+OF_ROWS = 16
 # The bytes of the longest record of an event file; no lines of an answer are longer.
 LONGEST = 16 + 4 * EVENT_WORDS
 # What the program says at the codes that it knows, with its status.
@@ -117,12 +119,12 @@ class _Buffer:
         return self.size.value <= self.room
 
     def text(self) -> bytes:
-        return self.bytes.raw[: min(self.size.value, self.room)]
+        return ctypes.string_at(self.bytes, min(self.size.value, self.room))
 
 
-def _filled(call: Any, *given: Any, buffers: int = 1) -> Tuple[int, List[bytes]]:
+def _filled(call: Any, *given: Any, buffers: int = 1, room: int = ROOM) -> Tuple[int, List[bytes]]:
     """Calls with buffers, and once more with greater ones if one was too small. Returns the code and what was written."""
-    its = [_Buffer() for _ in range(buffers)]
+    its = [_Buffer(room) for _ in range(buffers)]
     while True:
         code, name = call(*given, *(word for it in its for word in it.words())), call.__name__.replace("camac_", "")
         if code == MISUSE:
@@ -133,8 +135,8 @@ def _filled(call: Any, *given: Any, buffers: int = 1) -> Tuple[int, List[bytes]]
         its = [_Buffer(max(it.room, it.size.value)) for it in its]
 
 
-def _judged(name: str, *texts: Text) -> Verdict:
-    code, (text,) = _filled(getattr(native.load().texts, f"camac_{name}"), *_given(*texts))
+def _verdict(call: Any, *given: Any, room: int = ROOM) -> Verdict:
+    code, (text,) = _filled(call, *given, room=room)
     return Verdict(code == OK, text.decode("utf-8", "replace"))
 
 
@@ -144,13 +146,16 @@ def output_of(command: str, plan: File, *script: File, every: Iterable[str] = ()
     if command == "run":
         return _played(plan, *script)
     name = command if script or command == "plan" else f"{command}_plan"
-    return judged(name, plan_text(plan), *map(script_text, script), every=every)
+    return tell(name, plan_text(plan), script_text(script[0]) if script else b"", every)
 
 
-def judged(command: str, *texts: Text, every: Iterable[str] = ()) -> Verdict:
-    """What the program prints of these texts, as `output_of`."""
-    options = [_settings(every), ""] if command == "response" else []
-    return _judged(command, *texts, *options)
+def tell(ask: str, plan: Text, script: Text = b"", every: Iterable[str] = ()) -> Verdict:
+    """What the program prints of a plan, and of a script: `ask` is "plan", "check", "explain", "explain_bounds", "bounds", "costs", "tell" or
+    "response", or "explain_plan" of a plan alone. Raises ProgramFault if there is no memory, or if a text is too long."""
+    calls = native.load().texts
+    if ask == "response":
+        return _verdict(calls.camac_response, *_given(plan, script, _settings(every), ""))
+    return _verdict(calls.camac_tell, native.ASKS[ask], *_given(plan, script), room=ROOM + OF_ROWS * len(script) * (ask == "tell"))
 
 
 def _played(plan: File, script: File, answers: File, events: File) -> Verdict:
@@ -172,55 +177,19 @@ def _played(plan: File, script: File, answers: File, events: File) -> Verdict:
     return listing
 
 
-def plan(plan: Text) -> Verdict:
-    """What `camac plan` prints of the text of a plan. All calls here raise ProgramFault if there is no memory, or if a text is too long."""
-    return _judged("plan", plan)
-
-
-def explain_plan(plan: Text) -> Verdict:
-    """What `camac explain` prints of a plan alone."""
-    return _judged("explain_plan", plan)
-
-
-def check(plan: Text, script: Text) -> Verdict:
-    """What `camac check` prints."""
-    return _judged("check", plan, script)
-
-
-def explain(plan: Text, script: Text) -> Verdict:
-    """What `camac explain` prints."""
-    return _judged("explain", plan, script)
-
-
-def explain_bounds(plan: Text, script: Text) -> Verdict:
-    """What `camac explain --bounds` prints."""
-    return _judged("explain_bounds", plan, script)
-
-
 def explain_at(plan: Text, script: Text, line: int, column: int) -> Verdict:
     """What `camac explain --at LINE:COLUMN` prints: what the checker knows before the statement there. Both are from 1, the column in bytes. If no
     statement is there, it is not accepted. Raises UsageFault if one of them is not from 1 to 4,294,967,295."""
     if not (1 <= line < 1 << 32 and 1 <= column < 1 << 32):
         raise UsageFault("explain_at needs a line and a column from 1 to 4294967295", 2)
-    code, (text,) = _filled(native.load().texts.camac_explain_at, *_given(plan, script), line, column)
-    return Verdict(code == OK, text.decode("utf-8", "replace"))
-
-
-def bounds(plan: Text, script: Text) -> Verdict:
-    """What `camac bounds` prints."""
-    return _judged("bounds", plan, script)
-
-
-def costs(plan: Text, script: Text) -> Verdict:
-    """What `camac costs` prints."""
-    return _judged("costs", plan, script)
+    return _verdict(native.load().texts.camac_explain_at, *_given(plan, script), line, column)
 
 
 def response(plan: Text, script: Text, every: Optional[Mapping[str, int]] = None, within: Optional[Mapping[str, int]] = None) -> Verdict:
     """What `camac response` prints. `every` and `within` have the numbers of dataway cycles that follow these options, by service. It is not
     accepted, too, where a line is `unkept`, or a service may end above its number in `within`. Raises UsageFault if a number is out of range
     (0 to 4,294,967,295, from 1 on in `every`), or the accepted script does not have the service."""
-    return _judged("response", plan, script, _settings(settings(every)), _settings(settings(within)))
+    return _verdict(native.load().texts.camac_response, *_given(plan, script, _settings(settings(every)), _settings(settings(within))))
 
 
 def _settings(words: Iterable[str]) -> str:
@@ -232,7 +201,7 @@ def _settings(words: Iterable[str]) -> str:
 
 def events(file: bytes) -> Verdict:
     """What `camac events` prints of the bytes of an event file."""
-    return _judged("events", file)
+    return _verdict(native.load().texts.camac_events, *_given(file))
 
 
 def run(plan: Text, script: Text, answers: Text) -> Tuple[Verdict, bytes]:

@@ -16,6 +16,8 @@ OK, REFUSED, MISUSE, NO_MEMORY, OVERRUN, RANGE, SPENT, LONG, BUSY = range(9)
 DEMAND, CYCLE, LOCK, STOPPED = range(1, 5)
 NO_DATA, READ, WRITE = range(3)
 EVENT_WORDS = 4096
+# What `camac_tell` is asked, by the words of the program.
+ASKS = {it: number for number, it in enumerate("plan explain_plan check explain explain_bounds bounds costs tell".split(), 1)}
 # More steps than any service makes.
 NO_LIMIT = 4_294_967_295
 # The most operations that are told ahead, and the most that set the crates back.
@@ -109,8 +111,8 @@ class Calls(NamedTuple):
 
 _TEXT, _BUFFER, _SESSION = [c_char_p, c_size_t], [c_char_p, c_size_t, POINTER(c_size_t)], POINTER(SessionStruct)
 _OF_TEXTS: Dict[str, List[Any]] = {
-    **{name: [*_TEXT, *_BUFFER] for name in ("plan", "explain_plan", "events")},
-    **{name: [*_TEXT, *_TEXT, *_BUFFER] for name in ("check", "explain", "explain_bounds", "bounds", "costs")},
+    "tell": [c_uint32, *_TEXT, *_TEXT, *_BUFFER],
+    "events": [*_TEXT, *_BUFFER],
     "explain_at": [*_TEXT, *_TEXT, c_uint32, c_uint32, *_BUFFER],
     "response": [*_TEXT, *_TEXT, *_TEXT, *_TEXT, *_BUFFER],
     "run": [*_TEXT, *_TEXT, *_TEXT, *_BUFFER, *_BUFFER],

@@ -94,7 +94,7 @@ BODY = Form(
     _body,
     r"{kind:kind} {name:word} line {line}(?: gl {gl} at \d+ \d+ \d+)? cycles {cycles} of {of_cycles} words {words} of {of_words} steps {steps}(?: of {of_steps})?",
 )
-ROW = Form(Row, "line {line} depth {depth} {word:name} times {times} {each:each} share {share:cost}{about:about}")
+ROW = Form(Row, "line {line}(?: column {column})? depth {depth} {word:name} times {times} {each:each} share {share:cost}{about:about}")
 BUFFER = Form(lambda words: Plan(words, {}, ()), "buffer {words}")
 TYPE = Form(ModuleType, "type {name:name} commands {commands} probes {probes}")
 DECLARATION = Form(_declaration, "command f {function} a {first}(?: to {last})?(?: width {width})?{is_probe:probe}{clears:clears}")
@@ -115,11 +115,10 @@ REQUESTS = (
     Form(lambda crate: Request("lock", (crate,)), "lock {crate:crate}"),
     Form(lambda crate: Request("unlock", (crate,)), "unlock {crate:crate}"),
 )
-REFUSAL = Form(Refusal, "refused {code:code}(?: line {line})?: {rule:rest}")
-ALSO = Form(Refusal, "also refused {code:code} line {line} column {column}: {rule:rest}")
-SOURCE, MARK = re.compile(r" *\d+ \|.*"), re.compile(r" *\| (\s*\^)")
-# The part of a line that is not shown.
-CUT = ".."
+REFUSAL = Form(Refusal, "refused {code:code}(?: line {line}(?: column {column})?)?: {rule:rest}")
+# Where a refusal begins in what `camac tell` prints, and where the lines of `camac costs` do.
+REFUSED, BODIES = re.compile("(?m)^(?=refused )"), re.compile("(?m)^(?:service|proc) \\w+ line ")
+SOURCE, MARK = re.compile(r" *\d+ \|.*"), re.compile(r" *\| \s*\^")
 # Of sentences.
 NEAR = Form(Near, r"Did you mean `{word:quoted}`(?: instead of `{earlier:quoted}`)?\?")
 MAY_STAND: Fields = Form(dict, r"^Found the end of the script; expected {words:some}\.(?: |$)")
@@ -157,8 +156,8 @@ def _read(line: str, *forms: "Form[Any]") -> Any:
 
 
 def read_services(printed: str) -> List[Service]:
-    """What `camac check` prints of an accepted script."""
-    return [_read(line, SERVICE) for line in printed.splitlines()[1:]]
+    """What `camac check` prints of an accepted script, and `camac tell` before the lines of `camac costs`."""
+    return [_read(line, SERVICE) for line in printed[: len(printed) - len(costs_in(printed))].splitlines()[1:]]
 
 
 def read_headings(printed: str) -> List[Heading]:
@@ -185,9 +184,16 @@ def read_bodies(printed: str) -> List[Body]:
     return [body._replace(rows=tuple(rows)) for body, rows in bodies]
 
 
-def rows_of_line(printed: str, line: int) -> List[Row]:
-    """The rows of a line of the script, in their order, in what `camac costs` prints."""
-    return [_read(it, ROW) for it in re.findall(rf"(?m)^line {line} .*$", printed)]
+def costs_in(printed: str) -> str:
+    """The lines of `camac costs` in what `camac tell` prints of an accepted script."""
+    found = BODIES.search(printed)
+    return printed[found.start() :] if found else ""
+
+
+def row_at(printed: str, line: int, column: int) -> Optional[Row]:
+    """The row of the statement that begins at a place, in what `camac tell` prints."""
+    found = re.search(rf"(?m)^line {line} column {column} .*$", printed)
+    return ROW.read(found[0]) if found else None
 
 
 def line_of_body(printed: str, kind: BodyKind, name: str) -> Optional[str]:
@@ -274,17 +280,19 @@ def is_refused(printed: str) -> bool:
 
 
 def read_explanation(printed: str) -> Optional[Explanation]:
-    """What `camac explain` prints of a refusal; None if it says no refusal."""
-    first, *its = printed.rstrip("\n").split("\n")
-    also = tuple(it for it in map(ALSO.read, its) if it)
-    lines = its[: len(its) - len(also)]
-    refusal, mark = REFUSAL.read(first), MARK.fullmatch(lines[1]) if len(lines) > 1 else None
+    """What `camac explain` prints of a refusal, or `camac tell` of one; None if it says no refusal."""
+    first, *lines = printed.rstrip("\n").split("\n")
+    refusal = REFUSAL.read(first)
     if refusal is None:
         return None
     its = [it for it in lines if not SOURCE.fullmatch(it) and not MARK.fullmatch(it)]
     sentence = its.pop(0) if its and not its[0].startswith("Why: ") else ""
-    is_cut = lines[:1] and lines[0].partition(" | ")[2].startswith(CUT)
-    return Explanation(refusal, sentence, tuple(its), len(mark[1]) if mark and not is_cut else None, tuple(lines), also)
+    return Explanation(refusal, sentence, tuple(its), tuple(lines))
+
+
+def read_explanations(printed: str) -> List[Explanation]:
+    """The refusals in what `camac tell` prints."""
+    return [it for it in map(read_explanation, REFUSED.split(printed)) if it]
 
 
 def read_expected(printed: str) -> Optional[List[str]]:

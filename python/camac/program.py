@@ -15,7 +15,7 @@ REFUSED, USAGE = 1, 2
 EVERY = "--every="
 # The library in the place of a program, and the subcommands that it has, too.
 IN_PROCESS = "@library"
-COMMANDS = frozenset(("plan", "check", "explain", "bounds", "costs", "response", "run"))
+COMMANDS = frozenset(("plan", "check", "explain", "bounds", "costs", "tell", "response", "run"))
 
 
 class Verdict(NamedTuple):
@@ -140,8 +140,8 @@ def version(program: Optional[File] = None) -> str:
 
 
 def verdict(command: str, plan: File, script: bytes, program: Optional[File] = None, at: Optional[Tuple[int, int]] = None) -> Verdict:
-    """The program's answer on a script that is given as its text. `command` judges: "check", "bounds", "costs", "response", "explain --bounds" or
-    "explain", which says with line and column what is known there.
+    """The program's answer on a script that is given as its text. `command` judges: "check", "tell", "bounds", "costs", "response", "explain --bounds"
+    or "explain", which says with line and column what is known there.
 
     Raises ProgramFault and OSError as `output_of`."""
     words = command.split()
@@ -149,7 +149,7 @@ def verdict(command: str, plan: File, script: bytes, program: Optional[File] = N
     if found == IN_PROCESS:
         from camac import library
 
-        return library.explain_at(plan_text(plan), script, *at) if at else library.judged(command.replace(" --", "_"), plan_text(plan), script)
+        return library.explain_at(plan_text(plan), script, *at) if at else library.tell(command.replace(" --", "_"), plan_text(plan), script)
     status, text, errors = _called(found, *words, *(["--at", "{}:{}".format(*at)] if at else []), "--", plan, "@in", given=script)
     if status not in (0, REFUSED):
         _judge(status, "", errors)

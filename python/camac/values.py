@@ -150,7 +150,8 @@ class Row(NamedTuple):
     share         its part of the body's bound, without its block
     about         what the program says of its place: "at 1 5 0..15", "at 1 5 0 to 1 6 3", "turns 4", "crate 1", "proc NAME", or ""
     waits, slack  of the cycles of its share: those that auxiliary controllers may take, and those that the headings of procedures promise
-                  and their bodies do not need"""
+                  and their bodies do not need
+    column        that of its first token, in bytes from 1, where `camac tell` was asked"""
 
     line: int
     depth: int
@@ -161,6 +162,7 @@ class Row(NamedTuple):
     about: str
     waits: int = 0
     slack: int = 0
+    column: Optional[int] = None
 
     def own(self) -> int:
         """The cycles of one time without its block: of a `lock` the waits for it."""
@@ -367,16 +369,12 @@ class Refusal(NamedTuple):
 
 
 class Explanation(NamedTuple):
-    """What `camac explain` says of a refusal: what is said of the case ("" if nothing is), the lines that follow, and the column of the mark, in
-    characters from 1 (None if there is no mark, or the line is shown in part). `lines` are all lines below the refusal, up to the further
-    refusals, which are in `also`."""
+    """What is said of a refusal: of the case ("" if nothing is), the lines that follow, and all lines below the refusal."""
 
     refusal: Refusal
     sentence: str
     advice: Tuple[str, ...]
-    column: Optional[int]
     lines: Tuple[str, ...]
-    also: Tuple[Refusal, ...]
 
 
 class Near(NamedTuple):

@@ -40,21 +40,21 @@ static void handed_in(void) {
 #define TEXTS plan.bytes, plan.size, script.bytes, script.size
 #define NO_PLAN NULL, 1, script.bytes, script.size
 #define NO_SCRIPT plan.bytes, plan.size, NULL, 1
-    IS_MISUSE(camac_plan(NULL, 1, out, sizeof out, &size));
-    IS_MISUSE(camac_plan(plan.bytes, plan.size, NULL, 1, &size));
-    IS_MISUSE(camac_explain_plan(NULL, 1, out, sizeof out, &size));
+    IS_MISUSE(camac_tell(CAMAC_PLAN, NULL, 1, NULL, 0, out, sizeof out, &size));
+    IS_MISUSE(camac_tell(CAMAC_PLAN, plan.bytes, plan.size, NULL, 0, NULL, 1, &size));
+    IS_MISUSE(camac_tell(CAMAC_EXPLAIN_PLAN, NULL, 1, NULL, 0, out, sizeof out, &size));
     IS_MISUSE(camac_events(NULL, 1, out, sizeof out, &size));
     IS_MISUSE(camac_events("CAMACEV2", (size_t)-1, out, sizeof out, &size));
-    IS_MISUSE(camac_check(NO_PLAN, out, sizeof out, &size));
-    IS_MISUSE(camac_check(NO_SCRIPT, out, sizeof out, &size));
-    IS_MISUSE(camac_check(TEXTS, NULL, 1, &size));
-    IS_MISUSE(camac_explain(NO_SCRIPT, out, sizeof out, &size));
-    IS_MISUSE(camac_explain_bounds(NO_PLAN, out, sizeof out, &size));
+    IS_MISUSE(camac_tell(CAMAC_CHECK, NO_PLAN, out, sizeof out, &size));
+    IS_MISUSE(camac_tell(CAMAC_CHECK, NO_SCRIPT, out, sizeof out, &size));
+    IS_MISUSE(camac_tell(CAMAC_CHECK, TEXTS, NULL, 1, &size));
+    IS_MISUSE(camac_tell(CAMAC_EXPLAIN, NO_SCRIPT, out, sizeof out, &size));
+    IS_MISUSE(camac_tell(CAMAC_EXPLAIN_BOUNDS, NO_PLAN, out, sizeof out, &size));
     IS_MISUSE(camac_explain_at(NO_SCRIPT, 1, 1, out, sizeof out, &size));
     IS_MISUSE(camac_explain_at(TEXTS, 0, 1, out, sizeof out, &size));
     IS_MISUSE(camac_explain_at(TEXTS, 1, 0, out, sizeof out, &size));
-    IS_MISUSE(camac_bounds(NO_PLAN, out, sizeof out, &size));
-    IS_MISUSE(camac_costs(NO_SCRIPT, out, sizeof out, &size));
+    IS_MISUSE(camac_tell(CAMAC_BOUNDS, NO_PLAN, out, sizeof out, &size));
+    IS_MISUSE(camac_tell(CAMAC_COSTS, NO_SCRIPT, out, sizeof out, &size));
     IS_MISUSE(camac_response(TEXTS, NULL, 1, NULL, 0, out, sizeof out, &size));
     IS_MISUSE(camac_response(TEXTS, NULL, 0, NULL, 1, out, sizeof out, &size));
     IS_MISUSE(camac_run(TEXTS, NULL, 1, out, sizeof out, &size, file, sizeof file, &file_size));
@@ -122,49 +122,49 @@ static void of_a_later_version(void) {
 static void texts(void) {
     static char out[65536], cut[65536], long_text[CAMAC_FILE_BYTES + 1];
     size_t size, part;
-    EXPECT(CAMAC_OK, camac_check(plan.bytes, plan.size, script.bytes, script.size, out, sizeof out, &size));
+    EXPECT(CAMAC_OK, camac_tell(CAMAC_CHECK, plan.bytes, plan.size, script.bytes, script.size, out, sizeof out, &size));
     for (size_t room = 0; room <= size + 1; room++) {
         memset(cut, '#', size + 2);
-        EXPECT(CAMAC_OK, camac_check(plan.bytes, plan.size, script.bytes, script.size, cut, room, &part));
+        EXPECT(CAMAC_OK, camac_tell(CAMAC_CHECK, plan.bytes, plan.size, script.bytes, script.size, cut, room, &part));
         const size_t there = room < size ? room : size;
         if (part != size || memcmp(cut, out, there) || cut[there] != '#') fail("a cut text differs at room %zu", room);
     }
-    EXPECT(CAMAC_OK, camac_check(plan.bytes, plan.size, script.bytes, script.size, NULL, 0, NULL));
-    EXPECT(CAMAC_OK, camac_check(plan.bytes, plan.size, script.bytes, script.size, NULL, 0, &part));
+    EXPECT(CAMAC_OK, camac_tell(CAMAC_CHECK, plan.bytes, plan.size, script.bytes, script.size, NULL, 0, NULL));
+    EXPECT(CAMAC_OK, camac_tell(CAMAC_CHECK, plan.bytes, plan.size, script.bytes, script.size, NULL, 0, &part));
     if (part != size) fail("the length without a buffer is %zu, not %zu", part, size);
-    EXPECT(CAMAC_OK, camac_plan(plan.bytes, plan.size, out, sizeof out, &size));
-    EXPECT(CAMAC_OK, camac_explain_plan(plan.bytes, plan.size, out, sizeof out, &size));
-    EXPECT(CAMAC_OK, camac_explain(plan.bytes, plan.size, script.bytes, script.size, out, sizeof out, &size));
-    EXPECT(CAMAC_OK, camac_explain_bounds(plan.bytes, plan.size, script.bytes, script.size, out, sizeof out, &size));
-    EXPECT(CAMAC_OK, camac_bounds(plan.bytes, plan.size, script.bytes, script.size, out, sizeof out, &size));
-    EXPECT(CAMAC_OK, camac_costs(plan.bytes, plan.size, script.bytes, script.size, out, sizeof out, &size));
+    EXPECT(CAMAC_OK, camac_tell(CAMAC_PLAN, plan.bytes, plan.size, NULL, 0, out, sizeof out, &size));
+    EXPECT(CAMAC_OK, camac_tell(CAMAC_EXPLAIN_PLAN, plan.bytes, plan.size, NULL, 0, out, sizeof out, &size));
+    EXPECT(CAMAC_OK, camac_tell(CAMAC_EXPLAIN, plan.bytes, plan.size, script.bytes, script.size, out, sizeof out, &size));
+    EXPECT(CAMAC_OK, camac_tell(CAMAC_EXPLAIN_BOUNDS, plan.bytes, plan.size, script.bytes, script.size, out, sizeof out, &size));
+    EXPECT(CAMAC_OK, camac_tell(CAMAC_BOUNDS, plan.bytes, plan.size, script.bytes, script.size, out, sizeof out, &size));
+    EXPECT(CAMAC_OK, camac_tell(CAMAC_COSTS, plan.bytes, plan.size, script.bytes, script.size, out, sizeof out, &size));
     EXPECT(CAMAC_OK, camac_events("CAMACEV2", 8, out, sizeof out, &size));
-    EXPECT(CAMAC_REFUSED, camac_plan("[[", 2, out, sizeof out, &size));
-    EXPECT(CAMAC_REFUSED, camac_explain_plan("[[", 2, out, sizeof out, &size));
-    EXPECT(CAMAC_REFUSED, camac_check(plan.bytes, plan.size, "!", 1, out, sizeof out, &size));
+    EXPECT(CAMAC_REFUSED, camac_tell(CAMAC_PLAN, "[[", 2, NULL, 0, out, sizeof out, &size));
+    EXPECT(CAMAC_REFUSED, camac_tell(CAMAC_EXPLAIN_PLAN, "[[", 2, NULL, 0, out, sizeof out, &size));
+    EXPECT(CAMAC_REFUSED, camac_tell(CAMAC_CHECK, plan.bytes, plan.size, "!", 1, out, sizeof out, &size));
     if (size != 27 || memcmp(out, "refused S1 line 1: bad byte", 27)) size--;
     if (size != 27 || memcmp(out, "refused S1 line 1: bad byte", 27)) fail("a refusal says otherwise");
-    EXPECT(CAMAC_REFUSED, camac_explain(plan.bytes, plan.size, "!", 1, out, sizeof out, &size));
-    EXPECT(CAMAC_REFUSED, camac_explain_bounds(plan.bytes, plan.size, "!", 1, out, sizeof out, &size));
+    EXPECT(CAMAC_REFUSED, camac_tell(CAMAC_EXPLAIN, plan.bytes, plan.size, "!", 1, out, sizeof out, &size));
+    EXPECT(CAMAC_REFUSED, camac_tell(CAMAC_EXPLAIN_BOUNDS, plan.bytes, plan.size, "!", 1, out, sizeof out, &size));
     EXPECT(CAMAC_REFUSED, camac_explain_at(plan.bytes, plan.size, script.bytes, script.size, 1, 1, out, sizeof out, &size));
     if (size != 20 || memcmp(out, "no statement at 1:1\n", 20)) fail("a place without a statement says otherwise");
     EXPECT(CAMAC_REFUSED, camac_explain_at(plan.bytes, plan.size, "!", 1, 1, 1, out, sizeof out, &size));
-    EXPECT(CAMAC_REFUSED, camac_bounds(plan.bytes, plan.size, "!", 1, out, sizeof out, &size));
-    EXPECT(CAMAC_REFUSED, camac_costs(plan.bytes, plan.size, "!", 1, out, sizeof out, &size));
+    EXPECT(CAMAC_REFUSED, camac_tell(CAMAC_BOUNDS, plan.bytes, plan.size, "!", 1, out, sizeof out, &size));
+    EXPECT(CAMAC_REFUSED, camac_tell(CAMAC_COSTS, plan.bytes, plan.size, "!", 1, out, sizeof out, &size));
     EXPECT(CAMAC_REFUSED, camac_events("CAMACEV", 7, out, sizeof out, &size));
     EXPECT(CAMAC_REFUSED, camac_run(plan.bytes, plan.size, script.bytes, script.size, "?", 1, out, sizeof out, &size, cut, sizeof cut, &part));
     memset(long_text, ' ', sizeof long_text);
-    EXPECT(CAMAC_OK, camac_check(plan.bytes, plan.size, long_text, CAMAC_TEXT_BYTES, out, sizeof out, &size));
+    EXPECT(CAMAC_OK, camac_tell(CAMAC_CHECK, plan.bytes, plan.size, long_text, CAMAC_TEXT_BYTES, out, sizeof out, &size));
     out[0] = '#';
 #define IS_LONG(call) EXPECT(CAMAC_LONG, call); if (size || out[0] != '#') fail("line %d: a text too long has a result", __LINE__)
-    IS_LONG(camac_plan(long_text, CAMAC_TEXT_BYTES + 1, out, sizeof out, &size));
-    IS_LONG(camac_explain_plan(long_text, CAMAC_TEXT_BYTES + 1, out, sizeof out, &size));
-    IS_LONG(camac_check(plan.bytes, plan.size, long_text, CAMAC_TEXT_BYTES + 1, out, sizeof out, &size));
-    IS_LONG(camac_explain(plan.bytes, plan.size, long_text, CAMAC_TEXT_BYTES + 1, out, sizeof out, &size));
-    IS_LONG(camac_explain_bounds(plan.bytes, plan.size, long_text, CAMAC_TEXT_BYTES + 1, out, sizeof out, &size));
+    IS_LONG(camac_tell(CAMAC_PLAN, long_text, CAMAC_TEXT_BYTES + 1, NULL, 0, out, sizeof out, &size));
+    IS_LONG(camac_tell(CAMAC_EXPLAIN_PLAN, long_text, CAMAC_TEXT_BYTES + 1, NULL, 0, out, sizeof out, &size));
+    IS_LONG(camac_tell(CAMAC_CHECK, plan.bytes, plan.size, long_text, CAMAC_TEXT_BYTES + 1, out, sizeof out, &size));
+    IS_LONG(camac_tell(CAMAC_EXPLAIN, plan.bytes, plan.size, long_text, CAMAC_TEXT_BYTES + 1, out, sizeof out, &size));
+    IS_LONG(camac_tell(CAMAC_EXPLAIN_BOUNDS, plan.bytes, plan.size, long_text, CAMAC_TEXT_BYTES + 1, out, sizeof out, &size));
     IS_LONG(camac_explain_at(plan.bytes, plan.size, long_text, CAMAC_TEXT_BYTES + 1, 1, 1, out, sizeof out, &size));
-    IS_LONG(camac_bounds(plan.bytes, plan.size, long_text, CAMAC_TEXT_BYTES + 1, out, sizeof out, &size));
-    IS_LONG(camac_costs(plan.bytes, plan.size, long_text, CAMAC_TEXT_BYTES + 1, out, sizeof out, &size));
+    IS_LONG(camac_tell(CAMAC_BOUNDS, plan.bytes, plan.size, long_text, CAMAC_TEXT_BYTES + 1, out, sizeof out, &size));
+    IS_LONG(camac_tell(CAMAC_COSTS, plan.bytes, plan.size, long_text, CAMAC_TEXT_BYTES + 1, out, sizeof out, &size));
     IS_LONG(camac_run(plan.bytes, plan.size, long_text, CAMAC_TEXT_BYTES + 1, "", 0, out, sizeof out, &size, cut, sizeof cut, &part));
     IS_LONG(camac_events(long_text, CAMAC_FILE_BYTES + 1, out, sizeof out, &size));
     camac_session s = CAMAC_NONE;
@@ -269,16 +269,16 @@ static void deep(void) {
     size_t size;
     for (int i = 0; i < 3; i++) {
         const size_t length = nested(its, i < 2 ? "a = " : "", parts[i], 100000, "");
-        EXPECT(CAMAC_REFUSED, camac_plan(its, length, out, sizeof out, &size));
-        EXPECT(CAMAC_REFUSED, camac_explain_plan(its, length, out, sizeof out, &size));
+        EXPECT(CAMAC_REFUSED, camac_tell(CAMAC_PLAN, its, length, NULL, 0, out, sizeof out, &size));
+        EXPECT(CAMAC_REFUSED, camac_tell(CAMAC_EXPLAIN_PLAN, its, length, NULL, 0, out, sizeof out, &size));
     }
     for (int depth = 15; depth <= 16; depth++) {
         const int code = depth == 15 ? CAMAC_OK : CAMAC_REFUSED;
         const size_t length = nested(its, head, "if q {\n", depth, "v = v + 1\n}");
         camac_session s = CAMAC_NONE;
-        EXPECT(code, camac_explain(plan.bytes, plan.size, its, length, out, sizeof out, &size));
-        EXPECT(code, camac_bounds(plan.bytes, plan.size, its, length, out, sizeof out, &size));
-        EXPECT(code, camac_costs(plan.bytes, plan.size, its, length, out, sizeof out, &size));
+        EXPECT(code, camac_tell(CAMAC_EXPLAIN, plan.bytes, plan.size, its, length, out, sizeof out, &size));
+        EXPECT(code, camac_tell(CAMAC_BOUNDS, plan.bytes, plan.size, its, length, out, sizeof out, &size));
+        EXPECT(code, camac_tell(CAMAC_COSTS, plan.bytes, plan.size, its, length, out, sizeof out, &size));
         EXPECT(code, camac_open(&s, plan.bytes, plan.size, its, length, out, sizeof out, &size));
         camac_close(&s);
     }
@@ -289,10 +289,10 @@ static void no_plan(const char *its, size_t length, const char *refusal) {
     static char out[65536];
     size_t size;
     camac_session s = CAMAC_NONE;
-    EXPECT(CAMAC_REFUSED, camac_plan(its, length, out, sizeof out, &size));
+    EXPECT(CAMAC_REFUSED, camac_tell(CAMAC_PLAN, its, length, NULL, 0, out, sizeof out, &size));
     if (size < strlen(refusal) || memcmp(out, refusal, strlen(refusal))) fail("not %s: %.*s", refusal, (int)size, out);
-    EXPECT(CAMAC_REFUSED, camac_explain_plan(its, length, out, sizeof out, &size));
-    EXPECT(CAMAC_REFUSED, camac_explain(its, length, script.bytes, script.size, out, sizeof out, &size));
+    EXPECT(CAMAC_REFUSED, camac_tell(CAMAC_EXPLAIN_PLAN, its, length, NULL, 0, out, sizeof out, &size));
+    EXPECT(CAMAC_REFUSED, camac_tell(CAMAC_EXPLAIN, its, length, script.bytes, script.size, out, sizeof out, &size));
     EXPECT(CAMAC_REFUSED, camac_response(its, length, script.bytes, script.size, NULL, 0, NULL, 0, out, sizeof out, &size));
     EXPECT(CAMAC_REFUSED, camac_run(its, length, script.bytes, script.size, "", 0, out, sizeof out, &size, NULL, 0, NULL));
     EXPECT(CAMAC_REFUSED, camac_open(&s, its, length, script.bytes, script.size, out, sizeof out, &size));

@@ -57,17 +57,17 @@ static int call(int which) {
     size_t size = 9, file_size = 9;
     int code;
     switch (which) {
-    case 0: code = camac_plan(plan.bytes, plan.size, out, sizeof out, &size); break;
-    case 1: code = camac_explain_plan(plan.bytes, plan.size, out, sizeof out, &size); break;
-    case 2: code = camac_check(plan.bytes, plan.size, script.bytes, script.size, out, sizeof out, &size); break;
-    case 3: code = camac_explain(plan.bytes, plan.size, script.bytes, script.size, out, sizeof out, &size); break;
-    case 4: code = camac_bounds(plan.bytes, plan.size, script.bytes, script.size, out, sizeof out, &size); break;
+    case 0: code = camac_tell(CAMAC_PLAN, plan.bytes, plan.size, NULL, 0, out, sizeof out, &size); break;
+    case 1: code = camac_tell(CAMAC_EXPLAIN_PLAN, plan.bytes, plan.size, NULL, 0, out, sizeof out, &size); break;
+    case 2: code = camac_tell(CAMAC_CHECK, plan.bytes, plan.size, script.bytes, script.size, out, sizeof out, &size); break;
+    case 3: code = camac_tell(CAMAC_EXPLAIN, plan.bytes, plan.size, script.bytes, script.size, out, sizeof out, &size); break;
+    case 4: code = camac_tell(CAMAC_BOUNDS, plan.bytes, plan.size, script.bytes, script.size, out, sizeof out, &size); break;
     case 5:
         code = camac_run(plan.bytes, plan.size, script.bytes, script.size, answers, sizeof answers - 1, out, sizeof out, &size, file, sizeof file,
                          &file_size);
         if (code == CAMAC_NO_MEMORY && file_size) fail("an event file is there without memory");
         break;
-    case 6: code = camac_costs(plan.bytes, plan.size, script.bytes, script.size, out, sizeof out, &size); break;
+    case 6: code = camac_tell(CAMAC_COSTS, plan.bytes, plan.size, script.bytes, script.size, out, sizeof out, &size); break;
     case 7: code = camac_events("CAMACEV2", 8, out, sizeof out, &size); break;
     case RESPONSE:
         code = camac_response(plan.bytes, plan.size, script.bytes, script.size, "adc=200", 7, "adc=6", 5, out, sizeof out, &size);

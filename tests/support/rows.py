@@ -7,7 +7,7 @@ from support.live import script
 from support.program import TOP
 
 INPUTS = ("PLAN", "SCRIPT", "ANSWERS")
-PLAYED = re.compile(r"(plan|plan --commands|check|explain(?: --at \d+:\d+(?: --turn \d+)*| --bounds)?|bounds|costs|response(?: --(?:every|within) \w+=\d+)*|run|drive) ([01])")
+PLAYED = re.compile(r"(plan|plan --commands|check|explain(?: --at \d+:\d+(?: --turn \d+)*| --bounds)?|bounds|costs|tell|response(?: --(?:every|within) \w+=\d+)*|run|drive) ([01])")
 # The commands that need no script.
 OF_A_PLAN = ("plan", "plan --commands", "explain")
 BODY = re.compile(r"BODY(?: within (\d+) cycles event (\d+) words)?")

@@ -1,11 +1,13 @@
 -- What the calls on texts answer.
-use Rattle.std.specs.Prelude.{◌≡◌, ◌<◌, ◌⊎◌, ℕ, List, length, Result, Ok, Err}
+use Rattle.std.specs.Prelude.{◌≡◌, ◌<◌, ◌⊎◌, ℕ, List, [], length, nat_eq, Option, Some, None, Result, Ok, Err, if◌then◌else◌}
 use Rattle.camac_event.specs.Reading.{file_at}
 use Rattle.camac_engines.specs.Ask.{TellsFound, TellsPlan}
 use Rattle.camac_engines.specs.Found.{Found, IsJudged}
 use Rattle.camac_engines.specs.Report.{Reports, report_events}
 use Rattle.camac_engines.specs.declared.ask.Ask.{Ask}
+use Rattle.camac_engines.specs.declared.ask.Ask.TheVariants as ask
 use Rattle.camac_engines.specs.declared.ask.PlanAsk.{PlanAsk}
+use Rattle.camac_engines.specs.declared.ask.PlanAsk.TheVariants as plan_ask
 use Rattle.camac_engines.specs.declared.fault.ToolFault.{ToolFault}
 use Rattle.camac_engines.specs.declared.fault.ToolFault.TheVariants as fault
 use Rattle.camac_engines.specs.declared.judging.Judged.{Judged}
@@ -44,6 +46,27 @@ found_in (Err rule) script = Err rule
 -- of a plan and a script
 abbrev pub AnswersTexts : Ask → (plan script : List ℕ) → ℕ → (old new : List ℕ) (size : ℕ) → Type 0
 AnswersTexts a plan script = Answers (TellsFound a (found_in (plan_found plan) script)) (AreLongTexts plan script)
+
+-- what a number asks of a plan alone, and of a plan and a script
+abbrev pub plan_asked : ℕ → Option PlanAsk
+plan_asked n = if nat_eq n 1 then Some plan_ask.Lines else if nat_eq n 2 then Some plan_ask.Explain else None
+
+abbrev pub texts_asked : (n line column : ℕ) → Option Ask
+texts_asked n line column =
+    if nat_eq n 3 then Some ask.Check
+    else if nat_eq n 4 then Some ask.Explain
+    else if nat_eq n 5 then Some ask.ExplainBounds
+    else if nat_eq n 6 then Some ask.Bounds
+    else if nat_eq n 7 then Some ask.Costs
+    else if nat_eq n 8 then Some ask.Tell
+    else if nat_eq n 9 then Some (ask.ExplainAt line column [])
+    else None
+
+-- of either; nothing, at 2, where a number asks neither
+abbrev pub AnswersAsked : Option PlanAsk → Option Ask → (plan script : List ℕ) → ℕ → (old new : List ℕ) (size : ℕ) → Type 0
+AnswersAsked (Some a) b plan script code old new size = AnswersPlan a plan code old new size
+AnswersAsked None (Some a) plan script code old new size = AnswersTexts a plan script code old new size
+AnswersAsked None None plan script code old new size = (code ≡ 2) × GivesNothing old new size
 
 -- of an event file
 abbrev pub AnswersEvents : (file : List ℕ) → ℕ → (old new : List ℕ) (size : ℕ) → Type 0

@@ -1,15 +1,33 @@
 // The calls on texts: what the program's subcommands print, for bytes in memory.
 
-ghost use Rattle.std.specs.Prelude.{◌≡◌, []};
-ghost use Rattle.camac_engines.specs.declared.ask.Ask.TheVariants as ask;
-ghost use Rattle.camac_engines.specs.declared.ask.PlanAsk.TheVariants as plan_ask;
+ghost use Rattle.std.specs.Prelude.{◌≡◌};
 ghost use Rattle.camac_c.specs.Run.{AnswersRun};
-ghost use Rattle.camac_c.specs.Texts.{AnswersEvents, AnswersPlan, AnswersTexts};
+ghost use Rattle.camac_c.specs.Texts.{AnswersAsked, AnswersEvents, AnswersPlan, AnswersTexts, plan_asked, texts_asked};
 
-use crate::filling::{code_of, give_answer};
+use crate::filling::{code_of, give_answer, give_nothing};
+use crate::plain::MISUSE;
 use camac_tool::{Ask, PlanAsk, PlanSource, Turns, answer, answer_plan, engine_events, engine_run};
 use camac_word::Watched;
 use std::alloc::Global;
+
+// What is asked, as camac.h numbers it.
+const PLAN: u32 = 1;
+
+const EXPLAIN_PLAN: u32 = 2;
+
+const CHECK: u32 = 3;
+
+const EXPLAIN: u32 = 4;
+
+const EXPLAIN_BOUNDS: u32 = 5;
+
+const BOUNDS: u32 = 6;
+
+const COSTS: u32 = 7;
+
+const TELL: u32 = 8;
+
+const EXPLAIN_AT: u32 = 9;
 
 // What is asked of a plan.
 fn tell_plan(alloc: Global, ask: PlanAsk, plan: &[u8], text: &mut [u8], size: &mut usize) -> u32
@@ -41,122 +59,60 @@ fn tell(
     code_of(&answer)
 }
 
-/// Lists a plan.
+/// What the program prints of texts, by the number of what is asked. Line and column, both from 1, are those of `EXPLAIN_AT`. `MISUSE`: nothing is
+/// asked by this number.
 #[unsafe(no_mangle)]
-pub extern "C" fn camac_raw_plan(
+pub extern "C" fn camac_raw_tell(
     alloc: Global,
-    plan: &[u8],
-    text: &mut [u8],
-    size: &mut usize,
-) -> u32
-    ensures { AnswersPlan plan_ask.Lines plan.now result text.old text.new size.new }
-{
-    tell_plan(alloc, PlanAsk::Lines, plan, text, size)
-}
-
-/// Explains the refusal of a plan.
-#[unsafe(no_mangle)]
-pub extern "C" fn camac_raw_explain_plan(
-    alloc: Global,
-    plan: &[u8],
-    text: &mut [u8],
-    size: &mut usize,
-) -> u32
-    ensures { AnswersPlan plan_ask.Explain plan.now result text.old text.new size.new }
-{
-    tell_plan(alloc, PlanAsk::Explain, plan, text, size)
-}
-
-/// Checks a script against a plan.
-#[unsafe(no_mangle)]
-pub extern "C" fn camac_raw_check(
-    alloc: Global,
-    plan: &[u8],
-    script: &[u8],
-    text: &mut [u8],
-    size: &mut usize,
-) -> u32
-    ensures { AnswersTexts ask.Check plan.now script.now result text.old text.new size.new }
-{
-    tell(alloc, Ask::Check, plan, script, text, size)
-}
-
-/// Checks a script against a plan, and explains a refusal.
-#[unsafe(no_mangle)]
-pub extern "C" fn camac_raw_explain(
-    alloc: Global,
-    plan: &[u8],
-    script: &[u8],
-    text: &mut [u8],
-    size: &mut usize,
-) -> u32
-    ensures { AnswersTexts ask.Explain plan.now script.now result text.old text.new size.new }
-{
-    tell(alloc, Ask::Explain, plan, script, text, size)
-}
-
-/// Prints the headings of a script with the least numbers that are accepted, and explains a refusal.
-#[unsafe(no_mangle)]
-pub extern "C" fn camac_raw_explain_bounds(
-    alloc: Global,
-    plan: &[u8],
-    script: &[u8],
-    text: &mut [u8],
-    size: &mut usize,
-) -> u32
-    ensures { AnswersTexts ask.ExplainBounds plan.now script.now result text.old text.new size.new }
-{
-    tell(alloc, Ask::ExplainBounds, plan, script, text, size)
-}
-
-/// Prints what the checker knows before the statement at a line and a column, both from 1.
-#[unsafe(no_mangle)]
-pub extern "C" fn camac_raw_explain_at(
-    alloc: Global,
-    plan: &[u8],
-    script: &[u8],
+    ask: u32,
     line: u32,
     column: u32,
-    text: &mut [u8],
-    size: &mut usize,
-) -> u32
-    ensures { AnswersTexts (ask.ExplainAt line column []) plan.now script.now result text.old text.new size.new }
-{
-    let turns = Turns::of(&[]);
-    let ask = Ask::ExplainAt {
-        line,
-        column,
-        turns,
-    };
-    tell(alloc, ask, plan, script, text, size)
-}
-
-/// Prints the headings of a script with the least numbers that are accepted.
-#[unsafe(no_mangle)]
-pub extern "C" fn camac_raw_bounds(
-    alloc: Global,
     plan: &[u8],
     script: &[u8],
     text: &mut [u8],
     size: &mut usize,
 ) -> u32
-    ensures { AnswersTexts ask.Bounds plan.now script.now result text.old text.new size.new }
+    ensures { AnswersAsked (plan_asked ask) (texts_asked ask line column) plan.now script.now result text.old text.new size.new }
 {
-    tell(alloc, Ask::Bounds, plan, script, text, size)
+    if let Some(ask) = plan_asked(ask) {
+        return tell_plan(alloc, ask, plan, text, size);
+    }
+    if let Some(ask) = texts_asked(ask, line, column) {
+        return tell(alloc, ask, plan, script, text, size);
+    }
+    give_nothing(text, size);
+    MISUSE
 }
 
-/// Prints what the bounds of a script consist of.
-#[unsafe(no_mangle)]
-pub extern "C" fn camac_raw_costs(
-    alloc: Global,
-    plan: &[u8],
-    script: &[u8],
-    text: &mut [u8],
-    size: &mut usize,
-) -> u32
-    ensures { AnswersTexts ask.Costs plan.now script.now result text.old text.new size.new }
+// What a number asks of a plan alone.
+fn plan_asked(ask: u32) -> Option<PlanAsk>
+    ensures { result ≡ plan_asked ask }
 {
-    tell(alloc, Ask::Costs, plan, script, text, size)
+    match ask {
+        PLAN => Some(PlanAsk::Lines),
+        EXPLAIN_PLAN => Some(PlanAsk::Explain),
+        _ => None,
+    }
+}
+
+// What a number asks of a plan and a script.
+fn texts_asked<'a>(ask: u32, line: u32, column: u32) -> Option<Ask<'a>>
+    ensures { result ≡ texts_asked ask line column }
+{
+    match ask {
+        CHECK => Some(Ask::Check),
+        EXPLAIN => Some(Ask::Explain),
+        EXPLAIN_BOUNDS => Some(Ask::ExplainBounds),
+        EXPLAIN_AT => Some(Ask::ExplainAt {
+            line,
+            column,
+            turns: Turns::of(&[]),
+        }),
+        BOUNDS => Some(Ask::Bounds),
+        COSTS => Some(Ask::Costs),
+        TELL => Some(Ask::Tell),
+        _ => None,
+    }
 }
 
 /// Runs a script on the text of its answers: the listing goes to `text`, the event file to `file`.

@@ -1,8 +1,10 @@
 -- The lines of `camac costs`.
-use Rattle.std.specs.Prelude.{ℕ, List, [], ◌++◌, codes, decimal, nat_eq, option_map, unwrap_or, slice_get, if◌then◌else◌}
+use Rattle.std.specs.Prelude.{ℕ, ◌+◌, ◌-◌, ◌^◌, List, [], ◌++◌, Option, Some, None, codes, decimal, length, min, nat_eq, option_map, reverse, take, take_while, unwrap_or, slice_get, if◌then◌else◌}
 use Rattle.std.specs.List.{flat_map}
 use Rattle.camac_range.specs.Interval.{Interval, only}
+use Rattle.camac_lang.specs.declared.spot.Spot.{Spot}
 use Rattle.camac_lang.specs.Tree.{Text, Lam, Procedure, Service, Script}
+use Rattle.camac_tokens.specs.Scanning.{is_no_line_feed}
 use Rattle.camac_branch.specs.Plan.{Layout}
 use Rattle.camac_names.specs.Link.{service_bit}
 use Rattle.camac_model.specs.Fine.{Bounds}
@@ -73,15 +75,28 @@ detail_text ps (detail.Between g h) = window_text g.crates (window_of g h)
 detail_text ps (detail.Crates r) = codes " crate " ++ range_text r
 detail_text ps (detail.Procedure i) = codes " proc " ++ procedure_name ps i
 
--- where it stands, how often it is made, what one time costs, and its share
-abbrev pub row_start : Row → List ℕ
-row_start r =
-    codes "line " ++ decimal r.spot.line ++ codes " depth " ++ decimal r.depth ++ codes " " ++ kind_word r.kind ++ codes " times " ++ decimal r.times
+-- how many bytes stand after the last line feed
+abbrev pub in_last_line : List ℕ → ℕ
+in_last_line bytes = length (take_while is_no_line_feed (reverse bytes))
+
+-- the column of a spot of a text, from 1; a number stays at the greatest of 64 bits
+abbrev pub column_in : (text : List ℕ) → Spot → ℕ
+column_in text s = min (in_last_line (take (length text - s.left) text) + 1) (2 ^ 64 - 1)
+
+-- where a statement stands, with its column if the text is given
+abbrev pub place_text : (text : Option (List ℕ)) → Spot → List ℕ
+place_text None s = codes "line " ++ decimal s.line
+place_text (Some text) s = codes "line " ++ decimal s.line ++ codes " column " ++ decimal (column_in text s)
+
+-- how deep it stands, how often it is made, what one time costs, and its share
+abbrev pub row_costs : Row → List ℕ
+row_costs r =
+    codes " depth " ++ decimal r.depth ++ codes " " ++ kind_word r.kind ++ codes " times " ++ decimal r.times
     ++ codes " cycles " ++ decimal r.each.cycles ++ codes " words " ++ decimal r.each.words ++ codes " steps " ++ decimal r.each.steps
     ++ codes " share " ++ decimal r.share.cycles ++ codes " " ++ decimal r.share.words ++ codes " " ++ decimal r.share.steps
 
-abbrev pub row_text : List Procedure → Row → List ℕ
-row_text ps r = row_start r ++ (detail_text ps r.detail ++ codes "\n")
+abbrev pub row_text : (text : Option (List ℕ)) → List Procedure → Row → List ℕ
+row_text text ps r = place_text text r.spot ++ (row_costs r ++ (detail_text ps r.detail ++ codes "\n"))
 
 -- what a body can cost, each number beside that of its heading
 abbrev pub procedure_line : Procedure → Bounds → List ℕ
@@ -113,8 +128,8 @@ head_text plan s (owner.Procedure i) costs = unwrap_or (option_map (λ p. proced
 head_text plan s (owner.Service i) costs = unwrap_or (option_map (λ v. service_text plan s.lams v costs) (slice_get s.services i)) []
 
 -- a line of the body, and one for each of its rows
-abbrev pub body_text : Layout → Script → BodyRows → List ℕ
-body_text plan s b = head_text plan s b.owner b.costs ++ flat_map (row_text s.procedures) b.rows
+abbrev pub body_text : (text : Option (List ℕ)) → Layout → Script → BodyRows → List ℕ
+body_text text plan s b = head_text plan s b.owner b.costs ++ flat_map (row_text text s.procedures) b.rows
 
-abbrev pub costs_text : Layout → Script → List BodyRows → List ℕ
-costs_text plan s bodies = flat_map (body_text plan s) bodies
+abbrev pub costs_text : (text : Option (List ℕ)) → Layout → Script → List BodyRows → List ℕ
+costs_text text plan s bodies = flat_map (body_text text plan s) bodies

@@ -3,7 +3,7 @@
 ghost use Rattle.std.specs.Prelude.{◌≡◌, ◌≤◌, ◌<◌, ◌+◌, ◌||◌, ◌++◌, [], codes, is_err, length, map, option_map, slice_get, unwrap_or};
 ghost use Rattle.std.specs.List.{flat_map};
 ghost use Rattle.camac_lang.specs.View.{lam_of, procedure_of, service_of};
-ghost use Rattle.camac_check_costs.specs.Texts.{address_after, body_text, costs_text, detail_text, head_text, kind_word, procedure_line, procedure_name, range_text, region_text, row_start, row_text, service_line, service_text, window_text};
+ghost use Rattle.camac_check_costs.specs.Texts.{address_after, body_text, column_in, costs_text, detail_text, head_text, in_last_line, kind_word, place_text, procedure_line, procedure_name, range_text, region_text, row_costs, row_text, service_line, service_text, window_text};
 ghost use Rattle.camac_rules.specs.Windows.{window_of};
 ghost use Rattle.camac_word.specs.Watched.{inner_of, has_failed};
 ghost use Rattle.camac_word.specs.Writing.{Writes};
@@ -12,24 +12,25 @@ use crate::bodies::{BodyCosts, Owner};
 use camac_check::Checked;
 use camac_check_known::{Costs, Region};
 use camac_check_rows::{Detail, Kind, Row};
-use camac_lang::{Lam, Procedure, Service};
+use camac_lang::{Lam, Procedure, Service, Spot};
 use camac_lines::Line;
 use camac_range::Range;
 use camac_word::{GlBit, Watched, WriteFault};
 use std::io::Write;
 
 /// Writes the costs of bodies of a script: a line of each body, with each of its numbers beside that of its heading, and after it a line for
-/// each of its statements. After a write fault a prefix of this was written.
+/// each of its statements, with its column if the script's text is given. After a write fault a prefix of this was written.
 pub fn write_costs<W: Write>(
     out: &mut Watched<W>,
     checked: &Checked,
+    text: Option<&[u8]>,
     bodies: &[BodyCosts],
 ) -> Result<(), WriteFault>
-    ensures text { Writes (W.contents (inner_of out.old)) (W.contents (inner_of out.new)) result (costs_text checked.now.plan checked.now.script bodies.now) }
+    ensures text { Writes (W.contents (inner_of out.old)) (W.contents (inner_of out.new)) result (costs_text (option_map (λ t. t.now) text.entry) checked.now.plan checked.now.script bodies.now) }
     ensures failed { has_failed out.new ≡ (has_failed out.old || is_err result) }
 {
     'bodies: for body in bodies {
-        write_body(out, checked, body)?;
+        write_body(out, checked, text, body)?;
     }
     Ok(())
 }
@@ -37,26 +38,28 @@ pub fn write_costs<W: Write>(
 fn write_body<W: Write>(
     out: &mut Watched<W>,
     checked: &Checked,
+    text: Option<&[u8]>,
     body: &BodyCosts,
 ) -> Result<(), WriteFault>
-    ensures text { Writes (W.contents (inner_of out.old)) (W.contents (inner_of out.new)) result (body_text checked.now.plan checked.now.script body.now) }
+    ensures text { Writes (W.contents (inner_of out.old)) (W.contents (inner_of out.new)) result (body_text (option_map (λ t. t.now) text.entry) checked.now.plan checked.now.script body.now) }
     ensures failed { has_failed out.new ≡ (has_failed out.old || is_err result) }
 {
     let head = line_of_body(checked, body.owner(), body.costs());
     out.write_text(head.as_bytes())?;
-    write_rows(out, checked.script().procedures(), body.rows())
+    write_rows(out, checked.script().procedures(), text, body.rows())
 }
 
 fn write_rows<W: Write>(
     out: &mut Watched<W>,
     procedures: &[Procedure],
+    text: Option<&[u8]>,
     rows: &[Row],
 ) -> Result<(), WriteFault>
-    ensures text { Writes (W.contents (inner_of out.old)) (W.contents (inner_of out.new)) result (flat_map (row_text (map procedure_of procedures.now)) rows.now) }
+    ensures text { Writes (W.contents (inner_of out.old)) (W.contents (inner_of out.new)) result (flat_map (row_text (option_map (λ t. t.now) text.entry) (map procedure_of procedures.now)) rows.now) }
     ensures failed { has_failed out.new ≡ (has_failed out.old || is_err result) }
 {
     'rows: for row in rows {
-        write_row(out, procedures, row)?;
+        write_row(out, procedures, text, row)?;
     }
     Ok(())
 }
@@ -64,21 +67,49 @@ fn write_rows<W: Write>(
 fn write_row<W: Write>(
     out: &mut Watched<W>,
     procedures: &[Procedure],
+    text: Option<&[u8]>,
     row: &Row,
 ) -> Result<(), WriteFault>
-    ensures text { Writes (W.contents (inner_of out.old)) (W.contents (inner_of out.new)) result (row_text (map procedure_of procedures.now) row.now) }
+    ensures text { Writes (W.contents (inner_of out.old)) (W.contents (inner_of out.new)) result (row_text (option_map (λ t. t.now) text.entry) (map procedure_of procedures.now) row.now) }
     ensures failed { has_failed out.new ≡ (has_failed out.old || is_err result) }
 {
-    out.write_text(start_of_row(row).as_bytes())?;
+    out.write_text(place_of_row(text, row.spot).as_bytes())?;
+    out.write_text(costs_of_row(row).as_bytes())?;
     out.write_text(end_of_row(procedures, row.detail).as_bytes())
 }
 
-fn start_of_row(row: &Row) -> Line
-    ensures { result ≡ row_start row.now }
+fn place_of_row(text: Option<&[u8]>, spot: Spot) -> Line
+    ensures { result ≡ place_text (option_map (λ t. t.now) text.entry) spot }
 {
     let mut line = Line::new();
     line.push_str("line ");
-    line.push_number(row.spot.line);
+    line.push_number(spot.line);
+    if let Some(text) = text {
+        line.push_str(" column ");
+        line.push_number(column_in(text, spot));
+    }
+    line
+}
+
+// The column of a spot of a text, from 1.
+fn column_in(text: &[u8], spot: Spot) -> usize
+    ensures { result ≡ column_in text.now spot }
+{
+    let before = &text[..text.len().saturating_sub(spot.left)];
+    in_last_line(before).saturating_add(1)
+}
+
+// How many bytes stand after the last line feed.
+fn in_last_line(bytes: &[u8]) -> usize
+    ensures { result ≡ in_last_line bytes.now }
+{
+    bytes.iter().rev().take_while(|b| **b != b'\n').count()
+}
+
+fn costs_of_row(row: &Row) -> Line
+    ensures { result ≡ row_costs row.now }
+{
+    let mut line = Line::new();
     line.push_str(" depth ");
     line.push_number(row.depth);
     line.push_str(" ");

@@ -3,3 +3,4 @@ pub mod Explained
 pub mod Findings
 pub mod Told
 pub mod Responses
+pub mod Whole

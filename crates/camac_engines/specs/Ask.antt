@@ -10,6 +10,7 @@ use Rattle.camac_engines.specs.Headings.{headings_report}
 use Rattle.camac_engines.specs.Known.{known_report}
 use Rattle.camac_engines.specs.Plan.{IsPlanTooLong, PlanFound, Says}
 use Rattle.camac_engines.specs.Reading.{ConsumesSome, WasRead}
+use Rattle.camac_engines.specs.Tell.{TellsAll}
 use Rattle.camac_engines.specs.Report.{Reports, report, report_commands, report_events, report_plan}
 use Rattle.camac_engines.specs.declared.ask.Ask.{Ask}
 use Rattle.camac_engines.specs.declared.ask.Ask.TheVariants as ask
@@ -34,11 +35,13 @@ TellsScript ask.ExplainBounds plan text = TellsHeadings plan text
 TellsScript (ask.ExplainAt line column turns) plan text = Reports (known_report line column turns plan text)
 TellsScript ask.Bounds plan text = Reports (headings_report plan text)
 TellsScript ask.Costs plan text = Reports (costs_report plan text)
+TellsScript ask.Tell plan text = TellsAll plan text
 
 -- what is asked of a plan that is refused
 abbrev pub of_plan : Ask → PlanAsk
 of_plan ask.Explain = plan_ask.Explain
 of_plan ask.ExplainBounds = plan_ask.Explain
+of_plan ask.Tell = plan_ask.Explain
 of_plan _ = plan_ask.Lines
 
 -- of a plan and a script

@@ -14,7 +14,7 @@ use Rattle.camac_engines.specs.declared.outcome.Outcome.TheVariants.{Good}
 
 -- the costs of an accepted script
 abbrev pub costs_shown : Layout → Script → Report
-costs_shown plan script = Some (Good, costs_text plan script (costs_with capped plan script))
+costs_shown plan script = Some (Good, costs_text None plan script (costs_with capped plan script))
 
 -- of a refused one the line that `camac check` writes
 abbrev pub costs_found : Layout → Accepted → Report

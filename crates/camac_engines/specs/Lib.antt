@@ -12,5 +12,6 @@ pub mod Explain
 pub mod Rule
 pub mod Known
 pub mod Costs
+pub mod Tell
 pub mod Response
 pub mod Ask

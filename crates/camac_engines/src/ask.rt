@@ -26,6 +26,8 @@ pub enum Ask<'a> {
     Bounds,
     /// What the bounds consist of: a line for each procedure and service, and one for each of its statements.
     Costs,
+    /// All at once: what `Check` and `Costs` tell, with the column of each statement, or each refusal, with what `Explain` tells of the first.
+    Tell,
 }
 
 /// What is asked of a plan alone.
@@ -74,7 +76,7 @@ impl Ask<'_> {
         ensures { result ≡ of_plan self.entry }
     {
         match self {
-            Ask::Explain | Ask::ExplainBounds => PlanAsk::Explain,
+            Ask::Explain | Ask::ExplainBounds | Ask::Tell => PlanAsk::Explain,
             _ => PlanAsk::Lines,
         }
     }

@@ -27,7 +27,7 @@ pub fn show_costs<W: Write>(
     match judged {
         Judged::Accepted(checked) => {
             let bodies = costs_of(alloc, checked)?;
-            write_costs(out, checked, &bodies)?;
+            write_costs(out, checked, None, &bodies)?;
             Ok(Outcome::Good)
         }
         Judged::Refused(finding) => refuse(out, finding.refusal()),

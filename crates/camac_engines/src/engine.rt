@@ -22,6 +22,7 @@ use crate::known::{find_known, show_known};
 use crate::outcome::Outcome;
 use crate::plan::{PlanRead, PlanRefusal, PlanSource, read_plan};
 use crate::reading::{EVENTS_LIMIT, read_whole};
+use crate::telling::tell_all;
 use crate::texts::{Texts, read_texts};
 use camac_branch::Plan;
 use camac_event::EventFile;
@@ -213,6 +214,7 @@ fn tell_script<W: Write>(
         }
         Ask::Bounds => show_headings(out, &judge_headings(alloc, plan, text)?),
         Ask::Costs => show_costs(alloc, &judge(alloc, plan, text)?, out),
+        Ask::Tell => tell_all(alloc, plan, text, out),
     }
 }
 

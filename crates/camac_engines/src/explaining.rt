@@ -130,15 +130,15 @@ fn explain_least<W: Write>(
     }
 }
 
-// The first fault of a text, and the lines that explain it.
+/// The first fault of a text, and the lines that explain it.
 #[derive(Drop)]
-struct TextExplained {
-    finding: Finding,
-    lines: Vec<u8>,
+pub struct TextExplained {
+    pub finding: Finding,
+    pub lines: Vec<u8>,
 }
 
-// The script of a text, or why it is none.
-fn read_script(alloc: Global, text: &[u8]) -> Result<Result<Script, TextExplained>, AllocError>
+/// The script of a text, or why it is none.
+pub fn read_script(alloc: Global, text: &[u8]) -> Result<Result<Script, TextExplained>, AllocError>
     ensures { IfOk result (IsRead text.now) }
 {
     let mut noted = Choices::none();
@@ -155,8 +155,8 @@ fn read_script(alloc: Global, text: &[u8]) -> Result<Result<Script, TextExplaine
     }
 }
 
-// What is found of a script, explained.
-fn explain_finding(
+/// What is found of a script, explained.
+pub fn explain_finding(
     alloc: Global,
     text: &[u8],
     script: &Script,
@@ -168,8 +168,8 @@ fn explain_finding(
     explain_script(alloc, text, finding, sentence)
 }
 
-// Puts the turn in which the checker refuses a statement at the end, on a line of its own, if an `each` loop is around it.
-fn push_turn(
+/// Puts the turn in which the checker refuses a statement at the end, on a line of its own, if an `each` loop is around it.
+pub fn push_turn(
     alloc: Global,
     lines: &mut Vec<u8>,
     plan: &Plan,

@@ -1,5 +1,5 @@
 //! The engines that tell of a plan, a script or an event file, and run nothing: `plan`, `check`, `explain`, `bounds`, `costs`,
-//! `response` and `events`.
+//! `tell`, `response` and `events`.
 // A crate of its own beside the runner, whose proof is the longest, so that both are proved at once.
 #![tactic(auto)]
 
@@ -19,6 +19,7 @@ mod response;
 mod rule;
 mod sample;
 mod standing;
+mod telling;
 mod texts;
 
 pub use ask::{Ask, PlanAsk, Turns};

@@ -128,8 +128,8 @@ pub fn push_also(lines: &mut Vec<u8>, text: &[u8], findings: &[Finding]) -> Resu
     Ok(())
 }
 
-// The line of a refusal, with the column of its spot.
-fn placed_refusal(text: &[u8], finding: Finding) -> Line
+/// The line of a refusal, with the column of its spot.
+pub fn placed_refusal(text: &[u8], finding: Finding) -> Line
     ensures { result ≡ placed_refusal text.now finding }
 {
     match finding {

@@ -133,6 +133,7 @@ module _ (bytes_of : Text → Option (List ℕ)) where
   DoesJob (job.ExplainAt line column turns plan script) = HandsOn (Tells (ScriptTells plan.now script.now (ask.ExplainAt line column turns.items)))
   DoesJob (job.Bounds plan script) = HandsOn (Tells (ScriptTells plan.now script.now ask.Bounds))
   DoesJob (job.Costs plan script) = HandsOn (Tells (ScriptTells plan.now script.now ask.Costs))
+  DoesJob (job.Tell plan script) = HandsOn (Tells (ScriptTells plan.now script.now ask.Tell))
   DoesJob (job.Response plan script every within) =
       HandsOn (Responds plan.now script.now (map (λ w. w.now) every.items) (map (λ w. w.now) within.items))
   DoesJob (job.Events file) = HandsOn (Tells (EventsTell file.now))

@@ -139,6 +139,7 @@ impl<'r, 'f, 'a, R: Host + Print + Eprint + AllocGlobal> Tool<'r, 'f, 'a, R> {
             }
             Job::Bounds(plan, script) => self.ask(Ask::Bounds, plan, script, out),
             Job::Costs(plan, script) => self.ask(Ask::Costs, plan, script, out),
+            Job::Tell(plan, script) => self.ask(Ask::Tell, plan, script, out),
             Job::Response(plan, script, every, within) => {
                 self.gather(Question::Response(plan, script, every, within), out)
             }

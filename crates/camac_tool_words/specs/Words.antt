@@ -9,7 +9,7 @@ use Rattle.clap.specs.declared.builder.action.ArgAction.TheVariants.{Append, Set
 use Rattle.clap.specs.declared.error.Error.{Error}
 use Rattle.clap.specs.declared.error.kind.ErrorKind.TheVariants as kind
 use Rattle.camac_tool_words.specs.declared.words.Job.{Job}
-use Rattle.camac_tool_words.specs.declared.words.Job.TheVariants.{Plan, Commands, Check, Explain, ExplainBounds, ExplainAt, ExplainPlan, ExplainRule, Bounds, Costs, Response, Run, Drive, Events}
+use Rattle.camac_tool_words.specs.declared.words.Job.TheVariants.{Plan, Commands, Check, Explain, ExplainBounds, ExplainAt, ExplainPlan, ExplainRule, Bounds, Costs, Tell, Response, Run, Drive, Events}
 use Rattle.camac_tool_words.specs.declared.words.JobFault.{JobFault}
 use Rattle.camac_tool_words.specs.declared.words.JobFault.TheVariants.{Usage, InTwice}
 
@@ -56,6 +56,9 @@ bounds_app = script_app (codes "bounds")
 abbrev pub costs_app : App
 costs_app = script_app (codes "costs")
 
+abbrev pub tell_app : App
+tell_app = script_app (codes "tell")
+
 abbrev pub response_app : App
 response_app = with_rule (with_rule (script_app (codes "response")) (setting_rule (codes "every"))) (setting_rule (codes "within"))
 
@@ -76,7 +79,7 @@ camac_top =
 
 abbrev pub camac_app : App
 camac_app =
-    with_subcommand (with_subcommand (with_subcommand (with_subcommand (with_subcommand (with_subcommand (with_subcommand (with_subcommand (with_subcommand camac_top plan_app.top) check_app.top) explain_app.top) bounds_app.top) costs_app.top) response_app.top) run_app.top) drive_app.top) events_app.top
+    with_subcommand (with_subcommand (with_subcommand (with_subcommand (with_subcommand (with_subcommand (with_subcommand (with_subcommand (with_subcommand (with_subcommand camac_top plan_app.top) check_app.top) explain_app.top) bounds_app.top) costs_app.top) tell_app.top) response_app.top) run_app.top) drive_app.top) events_app.top
 
 abbrev pub name_of : Job → Text
 name_of (Plan plan) = codes "plan"
@@ -89,6 +92,7 @@ name_of (ExplainPlan plan) = codes "explain"
 name_of (ExplainRule code) = codes "explain"
 name_of (Bounds plan script) = codes "bounds"
 name_of (Costs plan script) = codes "costs"
+name_of (Tell plan script) = codes "tell"
 name_of (Response plan script every within) = codes "response"
 name_of (Run plan script answers events) = codes "run"
 name_of (Drive plan script events) = codes "drive"
@@ -106,6 +110,7 @@ ids_of (ExplainPlan plan) = codes "PLAN" ∷ []
 ids_of (ExplainRule code) = codes "PLAN" ∷ []
 ids_of (Bounds plan script) = codes "PLAN" ∷ codes "SCRIPT" ∷ []
 ids_of (Costs plan script) = codes "PLAN" ∷ codes "SCRIPT" ∷ []
+ids_of (Tell plan script) = codes "PLAN" ∷ codes "SCRIPT" ∷ []
 ids_of (Response plan script every within) = codes "PLAN" ∷ codes "SCRIPT" ∷ []
 ids_of (Run plan script answers events) = codes "PLAN" ∷ codes "SCRIPT" ∷ codes "ANSWERS" ∷ codes "EVENTS" ∷ []
 ids_of (Drive plan script events) = codes "PLAN" ∷ codes "SCRIPT" ∷ codes "EVENTS" ∷ []
@@ -122,6 +127,7 @@ words_of (ExplainPlan plan) = plan.now ∷ []
 words_of (ExplainRule code) = code.now ∷ []
 words_of (Bounds plan script) = plan.now ∷ script.now ∷ []
 words_of (Costs plan script) = plan.now ∷ script.now ∷ []
+words_of (Tell plan script) = plan.now ∷ script.now ∷ []
 words_of (Response plan script every within) = plan.now ∷ script.now ∷ []
 words_of (Run plan script answers events) = plan.now ∷ script.now ∷ answers.now ∷ events.now ∷ []
 words_of (Drive plan script events) = plan.now ∷ script.now ∷ events.now ∷ []
@@ -139,6 +145,7 @@ inputs_of (ExplainPlan plan) = plan.now ∷ []
 inputs_of (ExplainRule code) = []
 inputs_of (Bounds plan script) = plan.now ∷ script.now ∷ []
 inputs_of (Costs plan script) = plan.now ∷ script.now ∷ []
+inputs_of (Tell plan script) = plan.now ∷ script.now ∷ []
 inputs_of (Response plan script every within) = plan.now ∷ script.now ∷ []
 inputs_of (Run plan script answers events) = plan.now ∷ script.now ∷ answers.now ∷ []
 inputs_of (Drive plan script events) = codes "@in" ∷ plan.now ∷ script.now ∷ []

@@ -4,7 +4,7 @@ ghost use Rattle.std.specs.Prelude.{◌≡◌, IfOk, false};
 ghost use Rattle.clap.specs.Words.{app_of, kind_of, new_app, rule_of};
 ghost use Rattle.clap.specs.declared.builder.command.Command.TheViews.{out-Command};
 ghost use Rattle.clap.specs.declared.error.kind.ErrorKind.TheVariants.{ValueValidation};
-ghost use Rattle.camac_tool_words.specs.Words.{word_rule, named_rule, optional_rule, option_rule, place_rule, script_app, plan_app, check_app, explain_app, bounds_app, costs_app, response_app, setting_rule, run_app, drive_app, events_app, camac_top, camac_app};
+ghost use Rattle.camac_tool_words.specs.Words.{word_rule, named_rule, optional_rule, option_rule, place_rule, script_app, plan_app, check_app, explain_app, bounds_app, costs_app, tell_app, response_app, setting_rule, run_app, drive_app, events_app, camac_top, camac_app};
 
 use crate::texts;
 use clap::error::ErrorKind;
@@ -22,6 +22,7 @@ pub fn camac_command<'a>(alloc: Global) -> Result<Command<'a>, AllocError>
         .subcommand(explain_command(alloc)?)?
         .subcommand(bounds_command(alloc)?)?
         .subcommand(costs_command(alloc)?)?
+        .subcommand(tell_command(alloc)?)?
         .subcommand(response_command(alloc)?)?
         .subcommand(run_command(alloc)?)?
         .subcommand(drive_command(alloc)?)?
@@ -166,6 +167,13 @@ fn costs_command<'a>(alloc: Global) -> Result<Command<'a>, AllocError>
     ensures local { IfOk result (λ c. (out-Command c).has_globals ≡ false) }
 {
     script_command(alloc, "costs", texts::COSTS_COMMAND, texts::AFTER_COSTS)
+}
+
+fn tell_command<'a>(alloc: Global) -> Result<Command<'a>, AllocError>
+    ensures app { IfOk result (λ c. app_of c ≡ tell_app) }
+    ensures local { IfOk result (λ c. (out-Command c).has_globals ≡ false) }
+{
+    script_command(alloc, "tell", texts::TELL_COMMAND, texts::AFTER_TELL)
 }
 
 fn response_command<'a>(alloc: Global) -> Result<Command<'a>, AllocError>

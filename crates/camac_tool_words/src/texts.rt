@@ -19,6 +19,9 @@ pub const BOUNDS_COMMAND: &str =
 pub const COSTS_COMMAND: &str =
     "Prints the share of each statement in the bounds of an accepted script";
 
+pub const TELL_COMMAND: &str =
+    "Prints what check and costs print with all places, or each refusal explained";
+
 pub const RESPONSE_COMMAND: &str =
     "Prints the most cycles from each look-at-me to the end of its service";
 
@@ -75,6 +78,7 @@ Examples:
   camac explain plan.toml readout.script
   camac bounds plan.toml readout.script
   camac costs plan.toml readout.script
+  camac tell plan.toml readout.script
   camac response plan.toml readout.script --every adc=200
   camac run plan.toml readout.script answers.txt run.events
   camac drive plan.toml readout.script run.events
@@ -150,6 +154,18 @@ share of the bounds (status 0); or 'refused' with the rule and the line (status
 Examples:
   camac costs plan.toml readout.script
   camac costs @sample @in < readout.script";
+
+pub const AFTER_TELL: &str =
+    "Prints, for programs, all that is known of a script at once: the lines of check and
+then those of costs, with 'column N' behind the line of each statement (status 0).
+Or it prints each refusal, of linking, or else the first of each procedure and
+service, and after it what explain says of one (status 1):
+  refused CODE line N column N: RULE
+Columns are from 1, in bytes. At most one of the two can be @in.
+
+Examples:
+  camac tell plan.toml readout.script
+  camac tell @sample @in < readout.script";
 
 pub const AFTER_RESPONSE: &str =
     "Prints a line for each service, in the order of their bits, or 'refused' with the

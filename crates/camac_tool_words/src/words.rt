@@ -28,6 +28,7 @@ pub enum Job<'a> {
     ExplainRule(&'a str),
     Bounds(&'a str, &'a str),
     Costs(&'a str, &'a str),
+    Tell(&'a str, &'a str),
     /// A plan, a script, and the words after `--every` and `--within`.
     Response(&'a str, &'a str, Vec<&'a str>, Vec<&'a str>),
     Run(&'a str, &'a str, &'a str, &'a str),
@@ -281,6 +282,12 @@ fn costs_job<'a>(found: &ArgMatches<'a>) -> Option<Job<'a>>
     Some(Job::Costs(value_of(found, "PLAN")?, value_of(found, "SCRIPT")?))
 }
 
+fn tell_job<'a>(found: &ArgMatches<'a>) -> Option<Job<'a>>
+    ensures { NamesJob (Some (codes "tell", rows_of (found_of found.now))) result }
+{
+    Some(Job::Tell(value_of(found, "PLAN")?, value_of(found, "SCRIPT")?))
+}
+
 fn response_job<'a>(alloc: Global, found: &ArgMatches<'a>) -> Result<Option<Job<'a>>, AllocError>
     ensures { IfOk result (NamesJob (Some (codes "response", rows_of (found_of found.now)))) }
 {
@@ -354,6 +361,8 @@ fn plain_job<'a>(name: &str, found: &ArgMatches<'a>) -> Option<Job<'a>>
         bounds_job(found)
     } else if is_word(name, "costs") {
         costs_job(found)
+    } else if is_word(name, "tell") {
+        tell_job(found)
     } else if is_word(name, "run") {
         run_job(found)
     } else if is_word(name, "drive") {
@@ -393,6 +402,7 @@ fn input_count(job: &Job<'_>) -> usize
         | Job::ExplainAt(_, _, _, plan, script)
         | Job::Bounds(plan, script)
         | Job::Costs(plan, script)
+        | Job::Tell(plan, script)
         | Job::Response(plan, script, _, _) => is_in(plan) + is_in(script),
         Job::Run(plan, script, answers, _) => is_in(plan) + is_in(script) + is_in(answers),
         Job::Drive(plan, script, _) => 1 + is_in(plan) + is_in(script),

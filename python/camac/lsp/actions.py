@@ -3,6 +3,7 @@ from typing import Iterator, List, NamedTuple, Optional, Sequence, Tuple
 
 from camac.edits import Edit
 from camac.headings import least_headings
+from camac.judge import OF_HEADINGS
 from camac.loops.search import propose
 from camac.lsp.refusals import Placed, refusals
 from camac.lsp.workspace import Judged
@@ -11,7 +12,6 @@ from camac.tokens import NAMES, tokens_of
 from camac.warn import Code, Warned
 
 MOST_TURNS = 65_535
-OF_HEADINGS = frozenset(("E11", "E12", "E18"))
 # Rules of the checker that a loop breaks when it forgets a variable.
 OF_LOOPS = frozenset(("E1", "E2", "E4", "E5", "E8", "E9", "E10", "E11", "E12", "E14", "E16", "E18", "E21"))
 # What loops need is looked for at once in a script of at most so many bytes, else when it is asked for.

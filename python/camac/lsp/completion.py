@@ -39,7 +39,7 @@ class Expected(NamedTuple):
 
 
 def expected(ask: Callable[[bytes], str], before: bytes) -> Expected:
-    """What may be behind a text, as the checker says if the text ends there. `ask` gives what `camac explain` says of a script."""
+    """What may be behind a text, as the checker says if the text ends there. `ask` gives what `camac tell` says of a script."""
     printed = ask(before)
     found = read_expected(printed)
     if found:
@@ -60,7 +60,7 @@ def complete(judged: Judged, place: int) -> List[Item]:
     before = before[:start]
 
     def ask(text: bytes) -> str:
-        return judged.judge.ask("explain", text).text
+        return judged.judge.ask("tell", text).text
 
     its = expected(ask, before)
     items = [*_words(its), *_names(judged, ask, its, before, start), *_numbers(judged, before, start)]

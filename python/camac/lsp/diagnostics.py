@@ -6,10 +6,10 @@ from typing import Any, Dict, List, Optional
 from camac.lsp.documents import Range, Text
 from camac.lsp.refusals import Placed, refusals
 from camac.lsp.workspace import Judge, Judged
-from camac.printed import read_explanation, read_responses, read_services
+from camac.printed import read_explanation, read_responses
 from camac.program import advice_on
 from camac.toml_places import place_of
-from camac.warn import Code, Warned, look_at, looks_for_all
+from camac.warn import Code, Warned, look_at
 
 ERROR, WARNING = 1, 2
 UNNECESSARY = [1]
@@ -40,10 +40,9 @@ def shown(code: str, text: str, severity: int, place: Range) -> Diagnostic:
 
 def of_refusals(judged: Judged) -> List[Diagnostic]:
     """Why a script is refused; of a plan that is refused, or of a fault, what it is, on the first line."""
-    verdict = judged.ask("explain")
-    if verdict.accepted:
+    if judged.is_accepted:
         return []
-    found = refusals(judged)
+    found, verdict = refusals(judged), judged.ask("tell")
     if found:
         return [of_refusal(it, judged.text) for it in found]
     of_its_plan = read_explanation(verdict.text)
@@ -77,12 +76,10 @@ def of_plan(judge: Judge, text: Text) -> List[Diagnostic]:
 
 def warned(judged: Judged) -> List[Warned]:
     """The warnings of a script; none if it is refused. This may take long."""
-    verdict = judged.ask("check")
+    verdict, its = judged.ask("tell"), judged.judge
     if not verdict.accepted:
         return []
-    its = judged.judge
-    responses = read_responses(judged.ask("response").text) if looks_for_all(its.program) else []
-    return look_at(its.file, judged.text.data, read_services(verdict.text), responses, its.program)[1]
+    return look_at(its.file, judged.text.data, verdict.text, read_responses(judged.ask("response").text), its.program)[1]
 
 
 def of_warning(it: Warned, text: Text) -> Diagnostic:

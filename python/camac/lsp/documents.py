@@ -2,7 +2,8 @@
 import bisect
 import re
 from functools import cached_property
-from typing import Any, Dict, Iterable, List, Sequence
+from itertools import accumulate
+from typing import Any, Dict, Iterable, List, Sequence, Tuple
 
 from camac.edits import Edit
 
@@ -38,23 +39,18 @@ class Text:
     @cached_property
     def starts(self) -> List[int]:
         """Where each line of the protocol begins, in signs."""
-        return [0, *(it.end() for it in END.finditer(self.text))]
+        return self.byte_starts if self.text.isascii() else [0, *(it.end() for it in END.finditer(self.text))]
 
     @cached_property
     def byte_starts(self) -> List[int]:
         """Where each line of the protocol begins, in bytes."""
-        if self.text.isascii():
-            return self.starts
-        found, at = [0], 0
-        for start, end in zip(self.starts, self.starts[1:]):
-            at += len(self.text[start:end].encode("utf-8", "surrogatepass"))
-            found.append(at)
-        return found
+        ends = list(accumulate(map(len, self.data.splitlines(True))))
+        return [0, *(ends if self.data.endswith((b"\n", b"\r")) else ends[:-1])]
 
     @cached_property
     def line_starts(self) -> List[int]:
         """Where each line of camac begins, in bytes."""
-        return [0, *(it.end() for it in re.finditer(b"\n", self.data))]
+        return self.byte_starts if b"\r" not in self.data else [0, *(it.end() for it in re.finditer(b"\n", self.data))]
 
     def line(self, number: int) -> str:
         """A line of the protocol, from 0, without its end."""
@@ -96,6 +92,11 @@ class Text:
         """The line of camac, from 1, of a place in bytes."""
         return bisect.bisect_right(self.line_starts, place)
 
+    def line_and_column(self, place: int) -> Tuple[int, int]:
+        """The line of camac of a place in bytes, and its column there, in bytes from 1."""
+        line = self.line_at(place)
+        return line, place - self.line_starts[line - 1] + 1
+
     def line_of(self, number: int) -> bytes:
         """A line of camac, from 1, without its end."""
         starts = self.line_starts
@@ -109,10 +110,20 @@ class Text:
         for it in changes:
             if it.get("range"):
                 start, end = text.sign(it["range"]["start"]), text.sign(it["range"]["end"])
-                text = Text(text.text[:start] + it["text"] + text.text[max(start, end) :])
+                text = text.with_part(start, max(start, end), it["text"])
             else:
                 text = Text(it["text"])
         return text
+
+    def with_part(self, start: int, end: int, new: str) -> "Text":
+        """The text with another part from one place in signs to another."""
+        made = Text(self.text[:start] + new + self.text[end:])
+        if self.text.isascii() and new.isascii() and "\r" not in self.text + new:
+            # Of many lines few change.
+            starts, more = self.byte_starts, len(new) - (end - start)
+            first, last = bisect.bisect_right(starts, start), bisect.bisect_right(starts, end)
+            made.byte_starts = [*starts[:first], *(start + it for it in Text(new).byte_starts[1:]), *(it + more for it in starts[last:])]
+        return made
 
     def edits(self, edits: Sequence[Edit]) -> List[Dict[str, Any]]:
         """Changes by places in bytes, in the protocol's form."""

@@ -7,7 +7,7 @@ from camac.language import OF_FUNCTIONS, Kind
 from camac.lsp.known import addresses, range_at, row_of, statement_tokens
 from camac.lsp.workspace import Choice, Judged
 from camac.names import Mention
-from camac.printed import line_of_body
+from camac.printed import costs_in, line_of_body
 from camac.tokens import Token
 from camac.values import Address, BodyKind, Cost, Declaration, ModuleType, Plan, Row, range_text
 
@@ -85,8 +85,8 @@ def _of_lam(judged: Judged, mention: Mention) -> Iterator[str]:
 
 def _of_body(judged: Judged, kind: BodyKind, name: str) -> Iterator[str]:
     """What a service or procedure takes at most, and how late a service can be."""
-    verdict = judged.ask("costs")
-    head = line_of_body(verdict.text, kind, name) if verdict.accepted else None
+    verdict = judged.ask("tell")
+    head = line_of_body(costs_in(verdict.text), kind, name) if verdict.accepted else None
     if head:
         yield _code(head)
         late = line_of_body(judged.ask("response").text, kind, name) if kind is BodyKind.SERVICE else None

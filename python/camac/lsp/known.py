@@ -3,18 +3,15 @@ import bisect
 import itertools
 from typing import List, Optional, Tuple
 
-from camac.language import DECLARATIONS
 from camac.layout import begins
 from camac.lsp.workspace import Judged
 from camac.names import Mention
-from camac.printed import read_known, rows_of_line
+from camac.printed import read_known, row_at
 from camac.tokens import Token, tokens_of
 from camac.values import Address, Range, Row, range_of
 
 # The lines around a place in which the statement is looked for, and the cycles of a register that are shown.
 AROUND = 8
-# What begins a line of the layout, and no row.
-WITHOUT_ROW = DECLARATIONS | {"table", "{", "}"}
 
 
 def statement_tokens(judged: Judged, place: int) -> List[Token]:
@@ -38,18 +35,8 @@ def statement_tokens(judged: Judged, place: int) -> List[Token]:
 
 def row_of(judged: Judged, first: Token) -> Optional[Row]:
     """The row of `costs` of a statement, given by its first token; None if the script is refused."""
-    verdict, text = judged.ask("costs"), judged.text
-    if not verdict.accepted:
-        return None
-    line = text.line_at(first.start)
-    tokens = tokens_of(text.line_of(line))
-    before = first.start - text.line_starts[line - 1]
-    # A row stands for each statement that begins on the line, and for each `else`.
-    firsts = zip(tokens, begins([it.text for it in tokens]))
-    places = [it.start for it, is_first in firsts if it.text == "else" or is_first and it.text not in WITHOUT_ROW]
-    rows = rows_of_line(verdict.text, line)
-    number = bisect.bisect_left(places, before)
-    return rows[number] if number < len(rows) else None
+    verdict = judged.ask("tell")
+    return row_at(verdict.text, *judged.text.line_and_column(first.start)) if verdict.accepted else None
 
 
 def range_at(judged: Judged, mention: Mention) -> Optional[Range]:
@@ -57,9 +44,8 @@ def range_at(judged: Judged, mention: Mention) -> Optional[Range]:
     its = statement_tokens(judged, mention.start)
     if not its:
         return None
-    start, line = its[0].start, judged.text.line_at(its[0].start)
-    at = line, start - judged.text.line_starts[line - 1] + 1
-    verdict = judged.once(("known", start), lambda: judged.judge.ask("explain", judged.text.data, at))
+    at = judged.text.line_and_column(its[0].start)
+    verdict = judged.once(("known", at), lambda: judged.judge.ask("explain", judged.text.data, at))
     words = read_known(verdict.text).get(mention.symbol.name, []) if verdict.accepted else []
     return range_of(words[0]) if len(words) == 1 else None
 

@@ -1,11 +1,11 @@
 """Warnings about an accepted script: what is probably not meant. docs/REFUSALS.md has each with an example."""
 from typing import Iterator, List, Optional, Sequence, Set, Tuple
 
-from camac.bodies import services_of
 from camac.drive import File
-from camac.program import knows_command
+from camac.printed import read_services
+from camac.program import knows_command, output_of
 from camac.reader import read_script
-from camac.subcommands import check, response
+from camac.subcommands import response
 from camac.texts import TextFile
 from camac.tree import Loop, Plain, Script
 from camac.values import Harm, Response, Service
@@ -23,8 +23,8 @@ SHORT = 10
 
 
 def warnings(plan: File, script: File, program: Optional[File] = None) -> List[Warned]:
-    """Returns what is probably not meant in an accepted script, by lines. If the program has no `costs` or no `response`, W4 to W8 alone are looked
-    for (`looks_for_all`).
+    """Returns what is probably not meant in an accepted script, by lines. If the program has no `tell`, W4 to W8 alone are looked for
+    (`looks_for_all`).
 
     Raises as `camac.check`."""
     return look(plan, script, program)[1]
@@ -33,19 +33,17 @@ def warnings(plan: File, script: File, program: Optional[File] = None) -> List[W
 def look(plan: File, script: File, program: Optional[File] = None) -> Tuple[List[Service], List[Warned]]:
     """Returns the services of an accepted script, and what `warnings` does: one judgement serves both."""
     script = script if isinstance(script, TextFile) else TextFile(script)
-    if looks_for_all(program):
-        return look_at(plan, script.text(), [], response(plan, script, program=program), program)
-    return look_at(plan, script.text(), check(plan, script, program), [], program)
+    is_all = looks_for_all(program)
+    told = output_of("tell" if is_all else "check", "--", plan, script, program=program)
+    return look_at(plan, script.text(), told, response(plan, script, program=program) if is_all else [], program)
 
 
-def look_at(
-    plan: File, text: bytes, services: List[Service], responses: Sequence[Response], program: Optional[File] = None
-) -> Tuple[List[Service], List[Warned]]:
-    """What `look` returns of an accepted script that is given as its text, with the answers of `check`, which is not needed where the program has
-    `costs`, and of `response`."""
+def look_at(plan: File, text: bytes, told: str, responses: Sequence[Response], program: Optional[File] = None) -> Tuple[List[Service], List[Warned]]:
+    """What `look` returns of an accepted script that is given as its text, with what `tell`, or `check`, prints of it, and the answers of
+    `response`."""
     its = read_script(text)
-    bodies = costs_with_arms(plan, text, its, program) if looks_for_all(program) else []
-    services = services_of(bodies) if bodies else services
+    services = read_services(told)
+    bodies = costs_with_arms(plan, text, its, told, program)
     if not services:
         return [], [Warned(1, Code.NO_SERVICE, "this script has no service, so a run of it makes no cycle")]
     found = [*Silent(plan, text, its, bodies, program).found(), *_unkept(its, responses), *_held_up(its, services), *_loose(plan, text, its, program)]
@@ -53,8 +51,8 @@ def look_at(
 
 
 def looks_for_all(program: Optional[File] = None) -> bool:
-    """Whether the program has `costs` and `response`, which W1 to W3 and W9 to W17 need."""
-    return knows_command("costs", program) and knows_command("response", program)
+    """Whether the program has `tell`, which W1 to W3 and W9 to W17 need."""
+    return knows_command("tell", program)
 
 
 def _unkept(script: Script, responses: Sequence[Response]) -> Iterator[Warned]:

@@ -7,7 +7,7 @@ from camac.bodies import parse_costs
 from camac.drive import File
 from camac.edits import Edit, edited
 from camac.language import PARAMETER, REGISTER, Kind
-from camac.printed import read_known
+from camac.printed import costs_in, read_known
 from camac.program import verdict
 from camac.subcommands import plan as ask_plan
 from camac.texts import GREATEST_TEXT, plan_text
@@ -27,11 +27,15 @@ READ_AND_CLEAR = 2
 MOST_ASKED = 50
 
 
-def costs_with_arms(plan: File, text: bytes, script: Script, program: Optional[File] = None) -> List[Costs]:
-    """What `camac costs` prints of an accepted script with an `else` for each `if`, so that each arm has a row. No bound and no line changes."""
+def costs_with_arms(plan: File, text: bytes, script: Script, told: str, program: Optional[File] = None) -> List[Costs]:
+    """The costs of an accepted script with an `else` for each `if`, so that each arm has a row. No bound and no line changes. `told` is what
+    `camac tell` prints of it."""
+    costs = costs_in(told)
     arms = [Edit(it.end, it.end, " else { }") for body in script.bodies for it in body.every if isinstance(it, If) and not it.has_else]
     longer = edited(text, arms)
-    return parse_costs(verdict("costs", plan, longer if len(longer) <= GREATEST_TEXT else text, program).text)
+    if costs and arms and len(longer) <= GREATEST_TEXT:
+        costs = verdict("costs", plan, longer, program).text
+    return parse_costs(costs)
 
 
 class Guard(NamedTuple):

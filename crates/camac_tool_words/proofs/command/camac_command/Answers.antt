@@ -1,7 +1,7 @@
 use Rattle.std.proofs.Common.{◌≡◌, ◌∙◌, ap, ap₂}
 use Rattle.std.proofs.lemmas.Result.{IfOk-weaker}
 use Rattle.clap.specs.Words.{App, Shape, app_of, with_subcommand}
-use Rattle.camac_tool_words.specs.Words.{camac_top, plan_app, check_app, explain_app, bounds_app, costs_app, response_app, run_app, drive_app}
+use Rattle.camac_tool_words.specs.Words.{camac_top, plan_app, check_app, explain_app, bounds_app, costs_app, tell_app, response_app, run_app, drive_app}
 use Rattle.camac_tool_words.proofs.command.camac_command.Goals as goal
 
 abbrev top : App → Shape
@@ -23,8 +23,11 @@ with_bounds = with_subcommand with_explain bounds_app.top
 abbrev with_costs : App
 with_costs = with_subcommand with_bounds costs_app.top
 
+abbrev with_tell : App
+with_tell = with_subcommand with_costs tell_app.top
+
 abbrev with_response : App
-with_response = with_subcommand with_costs response_app.top
+with_response = with_subcommand with_tell response_app.top
 
 abbrev with_run : App
 with_run = with_subcommand with_response run_app.top
@@ -45,10 +48,12 @@ returns c =
     c.in_ok-subcommand-4.ensures.shape c.in_ok-bounds_command.ensures.local ∙ ap₂ with_subcommand third (ap top c.in_ok-bounds_command.ensures.app) in
     let fifth : app_of c.in_ok-subcommand-5.field-0 ≡ with_costs =
     c.in_ok-subcommand-5.ensures.shape c.in_ok-costs_command.ensures.local ∙ ap₂ with_subcommand fourth (ap top c.in_ok-costs_command.ensures.app) in
-    let sixth : app_of c.in_ok-subcommand-6.field-0 ≡ with_response =
-    c.in_ok-subcommand-6.ensures.shape c.in_ok-response_command.ensures.local ∙ ap₂ with_subcommand fifth (ap top c.in_ok-response_command.ensures.app) in
-    let seventh : app_of c.in_ok-subcommand-7.field-0 ≡ with_run =
-    c.in_ok-subcommand-7.ensures.shape c.in_ok-run_command.ensures.local ∙ ap₂ with_subcommand sixth (ap top c.in_ok-run_command.ensures.app) in
-    let eighth : app_of c.in_ok-subcommand-8.field-0 ≡ with_drive =
-    c.in_ok-subcommand-8.ensures.shape c.in_ok-drive_command.ensures.local ∙ ap₂ with_subcommand seventh (ap top c.in_ok-drive_command.ensures.app) in
-    IfOk-weaker c.subcommand-9.result _ _ (λ r added. added.shape c.in_ok-events_command.ensures.local ∙ ap₂ with_subcommand eighth (ap top c.in_ok-events_command.ensures.app)) c.subcommand-9.ensures
+    let sixth : app_of c.in_ok-subcommand-6.field-0 ≡ with_tell =
+    c.in_ok-subcommand-6.ensures.shape c.in_ok-tell_command.ensures.local ∙ ap₂ with_subcommand fifth (ap top c.in_ok-tell_command.ensures.app) in
+    let seventh : app_of c.in_ok-subcommand-7.field-0 ≡ with_response =
+    c.in_ok-subcommand-7.ensures.shape c.in_ok-response_command.ensures.local ∙ ap₂ with_subcommand sixth (ap top c.in_ok-response_command.ensures.app) in
+    let eighth : app_of c.in_ok-subcommand-8.field-0 ≡ with_run =
+    c.in_ok-subcommand-8.ensures.shape c.in_ok-run_command.ensures.local ∙ ap₂ with_subcommand seventh (ap top c.in_ok-run_command.ensures.app) in
+    let ninth : app_of c.in_ok-subcommand-9.field-0 ≡ with_drive =
+    c.in_ok-subcommand-9.ensures.shape c.in_ok-drive_command.ensures.local ∙ ap₂ with_subcommand eighth (ap top c.in_ok-drive_command.ensures.app) in
+    IfOk-weaker c.subcommand-10.result _ _ (λ r added. added.shape c.in_ok-events_command.ensures.local ∙ ap₂ with_subcommand ninth (ap top c.in_ok-events_command.ensures.app)) c.subcommand-10.ensures

@@ -1,0 +1,54 @@
+-- What `camac tell` tells of a plan and a script.
+use Rattle.std.specs.Prelude.{◌≡◌, ℕ, List, ◌++◌, Option, Some, None, Result, Ok, Err, flat_map}
+use Rattle.camac_lang.specs.Tree.{Script}
+use Rattle.camac_branch.specs.Plan.{Layout}
+use Rattle.camac_tokens.specs.Fault.{Fault as TextFault}
+use Rattle.camac_tokens.specs.Rules.{rule_of}
+use Rattle.camac_text.specs.Parser.{script_of}
+use Rattle.camac_rules.specs.Capped.{capped}
+use Rattle.camac_check_costs.specs.Bodies.{costs_with}
+use Rattle.camac_check_costs.specs.Texts.{costs_text}
+use Rattle.camac_explain.specs.Explanation.{explanation_of}
+use Rattle.camac_explain.specs.Sentence.{sentence_of}
+use Rattle.camac_explain.specs.declared.finding.Finding.{Finding}
+use Rattle.camac_explain.specs.declared.finding.Finding.TheVariants as finding
+use Rattle.camac_engines.specs.Accepted.{Accepted, accepted}
+use Rattle.camac_engines.specs.Explain.{Explained}
+use Rattle.camac_engines.specs.Refusals.{findings_of, placed_refusal, turn_line}
+use Rattle.camac_engines.specs.Report.{Report, Reports, report}
+use Rattle.camac_engines.specs.declared.outcome.Outcome.{Outcome}
+use Rattle.camac_engines.specs.declared.outcome.Outcome.TheVariants.{Refused}
+
+-- what `camac costs` tells of an accepted script, each row with its column in the text
+abbrev pub told_costs : Layout → (text : List ℕ) → Script → List ℕ
+told_costs plan text script = costs_text (Some text) plan script (costs_with capped plan script)
+
+abbrev pub and_more : Report → (more : List ℕ) → Report
+and_more None more = None
+and_more (Some told) more = Some (told.0, told.1 ++ more)
+
+-- a refusal in full: its line with its column, what explains it, and its turn
+abbrev pub told_refusal : Layout → (text : List ℕ) → Script → Finding → List ℕ
+told_refusal plan text script f = placed_refusal text f ++ (explanation_of text f (sentence_of script f) ++ turn_line plan script f)
+
+-- the fault of a text that is no script, in full
+abbrev pub TellsFault : (text : List ℕ) → Finding → List ℕ → Type 0
+TellsFault text f whole = (lines : List ℕ) × Explained text f lines × (whole ≡ placed_refusal text f ++ lines)
+
+-- each refusal of a text in full, by what it reads as
+abbrev pub TellsRefusals : Layout → (text : List ℕ) → Result Script TextFault → List ℕ → Type 0
+TellsRefusals plan text (Ok script) whole = whole ≡ flat_map (told_refusal plan text script) (findings_of plan script)
+TellsRefusals plan text (Err flaw) whole = TellsFault text (finding.Text (rule_of flaw.case) flaw.spot) whole
+
+-- a text is refused, and this is told
+abbrev pub IsRefused : (Says : List ℕ → Type 0) → Outcome → List ℕ → Type 0
+IsRefused Says outcome whole = (outcome ≡ Refused) × Says whole
+
+-- of an accepted script what `camac check` tells, and then what its bounds consist of; of a refused one each refusal
+abbrev pub TellsJudged : Layout → (text : List ℕ) → Accepted → Outcome → List ℕ → Type 0
+TellsJudged plan text (Some (Ok script)) = Reports (and_more (report plan text) (told_costs plan text script))
+TellsJudged plan text (Some (Err f)) = IsRefused (TellsRefusals plan text (script_of text))
+TellsJudged plan text None = λ outcome whole. ⊥
+
+abbrev pub TellsAll : Layout → (text : List ℕ) → Outcome → List ℕ → Type 0
+TellsAll plan text = TellsJudged plan text (accepted plan text)
