@@ -54,8 +54,8 @@ COMPILER = re.compile(r"^\$ (?:cc|c\+\+) ", re.M)
 LIBRARY = re.compile(r"pkg-config|in_this_process\.py|^\$ \./readout\b", re.M)
 ARRAYS = re.compile(r"^\$ .*(?:numpy|h5py|\.npz|\.h5)\b", re.M)
 CELL = re.compile(r"^\|(?:[^|\n]*\|)*([^|\n]*)\|$")
-# The places for a piece of a script: a statement, its begin, a condition, the end of one, an expression, the end of one.
-PLACES = ("{}", "{} {{ }}", "if {} {{ }}", "if v > 0 {} {{ }}", "put ({}) % 2", "put (v {}) % 2")
+# The places for a piece of a script: a statement, a write, a statement's begin, a condition, the end of one, an expression, the end of one.
+PLACES = ("{}", "cdreg r 1 1 6 0  v = v % 256  {}", "{} {{ }}", "if {} {{ }}", "if v > 0 {} {{ }}", "put ({}) % 2", "put (v {}) % 2")
 READ = """cdlam adc 1 1 5 12
 var a b c d k v
 service adc within 18 cycles event 1 words {

@@ -14,6 +14,7 @@ from support import plans
 from support.program import TOP, Room, run_tests
 from support.rows import ROWS
 from camac.events import MEANINGS as FLAWS
+from camac.language import DECLARATIONS, STATEMENTS
 from camac.warn import Code
 
 PAGE = (TOP / "docs/REFUSALS.md").read_text()
@@ -68,21 +69,24 @@ MISTAKES = [
     ("a statement in upper case", service("PUT v"), "S5", 4, "The name `PUT` is not declared above as a variable. Did you mean `put`?"),
     ("a letter missing in a heading", service(heading="withn 3 cycles event 1 words"), "S2", 3, "Found `withn`; expected `within`. Did you mean `within`?"),
     ("a heading in upper case", service(heading="within 3 CYCLES event 1 words"), "S2", 3, "Found `CYCLES`; expected `cycles`. Did you mean `cycles`?"),
-    ("a heading without event", service(heading="within 3 cycles"), "S2", 3, "Found `{`; expected `event`."),
+    ("a heading without event", service(heading="within 3 cycles"), "S2", 3, "Found `{`; expected `event`. Write `service NAME within C cycles event W words { .. }`."),
     ("a declaration mistyped after var", "cdlam adc 1 1 5 12\nvar v\nservcie adc within 3 cycles event 1 words { }\n", "S4", 3, "The name `adc` is taken: it is declared on line 1 as a LAM. Did you mean `service` instead of `servcie`?"),
     ("a declaration mistyped, its LAM too", "cdlam adc 1 1 5 12\nvar v\nservcie acd within 3 cycles event 1 words { }\n", "S2", 3, "Found `within`; expected a declaration or a name. Did you mean `service` instead of `servcie`?"),
     ("a declaration mistyped", "cdlam adc 1 1 5 12\nservcie adc within 3 cycles event 1 words { }\n", "S2", 2, "Found `servcie`; expected a declaration. Did you mean `service`?"),
     ("no closing brace", service("put v")[:-2], "S2", 5, "Found the end of the script; expected a statement, an operator or `}`. The `{` of line 3 is still open."),
     ("no closing brace before the next service", service("lock 1 {", "}")[:-2] + "service adc within 3 cycles event 1 words { }\n", "S2", 6, "`service` belongs outside of services and procedures, and the `{` of line 3 is still open."),
     ("a closing brace too many", service("put v") + "}\n", "S2", 6, "Found `}`; expected a declaration."),
-    ("no opening brace", service("if v < 3", "  put v", "}"), "S2", 5, "Found `put`; expected an operator, `{` or `and`."),
-    ("no turns", service("k = 5", "while k > 0 { k = k - 1 }"), "S2", 5, "Found `{`; expected an operator, `turns` or `and`."),
-    ("no by", service("k = 5", "while k > 0 turns 5 { k = k - 1 }"), "S2", 5, "Found `{`; expected `by`."),
-    ("hexadecimal digits", service("v = 0x10"), "S5", 4, "The name `x10` is not declared above as a variable. Write numbers in decimal digits."),
-    ("hexadecimal digits in a heading", service(heading="within 0xff cycles event 1 words"), "S2", 3, "Found `xff`; expected `cycles`. Write numbers in decimal digits."),
+    ("no opening brace", service("if v < 3", "  put v", "}"), "S2", 5, "Found `put`; expected an operator, `{` or `and`. Write `if CONDITION { .. }`."),
+    ("no turns", service("k = 5", "while k > 0 { k = k - 1 }"), "S2", 5, "Found `{`; expected an operator, `turns` or `and`. Write `while CONDITION turns N by VARIABLE { .. }`."),
+    ("no by", service("k = 5", "while k > 0 turns 5 { k = k - 1 }"), "S2", 5, "Found `{`; expected `by`. Write `while CONDITION turns N by VARIABLE { .. }`."),
+    ("hexadecimal digits", service("v = 0x10"), "S5", 4, "The name `x10` is not declared above as a variable. Write numbers in decimal digits, as `255` for `0xff`."),
+    ("hexadecimal digits in a heading", service(heading="within 0xff cycles event 1 words"), "S2", 3, "Found `xff`; expected `cycles`. Write numbers in decimal digits, as `255` for `0xff`."),
     ("a semicolon", service("put v;"), "S1", 4, "camac has no `;`; write statements without a sign at their end."),
     ("conditions joined by &&", service("if v < 3 && q { }"), "S1", 4, "camac has no `&&`; write `and`."),
-    ("a condition turned by !", service("if !q { }"), "S1", 4, "camac has no `!`; write `not` before a comparison or a flag."),
+    ("a condition turned by !", service("if !q { }"), "S1", 4, "camac has no `!`; write `not` before a comparison or a flag, and `#` before a comment."),
+    ("a byte order mark", "\xef\xbb\xbfvar v\n", "S1", 1, "The character `\xef\xbb\xbf` begins no token. It is a byte order mark (BOM), which cannot be seen: save the script without it."),
+    ("a declared word before a byte", service("write = 3;", more=" write"), "S1", 4, "camac has no `;`; write statements without a sign at their end."),
+    ("a value without its name", service("put v k", "cclc adc"), "S2", 5, "Found `cclc`; expected `=`. Write `VARIABLE = VALUE`."),
     ("conditions joined by or", service("if q or x { }"), "S2", 4, "camac has no `or`; write one `if` into the `else` of the other, or a variable that both set."),
     ("= to compare", service("if v = 3 { }"), "S2", 4, "Found `=`; expected an operator or a comparison. Did you mean `==`?"),
     ("== to set a variable", service("v == 3"), "S2", 4, "Found `==`; expected `=`. Did you mean `=`?"),
@@ -92,16 +96,16 @@ MISTAKES = [
     ("division by a variable", service("v = v / k"), "S2", 4, "Found `k`; expected a number. A divisor is a number of at least 1."),
     ("division by 0", service("v = v / 0"), "S2", 4, "Found `0`. A divisor is a number of at least 1."),
     ("two points in a for", service("for i = 1 .. 3 { }"), "S2", 4, "Found `..`; expected an operator or `to`. Did you mean `to`?"),
-    ("no block behind two numbers", service("for i = 1 to 3 put i"), "S2", 4, "Found `put`; expected an operator, `{`, `keep` or `each`."),
-    ("no block behind a variable", service("for i = 1 to k put i"), "S2", 4, "Found `put`; expected an operator, `{` or `keep`."),
-    ("no block behind each", service("for i = 1 to 3 each put i"), "S2", 4, "Found `put`; expected `{`."),
+    ("no block behind two numbers", service("for i = 1 to 3 put i"), "S2", 4, "Found `put`; expected an operator, `{`, `keep` or `each`. Write `for VARIABLE = VALUE to VALUE { .. }` or `for VARIABLE = NUMBER to NUMBER each { .. }`."),
+    ("no block behind a variable", service("for i = 1 to k put i"), "S2", 4, "Found `put`; expected an operator, `{` or `keep`. Write `for VARIABLE = VALUE to VALUE { .. }` or `for VARIABLE = NUMBER to NUMBER each { .. }`."),
+    ("no block behind each", service("for i = 1 to 3 each put i"), "S2", 4, "Found `put`; expected `{`. Write `for VARIABLE = VALUE to VALUE { .. }` or `for VARIABLE = NUMBER to NUMBER each { .. }`."),
     ("each behind a variable", service("for i = 1 to k each { }"), "S2", 4, "Found `each`; expected an operator, `{` or `keep`. Before `each` stand two numbers, and no `keep`: `for i = 0 to 11 each { .. }`."),
     ("each behind brackets", service("for i = (1) to 3 each { }"), "S2", 4, "Found `each`; expected an operator, `{` or `keep`. Before `each` stand two numbers, and no `keep`: `for i = 0 to 11 each { .. }`."),
     ("each behind a sum", service("for i = 1 to 1 + 2 each { }"), "S2", 4, "Found `each`; expected an operator, `{` or `keep`. Before `each` stand two numbers, and no `keep`: `for i = 0 to 11 each { .. }`."),
     ("each behind a keep", service("for i = 1 to 3 keep k in 0..3 each { }"), "S2", 4, "Found `each`; expected `{` or `,`. Before `each` stand two numbers, and no `keep`: `for i = 0 to 11 each { .. }`."),
-    ("a keep behind each", service("for i = 1 to 3 each keep k in 0..3 { }"), "S2", 4, "Found `keep`; expected `{`."),
+    ("a keep behind each", service("for i = 1 to 3 each keep k in 0..3 { }"), "S2", 4, "Found `keep`; expected `{`. Write `for VARIABLE = VALUE to VALUE { .. }` or `for VARIABLE = NUMBER to NUMBER each { .. }`."),
     ("each in upper case", service("for i = 1 to 3 EACH { }"), "S2", 4, "Found `EACH`; expected an operator, `{`, `keep` or `each`. Did you mean `each`?"),
-    ("each of a while", service("k = 5", "while k > 0 turns 5 by k each { k = k - 1 }"), "S2", 5, "Found `each`; expected `{` or `keep`."),
+    ("each of a while", service("k = 5", "while k > 0 turns 5 by k each { k = k - 1 }"), "S2", 5, "Found `each`; expected `{` or `keep`. Write `while CONDITION turns N by VARIABLE { .. }`."),
     ("half an arrow", service("cdreg r 1 1 5 0", "cfsa 0 r > v"), "S2", 5, "Found `>`; expected a statement, `}`, `->` or `<-`. Did you mean `->`?"),
     ("a variable that is not declared", service("put w"), "S5", 4, "The name `w` is not declared above as a variable."),
     ("a variable mistyped", service("put tiem", more=" time"), "S5", 4, "The name `tiem` is not declared above as a variable. Did you mean `time`?"),
@@ -116,10 +120,10 @@ MISTAKES = [
     ("a word of the language as a name", "var on\n", "S2", 1, "`on` is a word of the language: choose another name."),
     ("a function above 31", service("cdreg r 1 1 5 0", "cfsa 42 r -> v"), "S3", 5, "The number `42` is above 31, the greatest allowed here."),
     ("the crate in the place of the branch", service("cdreg r 5 0 1 1"), "S7", 4, "The branch is `5` here, and there is only branch 1."),
-    ("a LAM without the branch", "cdlam adc 1 5 12\nvar v\n", "S2", 2, "Found `var`; expected a number. An address is the branch, which is 1, then crate, station and sub-address."),
-    ("a register without the branch", service("cdreg r 1 5 0", "cfsa 0 r -> v"), "S2", 5, "Found `cfsa`; expected an expression or an operator. An address is the branch, which is 1, then crate, station and sub-address."),
+    ("a LAM without the branch", "cdlam adc 1 5 12\nvar v\n", "S2", 2, "Found `var`; expected a number. Write `cdlam NAME 1 CRATE STATION SUB_ADDRESS`."),
+    ("a register without the branch", service("cdreg r 1 5 0", "cfsa 0 r -> v"), "S2", 5, "Found `cfsa`; expected an expression or an operator. Write `cdreg REGISTER 1 CRATE STATION SUB_ADDRESS`."),
     ("an address in a cycle", service("cfsa 0 1 1 5 0 -> v"), "S2", 4, "Found `1`; expected a name. Set a register to an address first, by `cdreg`."),
-    ("a call as in FORTRAN", service("cfsa(0, r, v, q)"), "S2", 4, "Found `(`; expected a number. What follows is written without brackets and commas."),
+    ("a call as in FORTRAN", service("cfsa(0, r, v, q)"), "S2", 4, "Found `(`; expected a number. Write `cfsa F REGISTER`, `cfsa F REGISTER -> VARIABLE` or `cfsa F REGISTER <- VALUE`."),
     ("a value after the arrow of a read", service("cdreg r 1 1 6 0", "cfsa 16 r -> 1"), "S2", 5, "Found `1`; expected a name. A read sets a variable after `->`; a write has `<-` and a value."),
     ("a register in the place of a variable", service("cdreg r 1 1 5 0", "put r"), "S5", 5, "The name `r` is declared on line 4 as a register; expected a variable. A register holds an address: `cfsa 0 r -> v` reads from it into `v`."),
     ("a flag that is compared", service("if q = 1 { }"), "S2", 4, "Found `=`; expected `{` or `and`. Write a flag alone: `q`, or `not q`."),
@@ -438,7 +442,7 @@ class Explain(Room):
 
     def test_absent(self):
         """The page shows the table of what the language does not have."""
-        source = (TOP / "crates/camac_explain_text_place/src/absent.rt").read_text()
+        source = (TOP / "crates/camac_explain_text_words/src/absent.rt").read_text()
         text = r'"((?:[^"\\]|\\.)*)"'
         rows = re.findall(rf"\(\s*&\[(.*?)\],\s*{text},?\s*\)", source, re.S)
         table = [([it.replace('\\"', '"') for it in re.findall(text, words)], write) for words, write in rows]
@@ -446,6 +450,18 @@ class Explain(Room):
         shown = [f"| {', '.join(f'`{it}`' for it in words)} | {write} |".replace("`|", "`\\|").replace("||", "|\\|") for words, write in table]
         part = (TOP / "docs/LANGUAGE.md").read_text().partition("## What the language does not have")[2]
         self.assertEqual(part.split("|---|---|\n")[1].partition("\n\n")[0].splitlines(), shown)
+
+    def test_forms(self):
+        """The tables of the page have the forms that are told, of each word that begins something."""
+        source = (TOP / "crates/camac_explain_text_words/src/forms.rt").read_text()
+        rows = re.findall(r'Keyword::(\w+),\s*"(.*?)"', source)
+        self.assertEqual({word.lower() for word, _ in rows}, {*DECLARATIONS, *STATEMENTS, "table", "else"})
+        for word, forms in rows:
+            self.assertIn(word.lower(), forms.replace("`", "").split(), forms)
+        told = re.findall("`(.*?)`", "".join(forms for _, forms in rows) + re.search(r'ASSIGNMENT: &str = "(.*)"', source)[1])
+        part = (TOP / "docs/LANGUAGE.md").read_text().partition("## Declarations")[2].partition("## What the language does not have")[0]
+        shown = re.findall("`(.*?)`", "".join(re.findall(r"(?m)^\| (`.*?`) \|", part)))
+        self.assertEqual(sorted(shown), sorted(told))
 
     def test_mistakes_in_plans(self):
         for what, plan, rule, said in plans.MISTAKES:
@@ -579,7 +595,7 @@ class Explain(Room):
         """A fault at the end of a line of nearly 1 MB, with some 64,000 tokens: a search by parses of the text before it would take hours."""
         name = "a" * 32
         line = f"cdlam adc 1 1 5 12 var {name} service adc within 0 cycles event 0 words {{ " + f"{name} = {'+'.join([name] * 6)} " * 4000 + "put }"
-        self.assertEqual(self.explain(line)[3], "Found `}`; expected an expression.")
+        self.assertEqual(self.explain(line)[3], "Found `}`; expected an expression. Write `put VALUE`.")
 
     def test_other_plans(self):
         (self.room / "plan.toml").write_text("buffer = 10\n[[crate]]\nnumber = 9\n")

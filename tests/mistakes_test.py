@@ -6,7 +6,7 @@ usage: tests/mistakes_test.py [-v] [TEST ..]     from any folder; takes a few se
 from support.program import Room, run_tests
 
 # At least so many of a hundred are told right.
-LEAST = 77
+LEAST = 98
 LINE = "1 1 123fff 0 000004\n"
 FORM = "`x q word wait gl`, as `1 1 123fff 0 000004`"
 PLAN = """[[type]]
@@ -51,19 +51,19 @@ FORTRAN = [
     ("if v.eq.3 { put v }", "`==`"),
     ("DO 10 I = 1, 12", "`for i = A to B { .. }`"),
     ("do i = 1, 12", "`for i = A to B { .. }`"),
-    ("C  read the converter", "`#`"),
-    ("! read the converter", "`#`"),
+    ("C  read the converter", "a comment begins with `#`"),
+    ("! read the converter", "`#` before a comment"),
     ("write(*,*) v", "`put v`"),
     ("dimension words(12)", "several variables"),
     ("if (.not. q) put v", "`not`"),
     ("enddo", "`{` and `}`"),
 ]
 C = [
-    ("cfsa(0, r, &v, &q);", "`cfsa 0 r -> v`"),
-    ("cdreg(&r, 1, 1, 5, 0);", "`v` alone for its address"),
-    ("for (i = 0; i < 12; i++) { }", "`for i = A to B { .. }`"),
+    ("cfsa(0, r, &v, &q);", "`cfsa F REGISTER -> VARIABLE`"),
+    ("cdreg(&r, 1, 1, 5, 0);", "`cdreg REGISTER 1 CRATE STATION SUB_ADDRESS`"),
+    ("for (i = 0; i < 12; i++) { }", "`for VARIABLE = VALUE to VALUE { .. }`"),
     ("while (!q) { }", "`not`"),
-    ("v = cfsa(0, r);", "`cfsa 0 r -> v`"),
+    ("v = cfsa(0, r);", "`cfsa F REGISTER -> VARIABLE`"),
     ("unsigned short v = 0;", "`var`"),
     ('printf("%d", v);', "`put v`"),
     ("v |= 1;", "`v % 256`"),
@@ -77,7 +77,7 @@ PYTHON = [
     ("while not q:", "`{` and `}`"),
     ("v = camac.read(5, 0, 0)", "`cfsa 0 r -> v`"),
     ("words.append(v)", "`put v`"),
-    ("v = None", "1 and 0"),
+    ("v = None", "0, since a variable is always a number"),
     ("v = [0] * 12", "several variables"),
     ("if v > 3: put v", "`{` and `}`"),
     ("else:", "`{` and `}`"),
@@ -85,15 +85,15 @@ PYTHON = [
     ("raise ValueError", "`q` or `x`"),
 ]
 LAM = [
-    ("cclm adc", "`on`"),
+    ("cclm adc", "`cclm LAM on`"),
     ("cclc 1 1 5 12", "name of a LAM"),
     ("cclc r", "name of a LAM"),
     ("ctlm adc -> q", "The answer is the flag `q`."),
-    ("if adc { put v }", "`ctlm"),
+    ("if adc { put v }", "`ctlm adc`"),
     ("wait adc", "`while` that polls"),
-    ("cccd on 1", "`cccd c on`"),
+    ("cccd on 1", "`cccd CRATE on`"),
     ("cdlam other 1 1 6 0", "outside of services"),
-    ("cclm adc = on", "`cclm l on`"),
+    ("cclm adc = on", "`cclm LAM on`"),
     ("cfsa 10 adc", "`cdreg`"),
 ]
 BASES = [

@@ -2,7 +2,7 @@
 use Rattle.std.specs.Prelude.{ℕ, List, [], ◌∷◌, codes, decimal, nat_eq, if◌then◌else◌}
 use Rattle.std.specs.List.{concat}
 use Rattle.camac_lines.specs.Words.{quoted, shown_text}
-use Rattle.camac_explain_text_place.specs.Absent.{absent_of, absent_text}
+use Rattle.camac_explain_text_words.specs.Absent.{absent_of, absent_text}
 use Rattle.camac_explain_text.specs.declared.hint.Hint.{Hint}
 use Rattle.camac_explain_text.specs.declared.hint.Hint.TheVariants as hint
 
@@ -53,6 +53,13 @@ no_arrow_text name =
 abbrev pub of_language_text : (word : List ℕ) → List ℕ
 of_language_text word = concat (codes "`" ∷ word ∷ codes "` is a word of the language: choose another name." ∷ [])
 
+-- a LAM in the place of a value
+abbrev pub tested_text : (name : List ℕ) → List ℕ
+tested_text name = concat (codes "A LAM has no value: `ctlm " ∷ shown_text name ∷ codes "` tests it, and the answer is the flag `q`." ∷ [])
+
+abbrev pub form_text : (form : List ℕ) → List ℕ
+form_text form = concat (codes "Write " ∷ form ∷ codes "." ∷ [])
+
 abbrev pub hint_text : Hint → List ℕ
 hint_text (hint.Told told) = told.now
 hint_text (hint.Meant word) = meant_text word.now
@@ -68,3 +75,5 @@ hint_text (hint.Address name) = address_text name.now
 hint_text (hint.NoArrow name) = no_arrow_text name.now
 hint_text (hint.OfLanguage word) = of_language_text word.now
 hint_text (hint.Absent absent) = absent_text (absent_of absent)
+hint_text (hint.Tested name) = tested_text name.now
+hint_text (hint.Form form) = form_text form.now

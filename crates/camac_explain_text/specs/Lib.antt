@@ -1,5 +1,5 @@
+pub mod Byte
 pub mod Hint
-pub mod Limits
 pub mod Meant
 pub mod Mistake
 pub mod Sentence

@@ -14,12 +14,15 @@ use Rattle.camac_tokens.specs.declared.words.TheConstants.{KEYWORDS}
 use Rattle.camac_text_cursor.specs.Choice.{begins_declaration}
 use Rattle.camac_text_cursor.specs.Readers.{each_word, is_keyword, is_name, is_number}
 use Rattle.camac_text_cursor.specs.declared.choice.Choice.TheVariants as choice
-use Rattle.camac_explain_text_place.specs.Absent.{Told, absent_sign, absent_text}
+use Rattle.camac_explain_text_words.specs.Absent.{absent_sign, absent_text}
+use Rattle.camac_explain_text_words.specs.Forms.{form_of}
+use Rattle.camac_explain_text_words.specs.Spelled.{is_hexadecimal, is_word, sign_text, word_text}
+use Rattle.camac_explain_text_words.specs.declared.forms.TheConstants.{ASSIGNMENT}
 use Rattle.camac_explain_text_place.specs.Before.{Standing, begins_statement, called_in, declared, first_of, is_in_brackets, is_kind, near, open_line, wants_new_name, word_of}
-use Rattle.camac_explain_text.specs.Hint.{address_text, before_text, brackets_text, called_text, inside_text, meant_text, name_text, no_arrow_text, no_result_text, of_language_text, open_text, takes_text}
+use Rattle.camac_explain_text.specs.Hint.{address_text, before_text, brackets_text, called_text, form_text, inside_text, meant_text, name_text, no_arrow_text, no_result_text, of_language_text, open_text, takes_text, tested_text}
+use Rattle.camac_explain_text.specs.declared.hint.TheConstants.{DIGITS}
 use Rattle.camac_explain_text.specs.Mistake.{case, first_case, is_either, told_of_kind, usual_mistake}
-use Rattle.camac_explain_text_place.specs.Place.{Place, absent_word_at, adjoins_word, begins_line, begins_statement_at, expects, is_assigned, is_before, last}
-use Rattle.camac_explain_text_place.specs.Spelled.{is_word, sign_text, word_text}
+use Rattle.camac_explain_text_place.specs.Place.{Place, absent_word_at, adjoins_word, begins_line, begins_statement_at, expects, is_assigned, is_before, is_before_name, last}
 
 unfoldable pub near_among : (name : List ℕ) → List Keyword → Option (List ℕ)
 near_among name ws = option_map word_text (find (λ w. begins_declaration w && is_near name (word_text w)) ws)
@@ -68,7 +71,7 @@ is_spelled_out _ = false
 -- a word right after a number, as in `0x1F`
 unfoldable pub decimal_digits : Place → Option (List ℕ)
 decimal_digits p =
-    first_case (case (is_spelled_out p.token && (is_number (last p) && adjoins_word p)) (codes "Write numbers in decimal digits.") ∷ [])
+    first_case (case (is_spelled_out p.token && (is_number (last p) && adjoins_word p)) DIGITS.now ∷ [])
 
 -- what a sign is taken for
 abbrev pub taken_for : Place → Sign → Option Sign
@@ -125,6 +128,12 @@ open_block p = option_and_then (λ line. if length p.bytes == 0 then Some (open_
 abbrev pub word_before_beginning : Place → Option (List ℕ)
 word_before_beginning p = if expects p choice.Declaration || begins_statement_at p then word_before p else None
 
+-- The form of what is in hand, unless another one may begin. A name alone has to begin an assignment: a `for` and a `table` have two words before the `=`.
+unfoldable pub form_at : Place → Option (List ℕ)
+form_at p =
+    if expects p (choice.Mark sign.Equals) && not (length p.before.phrase == 2) then Some ASSIGNMENT.now
+    else (if begins_statement_at p || expects p choice.Declaration then None else option_and_then form_of (word_of (first_of p.before)))
+
 -- behind the list of what might stand there: the first of these that is so
 unfoldable pub unexpected_hint : Place → Option (List ℕ)
 unexpected_hint p =
@@ -134,7 +143,8 @@ unexpected_hint p =
     (or_else (usual_mistake p)
     (or_else (option_map meant_text (near_word p))
     (or_else (word_before_beginning p)
-    (or_else (arguments p) (open_block p)))))))
+    (or_else (arguments p)
+    (or_else (open_block p) (option_map form_text (form_at p)))))))))
 
 abbrev pub near_name : Place → (wanted : NameKind) → Option (List ℕ)
 near_name p wanted = option_map (λ d. name_text d.name) (near p.bytes wanted p.before)
@@ -145,24 +155,26 @@ name_hint p wanted =
     or_else (decimal_digits p)
     (or_else (option_map meant_text (near_word p))
     (or_else (near_name p wanted)
-    (first_case (case (is_kind wanted named.Variable && is_before p (codes "(")) (called_text p.bytes) ∷ []))))
+    (first_case (
+    case (is_kind wanted named.Variable && is_before p (codes "(")) (called_text p.bytes)
+    ∷ case (is_kind wanted named.Variable && (not (is_assigned p) && is_hexadecimal p.bytes)) DIGITS.now
+    ∷ case (begins_line p && (begins_statement_at p && is_before_name p)) (codes "No statement begins with this word, and a comment begins with `#`.")
+    ∷ []))))
 
--- behind a name that is declared as another kind: what a procedure or a register is for, in the place of a variable
+-- behind a name that is declared as another kind: what a procedure, a register or a LAM is for, in the place of a variable
 unfoldable pub kind_hint : Place → (wanted is : NameKind) → Option (List ℕ)
 kind_hint p wanted is =
     or_else
     (first_case (
     case (is_kind wanted named.Variable && (is_kind is named.Procedure && begins_statement_at p)) (called_text p.bytes)
     ∷ case (is_kind wanted named.Variable && is_kind is named.Procedure) (no_result_text p.bytes)
-    ∷ case (is_kind wanted named.Variable && is_kind is named.Register) (address_text p.bytes) ∷ []))
+    ∷ case (is_kind wanted named.Variable && is_kind is named.Register) (address_text p.bytes)
+    ∷ case (is_kind wanted named.Variable && is_kind is named.Lam) (tested_text p.bytes) ∷ []))
     (told_of_kind wanted is)
-
-abbrev pub is_long_sign : Told → Bool
-is_long_sign t = nat_lt 1 (length t.spelled)
 
 -- a sign of the language that begins as one of another, as `..` does
 abbrev pub sign_of_another : Place → Option TokenKind → Option (List ℕ)
-sign_of_another p (Some (kind.Sign s)) = option_and_then (λ t. if is_long_sign t then Some (absent_text t) else None) (absent_sign p.text p.rest)
+sign_of_another p (Some (kind.Sign s)) = option_and_then (λ t. if nat_lt 1 (length t.0) then Some (absent_text t) else None) (absent_sign p.text p.rest)
 sign_of_another p _ = None
 
 -- a declaration in a body; a `table` that begins its line, since others stand in statements

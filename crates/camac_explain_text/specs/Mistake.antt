@@ -1,5 +1,5 @@
 -- Mistakes that are made often, each with its sentence.
-use Rattle.std.specs.Prelude.{ℕ, ◌==◌, Bool, true, false, ◌&&◌, ◌||◌, not, List, [], ◌∷◌, codes, length, Option, Some, None, if◌then◌else◌}
+use Rattle.std.specs.Prelude.{ℕ, Bool, true, false, ◌&&◌, ◌||◌, not, List, [], ◌∷◌, codes, Option, Some, None, if◌then◌else◌}
 use Rattle.camac_tokens.specs.Words.{or_else}
 use Rattle.camac_tokens.specs.declared.fault.NameKind.{NameKind}
 use Rattle.camac_tokens.specs.declared.fault.NameKind.TheVariants as named
@@ -14,7 +14,7 @@ use Rattle.camac_text_cursor.specs.declared.choice.Choice.TheVariants as choice
 use Rattle.camac_explain_text_place.specs.Before.{begins_statement, first_of, in_body, is_in_brackets, is_kind, word_of}
 use Rattle.camac_explain_text_place.specs.Expected.{is_name as is_name_wanted, is_operator}
 use Rattle.camac_explain_text_place.specs.Place.{Place, adjoins_word, begins_statement_at, expects, is_assigned, last, needed}
-use Rattle.camac_explain_text_place.specs.Spelled.{is_word}
+use Rattle.camac_explain_text_words.specs.Spelled.{is_word}
 
 -- a case, and what is told in it
 pub record Case : Type 0 where
@@ -73,8 +73,7 @@ joins_comparisons p k = is_sign_that compares (Some k) && (expects p (choice.Wor
 unfoldable pub mistaken_condition : Place → (first : Keyword) → TokenKind → Option (List ℕ)
 mistaken_condition p first k =
     first_case (
-    case (is_word first word.For && (length p.before.phrase == 2)) (codes "A `for` is written `for i = A to B { .. }`.")
-    ∷ case (is_word first word.For && is_each (Some k)) (codes "Before `each` stand two numbers, and no `keep`: `for i = 0 to 11 each { .. }`.")
+    case (is_word first word.For && is_each (Some k)) (codes "Before `each` stand two numbers, and no `keep`: `for i = 0 to 11 each { .. }`.")
     ∷ case (is_either word.If word.While first && is_keyword word.In (Some k)) (codes "A range is tested by two comparisons: `v >= A and v <= B`.")
     ∷ case (is_either word.If word.While first && (is_sign sign.LeftBrace (Some k) && expects p choice.Comparison))
     (codes "A condition compares, as in `v != 0`.")
@@ -88,10 +87,6 @@ is_flag k = is_keyword word.Q k || is_keyword word.X k
 
 abbrev pub compares_or_sets : Option TokenKind → Bool
 compares_or_sets k = is_sign_that compares k || is_sign sign.Equals k
-
-abbrev pub is_any_word : TokenKind → Bool
-is_any_word (kind.Keyword w) = true
-is_any_word _ = false
 
 -- a token that may not stand after a name or a flag
 unfoldable pub mistake_after_value : Place → (before k : TokenKind) → Option (List ℕ)
@@ -109,8 +104,7 @@ mistake_after_word before k =
     case (is_keyword word.Call (Some before) && is_word_that begins_statement (Some k))
     (codes "A `call` calls a procedure: write this statement without it, as in `cfsa 0 channel -> v`.")
     ∷ case (is_keyword word.Not (Some before) && is_keyword word.Not (Some k)) (codes "After `not`, write a comparison, `q` or `x`.")
-    ∷ case (is_keyword word.Else (Some before) && is_keyword word.If (Some k)) (codes "Write the block of `else` in braces; an `if` may be in it.")
-    ∷ case (is_any_word before && is_sign sign.LeftBracket (Some k)) (codes "What follows is written without brackets and commas.") ∷ [])
+    ∷ case (is_keyword word.Else (Some before) && is_keyword word.If (Some k)) (codes "Write the block of `else` in braces; an `if` may be in it.") ∷ [])
 
 -- a token that may not stand after a sign, or where a number may
 unfoldable pub mistake_for_value : Place → (before k : TokenKind) → Option (List ℕ)
@@ -139,8 +133,6 @@ mistake_in p first k =
     first_case (
     case (is_either word.If word.While first && (is_of_condition k && is_in_brackets p.before)) (codes "Brackets are for expressions, not for conditions.")
     ∷ case (tests_lams first && is_sign sign.Into (Some k)) (codes "The answer is the flag `q`.")
-    ∷ case (is_either word.Cdlam word.Cdreg first && expects p choice.Number)
-    (codes "An address is the branch, which is 1, then crate, station and sub-address.")
     ∷ case (is_name_wanted p.noted && is_kind (needed p) named.Register) (codes "Set a register to an address first, by `cdreg`.")
     ∷ case (is_name_wanted p.noted && is_kind (needed p) named.Lam) (codes "Write the name of a LAM here, which `cdlam` declares.") ∷ [])
 

@@ -1,7 +1,5 @@
 -- The sentences on a text's fault: what its rule knew, with numbers in decimal and names in quotes.
-use Rattle.std.specs.Prelude.{ℕ, ◌==◌, Bool, ◌&&◌, ◌||◌, not, List, [], ◌∷◌, ◌++◌, Option, Some, None, codes, decimal, length, nat_eq, nat_lt, option_map, take, if◌then◌else◌}
-use Rattle.std.specs.Char.{is_ascii_graphic}
-use Rattle.std.specs.Str.{is_utf8, str_eq_ignore_ascii_case}
+use Rattle.std.specs.Prelude.{ℕ, ◌==◌, Bool, ◌&&◌, ◌||◌, not, List, [], ◌∷◌, ◌++◌, Option, Some, None, codes, decimal, length, nat_eq, option_map, if◌then◌else◌}
 use Rattle.std.specs.List.{concat}
 use Rattle.camac_lines.specs.Words.{quoted}
 use Rattle.camac_tokens.specs.Words.{or_else}
@@ -12,11 +10,13 @@ use Rattle.camac_tokens.specs.declared.fault.NameKind.TheVariants as named
 use Rattle.camac_tokens.specs.declared.fault.TextCase.{TextCase}
 use Rattle.camac_tokens.specs.declared.fault.TextCase.TheVariants as told
 use Rattle.camac_text_cursor.specs.declared.choice.Choices.{Choices}
-use Rattle.camac_explain_text_place.specs.Absent.{Told, absent_sign, absent_text}
+use Rattle.camac_explain_text_words.specs.Absent.{absent_sign, absent_text, is_spelled}
+use Rattle.camac_explain_text_words.specs.Parts.{character, first_byte}
 use Rattle.camac_explain_text_place.specs.Before.{called_in, is_kind}
 use Rattle.camac_explain_text_place.specs.Expected.{expected_of, list_text}
+use Rattle.camac_explain_text.specs.Byte.{byte_hint}
 use Rattle.camac_explain_text.specs.Hint.{takes_text}
-use Rattle.camac_explain_text.specs.Limits.{limit_text}
+use Rattle.camac_explain_text_words.specs.Limits.{limit_text}
 use Rattle.camac_explain_text.specs.Meant.{kind_hint, name_hint, own_sentence, unexpected_hint, word_before}
 use Rattle.camac_explain_text.specs.Mistake.{outside_of_bodies}
 use Rattle.camac_explain_text_place.specs.Place.{Place, absent_word_at, begins_statement_at, declared_line, is_assigned, is_before}
@@ -57,42 +57,14 @@ abbrev pub with_hint : List ℕ → Option (List ℕ) → List ℕ
 with_hint sentence None = sentence
 with_hint sentence (Some hint) = sentence ++ (codes " " ++ hint)
 
-abbrev pub first_byte : (text : List ℕ) → ℕ
-first_byte [] = 0
-first_byte (b ∷ bs) = b
-
-abbrev pub character_size : (first : ℕ) → ℕ
-character_size b =
-    if is_ascii_graphic b then 1 else (if nat_lt b 195 then 0 else (if nat_lt b 224 then 2 else (if nat_lt b 240 then 3 else 4)))
-
--- bytes that are a text, or nothing
-abbrev pub or_empty : List ℕ → List ℕ
-or_empty bytes = if is_utf8 bytes then bytes else []
-
--- the bytes of the character with which a text begins, where it is one that can be shown
-abbrev pub character : (text : List ℕ) → List ℕ
-character text = or_empty (take (character_size (first_byte text)) text)
-
 abbrev pub other_byte_text : (rest : List ℕ) → List ℕ
 other_byte_text rest =
-    if first_byte rest == 95 then codes "The character `_` begins no token. A name begins with a letter."
-    else (if length (character rest) == 0 then concat (codes "The byte " ∷ decimal (first_byte rest) ∷ codes " begins no token." ∷ [])
-    else concat (codes "The character " ∷ quoted (character rest) ∷ codes " begins no token." ∷ []))
-
-abbrev pub sign_or_byte : Option Told → (rest : List ℕ) → List ℕ
-sign_or_byte (Some absent) rest = absent_text absent
-sign_or_byte None rest = other_byte_text rest
-
--- of a byte that begins no token: a sign that the language does not have, or the byte
-abbrev pub byte_text : (before rest : List ℕ) → List ℕ
-byte_text before rest = sign_or_byte (absent_sign before rest) rest
-
-abbrev pub found_text : (token : List ℕ) → List ℕ
-found_text token = concat (codes "Found " ∷ quoted token ∷ codes "." ∷ [])
+    if length (character rest) == 0 then concat (codes "The byte " ∷ decimal (first_byte rest) ∷ codes " begins no token." ∷ [])
+    else concat (codes "The character " ∷ quoted (character rest) ∷ codes " begins no token." ∷ [])
 
 -- of a call with too few or too many arguments, where its procedure is known
 abbrev pub arguments_text : (token : List ℕ) → Option (List ℕ) → (wanted : ℕ) → List ℕ
-arguments_text token None wanted = found_text token
+arguments_text token None wanted = concat (codes "Found " ∷ quoted token ∷ codes "." ∷ [])
 arguments_text token (Some procedure) wanted = codes "Found " ++ (quoted token ++ (codes ". " ++ takes_text procedure wanted))
 
 abbrev pub start_text : (token : List ℕ) → List ℕ
@@ -107,6 +79,12 @@ abbrev pub or_sentence : Option (List ℕ) → List ℕ → List ℕ
 or_sentence (Some own) sentence = own
 or_sentence None sentence = sentence
 
+-- of a byte that begins no token: what is to be known, or a sign that the language does not have, or the byte
+abbrev pub byte_text : Place → List ℕ
+byte_text p =
+    or_sentence (option_map (λ hint. with_hint (other_byte_text p.rest) (Some hint)) (byte_hint p))
+    (or_sentence (option_map absent_text (absent_sign p.text p.rest)) (other_byte_text p.rest))
+
 unfoldable pub unexpected : Place → List ℕ
 unexpected p = or_sentence (own_sentence p) (with_hint (expected_sentence p.bytes p.noted) (unexpected_hint p))
 
@@ -116,14 +94,14 @@ taken p by = with_hint (taken_text p.bytes (declared_line p) by) (or_else (outsi
 unfoldable pub other_kind : Place → (wanted is : NameKind) → List ℕ
 other_kind p wanted is = with_hint (other_text p.bytes (declared_line p) wanted is) (kind_hint p wanted is)
 
-abbrev pub is_truth : (word : List ℕ) → Bool
-is_truth word = str_eq_ignore_ascii_case word (codes "true") || str_eq_ignore_ascii_case word (codes "false")
+abbrev pub is_value : (word : List ℕ) → Bool
+is_value word = is_spelled (codes "true" ∷ codes "false" ∷ codes "none" ∷ codes "null" ∷ codes "nil" ∷ []) word
 
--- a truth value, or a word that is called, or begins a statement that is no assignment
+-- a value of another language, or a word that is called, or begins a statement that is no assignment
 abbrev pub is_of_another_language : Place → Bool
-is_of_another_language p = is_truth p.bytes || (is_before p (codes "(") || (begins_statement_at p && not (is_assigned p)))
+is_of_another_language p = is_value p.bytes || (is_before p (codes "(") || (begins_statement_at p && not (is_assigned p)))
 
-abbrev pub absent_variable : Place → (wanted : NameKind) → Option Told
+abbrev pub absent_variable : Place → (wanted : NameKind) → Option (List ℕ × List ℕ)
 absent_variable p wanted = if is_kind wanted named.Variable && is_of_another_language p then absent_word_at p else None
 
 -- a word of another language in the place of a variable, or a name that is not declared
@@ -138,7 +116,7 @@ undeclared p wanted found.Hidden = concat (codes "A procedure does not see the v
 
 -- what is told in this case at a place
 unfoldable pub case_text : Place → TextCase → List ℕ
-case_text p told.Byte = byte_text p.text p.rest
+case_text p told.Byte = byte_text p
 case_text p told.Unexpected = unexpected p
 case_text p told.ZeroDivisor = concat (codes "Found " ∷ quoted p.bytes ∷ codes ". A divisor is a number of at least 1." ∷ [])
 case_text p told.LockInProcedure = codes "A procedure has no `lock`: put the `call` into one."

@@ -5,18 +5,22 @@ ghost use Rattle.camac_lines.specs.Words.{is_near, shown_text};
 ghost use Rattle.camac_tokens.specs.declared.token.Keyword.TheVariants as keyword;
 ghost use Rattle.camac_text_cursor.specs.declared.choice.Choice.TheVariants as choice;
 ghost use Rattle.camac_explain_text_place.specs.Before.{standing_of};
-ghost use Rattle.camac_explain_text.specs.Hint.{arguments_of, before_text, call_text, hint_text};
-ghost use Rattle.camac_explain_text.specs.Meant.{arguments, arguments_of_call, arrow_before_number, arrow_before_value, decimal_digits, fits, from_end, if_expected, kind_hint, meant_by_name, meant_by_sign, missing_arrow, name_hint, near_among, near_beginning, near_each, near_fitting, near_named, near_word, of_two_before, open_block, taken_for, unexpected_hint, word_before, word_before_beginning};
+ghost use Rattle.camac_explain_text.specs.Hint.{arguments_of, before_text, call_text, form_text, hint_text};
+ghost use Rattle.camac_explain_text.specs.Meant.{arguments, arguments_of_call, arrow_before_number, arrow_before_value, decimal_digits, fits, form_at, from_end, if_expected, kind_hint, meant_by_name, meant_by_sign, missing_arrow, name_hint, near_among, near_beginning, near_each, near_fitting, near_named, near_word, of_two_before, open_block, taken_for, unexpected_hint, word_before, word_before_beginning};
 ghost use Rattle.camac_explain_text.specs.Mistake.{is_either};
 ghost use Rattle.camac_explain_text_place.specs.Place.{expects, place_of};
-ghost use Rattle.camac_explain_text_place.specs.Spelled.{word_text};
+ghost use Rattle.camac_explain_text_words.specs.Spelled.{word_text};
 
 use crate::mistake::{told_of_kind, usual_mistake};
-use camac_explain_text_place::{Absent, Before, Found, sign_text, word_text};
+use camac_explain_text_place::{Before, Found};
+use camac_explain_text_words::{ASSIGNMENT, Absent, form_of, is_hexadecimal, sign_text, word_text};
 use camac_lines::{Quote, is_near};
 use camac_text::{Choice, NameKind, TokenKind};
 use camac_tokens::{KEYWORDS, Keyword, Sign};
 use std::fmt;
+
+/// Of a number of another language.
+pub const DIGITS: &str = "Write numbers in decimal digits, as `255` for `0xff`.";
 
 /// What may be meant, or what is to be known.
 #[derive(Clone, Copy)]
@@ -47,6 +51,10 @@ pub enum Hint<'a> {
     OfLanguage(&'static str),
     /// What the language does not have.
     Absent(Absent<'a>),
+    /// A LAM in the place of a value.
+    Tested(&'a [u8]),
+    /// How the statement in hand is written.
+    Form(&'static str),
 }
 
 impl fmt::Display for Hint<'_> {
@@ -97,6 +105,12 @@ impl fmt::Display for Hint<'_> {
                 "camac has no {}; write {write}.",
                 Quote(spelled)
             ),
+            Hint::Tested(name) => write!(
+                f,
+                "A LAM has no value: `ctlm {}` tests it, and the answer is the flag `q`.",
+                shown_text(name)
+            ),
+            Hint::Form(form) => write!(f, "Write {form}."),
         }
     }
 }
@@ -155,7 +169,10 @@ pub fn unexpected_hint<'a>(found: &'a Found<'_>) -> Option<Hint<'a>>
     if let Some(hint) = arguments(found) {
         return Some(hint);
     }
-    open_block(found)
+    if let Some(hint) = open_block(found) {
+        return Some(hint);
+    }
+    form_hint(found)
 }
 
 /// What may be meant by a name that is not declared: the near word of the language, which may stand there, else the near name.
@@ -174,6 +191,14 @@ pub fn name_hint<'a>(found: &'a Found<'_>, wanted: NameKind) -> Option<Hint<'a>>
     }
     if wanted == NameKind::Variable && found.is_before(b"(") {
         return Some(Hint::Called(found.word));
+    }
+    if wanted == NameKind::Variable && !found.is_assigned() && is_hexadecimal(found.word) {
+        return Some(Hint::Told(DIGITS));
+    }
+    if found.begins_line() && found.begins_statement() && found.is_before_name() {
+        return Some(Hint::Told(
+            "No statement begins with this word, and a comment begins with `#`.",
+        ));
     }
     None
 }
@@ -317,7 +342,7 @@ fn decimal_digits(found: &Found<'_>) -> Option<&'static str>
 {
     match (&found.kind, found.last()) {
         (Some(TokenKind::Name(_) | TokenKind::Keyword(_)), Some(TokenKind::Number(_)))
-            if found.adjoins_word() => { Some("Write numbers in decimal digits.") }
+            if found.adjoins_word() => { Some(DIGITS) }
         _ => None,
     }
 }
@@ -409,7 +434,7 @@ fn is_transfer(word: Keyword) -> bool
     word == Keyword::Cfsa || word == Keyword::Cssa
 }
 
-/// What a procedure or a register is for, in the place of a variable.
+/// What a procedure, a register or a LAM is for, in the place of a variable.
 #[tactic(auto, unfolding(crate::specs::Meant::kind_hint))]
 pub fn kind_hint<'a>(found: &'a Found<'_>, wanted: NameKind, kind: NameKind) -> Option<Hint<'a>>
     ensures { option_map hint_text result ≡ kind_hint (place_of found.now) wanted kind }
@@ -420,6 +445,7 @@ pub fn kind_hint<'a>(found: &'a Found<'_>, wanted: NameKind, kind: NameKind) -> 
         )),
         (NameKind::Variable, NameKind::Procedure) => Some(Hint::NoResult(found.word)),
         (NameKind::Variable, NameKind::Register) => Some(Hint::Address(found.word)),
+        (NameKind::Variable, NameKind::Lam) => Some(Hint::Tested(found.word)),
         _ => match told_of_kind(wanted, kind) {
             Some(told) => Some(Hint::Told(told)),
             None => None,
@@ -461,5 +487,31 @@ fn open_block<'a>(found: &'a Found<'_>) -> Option<Hint<'a>>
     match found.before.open_line() {
         Some(line) if found.word.is_empty() => Some(Hint::Open { line }),
         _ => None,
+    }
+}
+
+fn form_hint<'a>(found: &'a Found<'_>) -> Option<Hint<'a>>
+    ensures { option_map hint_text result ≡ option_map form_text (form_at (place_of found.now)) }
+{
+    match form_at(found) {
+        Some(form) => Some(Hint::Form(form)),
+        None => None,
+    }
+}
+
+// The form of what is in hand, unless another one may begin.
+#[tactic(auto, unfolding(crate::specs::Meant::form_at))]
+fn form_at(found: &Found<'_>) -> Option<&'static str>
+    ensures { option_map (λ s. s.now) result ≡ form_at (place_of found.now) }
+{
+    if found.expects(Choice::Mark(Sign::Equals)) && found.before.phrase.len() != 2 {
+        return Some(ASSIGNMENT);
+    }
+    if found.begins_statement() || found.expects(Choice::Declaration) {
+        return None;
+    }
+    match found.before.first_word() {
+        Some(word) => form_of(word),
+        None => None,
     }
 }

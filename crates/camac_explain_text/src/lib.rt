@@ -2,8 +2,8 @@
 // A crate of its own beside the explanations of rules, so that both are proved at once, and a change of one leaves the other.
 #![tactic(auto)]
 
+mod byte;
 mod hint;
-mod limit;
 mod mistake;
 mod own;
 mod sentence;

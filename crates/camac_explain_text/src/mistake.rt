@@ -125,9 +125,6 @@ fn mistaken_condition(found: &Found<'_>, first: Keyword, kind: &TokenKind) -> Op
 {
     use TokenKind::{Keyword as Word, Sign as Mark};
     match (first, kind) {
-        (Keyword::For, _) if found.before.phrase.len() == 2 => Some(
-            "A `for` is written `for i = A to B { .. }`.",
-        ),
         (Keyword::For, TokenKind::Name(name)) if are_same(name.as_bytes(), b"each") => Some(
             "Before `each` stand two numbers, and no `keep`: `for i = 0 to 11 each { .. }`.",
         ),
@@ -217,7 +214,7 @@ fn mistake_after_value(
 fn mistake_after_word(before: &TokenKind, kind: &TokenKind) -> Option<&'static str>
     ensures { option_map (λ s. s.now) result ≡ mistake_after_word before.now kind.now }
 {
-    use TokenKind::{Keyword as Word, Sign as Mark};
+    use TokenKind::Keyword as Word;
     match (before, kind) {
         (Word(Keyword::Call), Word(word)) if begins_statement(*word) => Some(
             "A `call` calls a procedure: write this statement without it, as in `cfsa 0 channel -> v`.",
@@ -227,9 +224,6 @@ fn mistake_after_word(before: &TokenKind, kind: &TokenKind) -> Option<&'static s
         ),
         (Word(Keyword::Else), Word(Keyword::If)) => Some(
             "Write the block of `else` in braces; an `if` may be in it.",
-        ),
-        (Word(_), Mark(Sign::LeftBracket)) => Some(
-            "What follows is written without brackets and commas.",
         ),
         _ => None,
     }
@@ -274,9 +268,6 @@ fn mistake_in(found: &Found<'_>, first: Keyword, kind: &TokenKind) -> Option<&'s
             Keyword::Ctlm | Keyword::Ctci | Keyword::Ctcd | Keyword::Ctgl,
             TokenKind::Sign(Sign::Into),
         ) => Some("The answer is the flag `q`."),
-        (Keyword::Cdlam | Keyword::Cdreg, _) if found.expects(Choice::Number) => Some(
-            "An address is the branch, which is 1, then crate, station and sub-address.",
-        ),
         _ if !is_name(found.expected) => None,
         _ => match found.needed() {
             NameKind::Register => Some("Set a register to an address first, by `cdreg`."),

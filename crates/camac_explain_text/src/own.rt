@@ -6,7 +6,8 @@ ghost use Rattle.camac_explain_text.specs.Meant.{inside, is_name_wanted, is_set,
 ghost use Rattle.camac_explain_text_place.specs.Place.{place_of};
 
 use crate::hint::{Hint, word_before};
-use camac_explain_text_place::{Found, begins_statement, word_text};
+use camac_explain_text_place::{Found, begins_statement};
+use camac_explain_text_words::word_text;
 use camac_text::{Choice, TokenKind};
 use camac_tokens::Keyword;
 

@@ -1,23 +1,21 @@
 // The sentence on a text's fault.
 
 ghost use Rattle.std.specs.Prelude.{◌≡◌, IfOk, option_map, string_bytes};
-ghost use Rattle.std.specs.Str.{is_utf8};
-ghost use Rattle.camac_explain_text_place.specs.Absent.{absent_of, absent_text};
+ghost use Rattle.camac_explain_text_words.specs.Absent.{absent_of, absent_text};
 ghost use Rattle.camac_tokens.specs.Words.{or_else};
 ghost use Rattle.camac_explain_text.specs.Hint.{hint_text};
 ghost use Rattle.camac_explain_text.specs.Meant.{word_before};
 ghost use Rattle.camac_explain_text.specs.Mistake.{outside_of_bodies};
 ghost use Rattle.camac_explain_text_place.specs.Place.{place_of};
 ghost use Rattle.camac_explain_text.specs.Text.{begins_like_a_plan, fault_text, is_buffer};
-ghost use Rattle.camac_explain_text.specs.Sentence.{absent_variable, arguments_text, byte_text, case_text, character, character_size, expected_sentence, first_byte, is_of_another_language, is_truth, missing_text, not_there, noun, number_text, or_empty, other_byte_text, other_kind, other_text, start_text, taken, taken_text, undeclared, unexpected, with_hint};
+ghost use Rattle.camac_explain_text.specs.Sentence.{absent_variable, arguments_text, byte_text, case_text, expected_sentence, is_of_another_language, is_value, missing_text, not_there, noun, number_text, other_byte_text, other_kind, other_text, start_text, taken, taken_text, undeclared, unexpected, with_hint};
 
+use crate::byte::byte_hint;
 use crate::hint::{Hint, kind_hint, name_hint, unexpected_hint, word_before};
-use crate::limit::limit_told;
 use crate::mistake::outside_of_bodies;
 use crate::own::own_sentence;
-use camac_explain_text_place::{
-    Absent, Found, absent_sign, expected_list, is_same_word, kind_at, prefix, rest_of,
-};
+use camac_explain_text_place::{Found, expected_list, kind_at, rest_of};
+use camac_explain_text_words::{Absent, character, first_byte, is_same_word, limit_told};
 use camac_lines::Quote;
 use camac_text::{Choices, NameKind, TextCase, TokenKind};
 use std::alloc::{AllocError, Global};
@@ -67,7 +65,7 @@ fn case_told(alloc: Global, found: &Found<'_>, case: TextCase) -> Result<String,
 {
     let word = Quote(found.word);
     match case {
-        TextCase::Byte => byte_told(alloc, found.text, found.rest),
+        TextCase::Byte => byte_told(alloc, found),
         TextCase::Unexpected => unexpected(alloc, found),
         TextCase::ZeroDivisor => {
             format!(in alloc; "Found {word}. A divisor is a number of at least 1.")
@@ -119,13 +117,17 @@ fn with_hint(alloc: Global, sentence: String, hint: Option<Hint<'_>>) -> Result<
     }
 }
 
-// Of a byte that begins no token, with the text before it and the text from it on.
-fn byte_told(alloc: Global, before: &[u8], rest: &[u8]) -> Result<String, AllocError>
-    ensures { IfOk result (λ s. string_bytes s ≡ byte_text before.now rest.now) }
+// Of a byte that begins no token: what is to be known, or a sign that the language does not have, or the byte.
+fn byte_told(alloc: Global, found: &Found<'_>) -> Result<String, AllocError>
+    ensures { IfOk result (λ s. string_bytes s ≡ byte_text (place_of found.now)) }
 {
-    match absent_sign(before, rest) {
+    if let Some(hint) = byte_hint(found) {
+        let sentence = other_byte_told(alloc, found.rest)?;
+        return with_hint(alloc, sentence, Some(hint));
+    }
+    match found.absent_sign() {
         Some(absent) => absent_told(alloc, absent),
-        None => other_byte_told(alloc, rest),
+        None => other_byte_told(alloc, found.rest),
     }
 }
 
@@ -142,66 +144,11 @@ fn absent_told(alloc: Global, absent: Absent<'_>) -> Result<String, AllocError>
 fn other_byte_told(alloc: Global, rest: &[u8]) -> Result<String, AllocError>
     ensures { IfOk result (λ s. string_bytes s ≡ other_byte_text rest.now) }
 {
-    let byte = first_byte(rest);
-    if byte == b'_' {
-        return String::from_str(
-            alloc,
-            "The character `_` begins no token. A name begins with a letter.",
-        );
-    }
-    let character = character(rest);
+    let (byte, character) = (first_byte(rest), character(rest));
     if character.is_empty() {
         format!(in alloc; "The byte {byte} begins no token.")
     } else {
         format!(in alloc; "The character {} begins no token.", Quote(character))
-    }
-}
-
-fn first_byte(text: &[u8]) -> u8
-    ensures { result ≡ first_byte text.now }
-{
-    match text {
-        [byte, ..] => *byte,
-        [] => 0,
-    }
-}
-
-// The bytes of the character with which a text begins, where it is one that can be shown.
-fn character(text: &[u8]) -> &[u8]
-    ensures { result.now ≡ character text.now }
-{
-    or_empty(prefix(text, character_size(first_byte(text))))
-}
-
-// Bytes that are a text, or nothing.
-fn or_empty(bytes: &[u8]) -> &[u8]
-    ensures { result.now ≡ or_empty bytes.now }
-{
-    if is_text(bytes) { bytes } else { &[] }
-}
-
-fn is_text(bytes: &[u8]) -> bool
-    ensures { result ≡ is_utf8 bytes.now }
-{
-    match str::from_utf8(bytes) {
-        Ok(_) => true,
-        Err(_) => false,
-    }
-}
-
-fn character_size(first: u8) -> usize
-    ensures { result ≡ character_size first }
-{
-    if first.is_ascii_graphic() {
-        1
-    } else if first < 0xC3 {
-        0
-    } else if first < 0xE0 {
-        2
-    } else if first < 0xF0 {
-        3
-    } else {
-        4
     }
 }
 
@@ -371,19 +318,24 @@ fn missing_told(alloc: Global, name: &[u8], wanted: NameKind) -> Result<String, 
 }
 
 // Whether a word stands as in another language, and is no name of a variable that is not declared: it begins a statement that is no
-// assignment, or is called, or is a truth value.
+// assignment, or is called, or is a value.
 fn is_of_another_language(found: &Found<'_>) -> bool
     ensures { result ≡ is_of_another_language (place_of found.now) }
 {
-    is_truth(found.word)
+    is_value(found.word)
         || found.is_before(b"(")
         || (found.begins_statement() && !found.is_assigned())
 }
 
-fn is_truth(word: &[u8]) -> bool
-    ensures { result ≡ is_truth word.now }
+// Whether a word is a value of another language.
+fn is_value(word: &[u8]) -> bool
+    ensures { result ≡ is_value word.now }
 {
-    is_same_word("true", word) || is_same_word("false", word)
+    is_same_word("true", word)
+        || is_same_word("false", word)
+        || is_same_word("none", word)
+        || is_same_word("null", word)
+        || is_same_word("nil", word)
 }
 
 // What a name of a kind is called.

@@ -1,3 +1,2 @@
 pub mod Lasts
-pub mod Spellings
 pub mod Tokens

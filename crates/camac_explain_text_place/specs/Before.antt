@@ -16,7 +16,7 @@ use Rattle.camac_tokens.specs.declared.token.TokenKind.{TokenKind}
 use Rattle.camac_tokens.specs.declared.token.TokenKind.TheVariants as kind
 use Rattle.camac_text_cursor.specs.Choice.{begins_anywhere, begins_declaration}
 use Rattle.camac_text_cursor.specs.Readers.{is_keyword, is_sign as is_sign_at}
-use Rattle.camac_explain_text_place.specs.Spelled.{is_word}
+use Rattle.camac_explain_text_words.specs.Spelled.{is_word}
 use Rattle.camac_explain_text_place.specs.declared.before.Before as declared_before
 use Rattle.camac_explain_text_place.specs.declared.before.Declared.{Declared}
 

@@ -13,7 +13,7 @@ use Rattle.camac_text_cursor.specs.declared.choice.Choice.TheVariants as choice
 use Rattle.camac_text_cursor.specs.declared.choice.Choices.{Choices}
 use Rattle.camac_explain_text_place.specs.Before.{begins_statement}
 use Rattle.camac_explain_text_place.specs.Place.{has}
-use Rattle.camac_explain_text_place.specs.Spelled.{is_mark, is_word, sign_text, word_text}
+use Rattle.camac_explain_text_words.specs.Spelled.{is_mark, is_word, sign_text, word_text}
 use Rattle.camac_explain_text_place.specs.declared.expected.Expected.{Expected}
 use Rattle.camac_explain_text_place.specs.declared.expected.Expected.TheVariants as expected
 use Rattle.camac_explain_text_place.specs.declared.expected.Group.{Group}

@@ -1,6 +1,4 @@
-pub mod Absent
 pub mod Before
 pub mod Expected
 pub mod Found
 pub mod Place
-pub mod Spelled

@@ -14,18 +14,19 @@ use Rattle.camac_text_cursor.specs.Readers.{is_keyword, is_name}
 use Rattle.camac_text_cursor.specs.declared.choice.Choice.{Choice}
 use Rattle.camac_text_cursor.specs.declared.choice.Choice.TheVariants as choice
 use Rattle.camac_text_cursor.specs.declared.choice.Choices.{Choices}
-use Rattle.camac_explain_text_place.specs.Absent.{Told, absent_word}
+use Rattle.camac_explain_text_words.specs.Absent.{absent_word}
 use Rattle.camac_explain_text_place.specs.Before.{Standing, declared, first_of, last_of, standing, standing_of}
 use Rattle.camac_explain_text_place.specs.Found.{kind_at, rest_of, text_before, word_at}
 use Rattle.camac_explain_text_place.specs.declared.found.Found.{Found}
 
--- the token's bytes and what it is, the texts before it and from it on, what the tokens before it come to, and what may stand there
+-- the token's bytes and what it is, the texts before it and from it on, what the tokens before it come to, those of its line, and what may stand there
 pub record Place : Type 0 where
   pub bytes : List ℕ
   pub token : Option TokenKind
   pub text : List ℕ
   pub rest : List ℕ
   pub before : Standing
+  pub line : List Token
   pub noted : Choices
 
 abbrev pub place_of : Found → Place
@@ -36,6 +37,7 @@ place_of f =
       text = f.text.now;
       rest = f.rest.now;
       before = standing_of f.before;
+      line = f.line.items;
       noted = f.expected;
     }
 
@@ -47,11 +49,10 @@ or_none (Err f) = []
 abbrev pub tokens_in : (text : List ℕ) → List Token
 tokens_in text = or_none (tokens_of text)
 
--- A fault of a token is the first of its text, and needs nothing of what stands before.
-abbrev pub read_before : Option TokenKind → (bytes : List ℕ) → List Token → List Token
-read_before (Some k) bytes ts = ts
-read_before None [] ts = ts
-read_before None (b ∷ bs) ts = []
+-- what stands behind the last line feed of a text, or this line
+abbrev pub line_from : (line text : List ℕ) → List ℕ
+line_from line [] = line
+line_from line (b ∷ bs) = line_from (if b == 10 then bs else line) bs
 
 abbrev pub place_between : Choices → (text rest : List ℕ) → Place
 place_between noted text rest =
@@ -60,7 +61,8 @@ place_between noted text rest =
       token = kind_at rest;
       text = text;
       rest = rest;
-      before = standing (read_before (kind_at rest) (word_at rest) (tokens_in text));
+      before = standing (tokens_in text);
+      line = tokens_in (line_from text text);
       noted = noted;
     }
 
@@ -104,6 +106,10 @@ without_blanks text = drop (prefix_len is_ascii_whitespace text) text
 abbrev pub is_before : Place → List ℕ → Bool
 is_before p bytes = starts_with nat_eq (without_blanks (drop (length p.bytes) p.rest)) bytes
 
+-- a name stands behind the token
+abbrev pub is_before_name : Place → Bool
+is_before_name p = is_name (kind_at (drop (length p.bytes) p.rest))
+
 -- an `=` that sets follows
 unfoldable pub is_assigned : Place → Bool
 is_assigned p = is_before p (codes "=") && not (is_before p (codes "=="))
@@ -116,7 +122,7 @@ abbrev pub is_free_name : Place → Bool
 is_free_name p = is_name p.token && is_none (declared p.bytes p.before)
 
 -- the word of another language that it is, unless the script declares it
-unfoldable pub absent_word_at : Place → Option Told
+unfoldable pub absent_word_at : Place → Option (List ℕ × List ℕ)
 absent_word_at p = if is_free_name p then absent_word p.bytes else None
 
 abbrev pub wants_lam : Option TokenKind → Bool

@@ -5,7 +5,7 @@ ghost use Rattle.camac_explain_text_place.specs.Expected.{each_if, expected_of, 
 ghost use Rattle.camac_explain_text_place.specs.declared.expected.Expected.TheVariants as expected;
 
 use crate::before::begins_statement;
-use crate::spelled::{sign_text, word_text};
+use camac_explain_text_words::{sign_text, word_text};
 use camac_lines::before_item;
 use camac_text::{Choice, Choices};
 use camac_tokens::{KEYWORDS, Keyword, SIGNS, Sign};

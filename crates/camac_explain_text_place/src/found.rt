@@ -1,16 +1,16 @@
 // The token at which a fault shows.
 
-ghost use Rattle.std.specs.Prelude.{◌≡◌, IfOk, [], ◌∷◌, drop, false, length, option_copied, option_map, take, take_while};
+ghost use Rattle.std.specs.Prelude.{◌≡◌, IfOk, [], ◌∷◌, false, length, option_copied, option_map, take_while};
 ghost use Rattle.std.specs.Char.{is_ascii_digit};
 ghost use Rattle.camac_tokens.specs.Scanning.{is_name_byte, pair_at};
 ghost use Rattle.camac_tokens.specs.Words.{pair_signs, spelled_in};
-ghost use Rattle.camac_explain_text_place.specs.Absent.{absent_of, absent_sign};
+ghost use Rattle.camac_explain_text_words.specs.Absent.{absent_of, absent_sign};
 ghost use Rattle.camac_explain_text_place.specs.Before.{standing_of, word_of};
 ghost use Rattle.camac_explain_text_place.specs.Found.{begun_length, kind_at, rest_of, sign_length, text_before, word_at, word_length};
-ghost use Rattle.camac_explain_text_place.specs.Place.{absent_word_at, adjoins_word, begins_line, begins_statement_at, declared_line, ends_in_blanks, expects, is_assigned, is_before, is_free_name, last, needed, place_at, place_of, read_before, tokens_in, wants_register, without_blanks};
+ghost use Rattle.camac_explain_text_place.specs.Place.{absent_word_at, adjoins_word, begins_line, begins_statement_at, declared_line, ends_in_blanks, expects, is_assigned, is_before, is_before_name, is_free_name, last, line_from, needed, place_at, place_of, tokens_in, wants_register, without_blanks};
 
-use crate::absent::{Absent, absent_sign, absent_word};
 use crate::before::{Before, word_of};
+use camac_explain_text_words::{Absent, absent_sign, absent_word, behind, prefix};
 use camac_text::{Choice, Choices, NameKind, TextFault, Token, TokenKind, TokensLeft, tokens};
 use camac_tokens::Keyword;
 use std::alloc::{AllocError, Global};
@@ -26,6 +26,8 @@ pub struct Found<'a> {
     pub text: &'a [u8],
     pub rest: &'a [u8],
     pub before: Before,
+    /// The tokens before it in its line.
+    pub line: Vec<Token>,
     /// What may stand in its place.
     pub expected: Choices,
 }
@@ -44,13 +46,15 @@ impl<'a> Found<'a> {
         let text = text_before(text, left);
         let (word, kind) = (word_at(rest), kind_at(rest));
         let tokens = tokens_in(alloc, text)?;
-        let before = Before::new(alloc, read_before(&kind, word, &tokens))?;
+        let before = Before::new(alloc, &tokens)?;
+        let line = tokens_in(alloc, line_of(text))?;
         Ok(Found {
             word,
             kind,
             text,
             rest,
             before,
+            line,
             expected,
         })
     }
@@ -91,6 +95,16 @@ impl<'a> Found<'a> {
         ensures { result ≡ is_before (place_of self.now) bytes.now }
     {
         without_blanks(behind(self.rest, self.word.len())).starts_with(bytes)
+    }
+
+    /// Whether a name stands behind it.
+    pub fn is_before_name(&self) -> bool
+        ensures { result ≡ is_before_name (place_of self.now) }
+    {
+        matches!(
+            kind_at(behind(self.rest, self.word.len())),
+            Some(TokenKind::Name(_))
+        )
     }
 
     /// Whether this may stand in its place.
@@ -188,15 +202,19 @@ fn tokens_in(alloc: Global, text: &[u8]) -> Result<Vec<Token>, AllocError>
     }
 }
 
-// A fault of a token is the first of its text, and needs nothing of what stands before.
-fn read_before<'a>(kind: &Option<TokenKind>, word: &[u8], tokens: &'a [Token]) -> &'a [Token]
-    ensures { result.now ≡ read_before kind.now word.now tokens.now }
+// What stands behind the last line feed of a text.
+fn line_of(text: &[u8]) -> &[u8]
+    ensures { result.now ≡ line_from text.now text.now }
 {
-    match (kind, word) {
-        (Some(_), _) => tokens,
-        (None, []) => tokens,
-        (None, [_, ..]) => &[],
+    let mut line = text;
+    let mut rest = text;
+    while let [byte, after @ ..] = rest {
+        if *byte == b'\n' {
+            line = after;
+        }
+        rest = after;
     }
+    line
 }
 
 // Whether only blanks stand behind the last line feed of a text.
@@ -208,16 +226,6 @@ fn ends_in_blanks(text: &[u8]) -> bool
         is_blank_line = *byte == b'\n' || (is_blank_line && byte.is_ascii_whitespace());
     }
     is_blank_line
-}
-
-fn behind(text: &[u8], size: usize) -> &[u8]
-    ensures { result.now ≡ drop size text.now }
-{
-    if size < text.len() {
-        &text[size..]
-    } else {
-        &[]
-    }
 }
 
 fn without_blanks(text: &[u8]) -> &[u8]
@@ -240,18 +248,10 @@ fn text_before(text: &[u8], left: usize) -> &[u8]
 }
 
 /// The word, the number, the sign or the one byte with which a text begins.
-fn word_at(text: &[u8]) -> &[u8]
+pub fn word_at(text: &[u8]) -> &[u8]
     ensures { result.now ≡ word_at text.now }
 {
     prefix(text, word_length(text))
-}
-
-/// The first bytes of a text, at most so many.
-#[tactic(auto, using(std::proofs::lemmas::List::take_min))]
-pub fn prefix(text: &[u8], most: usize) -> &[u8]
-    ensures { result.now ≡ take most text.now }
-{
-    &text[..most.min(text.len())]
 }
 
 fn word_length(text: &[u8]) -> usize

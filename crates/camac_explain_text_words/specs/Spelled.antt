@@ -1,5 +1,7 @@
--- How the words and signs of the language are spelled.
-use Rattle.std.specs.Prelude.{ℕ, Bool, List, [], ◌∷◌, ◌++◌, if◌then◌else◌}
+-- How words, signs and numbers are spelled.
+use Rattle.std.specs.Prelude.{ℕ, Bool, ◌&&◌, ◌||◌, List, [], ◌∷◌, ◌++◌, codes, drop, length, nat_le, nat_lt, take_while, if◌then◌else◌}
+use Rattle.std.specs.Char.{is_ascii_digit}
+use Rattle.std.specs.Str.{str_eq_ignore_ascii_case}
 use denote.Enum.Bare.{sameb}
 use Rattle.camac_tokens.specs.Words.{Spelling, action_words, call_words, control_words, declaration_words, pair_signs, single_signs}
 use Rattle.camac_tokens.specs.contracts.token.Keyword as keyword_type
@@ -23,3 +25,12 @@ word_text w = bytes_in (is_word w) (declaration_words ++ (action_words ++ (call_
 
 unfoldable pub sign_text : Sign → List ℕ
 sign_text s = bytes_in (is_mark s) (pair_signs ++ single_signs)
+
+abbrev pub is_hexadecimal_digit : ℕ → Bool
+is_hexadecimal_digit b = is_ascii_digit b || ((nat_le 65 b && nat_le b 70) || (nat_le 97 b && nat_le b 102))
+
+-- a number in other languages: hexadecimal digits, and then an `h`
+abbrev pub is_hexadecimal : (word : List ℕ) → Bool
+is_hexadecimal word =
+    nat_lt 0 (length (take_while is_hexadecimal_digit word))
+    && str_eq_ignore_ascii_case (codes "h") (drop (length (take_while is_hexadecimal_digit word)) word)

@@ -5,7 +5,7 @@ use Rattle.camac_tokens.specs.Words.{action_words, call_words, control_words, de
 use Rattle.camac_tokens.specs.declared.token.Keyword.{Keyword}
 use Rattle.camac_tokens.specs.declared.token.Sign.{Sign}
 use Rattle.camac_tokens.proofs.Uncut.{Each, entry_of}
-use Rattle.camac_explain_text_place.specs.Spelled.{sign_text, word_text}
+use Rattle.camac_explain_text_words.specs.Spelled.{sign_text, word_text}
 
 either : {W : Type 0} (a b : Option W) (w : W) → or_else a b ≡ Some w → (a ≡ Some w) ⊎ (b ≡ Some w)
 either (Some x) b w e = inl e

@@ -6,32 +6,20 @@ use Rattle.std.specs.Char.{is_ascii_alphabetic}
 use Rattle.std.specs.Str.{str_eq_ignore_ascii_case}
 use Rattle.camac_lines.specs.Words.{quoted}
 use Rattle.camac_tokens.specs.Words.{or_else}
-use Rattle.camac_explain_text_place.specs.declared.absent.Absent.{Absent}
-use Rattle.camac_explain_text_place.specs.declared.absent.TheConstants.{ABSENT}
+use Rattle.camac_explain_text_words.specs.declared.absent.Absent.{Absent}
+use Rattle.camac_explain_text_words.specs.declared.absent.TheConstants.{ABSENT}
 
--- words and signs of other languages, and what a script has in their place
-pub record AbsentRow : Type 0 where
-  pub spellings : List (List ℕ)
-  pub write : List ℕ
-
--- the rows of src/absent.rt
-unfoldable pub absent_table : List AbsentRow
-absent_table = map (λ r. record { spellings = map (λ s. s.now) r.0.now; write = r.1.now }) ABSENT
+-- words and signs of other languages, and what a script has in their place: the rows of src/absent.rt
+unfoldable pub absent_table : List (List (List ℕ) × List ℕ)
+absent_table = map (λ r. (map (λ s. s.now) r.0.now, r.1.now)) ABSENT
 
 -- a row, where it is read
-abbrev pub row_of : Bor (List (Bor (List ℕ))) × Bor (List ℕ) → AbsentRow
-row_of r = record { spellings = map (λ (s : Bor (List ℕ)). s.now) r.0.now; write = r.1.now }
+abbrev pub row_of : Bor (List (Bor (List ℕ))) × Bor (List ℕ) → List (List ℕ) × List ℕ
+row_of r = (map (λ (s : Bor (List ℕ)). s.now) r.0.now, r.1.now)
 
 -- a word or a sign as it is spelled, and what to write in its place
-pub record Told : Type 0 where
-  pub spelled : List ℕ
-  pub write : List ℕ
-
-abbrev pub told : List ℕ → List ℕ → Told
-told spelled write = record { spelled = spelled; write = write }
-
-abbrev pub absent_of : Absent → Told
-absent_of a = told a.spelled.now a.write.now
+abbrev pub absent_of : Absent → List ℕ × List ℕ
+absent_of a = (a.spelled.now, a.write.now)
 
 -- one of these is the word, in any case of its letters
 abbrev pub is_spelled : List (List ℕ) → (word : List ℕ) → Bool
@@ -39,11 +27,11 @@ is_spelled [] word = false
 is_spelled (s ∷ ss) word = str_eq_ignore_ascii_case s word || is_spelled ss word
 
 -- what the first row says that has the word
-abbrev pub word_in : List AbsentRow → (word : List ℕ) → Option Told
+abbrev pub word_in : List (List (List ℕ) × List ℕ) → (word : List ℕ) → Option (List ℕ × List ℕ)
 word_in [] word = None
-word_in (r ∷ rs) word = if is_spelled r.spellings word then Some (told word r.write) else word_in rs word
+word_in (r ∷ rs) word = if is_spelled r.0 word then Some (word, r.1) else word_in rs word
 
-abbrev pub absent_word : (word : List ℕ) → Option Told
+abbrev pub absent_word : (word : List ℕ) → Option (List ℕ × List ℕ)
 absent_word word = word_in absent_table word
 
 abbrev pub is_no_word : List ℕ → Bool
@@ -66,18 +54,18 @@ abbrev pub sign_at : List (List ℕ) → (size : ℕ) → (before rest : List �
 sign_at spellings size before rest = find (λ s. is_sign_around s size before rest) spellings
 
 -- the first sign of so many bytes that stands around a place
-abbrev pub sign_in : List AbsentRow → (size : ℕ) → (before rest : List ℕ) → Option Told
+abbrev pub sign_in : List (List (List ℕ) × List ℕ) → (size : ℕ) → (before rest : List ℕ) → Option (List ℕ × List ℕ)
 sign_in [] size before rest = None
 sign_in (r ∷ rs) size before rest =
-    or_else (option_map (λ s. told s r.write) (sign_at r.spellings size before rest)) (sign_in rs size before rest)
+    or_else (option_map (λ s. (s, r.1)) (sign_at r.0 size before rest)) (sign_in rs size before rest)
 
 -- the longest sign of the table that stands around a place; of several the first
-abbrev pub absent_sign : (before rest : List ℕ) → Option Told
+abbrev pub absent_sign : (before rest : List ℕ) → Option (List ℕ × List ℕ)
 absent_sign before rest =
     or_else (sign_in absent_table 5 before rest)
     (or_else (sign_in absent_table 4 before rest)
     (or_else (sign_in absent_table 3 before rest) (or_else (sign_in absent_table 2 before rest) (sign_in absent_table 1 before rest))))
 
 -- camac has none; what to write in its place
-abbrev pub absent_text : Told → List ℕ
-absent_text t = concat (codes "camac has no " ∷ quoted t.spelled ∷ codes "; write " ∷ t.write ∷ codes "." ∷ [])
+abbrev pub absent_text : List ℕ × List ℕ → List ℕ
+absent_text t = concat (codes "camac has no " ∷ quoted t.0 ∷ codes "; write " ∷ t.1 ∷ codes "." ∷ [])

@@ -2,19 +2,23 @@
 
 ghost use Rattle.std.specs.Prelude.{◌≡◌, map, option_map};
 ghost use Rattle.std.specs.Str.{str_eq_ignore_ascii_case};
-ghost use Rattle.camac_explain_text_place.specs.Absent.{absent_of, absent_sign, absent_table, absent_word, begins_before, is_around, is_no_word, is_sign_around, is_spelled, row_of, sign_at, sign_in, word_in};
+ghost use Rattle.camac_explain_text_words.specs.Absent.{absent_of, absent_sign, absent_table, absent_word, begins_before, is_around, is_no_word, is_sign_around, is_spelled, row_of, sign_at, sign_in, word_in};
 
 // Words and signs of other languages, and what a script has in their place.
 type Row = (&'static [&'static str], &'static str);
 
-static ABSENT: [Row; 46] = [
+static ABSENT: [Row; 50] = [
     (
-        &["print", "printf", "println", "echo"],
+        &["print", "printf", "println", "echo", "append", "push"],
         "`put v`, which makes `v` a word of the event",
     ),
     (
-        &["read", "write"],
-        "`cfsa`, which reads from a module with `->` and writes to it with `<-`",
+        &["read"],
+        "`cfsa 0 r -> v`, which reads at the address of the register `r`",
+    ),
+    (
+        &["write"],
+        "`put v` to keep `v` in the event, and `cfsa 16 r <- v` to write it to a module",
     ),
     (&["return", "stop"], "an `if` around the rest of the body"),
     (
@@ -48,15 +52,21 @@ static ABSENT: [Row; 46] = [
         "`{` and `}` around a block",
     ),
     (
-        &["do", "foreach", "repeat", "until", "loop", "forever"],
+        &[
+            "do", "foreach", "range", "repeat", "until", "loop", "forever",
+        ],
         "`for i = A to B { .. }`, or `while c turns N by k { .. }`",
     ),
     (&["switch", "case", "select"], "an `if` for each value"),
     (&["pass"], "an empty block"),
     (
+        &["try", "except", "catch", "raise", "throw", "assert"],
+        "an `if` on `q` or `x` after the cycle: nothing else can fail",
+    ),
+    (
         &[
             "let", "const", "int", "uint", "unsigned", "long", "short", "char", "float", "double",
-            "real", "integer", "dim",
+            "real", "integer", "logical", "bool", "dim",
         ],
         "a `var` above the services: each variable is a number from 0 to 4294967295",
     ),
@@ -69,13 +79,17 @@ static ABSENT: [Row; 46] = [
         &["true", "false"],
         "1 and 0, and a comparison as in `v == 1`",
     ),
+    (
+        &["none", "null", "nil"],
+        "0, since a variable is always a number",
+    ),
     (&["mod"], "`%` between the two numbers"),
     (
         &["|", "^", "~", "<<", ">>", "xor", "shl", "shr"],
         "`/` and `%` with powers of two: `v % 256` is the low byte of `v`, and `v * 4` shifts it left by two",
     ),
     (
-        &["&H", "&h", "&B", "&b"],
+        &["&H", "&h", "&B", "&b", "$"],
         "decimal digits: `255` for `0xff`",
     ),
     (
@@ -88,9 +102,10 @@ static ABSENT: [Row; 46] = [
     ),
     (&["&&", ".AND.", ".and."], "`and`"),
     (
-        &["!", ".NOT.", ".not."],
-        "`not` before a comparison or a flag",
+        &["!"],
+        "`not` before a comparison or a flag, and `#` before a comment",
     ),
+    (&[".NOT.", ".not."], "`not` before a comparison or a flag"),
     (&[".GT.", ".gt."], "`>`"),
     (&[".LT.", ".lt."], "`<`"),
     (&[".EQ.", ".eq."], "`==`"),
@@ -120,7 +135,7 @@ static ABSENT: [Row; 46] = [
         "text only in a comment, after `#`",
     ),
     (
-        &["[", "]"],
+        &["[", "]", "dimension", "array"],
         "several variables, or a `table` for a block write",
     ),
     (

@@ -1,0 +1,5 @@
+pub mod Absent
+pub mod Forms
+pub mod Limits
+pub mod Parts
+pub mod Spelled
