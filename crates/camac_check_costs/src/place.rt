@@ -304,15 +304,8 @@ fn place_over_turns<'a>(
         here.put_range(head.variable, between(value, value))?;
         let fixed = place.around.with_fixed(alloc, head.variable)?;
         let begun = here.try_clone(alloc)?;
-        let found = match place_in_block(
-            alloc,
-            place.context,
-            fixed,
-            body,
-            Some(begun),
-            left,
-            &[],
-        ) {
+        let start = Some(begun);
+        let found = match place_in_block(alloc, place.context, fixed, body, start, left, &[]) {
             Ok(found) => found,
             Err(fault) => return Err(fault),
         };
